@@ -1,15 +1,15 @@
 #!/usr/bin/env python3
 """Times the base of a store: writing it in a checkpoint, and opening a store that is a base alone.
 
-Stores are made whose base has 46 to 60 MiB: of service files, of Kubernetes' files, and of a few long texts. For each it
-prints the processor time of a checkpoint and of opening, and the greatest memory of a session that opens the store, as
-a multiple of the base: what is mapped and what is resident. A checkpoint's time is that of a session with it, less that
-of a session without. With `-i` instructions a byte are printed, as valgrind counts them on a base of some 4 MiB.
+Stores are made whose base has 46 to 60 MiB: of service files, of Kubernetes' files, and of a few long texts. For each
+it prints the processor time of a checkpoint and of opening, and the greatest memory of a session that opens the store,
+as a multiple of the base: what is mapped and what is resident. A checkpoint's time is that of a session with it, less
+that of a session without. With `-i` instructions a byte are printed, as valgrind counts them on a base of some 4 MiB.
 
 Everything is in a folder in memory, where there is one, so that no device is measured. A time is the least of several
 runs. Run it on a quiet machine from the repository's root after the program is built:
 
-    ./confstore --version && python3 bench/base.py [-i]
+    ./prove && python3 bench/base.py [-i]
 """
 
 from __future__ import annotations
@@ -20,7 +20,7 @@ import sys
 import tempfile
 from collections.abc import Callable
 
-from corpora import CORPORA
+from lib.corpora import CORPORA
 from lib.programs import MEMORY, MIB, PROGRAM, need_program
 from lib.runs import seconds_in
 from lib.stores import CHECKPOINT, perform, session_instructions, session_usage

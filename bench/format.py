@@ -23,7 +23,7 @@ import subprocess
 import sys
 import tempfile
 
-from corpora import Part, until
+from lib.corpora import Part, until
 from lib.programs import MIB, PROGRAM, need_program
 from lib.runs import Words, greatest_memory, processor_seconds
 

@@ -1,9 +1,9 @@
 #!/usr/bin/env python3
 """Says where the time that a byte takes grows with the length of a text.
 
-It reads the corpora of `bench/read.py`, and hostile texts, to events in a loop inside one process, at 64 KiB, 1 MiB
-and 16 MiB. It prints the nanoseconds a byte, and how many times those at 64 KiB the others are, with `GROWS` where the
-reader's own time grows to more than 1.25 times.
+It reads the corpora of `bench/reading_rates.py`, and hostile texts, to events in a loop inside one process, at 64 KiB,
+1 MiB and 16 MiB. It prints the nanoseconds a byte, and how many times those at 64 KiB the others are, with `GROWS`
+where the reader's own time grows to more than 1.25 times.
 
 A process keeps the memory of a small text from round to round. That of a large one it gives back, and the system
 hands it out anew, page by page; for a text of signs alone that are up to 26 bytes for each byte. What the system takes
@@ -21,10 +21,10 @@ away.
 
     python3 bench/growth.py [-i] [WORD]
 
-A line ends with the number of events of the largest text, or with why it is refused; with `-i` also the instructions
-a byte at 64 KiB and 1 MiB, as valgrind counts them. With a word only the texts are read whose names have it. Run it on
-a quiet machine with glibc 2.35 or later, from the repository's root, after `bench_driver` is built as `bench/read.py`
-says. It takes some 25 minutes.
+A line ends with the number of events of the largest text, or with why it is refused; with `-i` also the instructions a
+byte at 64 KiB and 1 MiB, as valgrind counts them. With a word only the texts are read whose names have it. Run it on a
+quiet machine with glibc 2.35 or later, from the repository's root, after `bench_driver` is built as
+`bench/reading_rates.py` says. It takes some 25 minutes.
 """
 
 from __future__ import annotations
@@ -37,10 +37,10 @@ import tempfile
 import time
 from collections.abc import Callable, Iterable, Mapping, Sequence
 
-from corpora import CORPORA, HOSTILE, Part
-from lib.programs import DRIVER, MIB, need_driver
+from lib.corpora import CORPORA, HOSTILE, Part
+from lib.programs import DRIVER, MIB, need_program
+from lib.reading import Reading, round_instructions, written
 from lib.runs import Words
-from read import Reading, round_instructions, written
 
 SIZES = [64 * 1024, MIB, 16 * MIB]
 # The greatest growth.
@@ -127,7 +127,7 @@ def grows(name: str, make: Part, folder: str, counts: bool) -> bool:
 
 
 def main() -> int:
-    need_driver()
+    need_program(DRIVER)
     words = [word for word in sys.argv[1:] if word != "-i"]
     print(f"A page of {mmap.PAGESIZE} bytes takes the system {min(page_cost() for _ in range(5)):.2f} us.")
     grown = []

@@ -1,7 +1,7 @@
 #!/usr/bin/env python3
-"""Draws how fast texts are read, beside other readers, as docs/speed.svg: from what bench/read.py has printed.
+"""Draws how fast texts are read, beside other readers, as docs/speed.svg: from what bench/reading_rates.py has printed.
 
-    python3 bench/read.py -n FOLDER >bench/data/read.txt
+    python3 bench/reading_rates.py -n FOLDER >bench/data/reading_rates.txt
     python3 bench/plot.py
 
 It takes the first part, which was measured with malloc's own settings. Each row is a corpus of 1 MiB, each mark a
@@ -18,7 +18,7 @@ from collections.abc import Iterable, Iterator, Mapping
 
 from lib.programs import TOP
 
-DATA = os.path.join(TOP, "bench", "data", "read.txt")
+DATA = os.path.join(TOP, "bench", "data", "reading_rates.txt")
 TARGET = os.path.join(TOP, "docs", "speed.svg")
 
 WORKS = {"events": "to events", "tree": "to a tree", "format": "reading and writing"}

@@ -14,7 +14,7 @@ Everything is in a folder in memory, where there is one, so that no device is me
 processor time of several runs, less the least of runs with less to do: of opening an empty store, or of fewer rounds
 or edits. Run it on a quiet machine from the repository's root, after the programs are built:
 
-    ./confstore --version && (cd crates/bench_driver && rt run -- edits tree wide 1 1) && python3 bench/store.py [-i]
+    ./prove && (cd crates/bench_driver && rt run -- edits tree wide 1 1) && python3 bench/store.py [-i]
 
 LMDB is left out if it is not installed: `apt-get install python3-lmdb valgrind` installs it for the system's Python,
 and valgrind.
@@ -30,7 +30,7 @@ import time
 from collections.abc import Callable
 
 from lib.databases import DATABASES, Lmdb, Sqlite
-from lib.programs import DRIVER, MEMORY, PROGRAM, counts_instructions, need_driver, need_program
+from lib.programs import DRIVER, MEMORY, PROGRAM, counts_instructions, need_program
 from lib.runs import Words, instructions_of, processor_seconds
 
 EDITS = [10_000, 100_000]
@@ -196,7 +196,7 @@ def peers(folder: str) -> None:
 
 def main() -> int:
     need_program()
-    need_driver()
+    need_program(DRIVER)
     counts = counts_instructions()
     with tempfile.TemporaryDirectory(dir=MEMORY) as folder:
         openings(folder, counts)

@@ -10,7 +10,7 @@
 The programs take turns, in processor time. Run it from the repository's root after they are built; it takes two
 minutes, and with `-l` the large base alone is read:
 
-    ./confstore --version && (cd crates/bench_driver && rt run -- edits tree wide 1 1) && python3 bench/words.py [-l]
+    ./prove && (cd crates/bench_driver && rt run -- edits tree wide 1 1) && python3 bench/words.py [-l]
 """
 
 from __future__ import annotations
@@ -24,7 +24,7 @@ import sys
 import tempfile
 from collections.abc import Callable, Mapping
 
-from lib.programs import DRIVER, MEMORY, MIB, PROGRAM, need_driver, need_program
+from lib.programs import DRIVER, MEMORY, MIB, PROGRAM, need_program
 from lib.runs import Words, by_turns, greatest_memory, processor_seconds
 from lib.stores import CHECKPOINT, fresh, perform
 
@@ -145,7 +145,7 @@ def main() -> int:
         measure_large(top)
     if "-l" in sys.argv[1:]:
         return 0
-    need_driver()
+    need_program(DRIVER)
     with tempfile.TemporaryDirectory() as top:
         compare_readers(top)
         for edits in EDITS:

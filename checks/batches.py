@@ -24,9 +24,11 @@ from typing import Any
 
 import yaml
 
+from lib.answers import send
+from lib.command_line import number_given
 from lib.store_model import compose_all, meaning, tree_of
 from lib.store_runs import GROUPED, SINGLE, Failures, need_program, read_file, session, write_file
-from lib.trees import Configs, Refused, Tree, edited
+from lib.trees import Configs, Document, Refused, as_json, performed
 
 # PyYAML's function has no types.
 compose: Callable[..., Any] = yaml.compose
@@ -34,7 +36,8 @@ compose: Callable[..., Any] = yaml.compose
 # An edit as a session's command has it: its keys and values, each value as a text of YAML.
 Edit = dict[str, str]
 
-BATCHES = int(sys.argv[1]) if len(sys.argv) > 1 else 4000
+# How many batches are sent, if no other number is given.
+BATCHES = 4_000
 # How many commands a store gets, and how often its file is cut.
 COMMANDS = 40
 CUTS = 12
@@ -70,18 +73,10 @@ def batch_of(edits: Sequence[Edit]) -> str:
     return "batch:\n" + "\n".join(lines) + "\n...\n"
 
 
-def performed(configs: Configs, edits: Sequence[Edit]) -> Configs:
-    """What edits make of the configurations, by the model. Raises Refused."""
-    if not edits:
-        raise Refused
-    for edit in edits:
-        values: list[Tree] = [
-            tree_of(compose(text, yaml.CBaseLoader)) if key in ("text", "value") else text
-            for key, text in edit.items()
-        ]
-        keys = tuple("tree" if key == "text" else key for key in edit)
-        configs = edited(configs, keys, values)
-    return configs
+def as_document(edit: Edit) -> Document:
+    """An edit as the model has it: the values of its texts of YAML, and the text of an import in JSON."""
+    values = {key: as_json(tree_of(compose(edit[key], yaml.CBaseLoader))) for key in ("text", "value") if key in edit}
+    return {**edit, **values, **({"text": json.dumps(values["text"])} if "text" in edit else {})}
 
 
 def look(folder: str) -> Configs | str:
@@ -129,7 +124,7 @@ class Commands:
         self.texts.append(batch_of(edits) if is_batch else single(edits[0]))
         self.batches += is_batch
         try:
-            self.states.append(performed(self.states[-1], edits))
+            self.states.append(performed(self.states[-1], [as_document(edit) for edit in edits]))
             self.wanted.append(f'ok: "{len(self.states) - 1}"')
         except Refused:
             self.wanted.append("refused" if edits else "refused: EmptyBatch")
@@ -141,15 +136,8 @@ def try_store(
 ) -> tuple[int, int]:
     """Sends random commands to a store. Returns how many batches there were, and how many of them were refused."""
     folder = os.path.join(top, "folder")
-    os.mkdir(folder)
     commands = Commands(chance)
-    status, answers, errors = session(folder, "".join(commands.texts).encode(), words)
-    failures.expect(f"{about}: status", (status, errors), (0, ""))
-    found = [answer.split("\n")[1] for answer in answers.decode().split("...\n")[:-1]]
-    for number, (one, other) in enumerate(zip(found, commands.wanted)):
-        is_right = one.startswith("refused: ") if other == "refused" else one == other
-        failures.expect(f"{about}, command {number}: {commands.texts[number]!r} is answered {one}", is_right, True)
-    failures.expect(f"{about}: answers", len(found), len(commands.wanted))
+    send(folder, words, commands.texts, commands.wanted, failures, about)
     failures.expect(f"{about}: state", look(folder), commands.states[-1])
     failures.expect(f"{about}: order", list(look(folder)), list(commands.states[-1]))
     try_cuts(chance, top, read_file(os.path.join(folder, "store.yaml")), commands.states, failures, about)
@@ -177,7 +165,8 @@ def main() -> int:
     need_program()
     failures, done, refused, number = Failures(), 0, 0, 0
     try_longest_record(failures)
-    while done < BATCHES:
+    count = number_given(1, BATCHES)
+    while done < count:
         with tempfile.TemporaryDirectory() as top:
             words = SINGLE if number % 2 else GROUPED
             more, others = try_store(random.Random(number), top, words, failures, f"store {number}")

@@ -12,7 +12,7 @@ A case is some lines, and an empty line ends it. Each begins with a word:
 What `format` prints is formatted once more, and has to stay as it is. The expected answers come from an independent
 reader of the grammar and from hand, never from these programs, which have to be built first:
 
-    ./confstore --version && (cd crates/text_probe && rt run) && python3 checks/cases.py
+    ./prove && (cd crates/text_probe && rt run < stdin > /dev/null) && python3 checks/cases.py
 
 The last line is 'N passed, M failed', of cases; the status is 0 where M is 0.
 """
@@ -20,55 +20,14 @@ The last line is 'N passed, M failed', of cases; the status is 0 where M is 0.
 from __future__ import annotations
 
 import os
-import re
 import subprocess
 import sys
 from collections.abc import Sequence
 
-TOP = os.path.dirname(os.path.dirname(os.path.abspath(__file__)))
-PROGRAM = os.path.join(TOP, "crates", "confstore", "out", "confstore")
-PROBE = os.path.join(TOP, "crates", "text_probe", "out", "text_probe")
-CASES = os.path.join(TOP, "checks", "data", "cases")
+from lib.store_runs import PROGRAM, need_program, program_of
+from lib.text_cases import CASES, Case, bytes_of, read_cases
 
-# A case: what follows each of its words, and as `line` the number of its first line.
-Case = dict[str, str]
-
-ESCAPES = {"n": "\n", "r": "\r", "t": "\t", "\\": "\\"}
-
-
-def long_runs(line: str) -> str:
-    """The line with what is repeated written out."""
-    return re.sub(r"\\\{(.+?)\*(\d+)\}", lambda found: found[1] * int(found[2]), line)
-
-
-def bytes_of(line: str) -> bytes:
-    """The bytes that a line means."""
-
-    def byte(found: re.Match[bytes]) -> bytes:
-        word = found[1].decode()
-        return ESCAPES[word].encode() if word in ESCAPES else bytes([int(word[1:], 16)])
-
-    return re.sub(rb"\\(n|r|t|\\|x..)", byte, line.encode())
-
-
-def read_cases(path: str) -> list[Case]:
-    """The cases of a file."""
-    cases: list[Case] = []
-    case: Case = {}
-    with open(path, encoding="utf-8") as source:
-        for number, line in enumerate(source, 1):
-            line = line.rstrip("\n")
-            if line.startswith("#"):
-                continue
-            if not line:
-                cases.append(case)
-                case = {}
-                continue
-            case.setdefault("line", str(number))
-            word, _, rest = line.partition(" ")
-            case[word] = long_runs(rest)
-    cases.append(case)
-    return [case for case in cases if case]
+PROBE = program_of("text_probe")
 
 
 def run(words: Sequence[str], text: bytes) -> tuple[int, bytes, str]:
@@ -128,8 +87,7 @@ def faults_of(case: Case, shown: str) -> list[str]:
 
 def main() -> int:
     for program in (PROGRAM, PROBE):
-        if not os.access(program, os.X_OK):
-            sys.exit(f"{program} is not built")
+        need_program(program)
     passed = failed = 0
     for name in sorted(os.listdir(CASES)):
         cases = read_cases(os.path.join(CASES, name))

@@ -1,7 +1,7 @@
 #!/usr/bin/env bash
 # Tries the clients and the packaging from a clean clone of the last commit, with the program that is built:
 #
-#     ./confstore --version && checks/clients.sh
+#     ./prove && checks/clients.sh
 #
 # - Python: the package is installed without a network, its types and those of all tests are checked where mypy is
 #   installed, and its tests run over real stores, those of the server among them; and the tests of `replicated/` that
@@ -10,8 +10,8 @@
 # - C: the library and its test under the sanitizers of each compiler that is there, and under valgrind, over sessions
 #   of its own and over a socket; the library as its Makefile installs it, shared and static, and its version.
 # - Sixteen clients of one session that is killed and started again.
-# - The types of the server and of the scripts in checks/, where mypy is installed, and the server's bounds, sockets,
-#   faults and ends, its health and its counters.
+# - The types of the server and of the scripts in checks/ and bench/, where mypy is installed, and the server's bounds,
+#   sockets, faults and ends, its health and its counters.
 # - confstorectl beside the program: alone, through a server and through a node; and its watch.
 # - Exceptions from signal handlers in each call of the Python package.
 # - The Ansible collection, its types, and the playbook of the examples.
@@ -19,13 +19,13 @@
 #   packages.
 #
 # What isn't installed is left out, with a line that says so. Each step has a limit of time, and ends what it started.
-# The program is CONFSTORE, or the one that ./confstore builds. The last line is 'N passed, M failed', of steps, and the
+# The program is CONFSTORE, or the one that ./prove built. The last line is 'N passed, M failed', of steps, and the
 # status is 0 if M is 0. It takes some ten minutes.
 set -u
 top=$(cd "$(dirname "${BASH_SOURCE[0]}")/.." && pwd)
 CONFSTORE=${CONFSTORE:-$top/crates/confstore/out/confstore}
 CONFSTORE=$(command -v "$CONFSTORE") || {
-    echo "the program is not built: run ./confstore --version first" >&2
+    echo "the program is not built: run ./prove first, or set CONFSTORE" >&2
     exit 1
 }
 CONFSTORE=$(realpath "$CONFSTORE")
@@ -84,18 +84,18 @@ export -f try_install
 export python folder
 step "the Python package is installed without a network" 120 bash -c try_install
 types() {
-    MYPYPATH=python:replicated mypy --config-file python/pyproject.toml python/confstore \
+    MYPYPATH=python:replicated:clients mypy --config-file python/pyproject.toml python/confstore \
         python/wheel_of_confstore.py replicated/confstore_replicated replicated/model
 }
 script_types() {
-    MYPYPATH=checks:clients:python:replicated mypy --strict --explicit-package-bases \
-        --config-file python/pyproject.toml clients/serve.py python/pages_of_confstorectl.py checks/*.py checks/lib/*.py
+    MYPYPATH=checks:bench:clients:python:replicated mypy --strict --explicit-package-bases \
+        --config-file python/pyproject.toml clients/serve.py python/pages_of_confstorectl.py {checks,bench}/{,lib/}*.py
 }
 # Each in a run of its own, as both are packages of the same name.
 test_types() {
     local folder
     for folder in python replicated; do
-        MYPYPATH=python:replicated mypy --config-file python/pyproject.toml --explicit-package-bases \
+        MYPYPATH=python:replicated:clients mypy --config-file python/pyproject.toml --explicit-package-bases \
             "$folder/tests" || return
     done
 }
@@ -133,9 +133,9 @@ if has c++; then step "the header in C++" 60 c++ -fsyntax-only -Wall -Wextra -We
 kill "$server" && wait "$server"
 server=
 
-if has mypy; then step "the types of the server and of the scripts in checks/" 120 bash -c script_types; fi
+if has mypy; then step "the types of the server and of the scripts in checks/ and bench/" 120 bash -c script_types; fi
 step "sixteen clients of a session that is killed and started again" 300 "$python" checks/many_clients.py
-step "the server: clients, the socket, faults and signals" 300 "$python" checks/server.py
+step "the server: clients, the socket, faults and signals" 900 "$python" checks/server.py
 step "confstorectl beside the program" 300 "$python" checks/ctl.py
 step "exceptions from signal handlers" 900 "$python" checks/interrupts.py
 collection_types() {
@@ -145,6 +145,8 @@ collection_types() {
 export -f collection_types
 if has mypy; then step "the types of the Ansible collection" 120 bash -c collection_types; fi
 step "the Ansible collection" 600 "$python" clients/ansible/try.py
+step "two and three writers at once" 600 "$python" checks/two_writers.py
+step "two writers while processes are killed" 600 "$python" checks/killed_writers.py
 step "editors, the hook and the examples" 300 "$python" checks/editors.py
 step "the page of a log" 300 "$python" checks/page.py
 step "completions" 300 "$python" checks/completions.py

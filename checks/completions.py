@@ -7,7 +7,7 @@ looked up in the three files and in docs/man/confstore.1.
 
 Run it from the repository's root after the program is built; it takes some seconds:
 
-    ./confstore --version && python3 checks/completions.py
+    ./prove && python3 checks/completions.py
 
 The last line is 'N passed, M failed', and the status is 0 if M is 0.
 """
@@ -15,26 +15,16 @@ The last line is 'N passed, M failed', and the status is 0 if M is 0.
 from __future__ import annotations
 
 import os
-import pty
 import re
-import select
 import shutil
 import subprocess
 import sys
 import tempfile
-import time
 
+from lib.keys import FOLDER, SHELLS, press_keys, put_stand_in
 from lib.store_runs import PROGRAM, TOP, Failures, need_program, session, write_file
 
-FOLDER = os.path.join(TOP, "completions")
 PAGE = "docs/man/confstore.1"
-
-# How each shell is started, and what is typed first.
-SHELLS = {
-    "bash": (["bash", "--norc", "--noprofile", "-i"], f"source {FOLDER}/confstore.bash"),
-    "zsh": (["zsh", "-f", "-i"], f"fpath=({FOLDER} $fpath); autoload -Uz compinit; compinit -u -D"),
-    "fish": (["fish", "--no-config", "-i"], f"source {FOLDER}/confstore.fish"),
-}
 
 # What is typed before a TAB, and the words that confstore is called with then.
 LINES = [
@@ -63,82 +53,12 @@ LINES = [
     ("format -i --dro", "format -i --drop-comments"),
 ]
 
-# How many seconds a shell may take to start, and to say what its words are.
-START = 20
-PATIENCE = 10
-
 
 def store_with_names(top: str) -> None:
     folder = os.path.join(top, "store")
     os.mkdir(folder)
     session(folder, b"import: web\ntext: x\n...\nimport: app\ntext: x\n...\n")
     write_file(os.path.join(top, "file.yaml"), b"a: b\n")
-
-
-def put_program(top: str) -> str:
-    """A program that says its words. For `names`, which completions call, it is the one that was built."""
-    folder = os.path.join(top, "bin")
-    os.mkdir(folder)
-    path = os.path.join(folder, "confstore")
-    script = f'#!/bin/sh\nif [ "$1" = names ]; then exec "{PROGRAM}" "$@"; fi\necho "called: $*."\n'
-    write_file(path, script.encode())
-    os.chmod(path, 0o755)
-    return folder
-
-
-class Terminal:
-    """A shell in a terminal."""
-
-    def __init__(self, words: list[str], top: str, programs: str) -> None:
-        path = f"{programs}:{os.environ['PATH']}"
-        environment = {"PATH": path, "HOME": top, "TERM": "dumb", "LANG": "C.UTF-8", "PS1": "$ "}
-        self.process, self.end = pty.fork()
-        if self.process == 0:
-            os.chdir(top)
-            os.execvpe(words[0], words, environment)
-        self.seen = ""
-
-    def type(self, text: str) -> None:
-        os.write(self.end, text.encode())
-
-    def await_text(self, pattern: str, seconds: float) -> re.Match[str] | None:
-        """The first match of a pattern in what comes within so many seconds."""
-        deadline = time.monotonic() + seconds
-        while not (found := re.search(pattern, self.seen)) and time.monotonic() < deadline:
-            if select.select([self.end], [], [], 0.1)[0]:
-                try:
-                    self.seen += os.read(self.end, 65_536).decode("utf-8", "replace")
-                except OSError:
-                    break
-        if found:
-            self.seen = self.seen[found.end() :]
-        return found
-
-    def close(self) -> None:
-        os.close(self.end)
-        try:
-            os.kill(self.process, 9)
-        except ProcessLookupError:
-            pass
-        os.waitpid(self.process, 0)
-
-
-def try_shell(name: str, top: str, programs: str, failures: Failures) -> None:
-    words, first = SHELLS[name]
-    terminal = Terminal(words, top, programs)
-    try:
-        terminal.type(f"{first}; echo rea''dy\r")
-        if not terminal.await_text(r"(?m)^ready", START):
-            failures.expect(f"{name} starts", terminal.seen, "ready")
-            return
-        for typed, wanted in LINES:
-            terminal.type(f"confstore {typed}\t")
-            time.sleep(0.5)
-            terminal.type("\r")
-            found = terminal.await_text(r"called: (.*?)\.\r?\n", PATIENCE)
-            failures.expect(f"{name}: {typed}", found and found[1].strip().removesuffix("/"), wanted)
-    finally:
-        terminal.close()
 
 
 def look_up_words(failures: Failures) -> None:
@@ -166,12 +86,14 @@ def main() -> int:
     failures = Failures()
     with tempfile.TemporaryDirectory() as top:
         store_with_names(top)
-        programs = put_program(top)
-        for name in SHELLS:
-            if shutil.which(name):
-                try_shell(name, top, programs, failures)
+        programs = os.path.join(top, "bin")
+        os.mkdir(programs)
+        put_stand_in(programs, "confstore")
+        for shell in SHELLS:
+            if shutil.which(shell):
+                press_keys(shell, "confstore", LINES, top, programs, failures)
             else:
-                print(f"left out: {name}")
+                print(f"left out: {shell}")
     look_up_words(failures)
     return failures.report()
 

@@ -1,10 +1,10 @@
 #!/usr/bin/env python3
 """Random commands with conditions through the built program, beside the model of lib/store_model.py.
 
-Each store gets some commands over few names. Most begin with conditions, of which some hold and some do not: a value that
-is there or nearly is, a place that is empty or is not, the count or one beside it, names and pointers that can't be ones,
-and lists that are no conditions. Each answer has to be the model's, and at the end the file has to mean the state of the
-model: a record holds no condition. Every second session is one in groups.
+Each store gets some commands over few names. Most begin with conditions, of which some hold and some do not: a value
+that is there or nearly is, a place that is empty or is not, the count or one beside it, names and pointers that can't
+be ones, and lists that are no conditions. Each answer has to be the model's, and at the end the file has to mean the
+state of the model: a record holds no condition. Every second session is one in groups.
 
     checks/conditions.py [COMMANDS]
 
@@ -24,11 +24,14 @@ from collections import Counter
 from collections.abc import Sequence
 from typing import Any
 
+from lib.answers import send
+from lib.command_line import number_given
 from lib.store_model import meaning
-from lib.store_runs import GROUPED, SINGLE, Failures, need_program, read_file, session
+from lib.store_runs import GROUPED, SINGLE, Failures, need_program, read_file
 from lib.trees import NAME, Configs, Document, Refused, as_json, as_tree, performed, value_at
 
-COMMANDS = int(sys.argv[1]) if len(sys.argv) > 1 else 10_000
+# How many commands with conditions are sent, if no other number is given.
+COMMANDS = 10_000
 # How many commands a store gets.
 LENGTH = 50
 NAMES = ("a", "b", "c", "d", "Bad")
@@ -135,24 +138,11 @@ class Commands:
             self.note(command, "refused" if edits else "refused: EmptyBatch")
 
 
-def is_right(found: str, wanted: str) -> bool:
-    """Whether an answer is the wanted one. Where a command is refused for its edits, any of their refusals is right."""
-    others = ("refused: Unmet", "refused: BadCommand", "refused: EmptyBatch")
-    return found.startswith("refused: ") and found not in others if wanted == "refused" else found == wanted
-
-
 def try_store(chance: random.Random, top: str, words: Sequence[str], failures: Failures, about: str) -> Commands:
     """Sends random commands to a store, and looks at the answers and at what its file means."""
     folder = os.path.join(top, "folder")
-    os.mkdir(folder)
     commands = Commands(chance)
-    status, answers, errors = session(folder, "".join(commands.texts).encode(), words)
-    failures.expect(f"{about}: status", (status, errors), (0, ""))
-    found = [answer.split("\n")[1] for answer in answers.decode().split("...\n")[:-1]]
-    failures.expect(f"{about}: answers", len(found), len(commands.wanted))
-    for number, (one, wanted) in enumerate(zip(found, commands.wanted)):
-        name = f"{about}, command {number}: {commands.texts[number]!r} is answered {one} and not {wanted}"
-        failures.expect(name, is_right(one, wanted), True)
+    send(folder, words, commands.texts, commands.wanted, failures, about)
     configs, count, rest = meaning(read_file(os.path.join(folder, "store.yaml")))
     failures.expect(f"{about}: state", (configs, count, rest), (commands.configs, commands.count, 0))
     failures.expect(f"{about}: order", list(configs), list(commands.configs))
@@ -163,7 +153,8 @@ def main() -> int:
     need_program()
     failures, done, number = Failures(), 0, 0
     answers: Counter[str] = Counter()
-    while done < COMMANDS:
+    wanted = number_given(1, COMMANDS)
+    while done < wanted:
         with tempfile.TemporaryDirectory() as top:
             words = SINGLE if number % 2 else GROUPED
             commands = try_store(random.Random(number), top, words, failures, f"store {number}")

@@ -8,7 +8,8 @@
   nor the words that look into the file.) A folder without a store gets none.
 - **The table of words** of confstorectl has the arguments and options that the help of confstore has.
 - **Streams** that are closed, full, or that nobody reads, and a terminal, where more is said of a refused text.
-- **Waiting** for a store that is locked, and for a server that is not there; and which socket is taken.
+- **Waiting** for a store that is locked, and for a server that is not there; and which socket is taken. In a copy of a
+  folder that has a link to the first one's socket no word is done.
 - **Clients.** Sixteen of them append 50 texts each to one list: it has all of them, those of each in their order. So
   do four without a server, which wait for each other. Sixteen add one to the same number a hundred times each, where
   nobody came between: it ends at 1,600. Four without a server do the same.
@@ -20,7 +21,7 @@
 
 Run it from the repository's root after the program is built; it needs PyYAML, and takes one minute or two:
 
-    ./confstore --version && python3 checks/ctl.py
+    ./prove && python3 checks/ctl.py
 
 The last line is 'N passed, M failed', and the status is 0 if M is 0.
 """
@@ -41,13 +42,15 @@ import sys
 import tempfile
 import threading
 import time
-from collections.abc import Callable, Iterator, Sequence
+from collections.abc import Iterator, Sequence
 from concurrent.futures import ThreadPoolExecutor
 from typing import Any, NamedTuple
 
 from lib.ctl_rows import NODE_ROWS, ROWS, Row
 from lib.ctl_table import Table, table_of_ctl, table_of_program
+from lib.keys import SHELLS, press_keys, put_stand_in
 from lib.store_runs import PROGRAM, TOP, Failures, need_program, read_file, write_file
+from lib.waiting import accepts, until
 
 sys.path.insert(0, os.path.join(TOP, "python"))
 
@@ -64,6 +67,9 @@ PAGES = os.path.join(TOP, "python", "pages_of_confstorectl.py")
 
 # The words that a program has alone which takes a store as it is in its folder, or no store at all.
 OF_PROGRAM_ALONE = {"init", "run", "salvage", "backup", "format", "check", "help"}
+
+# The words that confstorectl has alone.
+OF_CTL_ALONE = {"batch", "watch", "edit", "render"}
 
 # How long anything here is waited for, in seconds.
 PATIENCE = 60
@@ -173,28 +179,13 @@ def ctl(*words: str, given: bytes = b"", **more: Any) -> Done:
     return done([*CTL, *words], given, **more)
 
 
-def until(holds: Callable[[], bool]) -> bool:
-    """Whether something comes to hold."""
-    deadline = time.monotonic() + PATIENCE
-    while not holds():
-        if time.monotonic() > deadline:
-            return False
-        time.sleep(0.01)
-    return True
-
-
-def accepts(path: str) -> bool:
-    with socket.socket(socket.AF_UNIX) as connection:
-        return connection.connect_ex(path) == 0
-
-
 @contextlib.contextmanager
 def running(words: Sequence[str], path: str) -> Iterator[subprocess.Popen[bytes]]:
     """A program that takes clients at a path, and is told to end."""
     quiet = subprocess.DEVNULL
     with subprocess.Popen(list(words), env=ENVIRONMENT, stderr=quiet, stdout=quiet) as process:
         try:
-            if not until(lambda: accepts(path) or process.poll() is not None) or process.poll() is not None:
+            if not until(lambda: accepts(path) or process.poll() is not None, PATIENCE) or process.poll() is not None:
                 raise RuntimeError(f"no server: {words}")
             yield process
         finally:
@@ -314,7 +305,7 @@ def lacking(row: Row, of_program: Table, of_ctl: Table) -> bool:
 def try_table(_top: str, failures: Failures) -> None:
     """Both programs have the same words, but those that the lists below name, with the same options and arguments."""
     of_program, of_ctl = table_of_program(PROGRAM), table_of_ctl()
-    mine, theirs = set(of_ctl) - {"batch", "watch"}, set(of_program) - OF_PROGRAM_ALONE
+    mine, theirs = set(of_ctl) - OF_CTL_ALONE, set(of_program) - OF_PROGRAM_ALONE
     failures.expect("the words", sorted(mine), sorted(theirs))
     for word in sorted(mine & theirs):
         failures.expect(f"the options of {word}", of_ctl[word].options, of_program[word].options)
@@ -338,6 +329,7 @@ def try_words(top: str, failures: Failures) -> None:
             asked = Side(top, "node", "confstorectl", ["--socket", at])
             node_model.do(node_rows, top)
             asked.do(node_rows, top)
+            try_link_of_node(os.path.join(top, "node-store"), at, failures)
         for thread in threads:
             thread.join()
     compare(asked, node_model, node_rows, failures)
@@ -350,6 +342,16 @@ def try_words(top: str, failures: Failures) -> None:
 
 
 # ---- streams, waiting, sockets
+
+
+def try_link_of_node(folder: str, at: str, failures: Failures) -> None:
+    """A link to a node's socket is taken in the node's folder, and not in a copy of it."""
+    os.symlink(at, os.path.join(folder, "confstore.sock"))
+    copy = f"{folder}.copy"
+    subprocess.run(["cp", "-a", folder, copy], check=True)
+    failures.expect("the node's folder", ctl("names", folder).status, 0)
+    found = ctl("import", copy, "lost", given=b"x")
+    failures.expect("a copy of it", (found.status, found.fault("confstorectl")), (3, ["OtherStore"]))
 
 
 def through_shell(line: str, folder: str, program: str) -> Done:
@@ -429,6 +431,7 @@ def try_finding(folder: str, at: str, failures: Failures) -> None:
     link = os.path.join(folder, "confstore.sock")
     os.symlink(at, link)
     failures.expect("the folder's", ctl("set", folder, "web", "/n", "5").status, 0)
+    try_copies(folder, failures)
     os.remove(link)
     other = os.path.join(os.path.dirname(folder), "x" * 120)
     with Store(other, make=True, program=PROGRAM) as store:
@@ -442,6 +445,25 @@ def try_finding(folder: str, at: str, failures: Failures) -> None:
         os.chdir(here)
     failures.expect("one that was left", ctl("set", "--whole", other, "web", "", "y").status, 0)
     failures.expect("what was set there", ctl("get", other, "web").output, b'"y"\n')
+
+
+def try_copies(folder: str, failures: Failures) -> None:
+    """Copies of a folder with a link to the socket of its server. No word goes to the store of the first folder; once
+    the link is removed, it goes into the copy."""
+    of_first = os.path.join(folder, "store.yaml")
+    for how in ("-al", "-a"):
+        copy = f"{folder}.copy{how}"
+        subprocess.run(["cp", how, folder, copy], check=True)
+        held = read_file(of_first), read_file(os.path.join(copy, "store.yaml"))
+        for words in (["set", copy, "web", "/n", "6"], ["get", copy, "web"], ["rename", copy, "web", "to"]):
+            found = ctl(*words)
+            failures.expect(f"cp {how}: {words[0]}", (found.status, found.fault("confstorectl")), (3, ["OtherStore"]))
+        left = read_file(of_first), read_file(os.path.join(copy, "store.yaml"))
+        failures.expect(f"cp {how}: what it left", left, held)
+    os.remove(os.path.join(copy, "confstore.sock"))
+    failures.expect("a copy without the link", ctl("set", copy, "web", "/n", "6").status, 0)
+    failures.expect("what was set in it", ctl("get", copy, "web", "/n", "--raw").output, b"6\n")
+    failures.expect("the first store", read_file(of_first), held[0])
 
 
 # ---- clients
@@ -555,7 +577,7 @@ def change_all(writer: Writer, watch: subprocess.Popen[bytes], watched: Watched,
                 writer.change(share if turn < CHECKPOINTS - 1 else CHANGES - writer.number)
                 if turn < CALM:
                     calm = writer.number
-                    failures.expect(f"all is told up to {calm}", until(lambda: watched.have_come_to(calm)), True)
+                    failures.expect(f"all is told up to {calm}", until(lambda: watched.have_come_to(calm), PATIENCE), True)
                 writer.checkpoint()
             if life % 2:
                 os.kill(session_of(server), signal.SIGKILL)
@@ -610,7 +632,7 @@ def try_watching(top: str, failures: Failures) -> None:
         thread.start()
         calm = change_all(writer, watches[0], watched, failures)
         with serving(writer.at, folder):
-            failures.expect("all come to the end", until(lambda: watched.have_come_to(CHANGES)), True)
+            failures.expect("all come to the end", until(lambda: watched.have_come_to(CHANGES), PATIENCE), True)
         thread.join(PATIENCE)
     finally:
         for watch in watches:
@@ -680,27 +702,6 @@ LINES = [
 ]
 
 
-def press_keys(shell: str, top: str, programs: str, failures: Failures) -> None:
-    """Presses keys in a shell with the file of completions alone."""
-    from completions import PATIENCE as KEY_PATIENCE, SHELLS, START, Terminal
-
-    words, first = SHELLS[shell]
-    terminal = Terminal(words, top, programs)
-    try:
-        terminal.type(f"{first.replace('confstore.', 'confstorectl.')}; echo rea''dy\r")
-        if not terminal.await_text(r"(?m)^ready", START):
-            failures.expect(f"{shell} starts", terminal.seen, "ready")
-            return
-        for typed, wanted in LINES:
-            terminal.type(f"confstorectl {typed}\t")
-            time.sleep(0.7)
-            terminal.type("\r")
-            found = terminal.await_text(r"called: (.*?)\.\r?\n", KEY_PATIENCE)
-            failures.expect(f"{shell}: {typed}", found and found[1].strip().removesuffix("/"), wanted)
-    finally:
-        terminal.close()
-
-
 def try_pages(top: str, failures: Failures) -> None:
     checked = done([sys.executable, PAGES, "--check"])
     failures.expect("the pages", (checked.status, checked.output, checked.errors), (0, b"", ""))
@@ -710,14 +711,12 @@ def try_pages(top: str, failures: Failures) -> None:
     with Store(os.path.join(room, "store"), make=True, program=PROGRAM) as store:
         store.update({"web": "x", "app": "x"})
     write_file(os.path.join(room, "file.yaml"), b"a: b\n")
-    script = f'#!/bin/sh\nif [ "$1" = names ]; then exec "{PROGRAM}" "$@"; fi\necho "called: $*."\n'
-    write_file(os.path.join(programs, "confstorectl"), script.encode())
-    os.chmod(os.path.join(programs, "confstorectl"), 0o755)
-    shells = {shell: shutil.which(shell) for shell in ("bash", "zsh", "fish")}
+    put_stand_in(programs, "confstorectl")
+    shells = {shell: shutil.which(shell) for shell in SHELLS}
     print("".join(f"left out: {shell}\n" for shell, path in shells.items() if path is None), end="")
     there = [shell for shell, path in shells.items() if path is not None]
     with ThreadPoolExecutor() as pool:
-        list(pool.map(lambda shell: press_keys(shell, room, programs, failures), there))
+        list(pool.map(lambda shell: press_keys(shell, "confstorectl", LINES, room, programs, failures), there))
 
 
 def main() -> int:

@@ -7,7 +7,7 @@ The hook is run in a repository of its own, with files that differ between the i
 
 Run it from the repository's root after the program is built; it takes some seconds:
 
-    ./confstore --version && python3 checks/editors.py
+    ./prove && python3 checks/editors.py
 
 The last line is 'N passed, M failed', and the status is 0 if M is 0.
 """

@@ -1,25 +1,39 @@
 #!/usr/bin/env python3
-"""Looks at each edit that the prover has to refuse, and fails if one no longer fits the code.
+"""Looks at each edit that the prover has to refuse, and fails if one no longer fits the code, or was not tried on it.
 
-These are the edits of crates/*/must-fail, which the gate tries, and of crates/*/must-fail-beside. The file that an edit
-names has to be there, and each `old:` text has to occur in it exactly once. In the file with the edit applied, each
-name that is imported from a module of this repository has to be defined there: else the edit would be refused for that
-alone. A module that the toolchain writes, or one that exports another whole, is not looked at. The last line is
-'N edits, M wrong', and the status is 1 if M is above 0. It takes a second.
+    checks/edits.py                        looks at all
+    checks/edits.py --sum CRATE            prints the checksum of what the crate's edits beside the gate stand on
+    checks/edits.py --tried CRATE SUM      notes that the prover refused all of them, if the crate has this checksum
+
+These are the edits of crates/*/must-fail, which the gate tries, and of crates/*/must-fail-beside, which
+checks/wrong_bodies.sh tries and notes. The file that an edit names has to be there, and each `old:` text has to occur in
+it exactly once. In the file with the edit applied, each name that is imported from a module of this repository has to
+be defined there: else the edit would be refused for that alone. A module that the toolchain writes, or one that exports
+another whole, is not looked at.
+
+checks/data/edits-tried has a line for each crate with edits beside the gate: its name, the checksum of its code, its
+definitions and these edits, and how many were refused, which is 0 where not all were tried on it as it stands (`TODO.md`).
+A crate that is not as its line says fails: its edits have to be tried. The last line is 'N edits, M wrong', and the status is 1
+if M is above 0. It takes a second.
 """
 
 from __future__ import annotations
 
 import functools
 import glob
+import hashlib
 import os
 import re
 import sys
 from collections.abc import Iterator
 
 TOP = os.path.dirname(os.path.dirname(os.path.abspath(__file__)))
-IMPORT = re.compile(r"\buse\s+Rattle\.(\w+)\.(specs|proofs)\.([\w.]+?)(?:\.\{([^}]*)\}|\s+as\s|;|\s*$)", re.M)
-EXPORT = re.compile(r"\bpub use\s+[\w.]+(?:\.\{([^}]*)\})?")
+TRIED = os.path.join(TOP, "checks", "data", "edits-tried")
+BESIDE = "must-fail-beside"
+# What such an edit stands on, of its crate.
+STOOD_ON = ("src", "specs", BESIDE)
+IMPORT = re.compile(r"\buse\s+Rattle\.(\w+)\.(specs|proofs)((?:\.\w+)*)(?:\.\{([^}]*)\}|\s+as\s|;|\s*$)", re.M)
+EXPORT = re.compile(r"\bpub use\s+[\w.]*\w(?:\.\{([^}]*)\})?")
 DECLARED = re.compile(
     r"^\s*(?:(?:pub|abbrev)\s+)*(?:(?:data|record)\s+(\S+)|([^:={}()]+?)\s*(?:(?:\{[^}]*\}|\([^)]*\))\s*)*:\s)", re.M
 )
@@ -57,20 +71,27 @@ def is_generated(module: str) -> bool:
     return re.search(r"(^|\.)[a-z]", module) is not None
 
 
-def missing_imports(text: str) -> Iterator[str]:
-    """What the text imports from this repository that is not there."""
+def imports(text: str) -> Iterator[tuple[str, str, str, str]]:
+    """What a text imports from this repository: each crate, folder, module and name. A name may be empty."""
     for crate, folder, module, entries in IMPORT.findall(text):
-        path = f"crates/{crate}/{folder}/{module.replace('.', '/')}.antt"
         if not os.path.isdir(os.path.join(TOP, "crates", crate)):
             continue
+        for name in [name for name, _ in names_in(entries)] or [""]:
+            inner, _, last = name.rpartition(".")
+            yield crate, folder, ".".join(part for part in (module[1:], inner) if part), last
+
+
+def missing_imports(text: str) -> Iterator[str]:
+    """What the text imports from this repository that is not there."""
+    for crate, folder, module, name in imports(text):
+        path = f"crates/{crate}/{folder}/{module.replace('.', '/')}.antt"
         if not os.path.exists(os.path.join(TOP, path)):
             if not is_generated(module):
                 yield f"imports Rattle.{crate}.{folder}.{module}, which is not there"
             continue
         names = defined(path)
-        for name, _ in names_in(entries):
-            if names is not None and name not in names:
-                yield f"imports {name}, which {path} does not define"
+        if name and names is not None and name not in names:
+            yield f"imports {name}, which {path} does not define"
 
 
 def faults(path: str, crate: str) -> Iterator[str]:
@@ -102,7 +123,47 @@ def all_edits() -> Iterator[tuple[str, str]]:
             yield path, path.split(os.sep)[1]
 
 
-def main() -> int:
+def sum_of(crate: str) -> str:
+    """The checksum of what a crate's edits beside the gate stand on, by the files' names and content."""
+    found = hashlib.sha256()
+    for folder in STOOD_ON:
+        for path in sorted(glob.glob(os.path.join(TOP, "crates", crate, folder, "**", "*.*"), recursive=True)):
+            with open(path, "rb") as file:
+                content = file.read()
+            found.update(f"{os.path.relpath(path, TOP)} {len(content)}\n".encode())
+            found.update(content)
+    return found.hexdigest()
+
+
+def tried_lines() -> dict[str, list[str]]:
+    """For each crate of the list what stands behind its name: the checksum, and how many edits were refused."""
+    lines = [line.split() for line in read(TRIED).splitlines()]
+    return {crate: rest for crate, *rest in lines}
+
+
+def note_tried(crate: str, tried: str) -> None:
+    """Writes a crate's line of the list anew. The checksum is the one of the crate whose edits were tried."""
+    if tried != sum_of(crate):
+        sys.exit(f"crates/{crate} changed while its edits were tried: try them again")
+    count = len(glob.glob(os.path.join(TOP, "crates", crate, BESIDE, "*.edit")))
+    lines = {**tried_lines(), crate: [tried, str(count)]}
+    text = "".join(f"{name} {' '.join(rest)}\n" for name, rest in sorted(lines.items()))
+    with open(TRIED, "w", encoding="utf-8") as file:
+        file.write(text)
+
+
+def untried() -> Iterator[str]:
+    """What is wrong with the list of edits that were tried."""
+    lines = tried_lines()
+    crates = {path.split(os.sep)[-2] for path in glob.glob(os.path.join(TOP, "crates", "*", BESIDE))}
+    for crate in sorted(crates):
+        if lines.get(crate, [""])[0] != sum_of(crate):
+            yield f"crates/{crate}: its edits were not tried as it stands: checks/wrong_bodies.sh {crate}"
+    for crate in sorted(lines.keys() - crates):
+        yield f"checks/data/edits-tried: {crate} has no edits beside the gate"
+
+
+def look() -> int:
     edits = list(all_edits())
     wrong = 0
     for path, crate in edits:
@@ -110,8 +171,24 @@ def main() -> int:
         for fault in found:
             print(f"{path} {fault}")
         wrong += bool(found)
+    for fault in untried():
+        print(fault)
+        wrong += 1
     print(f"{len(edits)} edits, {wrong} wrong")
     return 1 if wrong else 0
+
+
+def main() -> int:
+    match sys.argv[1:]:
+        case []:
+            return look()
+        case ["--sum", crate]:
+            print(sum_of(crate))
+        case ["--tried", crate, tried]:
+            note_tried(crate, tried)
+        case _:
+            sys.exit(__doc__)
+    return 0
 
 
 if __name__ == "__main__":

@@ -13,7 +13,7 @@ answers were begun to be written are held.
 
 Run it from the repository's root after the program is built. It takes half a minute, and needs a C compiler:
 
-    ./confstore --version && python3 checks/fail_calls.py
+    ./prove && python3 checks/fail_calls.py
 
 The status is 0 if all is as it should be.
 """
@@ -21,21 +21,19 @@ The status is 0 if all is as it should be.
 from __future__ import annotations
 
 import errno
+import functools
 import os
 import shutil
 import sys
 import tempfile
-from collections import Counter
 from collections.abc import Iterator, Mapping, Sequence
-from concurrent.futures import ThreadPoolExecutor
+from dataclasses import dataclass
 
+from lib.call_faults import ENDED, Call, Kind, counted, try_faults
 from lib.stories import LOOK, NEW, TORN, Story
 from lib.store_runs import (
     SINGLE, Ended, Failures, compiled, dropped, need_program, read_file, rest_of, session, write_file,
 )
-
-# The status of a process that the library ended.
-ENDED = 99
 
 # How a session ends: its status and its line on standard error.
 Ending = tuple[int, str]
@@ -70,86 +68,23 @@ CHANGES_IN_A_GROUP = [
 ]
 
 
-class Kind:
-    """A way in which a call goes wrong: what of it is done, what it returns, and the error's number. With `later`,
-    all later calls fail."""
+@dataclass(frozen=True)
+class PlacedCall(Call):
+    """A call with its place in its session: whether it is the first on its file, the calls after it, how many bytes of
+    input were read before, and how many bytes of output were written."""
 
-    def __init__(self, done: str, answer: str, error: int = 0, later: bool = False) -> None:
-        self.done = done
-        self.answer = answer
-        self.error = error
-        self.later = later
-
-    def __str__(self) -> str:
-        error = f" {errno.errorcode[self.error]}" if self.error else ""
-        return f"{self.done} done, {self.answer}{error}{', then every call fails' if self.later else ''}"
-
-    def environment(self, call: int) -> dict[str, str]:
-        names = {"FAULT_CALL": str(call), "FAULT_DONE": self.done, "FAULT_ANSWER": self.answer}
-        names["FAULT_ERROR"] = str(self.error)
-        return {**names, **({"FAULT_LATER": "1"} if self.later else {})}
-
-
-ANY_CALL = [
-    Kind("none", "error", errno.EIO),
-    Kind("none", "error", errno.EIO, later=True),
-    Kind("whole", "error", errno.EIO),
-    Kind("none", "exit"),
-    Kind("whole", "exit"),
-]
-INTERRUPTED = Kind("none", "error", errno.EINTR)
-HALF = Kind("half", "count")
-OF_WRITES = [
-    Kind("none", "error", errno.ENOSPC),
-    Kind("half", "error", errno.ENOSPC),
-    Kind("half", "count", errno.ENOSPC, later=True),
-    Kind("none", "zero"),
-    Kind("half", "exit"),
-    HALF,
-    INTERRUPTED,
-]
-OF_CALLS = {
-    "write": ANY_CALL + OF_WRITES,
-    "read": ANY_CALL + [HALF, INTERRUPTED],
-    "flock": ANY_CALL + [Kind("none", "error", errno.EWOULDBLOCK)],
-    "fsync": ANY_CALL + [INTERRUPTED],
-    "open": ANY_CALL + [INTERRUPTED],
-    "create": ANY_CALL + [INTERRUPTED],
-}
-
-
-class Call:
-    """A call of a session without faults: its number from 1, its name, the file that it is made on, and its place in
-    the session: whether it is the first on its file, the calls after it, how many bytes of input were read before, and
-    how many bytes of output were written."""
-
-    def __init__(
-        self, number: int, name: str, file: str, size: int, first: bool, following: Sequence[str], taken: int,
-        written: int,
-    ) -> None:  # fmt: skip
-        self.number = number
-        self.name = name
-        self.file = file
-        self.size = size
-        self.first = first
-        self.following = following
-        self.taken = taken
-        self.begun = taken > 0 or self.reads_input()
-        self.written = written
-
-    def __str__(self) -> str:
-        return f"call {self.number}, {self.name} {self.file}"
+    first: bool
+    following: Sequence[str]
+    taken: int
+    written: int
 
     def kinds(self) -> list[Kind]:
-        """The faults of this call. The input may end anywhere, a file may not. One byte has no half. A handle that is
-        not closed shows nothing before the next call."""
-        kinds = OF_CALLS.get(self.name, ANY_CALL)
-        if self.reads_input():
-            kinds = kinds + [Kind("none", "zero")]
-        return [
-            kind for kind in kinds
-            if not (kind.done == "half" and self.size == 1) and not (kind.later and self.name == "close")
-        ]
+        """The faults of this call. The input may end anywhere, a file may not."""
+        return super().kinds() + ([Kind("none", "zero")] if self.reads_input() else [])
+
+    def is_begun(self) -> bool:
+        """Whether opening has ended by then."""
+        return self.taken > 0 or self.reads_input()
 
     def reads_input(self) -> bool:
         return (self.name, self.file) == ("read", "input")
@@ -161,9 +96,10 @@ class Call:
         """Whether the call reads or writes the note in `store.lock`."""
         return self.name in ("read", "write") and self.file == "store.lock"
 
-    def is_append_next(self) -> bool:
-        """Whether the next call appends to `store.yaml`."""
-        return bool(self.following) and self.following[0].startswith("write store.yaml ")
+    def is_change_next(self) -> bool:
+        """Whether the next call, but for looks and closed handles, appends to `store.yaml` or renames a file to it."""
+        following = next((line for line in self.following if not line.startswith(("statx ", "close "))), "")
+        return following.startswith(("write store.yaml ", "rename "))
 
     def is_look_at_end(self) -> bool:
         """Whether the call looks for `store.yaml` once all is answered, so that no `store.lock` is left without one."""
@@ -178,7 +114,7 @@ class Call:
         """Whether the program does without the call: a handle that is closed, the look whether there is a /proc, the
         mode of `store.lock`, the look for a store at the end, and the note that the device has all bytes."""
         if self.is_of_note():
-            return self.name == "write" and not self.is_append_next()
+            return self.name == "write" and not self.is_change_next()
         is_mode_of_lock = (self.name, self.file) == ("fchmod", "store.lock")
         is_look = (self.file == "proc" and self.first) or self.is_look_at_end()
         return self.name == "close" or is_look or is_mode_of_lock
@@ -211,7 +147,7 @@ class Trial:
         """Whether all commands are one group: they come by one read."""
         return self.story.words != SINGLE and not self.most
 
-    def calls(self) -> tuple[Ended, list[Call]]:
+    def calls(self) -> tuple[Ended, list[PlacedCall]]:
         """The calls of the session without faults, and what it answers."""
         log = os.path.join(self.top, "log")
         folder = self.folder("folder")
@@ -221,13 +157,13 @@ class Trial:
         shutil.rmtree(folder)
         return ended, list(self.placed(lines))
 
-    def placed(self, lines: Sequence[str]) -> Iterator[Call]:
+    def placed(self, lines: Sequence[str]) -> Iterator[PlacedCall]:
         files: set[str] = set()
         taken = written = 0
         for number, line in enumerate(lines, 1):
             name, file, asked = line.split(" ")
             size = min(int(asked), self.most or int(asked))
-            yield Call(number, name, file, size, file not in files, lines[number:], taken, written)
+            yield PlacedCall(number, name, file, size, file not in files, lines[number:], taken, written)
             files.add(file)
             taken = min(len(self.story.commands), taken + size) if (name, file) == ("read", "input") else taken
             written += size if (name, file) == ("write", "output") else 0
@@ -236,7 +172,7 @@ class Trial:
 class Expected:
     """How a session with a fault ends, how many bytes of output it writes, and how many commands may be held."""
 
-    def __init__(self, trial: Trial, call: Call, kind: Kind) -> None:
+    def __init__(self, trial: Trial, call: PlacedCall, kind: Kind) -> None:
         story = trial.story
         self.ended: Ending
         self.ended, whole = ending(call, kind)
@@ -244,14 +180,14 @@ class Expected:
         performed = len(story.changes) if whole else story.answered(call.written)
         most = len(story.changes) if trial.is_one_group() else performed + 1
         self.least = story.accepted(performed)
-        self.most = story.accepted(most) if call.begun else self.least
+        self.most = story.accepted(most) if call.is_begun() else self.least
         if call.answers() and not whole:
             self.least = self.most
         if call.reads_input() and not whole:
             self.most = self.least
         if call.reads_input() and kind.answer == "zero":
             self.ended = (0, not_performed(story.commands[: call.taken]))
-        if whole or call.begun:
+        if whole or call.is_begun():
             self.ended = (self.ended[0], dropped(rest_of(story.files)) + self.ended[1])
 
 
@@ -264,14 +200,14 @@ def not_performed(taken: bytes) -> str:
     return f"confstore: the {what} not performed: "
 
 
-def written_by(call: Call, kind: Kind) -> int:
+def written_by(call: PlacedCall, kind: Kind) -> int:
     """How many bytes of output the call writes."""
     if not call.answers():
         return 0
     return {"none": 0, "half": call.size // 2, "whole": call.size}[kind.done]
 
 
-def ending(call: Call, kind: Kind) -> tuple[Ending, bool]:
+def ending(call: PlacedCall, kind: Kind) -> tuple[Ending, bool]:
     """How a session with this fault ends, and whether it is performed whole."""
     if kind.answer == "exit":
         return STOPPED, False
@@ -284,7 +220,7 @@ def ending(call: Call, kind: Kind) -> tuple[Ending, bool]:
     return (DONE, True) if goes_on(call, kind) else (DEVICE, False)
 
 
-def goes_on(call: Call, kind: Kind) -> bool:
+def goes_on(call: PlacedCall, kind: Kind) -> bool:
     """Whether the program finishes the call, or does without it: one that it doesn't need, one that was cut short, and
     one on the folder that was interrupted, but for a note, which is one byte."""
     if kind.later:
@@ -294,7 +230,7 @@ def goes_on(call: Call, kind: Kind) -> bool:
     return kind.error == errno.EINTR and call.file != "output" and not call.is_of_note()
 
 
-def try_fault(trial: Trial, call: Call, kind: Kind) -> tuple[Failures, str]:
+def try_fault(trial: Trial, call: PlacedCall, kind: Kind) -> tuple[Failures, str]:
     """A session with a fault: what is wrong with it, and how many commands are held after it."""
     name = f"{trial.story.name}, {call}, {kind}"
     folder = trial.folder(f"{call.number} {kind}")
@@ -328,24 +264,17 @@ def try_story(top: str, story: Story, most: int, failures: Failures) -> None:
         changing = [f"{call.name} {call.file}" for call in calls if is_change(call)]
         wanted = CHANGES_OF_NEW if story is NEW else CHANGES_IN_A_GROUP
         failures.expect(f"the calls that change {story.name}", changing, wanted)
-    pairs = [(call, kind) for call in calls for kind in call.kinds()]
-    with ThreadPoolExecutor(os.cpu_count()) as workers:
-        results = list(workers.map(lambda pair: try_fault(trial, *pair), pairs))
-    endings = Counter(ending for _, ending in results)
-    for found, _ in results:
-        failures.tried += found.tried
-        failures.wrong += found.wrong
-    summary = ", ".join(f"{count} {ending}" for ending, count in sorted(endings.items()))
+    endings = try_faults(calls, functools.partial(try_fault, trial), failures)
     parts = f", at most {most} bytes at a time" if most else ""
-    print(f"  {story.name}{parts}: {len(calls)} calls, {len(pairs)} faults: {summary}")
+    print(f"  {story.name}{parts}: {len(calls)} calls, {counted(endings)}")
 
 
-def is_change(call: Call) -> bool:
+def is_change(call: PlacedCall) -> bool:
     """Whether a call changes the folder, syncs a change, or answers."""
     return call.name in ("fsync", "unlink", "create", "link", "rename", "write")
 
 
-def is_cause(line: str, folder: str, call: Call, kind: Kind) -> bool:
+def is_cause(line: str, folder: str, call: PlacedCall, kind: Kind) -> bool:
     """Whether a line says why the call failed: of which file or folder, and the reason. Where all later calls fail, it
     may be any of them. A new file takes the name `store.yaml` by more than one call, and the owner of the folder is
     looked at for `store.lock`."""

@@ -1,11 +1,12 @@
 #!/usr/bin/env python3
 """Lets each system call of `confstore format -i` on two files go wrong in turn, and looks at the files.
 
-The library and the ways in which a call goes wrong are those of fail_calls.py. The first file is named by a link. Each
-time a file is its old text or its new one, whole, with its mode, and the link stays. The status and the message tell
-what was done: status 0 and no message where both files are new; else status 3, and a line for each file that was not
-read or not replaced, with the cause in a second line where one is known. Every file that is not named is new. One that is named as `Input` is old. One that is named as
-`Output` is old, or new where the rename was made but failed, or its folder could not be synced then.
+The library and the ways in which a call goes wrong are those of lib/call_faults.py. The first file is named by a link.
+Each time a file is its old text or its new one, whole, with its mode, and the link stays. The status and the message
+tell what was done: status 0 and no message where both files are new; else status 3, and a line for each file that was
+not read or not replaced, with the cause in a second line where one is known. Every file that is not named is new. One
+that is named as `Input` is old. One that is named as `Output` is old, or new where the rename was made but failed, or
+its folder could not be synced then.
 
 No new file is left beside them, but where the process was ended, the removal failed too, or the file was made by a call
 that failed. A run without faults then finds a folder in which it works as ever.
@@ -15,14 +16,14 @@ old, or of the program, when both are; or the run does without it.
 
 Run it from the repository's root after the program is built. It takes some seconds, and needs a C compiler:
 
-    ./confstore --version && python3 checks/fail_file_calls.py
+    ./prove && python3 checks/fail_file_calls.py
 
 The status is 0 if all is as it should be.
 """
 
 from __future__ import annotations
 
-import itertools
+import functools
 import os
 import re
 import shutil
@@ -30,11 +31,10 @@ import stat
 import subprocess
 import sys
 import tempfile
-from collections import Counter
-from collections.abc import Collection
-from concurrent.futures import ThreadPoolExecutor
+from collections.abc import Collection, Mapping
 
-from fail_calls import ANY_CALL, ENDED, OF_CALLS, Kind
+from lib.call_faults import ENDED, Call, Kind, calls_in, counted, try_faults
+from lib.refusals import DONE, OUT_OF_MEMORY, Run, Trial, refuse_each
 from lib.store_runs import PROGRAM, Failures, compiled, need_program, read_file, write_file
 
 # The files: the name that the program is given, the file that it means, its old text, and its new one.
@@ -42,6 +42,8 @@ FILES = [
     ("link.yaml", "one.yaml", b"{port: 80, host: example}", b'port: "80"\nhost: example\n'),
     ("two.yaml", "two.yaml", b"[a, b]\n", b"- a\n- b\n"),
 ]
+
+NAMES = [given for given, *_ in FILES]
 
 # The mode of both files.
 MODE = 0o640
@@ -57,29 +59,9 @@ CHANGES = [
 FAULT = re.compile(r"(.+): (Input|Output|OutOfMemory)")
 
 
-class Call:
-    """A call of a run without faults: its number from 1, its name, the file that it is made on, and how many bytes it
-    moves."""
-
-    def __init__(self, number: int, line: str) -> None:
-        self.number = number
-        self.name, self.file, size = line.split(" ")
-        self.size = int(size)
-
-    def __str__(self) -> str:
-        return f"call {self.number}, {self.name} {self.file}"
-
-    def may_replace(self) -> bool:
-        """Whether a file may be new though the call failed: it is the rename, or the sync of the folder after it."""
-        return self.name == "rename" or (self.name == "fsync" and not self.file.endswith(".tmp"))
-
-    def kinds(self) -> list[Kind]:
-        """The faults of this call. One byte has no half. A handle that is not closed shows nothing before the next
-        call."""
-        return [
-            kind for kind in OF_CALLS.get(self.name, ANY_CALL)
-            if not (kind.done == "half" and self.size == 1) and not (kind.later and self.name == "close")
-        ]
+def may_replace(call: Call) -> bool:
+    """Whether a file may be new though the call failed: it is the rename, or the sync of the folder after it."""
+    return call.name == "rename" or (call.name == "fsync" and not call.file.endswith(".tmp"))
 
 
 def new_folder(top: str, name: str) -> str:
@@ -94,10 +76,10 @@ def new_folder(top: str, name: str) -> str:
     return folder
 
 
-def run(folder: str, **faults: str) -> tuple[int, bytes]:
-    """The program on both files: its status, and what it wrote to standard error."""
-    words = [PROGRAM, "format", "-i", *(name for name, *_ in FILES)]
-    done = subprocess.run(words, cwd=folder, capture_output=True, check=False, env={**os.environ, **faults})
+def run(folder: str, environment: Mapping[str, str]) -> tuple[int, bytes]:
+    """The program on both files: its status, and what it wrote."""
+    words = [PROGRAM, "format", "-i", *NAMES]
+    done = subprocess.run(words, cwd=folder, capture_output=True, check=False, env={**os.environ, **environment})
     return done.returncode, done.stdout + done.stderr
 
 
@@ -105,10 +87,10 @@ def calls_of(top: str, library: str, failures: Failures) -> list[Call]:
     """The calls of a run without faults."""
     log = os.path.join(top, "log")
     folder = new_folder(top, "plain")
-    failures.expect("without faults", run(folder, LD_PRELOAD=library, FAULT_LOG=log), (0, b""))
+    failures.expect("without faults", run(folder, {"LD_PRELOAD": library, "FAULT_LOG": log}), (0, b""))
     expect_files("without faults", folder, [], failures)
     shutil.rmtree(folder)
-    calls = [Call(number, line) for number, line in enumerate(read_file(log).decode().splitlines(), 1)]
+    calls = calls_in(log)
     changing = [
         f"{call.name} {'folder' if call.name == 'fsync' and '.tmp' not in call.file else call.file}" for call in calls
         if call.name in ("create", "write", "fchmod", "fchown", "fsync", "rename", "unlink")
@@ -139,16 +121,15 @@ def try_fault(top: str, library: str, call: Call, kind: Kind) -> tuple[Failures,
     name = f"{call}, {kind}"
     folder = new_folder(top, name)
     failures = Failures()
-    status, said = run(folder, LD_PRELOAD=library, **kind.environment(call.number))
-    names = [given for given, *_ in FILES]
+    status, said = run(folder, {"LD_PRELOAD": library, **kind.environment(call.number)})
     if kind.answer == "exit":
         failures.expect(f"{name}: ending", (status, said), (ENDED, b""))
-        expect_files(name, folder, [], failures, names)
+        expect_files(name, folder, [], failures, NAMES)
     else:
         expect_told(name, folder, status, said, call, kind, failures)
         may_be_left = kind.later or call.name == "unlink" or (call.name == "create" and kind.done == "whole")
         failures.expect(f"{name}: left over", left_over(folder) if not may_be_left else [], [])
-    failures.expect(f"{name}: run again", run(folder), (0, b""))
+    failures.expect(f"{name}: run again", run(folder, {}), (0, b""))
     expect_files(f"{name}: run again", folder, [], failures)
     shutil.rmtree(folder)
     return failures, "ended" if kind.answer == "exit" else "done" if status == 0 else list(told_of(said).values())[-1]
@@ -177,53 +158,37 @@ def expect_told(
     causes = [pair for pair in zip(lines, ["", *lines]) if not FAULT.fullmatch(pair[0])]
     failures.expect(f"{name}: the causes {causes}", all(is_cause(*pair, kind) for pair in causes), True)
     failures.expect(f"{name}: the status of {lines}", status, 3 if told else 0)
-    failures.expect(f"{name}: what is told of each file", set(told) <= {given for given, *_ in FILES}, True)
+    failures.expect(f"{name}: what is told of each file", set(told) <= set(NAMES), True)
     failures.expect(f"{name}: why", set(told.values()) <= {"Input", "Output"}, True)
-    either = [given for given, why in told.items() if why == "Output" and call.may_replace()]
+    either = [given for given, why in told.items() if why == "Output" and may_replace(call)]
     expect_files(name, folder, told, failures, either)
 
 
-def try_allocations(top: str, failures: Failures) -> None:
-    """Refuses each allocation of a run in turn."""
-    library, mark = compiled("refuse.c", top), os.path.join(top, "refused")
-    endings: Counter[str] = Counter()
-    for number in itertools.count(1):
-        name = f"without allocation {number}"
-        folder = new_folder(top, name)
-        status, said = run(folder, LD_PRELOAD=library, REFUSE_ALLOCATION=str(number), REFUSED_FILE=mark)
-        was_refused = os.path.exists(mark)
-        told = told_of(said)
-        failures.expect(f"{name}: the lines {said!r}", len(said.splitlines()), len(told))
-        named = [given for given, *_ in FILES] if "confstore" in told else list(told)
-        failures.expect(f"{name}: status", status, 1 if told else 0)
-        failures.expect(f"{name}: {told}", set(told.values()) <= {"OutOfMemory"}, True)
-        expect_files(name, folder, named, failures)
-        failures.expect(f"{name}: left over", left_over(folder), [])
-        shutil.rmtree(folder)
-        if not was_refused:
-            failures.expect("no allocation refused", told, {})
-            break
-        os.remove(mark)
-        endings["out of memory" if told else "done without"] += 1
-    print(f"  {number - 1} allocations: " + ", ".join(f"{count} {end}" for end, count in sorted(endings.items())))
+def run_without(lacking: Run) -> str:
+    """A run without one of its allocations: how it ended."""
+    folder = new_folder(lacking.top, "folder")
+    status, said = run(folder, lacking.environment)
+    told = told_of(said)
+    lacking.expect(f"the lines {said!r}", len(said.splitlines()), len(told))
+    lacking.expect("the status", status, 1 if told else 0)
+    lacking.expect(f"{told}", set(told.values()) <= {"OutOfMemory"}, True)
+    expect_files(lacking.name, folder, NAMES if "confstore" in told else told, lacking.failures)
+    lacking.expect("left over", left_over(folder), [])
+    shutil.rmtree(folder)
+    return OUT_OF_MEMORY if told else DONE
 
 
 def main() -> int:
     need_program()
     failures = Failures()
     with tempfile.TemporaryDirectory() as top:
-        try_allocations(top, failures)
+        found, line = refuse_each(compiled("refuse.c", top), top, Trial("format -i", run_without))
+        failures.take(found)
+        print(f"  {line}")
         library = compiled("fail_calls.c", top)
         calls = calls_of(top, library, failures)
-        pairs = [(call, kind) for call in calls for kind in call.kinds()]
-        with ThreadPoolExecutor(os.cpu_count()) as workers:
-            results = list(workers.map(lambda pair: try_fault(top, library, *pair), pairs))
-    for found, _ in results:
-        failures.tried += found.tried
-        failures.wrong += found.wrong
-    endings = Counter(ending for _, ending in results)
-    summary = ", ".join(f"{count} {end}" for end, count in sorted(endings.items()))
-    print(f"  {len(calls)} calls, {len(pairs)} faults: {summary}")
+        endings = try_faults(calls, functools.partial(try_fault, top, library), failures)
+    print(f"  {len(calls)} calls, {counted(endings)}")
     return failures.report()
 
 

@@ -1,34 +1,33 @@
 #!/usr/bin/env python3
 """Lets each system call of each word that changes a store go wrong in turn, and looks at what is left.
 
-The library and the ways in which a call goes wrong are those of fail_calls.py; the words, and what each has to leave,
-are in lib/word_rows.py. Each time `store.yaml` has what it had or what the word makes of it, once what opening drops is
-taken off, and a new store of `init`, `salvage` or `backup` is not there or is whole. Status 0 says that the change is
-made. Another status comes with a fault, and where no call after the failed one fails too, no empty folder is left.
-`verify` then finds the store whole, and the word, run again, makes the change or finds it made.
+The library and the ways in which a call goes wrong are those of lib/call_faults.py; the words, and what each has to
+leave, are in lib/word_rows.py. Each time `store.yaml` has what it had or what the word makes of it, once what opening
+drops is taken off, and a new store of `init`, `salvage` or `backup` is not there or is whole. Status 0 says that the
+change is made. Another status comes with a fault, and where no call after the failed one fails too, no empty folder is
+left. `verify` then finds the store whole, and the word, run again, makes the change or finds it made.
 
 Run it from the repository's root after the program is built. It takes a minute, and needs a C compiler:
 
-    ./confstore --version && python3 checks/fail_word_calls.py
+    ./prove && python3 checks/fail_word_calls.py
 
 The last line is 'N passed, M failed', and the status is 0 if M is 0.
 """
 
 from __future__ import annotations
 
+import functools
 import os
 import re
 import shutil
 import subprocess
 import sys
 import tempfile
-from collections import Counter
 from collections.abc import Mapping
-from concurrent.futures import ThreadPoolExecutor
 from dataclasses import dataclass
 
-from fail_calls import ANY_CALL, ENDED, OF_CALLS, Kind
-from lib.store_runs import PROGRAM, Failures, compiled, need_program, read_file
+from lib.call_faults import ENDED, Call, Kind, calls_in, counted, try_faults
+from lib.store_runs import PROGRAM, Ended, Failures, compiled, need_program
 from lib.word_rows import BASE, STORE, WORDS, Word, files_in, new_folder
 
 # The line of a fault, as `confstore: Device`, or of a file that is read, as `-: Input`.
@@ -38,56 +37,24 @@ INTO_NEW = ("salvage", "backup")
 
 
 @dataclass(frozen=True)
-class Call:
-    """A call of a run without faults: its number from 1, its name, its file, and how many bytes it moves."""
-
-    number: int
-    name: str
-    file: str
-    size: int
-
-    def __str__(self) -> str:
-        return f"call {self.number}, {self.name} {self.file}"
-
-    def kinds(self) -> list[Kind]:
-        """The faults of this call. One byte has no half. A handle that is not closed shows nothing before the next
-        call."""
-        return [
-            kind for kind in OF_CALLS.get(self.name, ANY_CALL)
-            if not (kind.done == "half" and self.size == 1) and not (kind.later and self.name == "close")
-        ]  # fmt: skip
-
-
-@dataclass(frozen=True)
 class Trial:
     """The runs of a word in folders of their own."""
 
     top: str
     word: Word
 
-    def run(self, folder: str, faults: Mapping[str, str]) -> tuple[int, bytes, str]:
-        done = subprocess.run(
-            [PROGRAM, *self.word.words.split()],
-            cwd=folder,
-            input=self.word.input,
-            capture_output=True,
-            check=False,
-            env={**os.environ, **faults},
-        )
-        return done.returncode, done.stdout, done.stderr.decode()
-
-    def faulty(self, folder: str, faults: Mapping[str, str]) -> tuple[int, bytes, str]:
-        return self.run(folder, {"LD_PRELOAD": os.path.join(self.top, "fail_calls.so"), **faults})
+    def run(self, folder: str, faults: Mapping[str, str]) -> Ended:
+        library = os.path.join(self.top, "fail_calls.so")
+        return self.word.run(folder, {**os.environ, "LD_PRELOAD": library, **faults})
 
     def calls(self, failures: Failures) -> list[Call]:
         """The calls of a run without faults."""
         log = os.path.join(self.top, f"log {self.word.words.replace('/', ' ')}")
         folder = new_folder(os.path.join(self.top, "plain", self.word.words.replace("/", " ")))
         name = f"{self.word.words}, without faults"
-        failures.expect(name, self.faulty(folder, {"FAULT_LOG": log}), (self.word.status, self.word.output, ""))
+        failures.expect(name, self.run(folder, {"FAULT_LOG": log}), (self.word.status, self.word.output, ""))
         failures.expect(f"{name}: files", files_in(folder), self.word.files())
-        lines = [line.split(" ") for line in read_file(log).decode().splitlines()]
-        return [Call(number, name, file, int(size)) for number, (name, file, size) in enumerate(lines, 1)]
+        return calls_in(log)
 
 
 def without_rest(content: bytes) -> bytes:
@@ -134,7 +101,7 @@ def run_again(trial: Trial, name: str, folder: str, was_whole: bool, failures: F
     verified = subprocess.run([PROGRAM, "verify", "S"], cwd=folder, capture_output=True, check=False)
     begins = verified.stdout.startswith(b"state: whole\n")
     failures.expect(f"{name}: verified", (verified.returncode, begins), (0, True))
-    status, _, errors = trial.run(folder, {})
+    status, _, errors = trial.word.run(folder, os.environ)
     if not was_whole:
         said = "".join(line for line in errors.splitlines(keepends=True) if "dropped" not in line)
         failures.expect(f"{name}: run again", (status, said), (trial.word.status, ""))
@@ -150,7 +117,7 @@ def try_fault(trial: Trial, call: Call, kind: Kind) -> tuple[Failures, str]:
     name = f"{trial.word.words}, {call}, {kind}"
     folder = new_folder(os.path.join(trial.top, name.replace("/", " ")))
     failures = Failures()
-    status, _, errors = trial.faulty(folder, kind.environment(call.number))
+    status, _, errors = trial.run(folder, kind.environment(call.number))
     files = files_in(folder)
     expect_files(trial, name, files, failures)
     if kind.answer == "exit":
@@ -168,15 +135,8 @@ def try_fault(trial: Trial, call: Call, kind: Kind) -> tuple[Failures, str]:
 def try_word(top: str, word: Word, failures: Failures) -> None:
     """Each kind of fault at each call of a word."""
     trial = Trial(top, word)
-    endings: Counter[str] = Counter()
-    with ThreadPoolExecutor(os.cpu_count()) as pool:
-        tasks = [pool.submit(try_fault, trial, call, kind) for call in trial.calls(failures) for kind in call.kinds()]
-        for task in tasks:
-            found, ended = task.result()
-            failures.tried += found.tried
-            failures.wrong += found.wrong
-            endings[ended] += 1
-    print(f"  {word.words}: {sum(endings.values())} faults: " + ", ".join(f"{n} {how}" for how, n in endings.items()))
+    endings = try_faults(trial.calls(failures), functools.partial(try_fault, trial), failures)
+    print(f"  {word.words}: {counted(endings)}")
 
 
 def main() -> int:

@@ -23,7 +23,7 @@ the changes before the failure and after it: while it has no room, a loop device
 
 Run it from the repository's root after the program is built. It takes a minute, and needs a C compiler:
 
-    ./confstore --version && python3 checks/failed_syncs.py
+    ./prove && python3 checks/failed_syncs.py
 
 The status is 0 if all is as it should be.
 """
@@ -42,6 +42,7 @@ from contextlib import contextmanager
 from pathlib import Path
 from typing import NamedTuple
 
+from lib.call_faults import ENDED, Kind
 from lib.store_runs import EMPTY, GROUPED, PROGRAM, SINGLE, Failures, compiled, need_program
 
 # How long a call of the system or of the program may take, in seconds.
@@ -63,10 +64,9 @@ CLEAN, DIRTY, LOST = range(3)
 CHANGES = 4
 LONG = 9_000
 
-# How a session ends, with the number of its changes that were acknowledged; the last is one that the library ended.
+# How a session ends, with the number of its changes that were acknowledged.
 DONE = (0, CHANGES)
 DEVICE = (3, 0)
-ENDED = 99
 
 # The changes of the session on a device that fails, and of the one after it, by the key that they set; the length of a
 # value where the device is to run out of room.
@@ -203,7 +203,7 @@ def numbers_of(calls: Sequence[str], name: str, file: str) -> list[int]:
 
 
 def fault(call: int, done: str, answer: str, error: int = errno.EIO) -> dict[str, str]:
-    return {"FAULT_CALL": str(call), "FAULT_DONE": done, "FAULT_ANSWER": answer, "FAULT_ERROR": str(error)}
+    return Kind(done, answer, error).environment(call)
 
 
 def try_killed(new: Maker, words: Sequence[str]) -> None:

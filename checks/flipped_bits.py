@@ -8,7 +8,7 @@ figures say what to expect of a device that changes bytes.
 
 Run it from the repository's root after the program is built; it takes some seconds:
 
-    ./confstore --version && python3 checks/flipped_bits.py
+    ./prove && python3 checks/flipped_bits.py
 
 A seed may follow. The status is 0 if all is as it should be.
 """
@@ -21,6 +21,7 @@ import sys
 import tempfile
 from collections import Counter
 
+from lib.command_line import seed_given
 from lib.store_runs import Failures, need_program, read_file, session, write_file
 
 FLIPS = 300
@@ -51,9 +52,7 @@ def seen(folder: str, before: int, failures: Failures) -> str:
 
 def main() -> int:
     need_program()
-    seed = int(sys.argv[1]) if len(sys.argv) > 1 else random.randrange(10**9)
-    print(f"seed {seed}")
-    chance, failures = random.Random(seed), Failures()
+    chance, failures = random.Random(seed_given(1)), Failures()
     with tempfile.TemporaryDirectory() as top:
         for name, commands in JOURNALS.items():
             store = os.path.join(top, name)

@@ -5,8 +5,8 @@ Ten stores are made by sessions. Their files are changed at random: bits flipped
 swapped, doubled, taken out or exchanged with those of another store, cut anywhere, and followed by zeros. Then a
 checkpoint is made, and the state is read from the new base.
 
-- Each file is opened, or refused by `NotAStore` or `Damaged`. A refused file stays as it is. Standard error has the name
-  of the refusal, or else one line if bytes after the last piece are dropped, which says how many.
+- Each file is opened, or refused by `NotAStore` or `Damaged`. A refused file stays as it is. Standard error has the
+  name of the refusal, or else one line if bytes after the last piece are dropped, which says how many.
 - After a change of whole pieces, a cut, or zeros, the state or the refusal has to be that of lib/store_model.py.
 - After a change of bytes, the states have to be the same where both find one. The model reads by libyaml, which
   reads another YAML in places. Files that only one of them opens are counted, and so are those with breaks of YAML
@@ -17,7 +17,7 @@ checkpoint is made, and the state is read from the new base.
 
 Run it from the repository's root after the program is built; it takes two minutes, and needs PyYAML:
 
-    ./confstore --version && python3 checks/fuzz_stores.py
+    ./prove && python3 checks/fuzz_stores.py
 
 A number of files and a seed may follow. The status is 0 if all is as it should be.
 """
@@ -36,6 +36,7 @@ from collections.abc import Callable, Sequence
 from concurrent.futures import ProcessPoolExecutor
 from typing import Union
 
+from lib.command_line import number_given, seed_given
 from lib.mutations import changed, flip_bit, place
 from lib.store_model import OLD_BREAKS, Damaged, NotAStore, meaning, pieces_of, read_base
 from lib.store_runs import EMPTY, PROGRAM, Failures, dropped, need_program, read_file, session, write_file
@@ -63,8 +64,8 @@ Outcome = Union[State, str]
 Change = Callable[[random.Random, bytes, bytes], bytes]
 # The shape of a tree, without its texts.
 Shape = Union[str, "list[Shape]", "tuple[tuple[str, Shape], ...]"]
-# What was counted, how often something was tried, and what went wrong.
-Tried = tuple["Counter[tuple[str, str]]", int, "list[str]"]
+# What was counted, and what went wrong.
+Tried = tuple["Counter[tuple[str, str]]", Failures]
 
 
 def imports(name: str, text: str) -> str:
@@ -329,14 +330,12 @@ def try_files(stores: Sequence[bytes], seed: str, count: int) -> Tried:
                 opening_changes_nothing(folder, content, program, failures)
             if number % VERIFIED == 0:
                 verified(folder, content, program, failures)
-    return counts, failures.tried, failures.wrong
+    return counts, failures
 
 
 def main() -> int:
     need_program()
-    count = int(sys.argv[1]) if len(sys.argv) > 1 else COUNT
-    seed = int(sys.argv[2]) if len(sys.argv) > 2 else random.randrange(10**6)
-    print(f"seed {seed}")
+    count, seed = number_given(1, COUNT), seed_given(2)
     failures, stores = Failures(), made_stores()
     counts: Counter[tuple[str, str]] = Counter()
     failures.expect("the empty store", stores[0], EMPTY)
@@ -344,10 +343,9 @@ def main() -> int:
         starts = range(0, count, CHUNK)
         parts = [workers.submit(try_files, stores, f"{seed} {start}", min(CHUNK, count - start)) for start in starts]
         for part in parts:
-            found, tried, wrong = part.result()
+            found, others = part.result()
             counts += found
-            failures.tried += tried
-            failures.wrong += wrong
+            failures.take(others)
     for subject in ("all files", "the model and the program", "one flipped bit"):
         counted = [f"{number} {word}" for (about, word), number in counts.most_common() if about == subject]
         print(f"  {subject}: {', '.join(counted)}")

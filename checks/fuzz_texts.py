@@ -34,9 +34,10 @@ from collections.abc import Iterable, Iterator, Sequence
 from concurrent.futures import Future, ProcessPoolExecutor
 from typing import Any
 
-from cases import CASES, TOP, bytes_of, read_cases
+from lib.command_line import number_given, seed_given
 from lib.mutations import changed
-from lib.store_runs import Failures, read_file
+from lib.store_runs import TOP, Failures, need_program, program_of, read_file
+from lib.text_cases import CASES, bytes_of, read_cases
 
 yaml: Any
 try:
@@ -44,7 +45,7 @@ try:
 except ImportError:
     yaml = None
 
-PROBE = os.path.join(TOP, "crates", "tree_probe", "out", "tree_probe")
+PROBE = program_of("tree_probe")
 COUNT = 1_000_000
 
 # For each long text there are so many short ones.
@@ -284,11 +285,8 @@ def try_texts(source: Iterable[bytes], count: int, longest: int, failures: Failu
 
 
 def main() -> int:
-    if not os.access(PROBE, os.X_OK):
-        sys.exit("tree_probe is not built: run 'rt run' in crates/tree_probe first")
-    count = int(sys.argv[1]) if len(sys.argv) > 1 else COUNT
-    seed = int(sys.argv[2]) if len(sys.argv) > 2 else random.randrange(10**6)
-    print(f"seed {seed}")
+    need_program(PROBE)
+    count, seed = number_given(1, COUNT), seed_given(2)
     failures = Failures()
     chance = random.Random(seed)
     try_texts(short_texts(chance, count), count, LONGEST_SHORT, failures)

@@ -21,7 +21,6 @@ be.
 
 from __future__ import annotations
 
-import os
 import random
 import re
 import subprocess
@@ -31,10 +30,10 @@ from collections import Counter
 from collections.abc import Callable, Sequence
 from concurrent.futures import ProcessPoolExecutor
 
+from lib.command_line import number_given, seed_given
 from lib.lengths import SLICE, base_length, meant, record_length, styled
-from lib.store_runs import TOP, Failures
+from lib.store_runs import STORE_PROBE, Failures, need_program
 
-PROGRAM = os.path.join(TOP, "crates", "store_probe", "out", "store_probe")
 COUNT = 6_000
 CHUNK = 100
 
@@ -43,8 +42,8 @@ SECONDS = 60
 HANGS = 100
 LONGEST = 60
 
-# What was counted, how often something was tried, and what went wrong.
-Tried = tuple["Counter[str]", int, "list[str]"]
+# What was counted, and what went wrong.
+Tried = tuple["Counter[str]", Failures]
 
 NAMES = ["a", "b", "c"]
 # The lengths of texts: short ones, and such as make one slice, two, or several.
@@ -87,6 +86,11 @@ def orders_of(chance: random.Random) -> list[str]:
     return orders + ["open", "count", "names", *(f"export;{name}" for name in NAMES)]
 
 
+# The calls that write to the disk, and what is answered where a checkpoint in slices runs or does not.
+WRITES = ("flush", "begin", "slice", "slices", "checkpoint")
+UNTIMELY = {"begin": "a checkpoint runs", "slice": "no checkpoint runs", "slices": "0 slices"}
+
+
 class Model:
     """The accepted commands, by the states after each of them, and what is known of the store and its folder."""
 
@@ -101,9 +105,6 @@ class Model:
     @property
     def count(self) -> int:
         return len(self.states) - 1
-
-    def all_flushed(self) -> None:
-        self.flushed = self.count
 
     def fails(self, answer: str) -> bool:
         """Whether the answer is that the disk failed, if it may. The store has to be opened again then."""
@@ -131,7 +132,7 @@ class Model:
             return self.command(words[1:], answer)
         if kind in ("import", "set", "delete"):
             return self.single([kind, *words], answer)
-        return self.answer_to(kind, words, answer)
+        return self.writes(kind, answer) if kind in WRITES else self.answer_to(kind, words, answer)
 
     def answer_to(self, kind: str, words: list[str], answer: str) -> bool:
         """Whether the answer to an order is right, by the method of its name."""
@@ -169,7 +170,7 @@ class Model:
         before = self.count
         is_right = self.command(words, answer)
         if self.count > before and not self.needs_reopen:
-            self.all_flushed()
+            self.flush()
         return is_right
 
     def command(self, words: list[str], answer: str) -> bool:
@@ -187,58 +188,39 @@ class Model:
         self.states.append(after)
         return self.fails(answer) or answer == str(self.count)
 
-    def flush(self, _words: list[str], answer: str) -> bool:
+    def writes(self, kind: str, answer: str) -> bool:
+        """Whether the answer to a call that writes to the disk is right. It is made by the method of its name."""
+        if kind in UNTIMELY and (self.left is None) != (kind == "begin"):
+            return answer == UNTIMELY[kind]
         if self.needs_reopen:
             return answer == "Reopen"
-        if self.fails(answer):
-            return True
-        self.all_flushed()
-        return answer == "done"
+        made: Callable[[], str] = getattr(self, kind)
+        return self.fails(answer) or answer == made()
 
-    def begin(self, _words: list[str], answer: str) -> bool:
-        if self.left is not None:
-            return answer == "a checkpoint runs"
-        if self.needs_reopen:
-            return answer == "Reopen"
-        if self.fails(answer):
-            return True
+    def flush(self) -> str:
+        self.flushed = self.count
+        return "done"
+
+    def begin(self) -> str:
         self.left = base_length(self.count, self.states[-1])
-        return answer == "done"
+        return "done"
 
-    def slice(self, _words: list[str], answer: str) -> bool:
-        if self.left is None:
-            return answer == "no checkpoint runs"
-        if self.needs_reopen:
-            return answer == "Reopen"
-        if self.fails(answer):
-            return True
-        if self.left > SLICE:
-            self.left -= SLICE
-            return answer == f"left {self.left}"
-        self.left = None
-        self.all_flushed()
-        return answer == "done"
+    def slice(self) -> str:
+        assert self.left is not None
+        if self.left <= SLICE:
+            return self.checkpoint()
+        self.left -= SLICE
+        return f"left {self.left}"
 
-    def slices(self, _words: list[str], answer: str) -> bool:
-        if self.left is None:
-            return answer == "0 slices"
-        if self.needs_reopen:
-            return answer == "Reopen"
-        if self.fails(answer):
-            return True
+    def slices(self) -> str:
+        assert self.left is not None
         count = -(-self.left // SLICE)
-        self.left = None
-        self.all_flushed()
-        return answer == f"{count} slices"
+        self.checkpoint()
+        return f"{count} slices"
 
-    def checkpoint(self, _words: list[str], answer: str) -> bool:
-        if self.needs_reopen:
-            return answer == "Reopen"
-        if self.fails(answer):
-            return True
+    def checkpoint(self) -> str:
         self.left = None
-        self.all_flushed()
-        return answer == "done"
+        return self.flush()
 
     def running(self, _words: list[str], answer: str) -> bool:
         return answer == ("false" if self.left is None else "true")
@@ -286,10 +268,10 @@ def try_lists(seed: str, count: int, end: float) -> Tried:
     chance, failures = random.Random(seed), Failures()
     counts: Counter[str] = Counter()
     if time.monotonic() > end:
-        return counts, failures.tried, failures.wrong
+        return counts, failures
     lists = [orders_of(chance) for _ in range(count)]
     lines = "".join(f"{order}\n" for orders in lists for order in orders).encode()
-    done = subprocess.run([PROGRAM], input=lines, capture_output=True, check=False, timeout=HANGS)
+    done = subprocess.run([STORE_PROBE], input=lines, capture_output=True, check=False, timeout=HANGS)
     answers = done.stdout.decode().splitlines()
     failures.expect(f"seed {seed}: status and answers", (done.returncode, len(answers)), (0, sum(map(len, lists))))
     at = 0
@@ -298,24 +280,20 @@ def try_lists(seed: str, count: int, end: float) -> Tried:
         failures.expect(f"seed {seed}", wrong, None)
         counts += found
         at += len(orders)
-    return counts, failures.tried, failures.wrong
+    return counts, failures
 
 
 def main() -> int:
-    if not os.access(PROGRAM, os.X_OK):
-        sys.exit(f"{PROGRAM} is not built: run `rt run < stdin` in its crate first")
-    count = int(sys.argv[1]) if len(sys.argv) > 1 else COUNT
-    seed = int(sys.argv[2]) if len(sys.argv) > 2 else random.randrange(10**6)
-    print(f"seed {seed}")
+    need_program(STORE_PROBE)
+    count, seed = number_given(1, COUNT), seed_given(2)
     failures, end = Failures(), time.monotonic() + SECONDS
     counts: Counter[str] = Counter()
     with ProcessPoolExecutor() as workers:
         parts = range(0, count, CHUNK)
         for part in [workers.submit(try_lists, f"{seed} {part}", min(CHUNK, count - part), end) for part in parts]:
-            found, tried, wrong = part.result()
+            found, others = part.result()
             counts += found
-            failures.tried += tried
-            failures.wrong += wrong
+            failures.take(others)
     counted = ", ".join(f"{number} {word}" for word, number in counts.most_common())
     print(f"  {counts['folder']} lists, {sum(counts.values())} answers: {counted}")
     failures.expect("lists were run", counts["folder"] > 0, True)

@@ -6,7 +6,7 @@ lines up to the next command are what it prints, on standard output or standard 
 a folder and run in order, by one bash each. Of README.md the first list is run, and the file compared that the second
 shows. The program has to be built first:
 
-    ./confstore --version && python3 checks/guide.py [--write]
+    ./prove && python3 checks/guide.py [--write]
 
 `--write` puts what the commands print into the page, to be looked at. The environment's CONFSTORE names another
 program. The last line is 'N passed, M failed', of commands; the status is 0 if M is 0.

@@ -17,7 +17,7 @@
 The library that lets calls go wrong is shims/fail_calls.c. Run it from the repository's root after the program is
 built; run as root it tries more. It takes a minute at most, and needs a C compiler:
 
-    ./confstore --version && python3 checks/hostile_folders.py
+    ./prove && python3 checks/hostile_folders.py
 
 The status is 0 if all is as it should be.
 """
@@ -202,9 +202,11 @@ def hidden_files(top: Path, library: str, failures: Failures) -> None:
                     name = f"{words[0]}, {file} hidden from call {number}{' once' if often else ''}"
                     folder = new_store(top, name)
                     status, output = run(PROGRAM, *words, str(folder), commands=COMMANDS, LD_PRELOAD=library,
-                                         FAULT_CALL=str(number), FAULT_HIDE=file, FAULT_ERROR=str(errno.ENOENT), **often)
+                                         FAULT_CALL=str(number), FAULT_HIDE=file,
+                                         FAULT_ERROR=str(errno.ENOENT), **often)
                     least = sum(f'ok: "{at}"' in output for at in ("2", "3"))
-                    failures.expect(f"{name}: the status {status}", status in ((0, 3) if words == ("run",) else (1, 3)), True)
+                    allowed = (0, 3) if words == ("run",) else (1, 3)
+                    failures.expect(f"{name}: the status {status}", status in allowed, True)
                     failures.expect(f"{name}: the value {value_of(folder)!r}", value_of(folder) in VALUES[least:], True)
                     shutil.rmtree(folder)
                     tried += 1

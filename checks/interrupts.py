@@ -13,7 +13,7 @@ that returned is there with the number that it returned, none is there that was 
 
 Run it from the repository's root after the program is built; it takes ten seconds, or two minutes for 10,000:
 
-    ./confstore --version && python3 checks/interrupts.py [--interruptions 10000] [--seed NUMBER]
+    ./prove && python3 checks/interrupts.py [--interruptions 10000] [--seed NUMBER]
 
 The status is 0 if all is as it should be.
 """
@@ -38,9 +38,10 @@ import threading
 import time
 from collections.abc import Callable, Sequence
 from types import FrameType
-from typing import Any
+from typing import Any, TypeVar
 
 from lib.store_runs import PROGRAM, TOP, Failures, need_program
+from lib.waiting import until
 
 PACKAGE = os.path.join(TOP, "python", "confstore")
 sys.path.insert(0, os.path.dirname(PACKAGE))
@@ -66,6 +67,7 @@ VALUES: dict[str, Any] = {
 NAMES = ["l", "p", "t", "d", "o0", "o1", *VALUES]
 STOPPED = "stopped"
 
+Result = TypeVar("Result")
 # What is interrupted, and what is done with what it returned or raised.
 Call = Callable[[], object]
 Told = Callable[[Any], object]
@@ -154,26 +156,20 @@ def children() -> list[str]:
     return found
 
 
-def until(condition: Callable[[], bool]) -> bool:
-    """Whether a condition comes true in time."""
-    end = time.monotonic() + PATIENCE
-    while not condition():
-        if time.monotonic() > end:
-            return False
-        time.sleep(0.005)
-    return True
-
-
-def opened(folder: str) -> Store:
-    """A store that another one may just be letting go of."""
+def unlocked(call: Callable[[], Result]) -> Result:
+    """What a call gives on a store that another one may just be letting go of."""
     end = time.monotonic() + PATIENCE
     while True:
         try:
-            return Store(folder, timeout=PATIENCE)
+            return call()
         except Locked:
             if time.monotonic() > end:
                 raise
             time.sleep(0.005)
+
+
+def opened(folder: str) -> Store:
+    return unlocked(lambda: Store(folder, timeout=PATIENCE))
 
 
 class Beside(threading.Thread):
@@ -326,7 +322,7 @@ class Block:
             self.wrong.append("a store that is closed answers")
         except Closed:
             pass
-        self.reopen_at_last()
+        unlocked(self.store.reopen)
 
     def reopen(self, _: str) -> tuple[Call, Told]:
         if self.chance.random() < 0.5:
@@ -335,25 +331,14 @@ class Block:
             other = self.store._session._other
             assert isinstance(other, Program)
             os.kill(other.process.pid, signal.SIGKILL)
-            if not until(lambda: self.store._session.end is not None):
+            if not until(lambda: self.store._session.end is not None, PATIENCE):
                 self.wrong.append("a session that is killed does not end")
 
         def told(found: object) -> None:
             self.expect("reopen", found, None)
-            self.reopen_at_last()
+            unlocked(self.store.reopen)
 
         return self.store.reopen, told
-
-    def reopen_at_last(self) -> None:
-        end = time.monotonic() + PATIENCE
-        while True:
-            try:
-                self.store.reopen()
-                return
-            except Locked:
-                if time.monotonic() > end:
-                    raise
-                time.sleep(0.005)
 
     def opening(self, _: str) -> tuple[Call, Told]:
         def told(found: object) -> None:
@@ -392,7 +377,7 @@ class Block:
             self.expect("a later call", self.store.get(name), VALUES[name])
         except ConfstoreError as fault:
             self.wrong.append(f"a later call: {type(fault).__name__}: {str(fault)[:80]}")
-            self.reopen_at_last()
+            unlocked(self.store.reopen)
 
     def compare(self) -> None:
         """The records beside what was told."""
@@ -458,7 +443,7 @@ class Block:
         self.store.close()
         self.interrupter.found = None
         gc.collect()
-        if not until(lambda: not children()):
+        if not until(lambda: not children(), PATIENCE):
             self.counts["a process that is left"] += 1
 
 

@@ -7,11 +7,11 @@ there that was not sent. Some sessions are killed while they open the store, som
 every other one each answer is awaited before the next command is sent.
 
 `kill -9` takes away what the process has, and nothing of the system's: what a crash of the machine leaves is tested
-over a disk in memory (crates/crash_probe). Half of the sessions are in groups, with checkpoints in slices beside them.
+over a disk in memory (crates/store_probe). Half of the sessions are in groups, with checkpoints in slices beside them.
 
 Run it from the repository's root after the program is built; it takes half a minute:
 
-    ./confstore --version && python3 checks/kills.py
+    ./prove && python3 checks/kills.py
 
 A folder for the store and a seed may follow. The status is 0 if all is as it should be.
 """
@@ -26,6 +26,7 @@ import threading
 import time
 from collections.abc import Sequence
 
+from lib.command_line import seed_given
 from lib.store_runs import PROGRAM, SINGLE, SLICED, Failures, need_program, session
 
 COMMANDS = 10_000
@@ -143,8 +144,7 @@ def kill_sessions(folder: str, chance: random.Random, failures: Failures) -> tup
 def main() -> int:
     need_program()
     folder = sys.argv[1] if len(sys.argv) > 1 else None
-    seed = int(sys.argv[2]) if len(sys.argv) > 2 else random.randrange(10**6)
-    print(f"seed {seed}")
+    seed = seed_given(2)
     failures = Failures()
     with tempfile.TemporaryDirectory(dir=folder) as top:
         failures.expect("the start", session(top, b'import: log\ntext: "[]"\n...\n'), (0, b'---\nok: "1"\n...\n', ""))

@@ -11,7 +11,7 @@
 It needs 1 GiB in a folder, which may be on a RAM disk, and the program takes as much memory. Run it from the
 repository's root after the program is built; it takes two minutes:
 
-    ./confstore --version && python3 checks/limits.py
+    ./prove && python3 checks/limits.py
 
 A folder may follow. The status is 0 if all is as it should be.
 """

@@ -1,8 +1,8 @@
 #!/usr/bin/env python3
 """Looks whether each line of the code and of the proofs can be read at once, and prints those that are too long.
 
-A line of crates/**/*.rt has at most 120 characters, and one of crates/**/*.antt 140. Two kinds of lines may have more: a
-`ghost use`, for which `rt fmt` knows one line or a line for each name, and a text in quotes alone. The last line is
+A line of crates/**/*.rt has at most 120 characters, and one of crates/**/*.antt 140. Two kinds of lines may have more:
+a `ghost use`, for which `rt fmt` knows one line or a line for each name, and a text in quotes alone. The last line is
 'N lines, M too long', and the status is 1 if M is above 0. It takes a second.
 """
 

@@ -9,7 +9,7 @@ that was sent. The last session isn't killed: the server is told to end, and all
 
 Run it from the repository's root after the program is built; it takes some seconds:
 
-    ./confstore --version && python3 checks/many_clients.py
+    ./prove && python3 checks/many_clients.py
 
 A seed may follow. The status is 0 if all is as it should be.
 """
@@ -26,7 +26,9 @@ import tempfile
 import threading
 import time
 
+from lib.command_line import seed_given
 from lib.store_runs import PROGRAM, TOP, Failures, need_program, session
+from lib.waiting import accepts, until
 
 CLIENTS = 16
 KILLS = 10
@@ -94,21 +96,13 @@ class Client(threading.Thread):
                     return
 
 
-def accepts(path: str) -> bool:
-    """Whether a server takes clients there."""
-    with socket.socket(socket.AF_UNIX) as connection:
-        return connection.connect_ex(path) == 0
-
-
 class Server:
     """The server, with its one session."""
 
     def __init__(self, path: str, folder: str) -> None:
         words = [sys.executable, os.path.join(TOP, "clients", "serve.py"), path, folder]
         self.process = subprocess.Popen(words, env=os.environ | {"CONFSTORE": PROGRAM})
-        end = time.monotonic() + PATIENCE
-        while not accepts(path) and time.monotonic() < end:
-            time.sleep(0.005)
+        until(lambda: accepts(path), PATIENCE)
 
     def kill_session(self) -> None:
         with open(f"/proc/{self.process.pid}/task/{self.process.pid}/children", encoding="ascii") as children:
@@ -163,9 +157,7 @@ def serve_clients(
 
 def main() -> int:
     need_program()
-    seed = int(sys.argv[1]) if len(sys.argv) > 1 else random.randrange(10**9)
-    print(f"seed {seed}")
-    chance, failures = random.Random(seed), Failures()
+    chance, failures = random.Random(seed_given(1)), Failures()
     with tempfile.TemporaryDirectory() as top:
         folder, path = os.path.join(top, "store"), os.path.join(top, "socket")
         os.mkdir(folder)

@@ -16,6 +16,8 @@
 - crates.txt: a library that a line names is in the files of the line's crate, and from no crate are there more than
   18,000 ways down through these lines: a toolchain may read the sources once for each.
 - docs/*.svg: the pictures that packaging/pictures draws are as it would draw them.
+- checks/ and bench/: no two scripts have one name, and none imports another: what they share is in lib/.
+- COPIES: two files that have to be the same are, and nothing is a link, which the proof refuses.
 
 It takes some seconds, and the status is 1 if a name is not there or if there are more ways.
 """
@@ -37,7 +39,13 @@ CELL_ENDS = re.compile(r"(?<!\\)\|")
 UNNAMED = {"example_edit": {"yaml_data"}, "conf_history": {"yaml_data"}}
 MOST_WAYS = 18000
 # The pages whose names of other files are looked up.
-PAGES = ("[!C]*.md", "CONTRIBUTING.md", "docs/*.md", "[!c]*/README.md", "checks/README.md", "replicated/model/README.md")
+PAGES = (
+    "[!C]*.md", "CONTRIBUTING.md", "docs/*.md", "[!c]*/README.md", "checks/README.md", "replicated/model/README.md",
+)  # fmt: skip
+# Files that have to be the same: each stands by itself where the other one is not.
+COPIES = (
+    ("python/confstore/written.py", "clients/ansible/ansible_collections/confstore/store/plugins/module_utils/written.py"),
+)  # fmt: skip
 # The enums of faults that the program prints, and the names that it prints for what isn't a variant of that name.
 FAULTS = ["Why", "ReadFault", "StoreFault", "PathFault", "OpenFault", "FolderFault", "SessionFault", "HistoryFault",
           "ReadingFault", "ConditionFault"]
@@ -273,10 +281,26 @@ def wrong_pictures() -> Iterator[str]:
     yield from checked.stdout.splitlines()
 
 
+def mixed_scripts() -> Iterator[str]:
+    scripts = [path for folder in ("checks", "bench") for path in glob.glob(os.path.join(TOP, folder, "*.py"))]
+    names = [os.path.basename(path).removesuffix(".py") for path in scripts]
+    yield from (f"{name}.py is in checks/ and in bench/" for name in sorted(set(names)) if names.count(name) > 1)
+    for path in sorted(scripts + glob.glob(os.path.join(TOP, "*", "lib", "*.py"))):
+        here = os.path.relpath(path, TOP)
+        imported = re.findall(r"^ *(?:from (\w+) import .*|import (\w+).*)$", page(here), re.M)
+        yield from (f"{here} imports the script {name}.py" for pair in imported for name in pair if name in names)
+
+
+def wrong_copies() -> Iterator[str]:
+    yield from (f"{copy} is not as {original}" for original, copy in COPIES if page(original) != page(copy))
+    kept = subprocess.run(["git", "ls-files", "-s"], cwd=TOP, capture_output=True, text=True, check=False).stdout
+    yield from (f"{path} is a link" for path in re.findall(r"^120000 .*\t(.*)$", kept, re.M))
+
+
 def main() -> int:
     looks = (missing_in_rules, missing_in_proofs, wrong_in_faults, wrong_statuses, wrong_limits, wrong_in_architecture,
              wrong_in_drawing, missing_definitions, wrong_words, missing_files, unused_libraries, many_ways,
-             wrong_pictures)  # fmt: skip
+             wrong_pictures, mixed_scripts, wrong_copies)  # fmt: skip
     missing = [line for look in looks for line in look()]
     for line in missing:
         print(line)

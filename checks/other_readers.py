@@ -8,7 +8,7 @@ the records with their numbers, the base with the configurations, and the answer
 
 Run it from the repository's root after the program is built; it takes some seconds:
 
-    ./confstore --version && /usr/bin/python3 checks/other_readers.py
+    ./prove && /usr/bin/python3 checks/other_readers.py
 
 The readers are those of Debian's packages python3-yaml (PyYAML, and libyaml with it), python3-ruamel.yaml,
 libfyaml-utils, libyaml-cpp-dev, nodejs with node-yaml, golang-go with golang-gopkg-yaml.v3-dev, and yq. A reader that

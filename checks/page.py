@@ -11,7 +11,7 @@
 It is left out where Chromium is not installed, or the program lacks the word `log`. Run it from the repository's root
 after the program is built:
 
-    ./confstore --version && python3 checks/page.py
+    ./prove && python3 checks/page.py
 
 The last line is 'N passed, M failed', and the status is 0 if M is 0.
 """

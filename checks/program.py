@@ -28,7 +28,7 @@ The rows are in checks/data/program.txt. A row is some lines, and an empty line 
 A text has the escapes of checks/cases.py, and so has the path of a file or a folder that is made. All rows share one
 folder, and run in order. The program has to be built first:
 
-    ./confstore --version && python3 checks/program.py
+    ./prove && python3 checks/program.py
 
 The last line is 'N passed, M failed', of rows; the status is 0 if M is 0.
 """
@@ -45,12 +45,12 @@ import sys
 import tempfile
 import termios
 import threading
-import time
 from collections.abc import Iterator, Sequence
 from typing import IO, Any
 
-from cases import bytes_of, long_runs
 from lib.store_runs import PROGRAM, TOP, need_program, read_file, write_file
+from lib.text_cases import bytes_of, long_runs
+from lib.waiting import until
 
 ROWS = os.path.join(TOP, "checks", "data", "program.txt")
 
@@ -130,12 +130,13 @@ def wait_until_full(pipe: int) -> None:
     """Waits until a pipe has no room for a page."""
     size = fcntl.fcntl(pipe, fcntl.F_GETPIPE_SZ)
     held = array.array("i", [0])
-    end = time.monotonic() + PATIENCE
-    while held[0] <= size - PAGE:
-        if time.monotonic() > end:
-            raise SystemExit(f"a run that was to fill a pipe wrote {held[0]} bytes")
-        time.sleep(0.01)
+
+    def is_full() -> bool:
         fcntl.ioctl(pipe, termios.FIONREAD, held)
+        return held[0] > size - PAGE
+
+    if not until(is_full, PATIENCE):
+        raise SystemExit(f"a run that was to fill a pipe wrote {held[0]} bytes")
 
 
 @contextlib.contextmanager

@@ -5,7 +5,7 @@ They are done in a clone of the last commit, with venvs in which the package is 
 `/run` and `/var/lib` stand for folders beside it, and the program is on the PATH. Each example of a page has to be
 walked: one that nothing here takes is told. What isn't installed is left out, with a line that says so.
 
-    ./confstore --version && python3 checks/readmes.py
+    ./prove && python3 checks/readmes.py
 
 It needs PyYAML for the Python that runs it. The last line is 'N passed, M failed', and the status is 0 if M is 0.
 """
@@ -21,10 +21,10 @@ import socket
 import subprocess
 import sys
 import tempfile
-import time
 from collections.abc import Callable, Iterator
 
 from lib.store_runs import PROGRAM, TOP, Failures, need_program
+from lib.waiting import accepts, until
 
 # How long anything here is waited for, in seconds.
 PATIENCE = 60
@@ -107,16 +107,9 @@ class Room:
         """A line that starts a server, which takes clients at the socket that is its last word but one."""
         path = self.here(line).split()[-2]
         with self.running(line) as process:
-            deadline = time.monotonic() + PATIENCE
-            while not is_taking(path) and process.poll() is None and time.monotonic() < deadline:
-                time.sleep(0.01)
-            self.failures.expect(f"{line!r} takes clients", is_taking(path), True)
+            until(lambda: accepts(path) or process.poll() is not None, PATIENCE)
+            self.failures.expect(f"{line!r} takes clients", accepts(path), True)
             yield
-
-
-def is_taking(path: str) -> bool:
-    with socket.socket(socket.AF_UNIX) as connection:
-        return connection.connect_ex(path) == 0
 
 
 def next_line(process: subprocess.Popen[str]) -> str:

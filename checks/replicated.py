@@ -27,308 +27,40 @@ import http.client
 import json
 import os
 import random
-import resource
 import shutil
 import signal
-import socket
 import subprocess
 import sys
 import tempfile
 import threading
 import time
-from collections.abc import Callable, Mapping, Sequence
-from typing import Any, NoReturn, Protocol
+from collections.abc import Callable, Sequence
 
-TOP = os.path.dirname(os.path.dirname(os.path.abspath(__file__)))
-PROGRAM = os.environ.get("CONFSTORE") or os.path.join(TOP, "crates", "confstore", "out", "confstore")
-sys.path[:0] = [os.path.join(TOP, "python"), os.path.join(TOP, "replicated")]
+from lib.command_line import number_given
+from lib.replicated_cluster import (
+    BASE_AFTER, MACHINES, Cluster, Ground, Loopback, Namespaces, Request, asked, end_after, limit_files, need_etcd,
+)
+from lib.replicated_log import BASE, LOG, Answers, Checks, Log, one_session, some_command
+from lib.store_runs import PROGRAM
 
-from confstore import Reader, Refused, Store  # noqa: E402
-from confstore_replicated import Client  # noqa: E402
-from confstore_replicated.entries import NO_MARK, RESERVED, edits_in, marked, number_in, refused  # noqa: E402
-from confstore_replicated.etcd import Etcd, Unavailable  # noqa: E402
+from confstore import Reader, Refused
+from confstore_replicated.entries import RESERVED, number_in
+from confstore_replicated.etcd import Etcd, Unavailable
+from confstore_replicated.history import base_in
 
-COMMANDS = int(sys.argv[1]) if len(sys.argv) > 1 else 2000
-CUT_OFF_COMMANDS = COMMANDS // 2
+# How many commands the clients send, if no other number is given, and how many clients there are.
+COMMANDS = 2000
 CLIENTS = 4
-MACHINES = 3
-BASE_AFTER = 200
-LOG = b"/confstore/default/log/"
 
 # Where syncs cost nothing, for the store of the one session.
 MEMORY = "/dev/shm" if os.access("/dev/shm", os.W_OK) else None
 
-# How many seconds there is trouble at most, one command may take with all that fails meanwhile, and the whole run.
+# How many seconds there is trouble at most, and the whole run may take.
 TROUBLE = 75
-PATIENCE = 90
 LONGEST = 400
 
-# The mark that is in the environment of all that is started here, and in names of namespaces.
-MARK = os.environ.setdefault("CONFSTORE_CHECK_MARK", f"cf{os.getpid()}")
-
-# A request to a node and what it answers; both by the id of a command; and how often each kind of trouble was made.
-Request = dict[str, Any]
-Answers = dict[str, tuple[Request, Request]]
+# How often each kind of trouble was made.
 Done = dict[str, int]
-
-# The log: of each entry its number, its id and its bytes.
-Log = Sequence[tuple[int, str, bytes]]
-
-
-def free_port() -> int:
-    with socket.socket() as probe:
-        probe.bind(("127.0.0.1", 0))
-        return int(probe.getsockname()[1])
-
-
-class Process:
-    """A process that is started, killed, stopped, and started again."""
-
-    def __init__(self, words: Sequence[str], log: str) -> None:
-        self.words, self.log = words, log
-        self.limit: int | None = None
-        self.process: subprocess.Popen[bytes] | None = None
-        self.began = 0.0
-
-    def running(self) -> subprocess.Popen[bytes]:
-        """The process that runs."""
-        assert self.process is not None
-        return self.process
-
-    def start(self) -> None:
-        def limited() -> None:
-            if self.limit is not None:
-                resource.setrlimit(resource.RLIMIT_FSIZE, (self.limit, self.limit))
-
-        environment = {**os.environ, "PYTHONPATH": os.pathsep.join(sys.path[:2]), "CONFSTORE": PROGRAM}
-        with open(self.log, "ab") as log:
-            self.process = subprocess.Popen(
-                self.words, stdin=subprocess.DEVNULL, stdout=log, stderr=log, env=environment, preexec_fn=limited,
-                start_new_session=True,
-            )  # fmt: skip
-        self.began = time.monotonic()
-
-    def children(self) -> list[int]:
-        """The sessions that it has started, as a machine that goes takes them with it."""
-        found: list[int] = []
-        tasks = f"/proc/{self.running().pid}/task"
-        try:
-            for task in os.listdir(tasks):
-                with open(f"{tasks}/{task}/children", encoding="ascii") as children:
-                    found += map(int, children.read().split())
-        except OSError:
-            pass
-        return found
-
-    def kill(self) -> None:
-        """Kills the process, and what it has started."""
-        if self.process is None:
-            return
-        for child in [*self.children(), self.process.pid]:
-            try:
-                os.kill(child, signal.SIGKILL)
-            except ProcessLookupError:
-                pass
-        self.process.wait()
-        self.process = None
-
-    def end(self, number: int) -> int | str:
-        """Tells the process to end by a signal, and waits until it has. Its status, or 0 of one that had just started,
-        since Python may not take signals yet."""
-        is_new = time.monotonic() - self.began < 5
-        self.running().send_signal(number)
-        try:
-            status = self.running().wait(60)
-        except subprocess.TimeoutExpired:
-            self.kill()
-            return "none: it had to be killed"
-        self.process = None
-        return 0 if is_new else status
-
-    def pause(self, seconds: float, ended: threading.Event) -> None:
-        self.running().send_signal(signal.SIGSTOP)
-        ended.wait(seconds)
-        self.running().send_signal(signal.SIGCONT)
-
-
-class Ground(Protocol):
-    """Where the machines are: their hosts, and what is put before the words of a process on one of them."""
-
-    hosts: list[str]
-
-    def words(self, machine: int, words: Sequence[str]) -> Sequence[str]: ...
-
-    def cut_off(self, machine: int, seconds: float, ended: threading.Event) -> None: ...
-
-    def remove(self) -> None: ...
-
-
-class Loopback:
-    """All machines are this one."""
-
-    def __init__(self) -> None:
-        self.hosts = ["127.0.0.1"] * MACHINES
-
-    def words(self, machine: int, words: Sequence[str]) -> Sequence[str]:
-        return words
-
-    def cut_off(self, machine: int, seconds: float, ended: threading.Event) -> None:
-        raise NotImplementedError("a machine can't be cut off from itself")
-
-    def remove(self) -> None:
-        pass
-
-
-class Namespaces:
-    """A network namespace for each machine, all on one bridge. A machine is cut off by taking its end of the bridge."""
-
-    def __init__(self) -> None:
-        net = f"10.213.{os.getpid() % 250}"
-        self.hosts = [f"{net}.{machine + 1}" for machine in range(MACHINES)]
-        self.run("link", "add", "name", MARK, "type", "bridge")
-        self.run("addr", "add", f"{net}.254/24", "dev", MARK)
-        self.run("link", "set", MARK, "up")
-        for machine, host in enumerate(self.hosts):
-            name, end = f"{MARK}-{machine}", self.end_of(machine)
-            self.run("netns", "add", name)
-            self.run("link", "add", end, "type", "veth", "peer", "name", "eth0", "netns", name)
-            self.run("link", "set", end, "master", MARK, "up")
-            self.run("-n", name, "addr", "add", f"{host}/24", "dev", "eth0")
-            for link in ("eth0", "lo"):
-                self.run("-n", name, "link", "set", link, "up")
-
-    def run(self, *words: str) -> None:
-        subprocess.run(["ip", *words], check=True, stdin=subprocess.DEVNULL, capture_output=True)
-
-    def end_of(self, machine: int) -> str:
-        return f"{MARK}e{machine}"
-
-    def words(self, machine: int, words: Sequence[str]) -> Sequence[str]:
-        return ["ip", "netns", "exec", f"{MARK}-{machine}", *words]
-
-    def cut_off(self, machine: int, seconds: float, ended: threading.Event) -> None:
-        self.run("link", "set", self.end_of(machine), "down")
-        ended.wait(seconds)
-        self.run("link", "set", self.end_of(machine), "up")
-
-    def remove(self) -> None:
-        for machine in range(MACHINES):
-            subprocess.run(["ip", "netns", "delete", f"{MARK}-{machine}"], check=False, capture_output=True)
-        subprocess.run(["ip", "link", "delete", MARK], check=False, capture_output=True)
-
-
-class Cluster:
-    """The members of etcd and the nodes, in a folder."""
-
-    def __init__(self, folder: str, ground: Ground) -> None:
-        self.folder, self.ground = folder, ground
-        self.small = os.path.join(folder, "store0")
-        ports = [(free_port(), free_port()) for _ in range(MACHINES)]
-        self.addresses = [f"{host}:{client}" for host, (client, _) in zip(ground.hosts, ports)]
-        peers = [f"http://{host}:{peer}" for host, (_, peer) in zip(ground.hosts, ports)]
-        together = ",".join(f"m{machine}={peer}" for machine, peer in enumerate(peers))
-        self.members = [
-            Process(
-                ground.words(machine, [
-                    "etcd", "--name", f"m{machine}", "--data-dir", os.path.join(folder, f"m{machine}"),
-                    "--listen-client-urls", f"http://{address}", "--advertise-client-urls", f"http://{address}",
-                    "--listen-peer-urls", peer, "--initial-advertise-peer-urls", peer,
-                    "--initial-cluster", together, "--log-level", "error",
-                ]),
-                os.path.join(folder, f"m{machine}.log"),
-            )
-            for machine, (address, peer) in enumerate(zip(self.addresses, peers))
-        ]  # fmt: skip
-        self.nodes = [self.node(machine) for machine in range(MACHINES)]
-
-    def socket_of(self, number: int) -> str:
-        return os.path.join(self.folder, f"s{number}")
-
-    def node(self, number: int) -> Process:
-        addresses = self.addresses[number % MACHINES :] + self.addresses[: number % MACHINES]
-        words = [
-            sys.executable, "-m", "confstore_replicated.node", self.socket_of(number),
-            os.path.join(self.folder, f"store{number}"), *addresses, "--base-after", str(BASE_AFTER),
-        ]  # fmt: skip
-        return Process(self.ground.words(number % MACHINES, words), os.path.join(self.folder, f"n{number}.log"))
-
-    def start(self) -> None:
-        os.mkdir(self.small)
-        if os.geteuid() == 0:
-            mounted = subprocess.run(["mount", "-t", "tmpfs", "-o", "size=4m", "tmpfs", self.small], check=False)
-            if mounted.returncode != 0:
-                print("the full disk is a limit of file sizes: no file system may be mounted here")
-        for process in self.members:
-            process.start()
-        Etcd(self.addresses, 60).put(b"/confstore/started", b"yes")
-        for process in self.nodes:
-            process.start()
-
-    def stop(self) -> None:
-        for process in [*self.nodes, *self.members]:
-            process.kill()
-        if os.path.ismount(self.small):
-            subprocess.run(["umount", "--lazy", self.small], check=False)
-
-    def fill_disk(self, seconds: float, ended: threading.Event) -> None:
-        """Has no byte free on the disk of the first node for so long."""
-        if not os.path.ismount(self.small):
-            return limit_files(self.nodes[0], seconds, ended)
-        ballast = os.path.join(self.small, "ballast")
-        try:
-            with open(ballast, "wb") as target:
-                while True:
-                    target.write(bytes(4096))
-                    target.flush()
-        except OSError:
-            ended.wait(seconds)
-        os.remove(ballast)
-
-
-def limit_files(process: Process, seconds: float, ended: threading.Event) -> None:
-    """Starts a process anew, so that none of its files can be longer than this for a while."""
-    process.kill()
-    process.limit = 20_000
-    process.start()
-    ended.wait(seconds)
-    process.kill()
-    process.limit = None
-    process.start()
-
-
-def asked(cluster: Cluster, number: int, request: Request, elsewhere: bool = True) -> Request:
-    """What a node answers. Tries again, and at other nodes if that is allowed, until one answers."""
-    deadline = time.monotonic() + PATIENCE
-    while True:
-        try:
-            client = Client(cluster.socket_of(number))
-            try:
-                answer = client.ask(dict(request))
-            finally:
-                client.close()
-            if "failed" not in answer:
-                return answer
-        except OSError:
-            pass
-        if time.monotonic() > deadline:
-            raise TimeoutError(f"node {number} does not answer {request}")
-        if elsewhere:
-            number = (number + 1) % MACHINES
-        time.sleep(0.05)
-
-
-def some_command(chance: random.Random, number: int) -> Request:
-    """A command over few names, so that many are refused and many meet."""
-    name = f"c{chance.randrange(6)}"
-    kind = chance.randrange(10)
-    if kind < 3:
-        return {"import": name, "text": f"at: {number}\nlist: [a, b]\n"}
-    if kind < 7:
-        return {"set": name, "path": chance.choice(["/at", "/list/-", "/list/0", "/none/x"]), "value": str(number)}
-    if kind < 8:
-        return {"delete": name, "path": chance.choice(["", "/list/0", "/at"])}
-    other = {"import": f"d{chance.randrange(3)}", "text": "[x]"}
-    return {"batch": [{"set": name, "path": "/at", "value": str(number)}, other]}
 
 
 def run_client(cluster: Cluster, part: str, which: int, count: int, answers: Answers, pause: float) -> None:
@@ -440,36 +172,6 @@ def position_of(folder: str) -> int:
     return number
 
 
-def one_session(folder: str, log: Log) -> tuple[dict[str, Request], dict[str, str]]:
-    """What one session answers to the log, and what it exports then."""
-    answers: dict[str, Request] = {}
-    before = 0
-    with Store(folder, program=PROGRAM) as store:
-        for number, identity, entry in log:
-            (answer,) = store.perform_batches([marked(edits_in(entry)[0], number, before, NO_MARK)])
-            if isinstance(answer, Refused):
-                answers[identity] = {"refused": answer.word}
-                (answer,) = store.perform_batches([refused(answer.word, number, before, NO_MARK)])
-            else:
-                answers[identity] = {"ok": str(answer)}
-            before = number
-            if isinstance(answer, Exception):
-                raise answer
-        return answers, {name: store.export(name) for name in store.names() if name != RESERVED}
-
-
-class Checks:
-    def __init__(self) -> None:
-        self.passed = self.failed = 0
-
-    def is_so(self, holds: bool, about: str) -> None:
-        if holds:
-            self.passed += 1
-        else:
-            self.failed += 1
-            print(f"FAILED: {about}")
-
-
 # Makes trouble in a cluster until an event comes, and counts it.
 Trouble = Callable[[Cluster, threading.Event, Done], None]
 
@@ -532,10 +234,10 @@ class Run:
         etcd = Etcd(self.cluster.addresses)
         for round_of in range(10):
             self.send(f"behind{round_of}", BASE_AFTER)
-            first, *_ = etcd.created_after(LOG, 0, 1)
-            if first.created > held:
+            floor = base_in(etcd.get(BASE)).floor
+            if floor > held:
                 break
-        self.checks.is_so(first.created > held, "the log has all that the node needs")
+        self.checks.is_so(floor > held, "the log has all that the node needs")
         behind.start()
         asked(self.cluster, 2, {"fresh": "yes", "names": ""}, elsewhere=False)
         with open(behind.log, encoding="utf-8") as log:
@@ -580,18 +282,18 @@ class Run:
         self.cluster.ground.remove()
 
 
-def on_one_machine(run: Run) -> None:
+def on_one_machine(run: Run, commands: int) -> None:
     run.start()
-    run.send("faults", COMMANDS, make_trouble, pause=0.05)
+    run.send("faults", commands, make_trouble, pause=0.05)
     run.compare_members()
     run.ask_again(40)
     run.keep_behind()
     run.compare()
 
 
-def on_machines_apart(run: Run) -> None:
+def on_machines_apart(run: Run, commands: int) -> None:
     run.start()
-    run.send("apart", CUT_OFF_COMMANDS, cut_off_all, pause=0.1)
+    run.send("apart", commands // 2, cut_off_all, pause=0.1)
     run.compare()
 
 
@@ -617,18 +319,13 @@ def namespaces() -> Namespaces | None:
         return None
 
 
-def give_up(*_: object) -> NoReturn:
-    raise TimeoutError(f"not done after {LONGEST} seconds")
-
-
 def main() -> int:
-    if shutil.which("etcd") is None or not os.access(PROGRAM, os.X_OK):
-        sys.exit("etcd is not installed, or the program is not built")
-    signal.signal(signal.SIGALRM, give_up)
-    signal.alarm(LONGEST)
+    need_etcd()
+    end_after(LONGEST)
+    commands = number_given(1, COMMANDS)
     checks = Checks()
     with tempfile.TemporaryDirectory() as folder:
-        parts: Sequence[tuple[str, Callable[[], Ground | None], Callable[[Run], None]]] = (
+        parts: Sequence[tuple[str, Callable[[], Ground | None], Callable[[Run, int], None]]] = (
             ("one", Loopback, on_one_machine), ("apart", namespaces, on_machines_apart),
         )  # fmt: skip
         for name, make_ground, part in parts:
@@ -638,15 +335,14 @@ def main() -> int:
                 continue
             run = Run(os.path.join(folder, name), ground, checks)
             try:
-                part(run)
+                part(run, commands)
             except (TimeoutError, Refused) as fault:
                 checks.is_so(False, f"{name}: {fault}")
             finally:
                 run.stop()
         if checks.failed:
             keep_logs(folder)
-    print(f"{checks.passed} passed, {checks.failed} failed")
-    return 1 if checks.failed else 0
+    return checks.report()
 
 
 if __name__ == "__main__":

@@ -25,8 +25,6 @@ some parts, which are left out without them. The last line is 'N passed, M faile
 from __future__ import annotations
 
 import base64
-import http.client
-import json
 import os
 import random
 import resource
@@ -39,22 +37,20 @@ import sys
 import tempfile
 import threading
 import time
-from collections.abc import Callable, Iterable, Sequence
-from typing import Any, NoReturn
+from collections.abc import Callable, Iterable, Iterator, Sequence
+from concurrent.futures import ThreadPoolExecutor
+from contextlib import contextmanager
 
-WANTED = sys.argv[1:]
-del sys.argv[1:]
-sys.path.insert(0, os.path.dirname(os.path.abspath(__file__)))
+from lib.replicated_cluster import Request, end_after, need_etcd
+from lib.replicated_log import LOG, Answers, Checks, one_session, some_command
+from lib.replicated_parts import PREFIX, Member, Node, Part, eventually, started
+from lib.stand_ins import SLOW, TOO_LONG
+from lib.store_runs import PROGRAM
+from lib.waiting import until
 
-from replicated import LOG, PROGRAM, Answers, Checks, Process, Request  # noqa: E402  (it finds the packages)
-from replicated import free_port, one_session, some_command  # noqa: E402
-from lib.stand_ins import SLOW, TOO_LONG  # noqa: E402
+from confstore import Store
+from confstore_replicated.etcd import Etcd
 
-from confstore import Reader, Store  # noqa: E402
-from confstore_replicated import Client  # noqa: E402
-from confstore_replicated.etcd import Etcd  # noqa: E402
-
-PREFIX = "/confstore/default/"
 LONGEST = 900
 RESTORES = 6
 CHECKS = Checks()
@@ -63,168 +59,13 @@ CHECKS = Checks()
 REFUSES = {"failed": "OtherHistory"}
 
 
-def eventually(call: Callable[[], Any], wanted: object, seconds: float = 30) -> Any:
-    """What a call gives at last: what is wanted, or what it gave after so many seconds."""
-    deadline = time.monotonic() + seconds
-    while True:
-        try:
-            found = call()
-        except OSError as error:
-            found = type(error).__name__
-        if found == wanted or time.monotonic() > deadline:
-            return found
-        time.sleep(0.1)
-
-
-class Member:
-    """One member of etcd, whose folder can be kept aside and put back."""
-
-    def __init__(self, top: str, *more: str, scheme: str = "http") -> None:
-        self.folder, self.more, self.scheme = os.path.join(top, "etcd"), more, scheme
-        self.address, peer = f"127.0.0.1:{free_port()}", f"http://127.0.0.1:{free_port()}"
-        self.peer = peer
-        url = f"{scheme}://{self.address}"
-        words = [
-            "etcd", "--name", "m0", "--data-dir", self.folder, "--listen-client-urls", url,
-            "--advertise-client-urls", url, "--listen-peer-urls", peer, "--initial-advertise-peer-urls", peer,
-            "--initial-cluster", f"m0={peer}", "--log-level", "error", *more,
-        ]  # fmt: skip
-        self.process = Process(words, os.path.join(top, "etcd.log"))
-        self.context: ssl.SSLContext | None = None
-        self.token: str | None = None
-
-    def start(self) -> None:
-        self.process.start()
-        found = eventually(lambda: self.call("/v3/maintenance/status", {}).get("version", "")[:1], "3", 60)
-        if found != "3" and self.token is None and self.scheme == "http":
-            raise TimeoutError(f"etcd does not start: {found}")
-
-    def stop(self) -> None:
-        self.process.kill()
-
-    def call(self, path: str, body: Request) -> Request:
-        host, port = self.address.split(":")
-        connection: http.client.HTTPConnection
-        if self.context is None:
-            connection = http.client.HTTPConnection(host, int(port), timeout=10)
-        else:
-            connection = http.client.HTTPSConnection(host, int(port), timeout=10, context=self.context)
-        headers = {"Authorization": self.token} if self.token else {}
-        try:
-            connection.request("POST", path, json.dumps(body), headers)
-            answer: Request = json.loads(connection.getresponse().read())
-            return answer
-        except (http.client.HTTPException, ValueError) as error:
-            raise OSError(str(error)) from None
-        finally:
-            connection.close()
-
-    def put(self, key: str, value: str = "x") -> Request:
-        key, value = (base64.b64encode(text.encode()).decode() for text in (key, value))
-        return self.call("/v3/kv/put", {"key": key, "value": value})
-
-    def burn(self, count: int) -> int:
-        """Another application makes so many revisions."""
-        host, port = self.address.split(":")
-        connection = http.client.HTTPConnection(host, int(port), timeout=10)
-        body = json.dumps({"key": "b3RoZXI=", "value": "eA=="})
-        for _ in range(count):
-            connection.request("POST", "/v3/kv/put", body)
-            revision = json.loads(connection.getresponse().read())["header"]["revision"]
-        connection.close()
-        return int(revision)
-
-    def has(self, key: str) -> bool:
-        return "kvs" in self.call("/v3/kv/range", {"key": base64.b64encode((PREFIX + key).encode()).decode()})
-
-    def floor(self) -> int:
-        found = self.call("/v3/kv/range", {"key": base64.b64encode((PREFIX + "base").encode()).decode()})
-        return int(json.loads(base64.b64decode(found["kvs"][0]["value"]))["floor"]) if "kvs" in found else 0
-
-
-class Node:
-    """One node."""
-
-    def __init__(self, top: str, name: str, member: Member, *more: str, program: str | None = None) -> None:
-        self.folder, self.socket = os.path.join(top, f"store-{name}"), os.path.join(top, f"socket-{name}")
-        self.log = os.path.join(top, f"{name}.log")
-        words = [sys.executable, "-m", "confstore_replicated.node", self.socket, self.folder, member.address, *more]
-        self.process = Process([*words, *(["--program", program] if program else [])], self.log)
-
-    def start(self) -> None:
-        self.process.start()
-        deadline = time.monotonic() + 60
-        while time.monotonic() < deadline:
-            try:
-                Client(self.socket, 1).close()
-                return
-            except OSError:
-                time.sleep(0.05)
-        raise TimeoutError(f"the node does not start: {self.said()}")
-
-    def stop(self) -> None:
-        if self.process.process is not None:
-            self.process.kill()
-
-    def said(self) -> str:
-        with open(self.log, encoding="utf-8") as log:
-            return log.read()
-
-    def ask(self, request: Request, timeout: float = 60) -> Request:
-        client = Client(self.socket, timeout)
-        try:
-            return client.ask(dict(request))
-        finally:
-            client.close()
-
-    def set(self, value: object, **more: str) -> Request:
-        return self.ask({"set": "web", "path": "/port", "value": str(value), **more})
-
-    def get(self, fresh: str = "yes") -> Request:
-        return self.ask({"get": "web", "path": "/port", "fresh": fresh})
-
-    def holds(self) -> Request:
-        reader = Reader(self.folder, program=PROGRAM)
-        return {name: reader.get(name) for name in reader.names() if name != "replication"}
-
-
-class Part:
-    """A member and nodes in a folder, which are all ended when the part is left."""
-
-    def __enter__(self) -> Part:
-        self.top = tempfile.mkdtemp()
-        self.things: list[Member | Node] = []
-        return self
-
-    def __exit__(self, *_: object) -> None:
-        for thing in self.things:
-            thing.stop()
-        shutil.rmtree(self.top)
-
-    def member(self, *more: str, **words: str) -> Member:
-        member = Member(self.top, *more, **words)
-        self.things.append(member)
-        return member
-
-    def node(self, name: str, member: Member, *more: str, **words: str) -> Node:
-        node = Node(self.top, name, member, *more, **words)
-        self.things.append(node)
-        return node
-
-    def program(self, text: str) -> str:
-        """The path of a program in the place of confstore."""
-        path = self.path(f"program{len(self.things)}")
-        with open(path, "w", encoding="utf-8") as file:
-            file.write(text.format(python=sys.executable, program=os.path.abspath(PROGRAM)))
-        os.chmod(path, 0o755)
-        return path
-
-    def path(self, name: str) -> str:
-        return os.path.join(self.top, name)
-
-
 def is_so(found: object, wanted: object, about: str) -> None:
     CHECKS.is_so(found == wanted, f"{about}: {found}, and not {wanted}")
+
+
+def import_web(node: Node, about: str) -> None:
+    """The first command makes the configuration that is changed then."""
+    is_so(node.ask({"import": "web", "text": "port: 0"}), {"ok": "1"}, about)
 
 
 def refuses_all(node: Node, about: str) -> None:
@@ -288,12 +129,11 @@ def older_snapshot(name: str, keep_snapshot: Snapshot, while_stopped: bool) -> N
     """Stores are ahead of a restored etcd: they are refused. A store that isn't ahead goes on."""
     about = f"{name}, nodes {'stopped' if while_stopped else 'running'}"
     with Part() as part:
-        member = part.member()
-        member.start()
+        member = started(part.member())
         ahead, also, behind = (part.node(name, member) for name in ("ahead", "also", "behind"))
         for node in (ahead, also, behind):
             node.start()
-        is_so(ahead.ask({"import": "web", "text": "port: 0"}), {"ok": "1"}, about)
+        import_web(ahead, about)
         change(ahead, range(1, 11))
         is_so(behind.get(), {"value": "10"}, about)
         behind.stop()
@@ -321,14 +161,18 @@ def older_snapshot(name: str, keep_snapshot: Snapshot, while_stopped: bool) -> N
         ahead.stop()
         ahead.start()
         refuses_all(ahead, f"{about}, and the node was started again")
-        new = part.node("new", member)
-        new.start()
-        is_so(new.set("new"), behind.set("new", id="x") and {"ok": "22"}, f"{about}: a new node")
-        is_so(new.get(), behind.get(), f"{about}: the nodes that serve")
-        also.stop()
-        shutil.rmtree(also.folder)
-        also.start()
-        is_so(also.get(), behind.get(), f"{about}: with an empty folder")
+        serve_anew(part, member, behind, also, about)
+
+
+def serve_anew(part: Part, member: Member, serving: Node, refusing: Node, about: str) -> None:
+    """A new node, and one that refused and gets an empty folder, hold what the one holds that serves."""
+    new = started(part.node("new", member))
+    is_so(new.set("new"), serving.set("new", id="x") and {"ok": "22"}, f"{about}: a new node")
+    is_so(new.get(), serving.get(), f"{about}: the nodes that serve")
+    refusing.stop()
+    shutil.rmtree(refusing.folder)
+    refusing.start()
+    is_so(refusing.get(), serving.get(), f"{about}: with an empty folder")
 
 
 class Times:
@@ -368,8 +212,7 @@ def restored_again_and_again(base_after: int) -> None:
     Where bases are written the log is not whole at the end: then each has its answer when it is sent again."""
     chance = random.Random(base_after)
     with Part() as part:
-        member = part.member()
-        member.start()
+        member = started(part.member())
         nodes = [part.node(name, member, "--base-after", str(base_after)) for name in ("a", "b")]
         for node in nodes:
             node.start()
@@ -425,11 +268,9 @@ def compare_with_one_session(member: Member, held: Request, times: Times) -> Non
 def made_anew(while_stopped: bool) -> None:
     about = f"made anew, nodes {'stopped' if while_stopped else 'running'}"
     with Part() as part:
-        member = part.member()
-        member.start()
-        node = part.node("a", member)
-        node.start()
-        is_so(node.ask({"import": "web", "text": "port: 0"}), {"ok": "1"}, about)
+        member = started(part.member())
+        node = started(part.node("a", member))
+        import_web(node, about)
         change(node, range(1, 13))
         if while_stopped:
             node.stop()
@@ -439,53 +280,53 @@ def made_anew(while_stopped: bool) -> None:
         if while_stopped:
             node.start()
         refuses_all(node, about)
-        new = part.node("new", member)
-        new.start()
-        is_so(new.ask({"import": "web", "text": "port: 0"}), {"ok": "1"}, f"{about}: a new node")
+        new = started(part.node("new", member))
+        import_web(new, f"{about}: a new node")
         change(new, range(1, 13))
         refuses_all(node, f"{about}, and the same commands at the same revisions")
         member.burn(10)
         refuses_all(node, f"{about}, and etcd is past the position")
 
 
+@contextmanager
+def others_writing(member: Member) -> Iterator[None]:
+    """Another application writes in the same etcd, by two threads, until the block ends."""
+    ended = threading.Event()
+
+    def write() -> None:
+        while not ended.is_set():
+            member.burn(100)
+
+    with ThreadPoolExecutor() as pool:
+        writers = [pool.submit(write) for _ in range(2)]
+        try:
+            yield
+        finally:
+            ended.set()
+    for writer in writers:
+        writer.result()
+
+
 def expiring_ids() -> None:
     """Ids are known for so many further entries, whatever others write in etcd, and never go before their entries."""
     with Part() as part:
-        member = part.member()
-        member.start()
-        node = part.node("a", member, "--base-after", "10", "--ids-kept", "200")
-        away = part.node("b", member, "--base-after", "1000000", "--ids-kept", "200")
-        node.start()
-        away.start()
-        is_so(node.ask({"import": "web", "text": "port: 0"}), {"ok": "1"}, "ids")
+        member = started(part.member())
+        node = started(part.node("a", member, "--base-after", "10", "--ids-kept", "200"))
+        away = started(part.node("b", member, "--base-after", "1000000", "--ids-kept", "200"))
+        import_web(node, "ids")
         change(node, range(1, 26))
         is_so(away.get(), {"value": "25"}, "ids")
         away.stop()
         first = {"import": "mail", "text": "first", "id": "job"}
         is_so(node.ask(first), {"ok": "27"}, "ids: the command")
-        ended = threading.Event()
-
-        def write() -> None:
-            while not ended.is_set():
-                member.burn(100)
-
-        others = [threading.Thread(target=write) for _ in range(2)]
-        for other in others:
-            other.start()
         second = {"import": "mail", "text": "second", "id": "job"}
-        for number in range(100, 290):
-            node.set(number)
-            if number % 10 == 0:
-                is_so(node.ask(second), {"refused": "IdTaken"}, f"ids: after {number - 99} entries")
-                answer = node.ask(first)
-                is_so(answer, {"ok": "27"}, f"ids: again after {number - 99} entries")
-            CHECKS.is_so(member.has("ids/job") or not member.has("log/job"), "an id is gone before its entry")
-        for number in range(290, 400):
-            node.set(number)
-            CHECKS.is_so(member.has("ids/job") or not member.has("log/job"), "an id is gone before its entry")
-        ended.set()
-        for other in others:
-            other.join()
+        with others_writing(member):
+            for number in range(100, 400):
+                node.set(number)
+                if number % 10 == 0 and number < 290:
+                    is_so(node.ask(second), {"refused": "IdTaken"}, f"ids: after {number - 99} entries")
+                    is_so(node.ask(first), {"ok": "27"}, f"ids: again after {number - 99} entries")
+                CHECKS.is_so(member.has("ids/job") or not member.has("log/job"), "an id is gone before its entry")
         CHECKS.is_so(not member.has("ids/job"), "the id is still in etcd")
         answer = node.ask(second)
         CHECKS.is_so("ok" in answer, f"ids: a new command under an id that expired: {answer}")
@@ -499,12 +340,11 @@ def too_long_at_one() -> None:
     """`JournalLong` at one node, at any batch, is the answer of no entry."""
     with Part() as part:
         program = part.program(TOO_LONG)
-        member = part.member()
-        member.start()
+        member = started(part.member())
         one, other = part.node("a", member, program=program), part.node("b", member)
         one.start()
         other.start()
-        is_so(one.ask({"import": "web", "text": "port: 0"}), {"ok": "1"}, "too long")
+        import_web(one, "too long")
         for number in range(2, 42):
             through = one if number % 2 else other
             name = "web" if number % 5 else "none"
@@ -518,8 +358,7 @@ def too_long_at_one() -> None:
 
 def commands_and_no_position() -> None:
     with Part() as part:
-        member = part.member()
-        member.start()
+        member = started(part.member())
         for name, is_emptied in (("full", False), ("emptied", True)):
             node = part.node(name, member)
             with Store(node.folder, program=PROGRAM, make=True) as store:
@@ -540,8 +379,7 @@ def commands_and_no_position() -> None:
 def signals() -> None:
     """A node that is told to end does, with status 0, and leaves neither a socket nor a session."""
     with Part() as part:
-        member = part.member()
-        member.start()
+        member = started(part.member())
         node = part.node("a", member)
         for count, number in enumerate((signal.SIGTERM, signal.SIGINT) * 2, start=1):
             node.start()
@@ -607,7 +445,7 @@ def tls_and_users() -> None:
         one, other = part.node("a", member, *tls, *user, "--base-after", "10"), part.node("b", member, *tls, *user)
         one.start()
         other.start()
-        is_so(one.ask({"import": "web", "text": "port: 0"}), {"ok": "1"}, "TLS and a user")
+        import_web(one, "TLS and a user")
         change(one, range(1, 31))
         is_so(eventually(lambda: other.get(), {"value": "30"}), {"value": "30"}, "TLS and a user: the other node")
         CHECKS.is_so(member.floor() > 0, "TLS and a user: there is no base")
@@ -617,8 +455,7 @@ def tls_and_users() -> None:
         is_so(answer, {"ok": "32"}, "TLS and a user: a new token")
         is_so(eventually(lambda: other.get(), {"value": "again"}), {"value": "again"}, "a new token at the other node")
         for name, words in (("no user", tls), ("no certificate", [*tls[:2], *user]), ("no TLS", user)):
-            shut_out = part.node(name.replace(" ", "-"), member, *words)
-            shut_out.start()
+            shut_out = started(part.node(name.replace(" ", "-"), member, *words))
             answer = eventually(lambda: shut_out.ask({"import": "no", "text": "x"}), {"failed": "Unavailable"}, 1)
             CHECKS.is_so(answer.get("failed") in ("Unavailable", "Denied"), f"{name}: {answer}")
             shut_out.stop()
@@ -631,11 +468,9 @@ def clients_that_say_nothing() -> None:
     soft, hard = resource.getrlimit(resource.RLIMIT_NOFILE)
     resource.setrlimit(resource.RLIMIT_NOFILE, (min(hard, 4096), hard))
     with Part() as part:
-        member = part.member()
-        member.start()
-        node = part.node("a", member)
-        node.start()
-        is_so(node.ask({"import": "web", "text": "port: 0"}), {"ok": "1"}, "idle clients")
+        member = started(part.member())
+        node = started(part.node("a", member))
+        import_web(node, "idle clients")
         held = []
         for _ in range(380):
             client = socket.socket(socket.AF_UNIX)
@@ -695,7 +530,7 @@ def told_of_itself() -> None:
         member.start()
         one, late = part.node("a", member), part.node("b", member, "--metrics", where, program=part.program(SLOW))
         one.start()
-        is_so(one.ask({"import": "web", "text": "port: 0"}), {"ok": "1"}, "told of itself")
+        import_web(one, "told of itself")
         change(one, range(1, 300))
         late.start()
         seen: set[float] = set()
@@ -720,15 +555,9 @@ def told_of_itself() -> None:
         is_so(eventually(lambda: told_at(where, "/health").split(b"\r\n")[0], there, 60), there, "health with etcd")
 
 
-def give_up(*_: object) -> NoReturn:
-    raise TimeoutError(f"not done after {LONGEST} seconds")
-
-
 def main() -> int:
-    if shutil.which("etcd") is None or not os.access(PROGRAM, os.X_OK):
-        sys.exit("etcd is not installed, or the program is not built")
-    signal.signal(signal.SIGALRM, give_up)
-    signal.alarm(LONGEST)
+    need_etcd()
+    end_after(LONGEST)
     parts: dict[str, Callable[[], None]] = {
         "commands and no position": commands_and_no_position,
         "signals": signals,
@@ -749,7 +578,7 @@ def main() -> int:
     if shutil.which("openssl"):
         parts["TLS and users"] = tls_and_users
     for name, part in parts.items():
-        if not all(word in name for word in WANTED):
+        if not all(word in name for word in sys.argv[1:]):
             continue
         began, before = time.monotonic(), (CHECKS.passed, CHECKS.failed)
         try:
@@ -758,8 +587,7 @@ def main() -> int:
             CHECKS.is_so(False, f"{name}: {type(fault).__name__}: {fault}")
         passed, failed = CHECKS.passed - before[0], CHECKS.failed - before[1]
         print(f"{name}: {passed} passed, {failed} failed in {time.monotonic() - began:.0f} s", flush=True)
-    print(f"{CHECKS.passed} passed, {CHECKS.failed} failed")
-    return 1 if CHECKS.failed else 0
+    return CHECKS.report()
 
 
 if __name__ == "__main__":

@@ -14,7 +14,7 @@
 
 Run it from the repository's root after the program is built; it takes some 10 seconds, and needs a C compiler:
 
-    ./confstore --version && python3 checks/sessions.py
+    ./prove && python3 checks/sessions.py
 
 A seed for the random moments may follow. The status is 0 if all is as it should be.
 """
@@ -39,6 +39,7 @@ import time
 from collections.abc import Callable, Sequence
 from typing import Any
 
+from lib.command_line import seed_given
 from lib.store_runs import (
     EMPTY, IMPORT, PROGRAM, WORKED, Ended, Failures, compiled, dropped, need_program, read_file, session, write_file,
 )
@@ -546,13 +547,12 @@ def a_staged_file_is_narrow_before_it_is_written(top: str, failures: Failures) -
 
 def main() -> int:
     need_program()
-    seed = int(sys.argv[1]) if len(sys.argv) > 1 else random.randrange(10**6)
-    print(f"seed {seed}")
+    chance = random.Random(seed_given(1))
     failures = Failures()
     with tempfile.TemporaryDirectory() as top:
         answers_come_before_the_next_command(top, failures)
         input_comes_byte_by_byte(top, failures)
-        killed_sessions_lose_nothing(top, failures, random.Random(seed))
+        killed_sessions_lose_nothing(top, failures, chance)
         outputs_and_folders_fail(top, failures)
         read_only_folders_are_refused(top, failures)
         a_full_device_is_read(top, failures)

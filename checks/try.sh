@@ -19,72 +19,24 @@ CONFSTORE=$(realpath "$CONFSTORE") && export CONFSTORE || exit 1
 room=$(mktemp -d) || exit 1
 trap 'rm -rf "$room"' EXIT
 trap 'exit 1' INT TERM HUP
+# shellcheck source=checks/lib/side_by_side.sh
+. "$top/checks/lib/side_by_side.sh" || exit 1
 
 # The package is installed in a root of its own, which root alone can do, or what acts as root.
 as_root=
 [ "$(id -u)" -eq 0 ] || as_root=fakeroot
 # The scripts, those that take longest first, each with the commands that it needs.
 SCRIPTS=(
-    "checks/readers.py" "checks/fail_calls.py cc" "checks/fail_word_calls.py cc" "checks/sessions.py cc"
+    "checks/read_beside_session.py" "checks/fail_calls.py cc" "checks/fail_word_calls.py cc" "checks/sessions.py cc"
     "checks/kills.py" "checks/release.py xz" "python/tests" "checks/completions.py" "checks/many_clients.py"
-    "checks/fail_file_calls.py cc" "checks/refuse_session_allocations.py cc" "checks/refuse_word_allocations.py cc"
-    "checks/refuse_allocations.sh cc" "packaging/deb/try.sh dpkg-deb $as_root" "checks/editors.py git"
-    "checks/names.py" "checks/program.py" "checks/guide.py" "checks/edits.py" "checks/lines.py"
+    "checks/fail_file_calls.py cc" "checks/refuse_allocations.py cc -- texts sessions words"
+    "packaging/deb/try.sh dpkg-deb $as_root" "checks/editors.py git"
+    "checks/names.py" "checks/program.py" "checks/guide.py" "checks/edits.py" "checks/lines.py" "checks/unused.py"
 )
-passed=0
-failed=0
-declare -A running=() began=()
-
-run() { # SCRIPT: from the top, or a folder of Python tests
-    case $1 in
-        */tests) cd "${1%/tests}" && exec python3 -m unittest ;;
-        *.py) exec python3 "$1" ;;
-        *) exec "$1" ;;
-    esac
-}
-
-start() { # SCRIPT
-    run "$1" </dev/null >"$room/${1//\//_}" 2>&1 &
-    running[$!]=$1
-    began[$!]=$SECONDS
-}
-
-# Waits until a script ends, and says how it went.
-take_one() {
-    local ended status script
-    wait -n -p ended "${!running[@]}"
-    status=$?
-    script=${running[$ended]}
-    if [ "$status" -eq 0 ]; then
-        passed=$((passed + 1))
-        echo "$script: $((SECONDS - began[$ended])) s, $(tail -n 1 "$room/${script//\//_}")"
-    else
-        failed=$((failed + 1))
-        cat "$room/${script//\//_}"
-        echo "FAILED: $script"
-    fi
-    unset "running[$ended]"
-}
-
-lacking() { # COMMAND..
-    local command
-    for command; do command -v "$command" >/dev/null || { echo "$command"; return; }; done
-}
 
 echo "trying $("$CONFSTORE" --version), $CONFSTORE"
 at_once=$(nproc)
 [ "$at_once" -le 4 ] || at_once=4
-for line in "${SCRIPTS[@]}"; do
-    read -r script needs <<<"$line"
-    # shellcheck disable=SC2086 # The commands are words.
-    lacks=$(lacking $needs)
-    if [ -n "$lacks" ]; then
-        echo "$script: left out, as $lacks is not installed"
-        continue
-    fi
-    [ "${#running[@]}" -lt "$at_once" ] || take_one
-    start "$script"
-done
-while [ "${#running[@]}" -gt 0 ]; do take_one; done
+run_side_by_side "$at_once" "${SCRIPTS[@]}"
 echo "$passed passed, $failed failed"
 [ "$failed" -eq 0 ]

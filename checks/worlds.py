@@ -15,8 +15,8 @@ The same seed makes the same lists. The last line is 'N passed, M failed', and t
 
 from __future__ import annotations
 
+import functools
 import json
-import os
 import random
 import re
 import subprocess
@@ -26,12 +26,15 @@ from concurrent.futures import ProcessPoolExecutor
 from dataclasses import dataclass, field
 from typing import Any
 
-from lib.store_runs import TOP, Failures
-from lib.trees import Configs, Document, Refused, as_json, as_tree, performed
+from lib.answers import answers_in, is_right
+from lib.command_line import number_given
+from lib.store_runs import Failures, need_program, program_of
+from lib.trees import Configs, Document, Refused, as_json, performed
 
-PROGRAM = os.path.join(TOP, "crates", "world_probe", "out", "world_probe")
-LISTS = int(sys.argv[1]) if len(sys.argv) > 1 else 120
-SEED = int(sys.argv[2]) if len(sys.argv) > 2 else 1
+PROBE = program_of("world_probe")
+# How many lists there are, and the seed that they are made from, if no others are given.
+LISTS = 120
+SEED = 1
 # The most words of a list, and the most commands of a session.
 LONGEST = 8
 COMMANDS = 4
@@ -79,8 +82,8 @@ def written(text: str) -> str:
 
 @dataclass
 class Word:
-    """A run of the program: its words and its input, the status and the answers that it has to have, and the states that
-    it leads a folder through."""
+    """A run of the program: its words and its input, the status and the answers that it has to have, and the states
+    that it leads a folder through."""
 
     words: list[str]
     folder: str
@@ -94,15 +97,6 @@ class Word:
         return f"{order} < {written(self.input)}" if self.input else order
 
 
-def answers_in(output: str) -> list[str]:
-    return [answer.partition("---\n")[2].rstrip("\n") for answer in output.split("\n...\n")[:-1]]
-
-
-def is_right(found: str, wanted: str) -> bool:
-    """Whether an answer is the wanted one. Where a command is refused, any refusal is right."""
-    return found.startswith("refused: ") if wanted == "refused" else found == wanted
-
-
 class World:
     """The folders, each with the state of its store, or with none."""
 
@@ -113,7 +107,8 @@ class World:
     def word(self) -> Word:
         """A random word. The world is then the one after it."""
         kinds = {
-            self.init: 2, self.imported: 4, self.edit: 6, self.moved: 3, self.checkpoint: 1, self.session: 5, self.backup: 2,
+            self.init: 2, self.imported: 4, self.edit: 6, self.moved: 3, self.checkpoint: 1, self.session: 5,
+            self.backup: 2,
         }  # fmt: skip
         makes: Callable[[str], Word] = self.init
         if self.folders:
@@ -253,9 +248,9 @@ def states_in(answer: str) -> dict[str, list[str]]:
     return found
 
 
-def try_list(number: int) -> Failures:
+def try_list(seed: int, number: int) -> Failures:
     """Runs a list, and looks at its answers."""
-    failures, world = Failures(), World(random.Random(f"{SEED} {number}"))
+    failures, world = Failures(), World(random.Random(f"{seed} {number}"))
     orders, words = ["list"], []
     wanted: list[dict[str, list[str]]] = []
     for _ in range(world.chance.randrange(1, LONGEST + 1)):
@@ -267,7 +262,7 @@ def try_list(number: int) -> Failures:
             states[word.folder] = without_repeats(word.states)
         wanted.append(states)
     text = "".join(f"{order}\n" for order in orders)
-    done = subprocess.run([PROGRAM], input=text, capture_output=True, check=False, text=True, timeout=HANGS)
+    done = subprocess.run([PROBE], input=text, capture_output=True, check=False, text=True, timeout=HANGS)
     answers = done.stdout.splitlines()
     failures.expect(f"list {number}", (done.returncode, len(answers)), (0, len(orders)))
     for place, word in enumerate(words[: (len(answers) - 1) // 2]):
@@ -290,14 +285,13 @@ def look_at(name: str, word: Word, answer: str, failures: Failures) -> None:
 
 
 def main() -> int:
-    if not os.access(PROGRAM, os.X_OK):
-        sys.exit(f"{PROGRAM} is not built: run `rt run < stdin` in its crate first")
+    need_program(PROBE)
+    count, seed = number_given(1, LISTS), number_given(2, SEED)
     failures = Failures()
     with ProcessPoolExecutor() as pool:
-        for one in pool.map(try_list, range(LISTS)):
-            failures.tried += one.tried
-            failures.wrong += one.wrong
-    print(f"{LISTS} lists")
+        for one in pool.map(functools.partial(try_list, seed), range(count)):
+            failures.take(one)
+    print(f"{count} lists")
     return failures.report()
 
 

@@ -1,13 +1,15 @@
 #!/usr/bin/env bash
 # Tries the edits of crates/CRATE/must-fail-beside: wrong bodies that the prover has to refuse, beside those that the
-# gate tries (crates/CRATE/must-fail). They are tried in a copy of the repository, so nothing here is changed. What an
-# earlier check kept in a crate's out/ is used, so run `rt check` in the crate first.
+# gate tries (crates/CRATE/must-fail). They are tried in a copy of the repository, so nothing here is changed: those of
+# the bodies of different functions by one check, and any other alone (checks/lib/edits_together.py). What an earlier
+# check kept in a crate's out/ is used, so run `rt check` in the crate first.
 #
 #   checks/wrong_bodies.sh [CRATE..]          the crates that are named, or all
 #   checks/wrong_bodies.sh --since COMMIT     those whose code, definitions, proofs or edits changed since the commit
 #
-# A crate takes 1 to 10 minutes, and a line says how long. The last line is 'N refused, M not'; the status is 0 if M is
-# 0, and 2 if the words are wrong.
+# A crate takes 1 to 5 minutes, and a line says how long. A crate whose edits were all refused gets its line in
+# checks/data/edits-tried, which the gate compares with the crate (checks/edits.py). The last line is 'N refused, M
+# not'; the status is 0 if M is 0, and 2 if the words are wrong.
 set -u
 top=$(cd "$(dirname "${BASH_SOURCE[0]}")/.." && pwd) || exit 1
 cd "$top/crates" || exit 1
@@ -39,6 +41,8 @@ case ${1-} in
 esac
 for crate in "${crates[@]}"; do [ -d "$crate/must-fail-beside" ] || usage "$crate has no edits beside the gate"; done
 
+declare -A sums
+for crate in "${crates[@]}"; do sums[$crate]=$("$top/checks/edits.py" --sum "$crate") || exit 1; done
 work=$(mktemp -d) || exit 1
 trap 'rm -rf "$work"' EXIT
 trap 'exit 1' INT TERM HUP
@@ -64,15 +68,14 @@ for crate in "${crates[@]}"; do
     edits=$top/crates/$crate/must-fail-beside
     tried=$(find "$edits" -name '*.edit' | wc -l)
     SECONDS=0
-    cp -a "$edits" "$work/crates/$crate/must-fail" || exit 1
     log=$work/$crate.log
-    (cd "$work" && PYTHONUNBUFFERED=1 rt must-fail "$crate") >"$log" 2>&1
+    (cd "$work" && PYTHONUNBUFFERED=1 "$top/checks/lib/edits_together.py" "crates/$crate" "$edits"/*.edit) >"$log" 2>&1
     grep -E '\.edit: ' "$log" || cat "$log"
     good=$(grep -c '\.edit: refused, as it must be' "$log")
     echo "$crate: $good of $tried refused in $SECONDS s"
+    [ "$good" -ne "$tried" ] || "$top/checks/edits.py" --tried "$crate" "${sums[$crate]}"
     refused=$((refused + good))
     passed=$((passed + tried - good))
-    rm -rf "$work/crates/$crate/must-fail"
 done
 echo "$refused refused, $passed not"
 [ "$passed" -eq 0 ]

@@ -9,9 +9,10 @@ share the next sync. This program has no part in keeping what was answered: the 
 
 Who may write in FOLDER may connect, and nobody else: the socket has the owner, the group and the access list of the
 folder, with reading and writing for those whose entry lets them write there. Where the system refuses that, the owner
-alone may connect. The socket has its name once all that is done and the session has opened the store. So a store that
-is locked or damaged ends this program at once, with the session's status and line. A socket that nobody listens to is
-replaced; anything else at its name ends this program.
+alone may connect. Whoever connects later than access was taken away from them is cut off. The socket has its name once
+all that is done and the session has opened the store. So a store that is locked or damaged ends this program at once,
+with the session's status and line. A socket that nobody listens to is replaced; anything else at its name ends this
+program.
 
 Each client has a queue. At most 16 of its commands are in the session, one where the answer may be long, and none are
 taken while it has answers to read. What is kept of a client is at most 65,536 bytes of commands and as much of answers.
@@ -30,6 +31,12 @@ status. On SIGTERM, SIGINT or SIGHUP no more clients and commands are taken, tho
 performed and answered, the socket is removed, and the status is 0. Shortly before the session was sent as much as it
 takes, it is ended and another one started; clients don't notice. If another run holds the store just then, the new
 session is tried again for `--max-lock-wait` seconds. The program is CONFSTORE, or `confstore` on the PATH.
+
+This program holds FOLDER open, and all its sessions work in that one. None but the first makes a store there. Once
+another folder or file stands in the place of the store (`serve_watch.py`), no more clients and commands are taken.
+Those commands that the session has are performed and answered. For two seconds others are answered by
+`refused: Replaced`, and the status is 5.
+
 With `--metrics` the server tells its health and counters (`serve_metrics.py`). A client that sends `watch: N` is told
 the changes from the number N on, as they are made (`serve_watch.py`).
 """
@@ -48,7 +55,6 @@ import errno
 import os
 import selectors
 import socket
-import subprocess
 import sys
 import time
 from typing import Callable, NamedTuple, Optional, Sequence
@@ -57,19 +63,18 @@ from typing import Callable, NamedTuple, Optional, Sequence
 sys.path.insert(0, os.path.dirname(os.path.realpath(__file__)))
 sys.dont_write_bytecode = True
 
-from serve_metrics import Monitor, address, listening  # noqa: E402
-from serve_socket import FAILED, Fault, Listener, Signals, clients_with_room, open_standard_streams  # noqa: E402
-from serve_socket import reason, say, shown, tell_manager, write_error  # noqa: E402
-from serve_watch import Watcher, Watchers  # noqa: E402
+from serve_metrics import Monitor, address, listening, mode_of  # noqa: E402
+from serve_socket import FAILED, PART, REPLACED, Fault, Listener, Pieces, Session, Signals  # noqa: E402
+from serve_socket import clients_with_room, inside, may_write, open_standard_streams, peer_of, reason  # noqa: E402
+from serve_socket import say, shown, tell_manager  # noqa: E402
+from serve_watch import Store, Watcher, Watchers  # noqa: E402
 
 LONGEST = 16_777_216  # bytes of a command
-LONGEST_ANSWER = 67_108_864  # bytes
 SESSION = 1_073_741_824  # bytes that a session takes
-PART = 65_536  # bytes that are read at once, and that are kept of each client
 MOST_DUE = 16  # commands of a client in the session
 MOST_UNSENT = 1_048_576  # bytes that wait to be sent to the session while more are put there
-ERRORS_KEPT = 8_192  # bytes of the session's standard error while it opens the store
-GRACE = 10  # seconds until all clients have read their answers at the end, and until a session is gone
+GRACE = 10  # seconds until all clients have read their answers at the end
+REFUSES = 2  # seconds for which commands are refused where the store was replaced
 LOOK = 0.5  # seconds between two looks at who is late
 STAY = 1  # seconds that each client is connected, whoever waits
 PAUSE = 0.02  # seconds between two tries to open the store again
@@ -80,8 +85,8 @@ FOREVER = 1e9  # seconds that no bound has
 LOOKED_AT = 16
 SHORT = tuple(word + end for word in (b"set:", b"delete:", b"import:", b"batch:", b"if:") for end in (b" ", b"\n"))
 
-# What the session says where another run holds the store.
-LOCKED = b"confstore: Locked"
+# What is answered where another store stands in the place of the one that the server holds.
+REFUSED = b"---\nrefused: Replaced\n...\n"
 
 READ, WRITE = selectors.EVENT_READ, selectors.EVENT_WRITE
 
@@ -98,155 +103,9 @@ class Bounds(NamedTuple):
     renew_after: int
 
 
-class Pieces:
-    """Bytes that come in parts, and are cut after closing lines.
-
-    The Python package has a cutter of its own. This program has one too, since it is installed without the package.
-    """
-
-    def __init__(self) -> None:
-        self.bytes = bytearray()
-        self.end = 0  # of the first piece, or 0 if none is whole
-        self.looked = 0
-
-    def add(self, part: bytes) -> None:
-        self.bytes += part
-        self.look()
-
-    def look(self) -> None:
-        while not self.end and (found := self.bytes.find(b"...\n", self.looked)) >= 0:
-            self.looked = found + 4
-            if found == 0 or self.bytes[found - 1] == ord("\n"):
-                self.end = found + 4
-        if not self.end:
-            self.looked = max(self.looked, len(self.bytes) - 3, 0)
-
-    def take(self) -> bytearray:
-        if self.end == len(self.bytes):
-            piece, self.bytes = self.bytes, bytearray()
-        else:
-            piece = self.bytes[: self.end]
-            del self.bytes[: self.end]
-        self.looked = self.end = 0
-        self.look()
-        return piece
-
-    def is_longer_than(self, most: int) -> bool:
-        return (self.end or len(self.bytes)) > most
-
-    def forget(self) -> None:
-        """Drops what came of a piece that isn't whole, but for the start of a line break and a closing line."""
-        del self.bytes[:-4]
-        self.looked = 1
-
-
 def may_be_long(start: bytes) -> bool:
     """Whether the answer to a command with this start may be long."""
     return not start.removeprefix(b"---\n").startswith(SHORT)
-
-
-class Session:
-    """A session, which answers the k-th command that it is sent by its k-th answer."""
-
-    def __init__(self, words: Sequence[str]) -> None:
-        self.process = subprocess.Popen(
-            words, stdin=subprocess.PIPE, stdout=subprocess.PIPE, stderr=subprocess.PIPE, bufsize=0,
-            start_new_session=True, restore_signals=False,
-            env={name: value for name, value in os.environ.items() if name != "NOTIFY_SOCKET"},
-        )  # fmt: skip
-        assert self.process.stdin and self.process.stdout and self.process.stderr
-        self.streams = (self.process.stdin, self.process.stdout, self.process.stderr)
-        self.commands, self.output, self.errors_end = (stream.fileno() for stream in self.streams)
-        for stream in self.streams:
-            os.set_blocking(stream.fileno(), False)
-        self.unsent = bytearray()
-        self.sent = 0
-        self.turns: collections.deque[Optional[Client]] = collections.deque()  # the clients of the answers to come
-        self.answers = Pieces()
-        self.skips = False  # whether the answer that comes is too long to keep
-        self.errors = bytearray()
-        self.takes_commands = True
-        self.has_opened = False
-        self.is_over = False
-        self.send(bytearray(b"names:\n...\n"), None)
-        self.first = self.sent
-
-    def send(self, piece: bytearray, client: Optional[Client]) -> None:
-        self.unsent = self.unsent + piece if self.unsent else piece
-        self.sent += len(piece)
-        self.turns.append(client)
-
-    def is_used_up(self, length: int, most: int) -> bool:
-        """Whether a command of this length would be more than it takes. A session without commands takes any."""
-        return self.sent > self.first and self.sent + length > most
-
-    def write(self) -> None:
-        """Sends what the session takes now."""
-        try:
-            del self.unsent[: os.write(self.commands, self.unsent)]
-        except BlockingIOError:
-            pass
-        except OSError:
-            self.unsent.clear()  # it ends, which is seen at its output
-
-    def read(self) -> tuple[list[tuple[Client, bytearray]], bool]:
-        """The answers that came, each with its client, and whether there may be more. One too long is empty."""
-        try:
-            part = os.read(self.output, PART)
-        except BlockingIOError:
-            return [], True
-        self.answers.add(part)
-        given = []
-        while self.answers.end:
-            answer = self.answers.take()
-            client = self.turns.popleft() if self.turns else None
-            if client is not None:
-                given.append((client, bytearray() if self.skips else answer))
-            self.has_opened = True
-            self.skips = False
-        if self.answers.is_longer_than(LONGEST_ANSWER):
-            self.answers.forget()
-            self.skips = True
-        return given, bool(part)
-
-    def read_errors(self) -> bool:
-        """Takes what it says on standard error. Whether there may be more."""
-        try:
-            part = os.read(self.errors_end, PART)
-        except BlockingIOError:
-            return True
-        self.errors += part
-        if self.has_opened or len(self.errors) > ERRORS_KEPT:
-            self.pass_errors_on()
-        return bool(part)
-
-    def pass_errors_on(self) -> None:
-        write_error(bytes(self.errors))
-        self.errors.clear()
-
-    def finish(self) -> None:
-        """Tells the session that no more commands come."""
-        if self.takes_commands:
-            self.takes_commands = False
-            self.streams[0].close()
-
-    def wait(self) -> int:
-        """Its status, once it is gone. One that has ended its output, and doesn't go, is killed."""
-        self.finish()
-        try:
-            status = self.process.wait(GRACE)
-        except subprocess.TimeoutExpired:
-            self.process.kill()
-            status = self.process.wait()
-        while not self.streams[2].closed and self.read_errors():
-            pass
-        for stream in self.streams:
-            stream.close()
-        return status
-
-    def was_locked(self) -> bool:
-        """Whether it ended since another run holds the store. What it said on standard error is still here then."""
-        return not self.has_opened and self.process.returncode == FAILED and LOCKED in self.errors
 
 
 class Client:
@@ -328,11 +187,29 @@ class Client:
             self.active = self.read_last
         return True
 
+    def refuse_all(self) -> bool:
+        """Answers each whole command that has come, and that no session has, by the refusal of a store that is gone.
+        One that was refused is heard no more. Whether it may go on."""
+        goes_on = self.hear()
+        count = 0
+        while self.heard.end:
+            self.heard.take()
+            count += 1
+        if not self.unsaid:
+            self.read_last = time.monotonic()
+        self.unsaid = self.unsaid + REFUSED * count
+        self.has_sent_all = self.has_sent_all or count > 0
+        return goes_on
+
     def leave(self) -> None:
         """Ends the connection, and lets go of the memory."""
         self.is_gone = True
         self.connection.close()
         self.heard, self.unsaid = Pieces(), bytearray()
+
+    def has_to_read(self) -> bool:
+        """Whether there is something that it has to be told before the end."""
+        return bool(self.unsaid) or (self.watcher is not None and self.watcher.has_to_end())
 
     def is_done(self) -> bool:
         if self.watcher is not None:
@@ -386,8 +263,9 @@ class Places:
 class Server:
     """The session, the clients, and what each of them waits for."""
 
-    def __init__(self, words: Sequence[str], bounds: Bounds, signals: Signals) -> None:
+    def __init__(self, words: Sequence[str], store: Store, bounds: Bounds, signals: Signals) -> None:
         self.words = words
+        self.store = store
         self.bounds = bounds
         self.signals = signals
         self.selector = selectors.DefaultSelector()
@@ -397,8 +275,8 @@ class Server:
         self.clients: collections.deque[Client] = collections.deque()
         self.long_commands = Places(bounds.long_commands)
         self.long_answers = Places(bounds.long_answers)
-        self.monitor = Monitor(words[-1], self.clients, self.hindrance)
-        self.watchers = Watchers(words[-1])
+        self.monitor = Monitor(inside(store.folder), self.clients, self.hindrance)
+        self.watchers = Watchers(store)
         self.others_since: Optional[float] = None  # when others began to wait to be taken
         self.takes_none_until = 0.0
         self.complained = -float(QUIET)
@@ -407,16 +285,18 @@ class Server:
         self.begin()
 
     def is_ending(self) -> bool:
-        return self.has_ended or self.signals.came
+        return self.has_ended or self.signals.came or bool(self.store.trouble)
 
     def hindrance(self) -> str:
         """Why no commands are performed now, or nothing."""
+        if self.store.trouble:
+            return f"the store was replaced: {self.store.trouble}"
         if self.is_ending():
             return "the server ends"
         return "" if self.session.has_opened and not self.session.is_over else "no session holds the store"
 
-    def begin(self) -> None:
-        self.session = Session(self.words)
+    def begin(self, *, is_barred: bool = False) -> None:
+        self.session: Session[Client] = Session(self.words, self.store.folder, is_barred=is_barred)
         self.watch(self.session.output, READ, self.take_answers)
         self.watch(self.session.errors_end, READ, self.take_errors)
 
@@ -464,8 +344,19 @@ class Server:
                 self.complain(f"{few}: {reason(error)}: raise the limit")
                 self.others_since = self.others_since or now
                 return
-            self.clients.append(Client(connection, self.monitor, self.serve_client))
+            self.take(connection)
         self.others_since = None
+
+    def take(self, connection: socket.socket) -> None:
+        """Takes a client, if it may write in the store's folder still. If the store is gone, it will be told that."""
+        self.store.look()
+        peer = peer_of(connection)
+        if may_write(peer, self.store.folder):
+            self.clients.append(Client(connection, self.monitor, self.serve_client))
+        else:
+            connection.close()
+            lost = f"user {peer.user} is not taken, since it may not write in the store's folder any more"
+            self.complain(f"{lost}: give it access there, if it is to have it")
 
     def complain(self, line: str) -> None:
         if time.monotonic() - self.complained >= QUIET:
@@ -512,6 +403,7 @@ class Server:
         given, may_be_more = self.session.read()
         for client, answer in given:
             self.monitor.answer(answer)
+            self.store.answer(answer)
             if client.is_gone:
                 continue
             if not answer:
@@ -522,6 +414,7 @@ class Server:
             client.answer(answer)
         if not may_be_more:
             self.session.is_over = True
+            self.store.leave()
             self.unwatch(self.session.output)
             self.unwatch(self.session.errors_end)
             if self.session.takes_commands:
@@ -534,13 +427,13 @@ class Server:
     def send_commands(self) -> None:
         """Sends commands of the clients in turn, one of each, as long as there is room."""
         was_sent = self.session.has_opened and not self.is_ending()
-        while was_sent and self.session.takes_commands:
+        while was_sent and not self.session.is_full:
             was_sent = bool(self.long_answers.give())
             for client in list(self.clients):
                 if len(self.session.unsent) > MOST_UNSENT or not client.may_send() or not self.has_turn(client):
                     continue
                 if self.session.is_used_up(client.heard.end, self.bounds.renew_after):
-                    self.finish_session()
+                    self.session.is_full = True
                     return
                 self.session.send(client.next_command(), client)
                 self.monitor.command(client.asked)
@@ -555,6 +448,12 @@ class Server:
             return True
         return not client.due and not self.watchers.begin(client) and self.long_answers.ask(client)
 
+    def finish_full_session(self) -> None:
+        """Ends the session once it has answered all that it was sent, and notes how it leaves the store."""
+        if self.session.is_idle() and self.session.takes_commands and self.store.look_inside():
+            self.store.note_end()
+            self.finish_session()
+
     def finish_session(self) -> None:
         """Ends the session once what it was sent is written."""
         if not self.session.unsent and self.session.takes_commands:
@@ -562,8 +461,9 @@ class Server:
             self.session.finish()
 
     def look(self, now: float) -> None:
-        """Cuts off the clients that are late, and takes others where there was no room."""
+        """Cuts off the clients that are late, takes others where there was no room, and looks at the store."""
         self.monitor.look(now)
+        self.store.look_inside()
         for client in list(self.clients):
             if client.unsaid and now - client.read_last > self.bounds.unread:
                 self.drop(client)
@@ -588,15 +488,18 @@ class Server:
             self.send_commands()
             if self.session.unsent:
                 self.session.write()
+            if self.session.is_full:
+                self.finish_full_session()
             if self.session.takes_commands:
                 wanted = WRITE if self.session.unsent else 0
                 self.watch(self.session.commands, wanted, lambda _: self.session.write())
-        is_more = not self.is_ending() and self.watchers.turn()
+        is_more = (not self.is_ending() or bool(self.store.trouble)) and self.watchers.turn()
         self.watch_clients()
         if self.listener is not None:
             takes = not self.is_full(now) and not self.is_ending()
             self.watch(self.listener.socket.fileno(), READ if takes else 0, self.accept)
-        for key, events in self.selector.select(0 if is_more else LOOK):
+        longest = self.monitor.turn(self.watch, LOOK)
+        for key, events in self.selector.select(0 if is_more else longest):
             key.data(events)
 
     def watch_clients(self) -> None:
@@ -616,10 +519,20 @@ class Server:
             if self.session.is_over:
                 was_told = not self.session.takes_commands
                 status = self.session.wait()
+                self.store.heed(self.session.told)
+                if self.store.trouble:
+                    return self.finish()
                 if status != 0 or not was_told:
                     return self.end(self.said_why(status))
                 if not self.renew():
                     return self.end(self.session.process.returncode or FAILED)
+        return self.finish()
+
+    def finish(self) -> int:
+        """Has the session perform what it was sent. The status. Where the store was replaced, those who wait to be taken
+        are told that, too."""
+        if self.store.trouble:
+            self.accept()
         self.stop_taking()
         while not self.session.is_over:
             self.finish_session()
@@ -628,7 +541,21 @@ class Server:
         if self.session.was_locked():
             self.session.errors.clear()
             status = 0
+        if self.store.trouble:
+            place = shown(self.store.path)
+            say(f"the store at {place} was replaced: {self.store.trouble}: see which one is meant, and start again")
+            self.refuse_commands()
+            status = REPLACED
         return self.end(status)
+
+    def refuse_commands(self) -> None:
+        """Refuses what the clients send, for a moment, so that they are told why their store is gone."""
+        until = time.monotonic() + REFUSES
+        while self.clients and time.monotonic() < until:
+            for client in [client for client in self.clients if client.watcher is None]:
+                if not client.refuse_all():
+                    self.drop(client)
+            self.turn()
 
     def said_why(self, status: int) -> int:
         """The status that the session has ended with, without being told to, after a line where it said none."""
@@ -640,6 +567,8 @@ class Server:
 
     def why_not_opened(self) -> int:
         """The status of a session that has not opened the store."""
+        if self.store.trouble:
+            return self.finish()
         status = self.session.wait()
         self.session.pass_errors_on()
         if status == 0 and not self.is_ending():
@@ -650,18 +579,26 @@ class Server:
         """Starts a session after one that is gone, and waits for others that hold the store. Whether one goes on."""
         deadline = time.monotonic() + self.bounds.lock_wait
         waits = False
-        while not self.is_ending():
+        is_barred = self.store.shows_files  # it may write nothing as it opens the store, so that it makes none
+        while not self.is_ending() and self.store.goes_on():
             try:
-                self.begin()
+                self.begin(is_barred=is_barred)
             except OSError as error:
                 trouble, remedy = f"no next session could be started ({reason(error)})", "free memory and processes"
             else:
-                if self.opens():
-                    self.monitor.renew()
+                if self.opens() and (not is_barred or self.session.let_write()):
+                    if self.store.goes_on():
+                        self.store.hold(self.session.process.pid)
+                        self.monitor.renew()
                     return True
                 self.session.wait()
-                if not self.session.was_locked():
+                is_locked, was_barred = self.session.was_locked(), is_barred
+                is_barred = is_locked and self.store.shows_files
+                if not is_locked and not was_barred:
                     break
+                if not is_locked:  # it has to copy the file, after a run that was killed
+                    self.session.errors.clear()
+                    continue
                 trouble, remedy = "the store was held by another run", "end that run"
             if time.monotonic() > deadline:
                 say(f"{trouble} for {self.bounds.lock_wait:g} seconds: {remedy}, and start the server again")
@@ -684,7 +621,7 @@ class Server:
         self.stop_taking()
         self.session.pass_errors_on()
         deadline = time.monotonic() + GRACE
-        while any(client.unsaid for client in self.clients) and time.monotonic() < deadline:
+        while any(client.has_to_read() for client in self.clients) and time.monotonic() < deadline:
             self.turn()
         for client in list(self.clients):
             self.drop(client)
@@ -719,6 +656,8 @@ def arguments_of(words: Sequence[str]) -> argparse.Namespace:
     parser.add_argument("--checkpoint-after", metavar="BYTES", type=count, help="as for `confstore run --group`")
     told = "tell health and counters over HTTP: a Unix socket, with a slash, or 127.0.0.1:PORT"
     parser.add_argument("--metrics", metavar="ADDRESS", type=address, help=told)
+    mode = "the mode of that socket, as 0666 (default: those that may read the store may ask)"
+    parser.add_argument("--metrics-mode", metavar="MODE", type=mode_of, help=mode)
     for word, kind, default, about in (
         ("--renew-after", count, SESSION, "start another session after so many bytes of commands"),
         ("--max-clients", count, 256, "clients at a time; others wait"),
@@ -735,8 +674,9 @@ def arguments_of(words: Sequence[str]) -> argparse.Namespace:
 
 def words_of(arguments: argparse.Namespace) -> list[str]:
     program = os.environ.get("CONFSTORE", "confstore")
+    program = os.path.abspath(program) if os.sep in program else program
     more = ["--checkpoint-after", str(arguments.checkpoint_after)] if arguments.checkpoint_after else []
-    return [program, "run", "--group", *more, os.path.abspath(arguments.folder)]
+    return [program, "run", "--group", *more, "."]
 
 
 def bounds_of(arguments: argparse.Namespace) -> Bounds:
@@ -746,9 +686,9 @@ def bounds_of(arguments: argparse.Namespace) -> Bounds:
     )  # fmt: skip
 
 
-def started(words: Sequence[str], bounds: Bounds, signals: Signals) -> Server:
+def started(words: Sequence[str], store: Store, bounds: Bounds, signals: Signals) -> Server:
     try:
-        return Server(words, bounds, signals)
+        return Server(words, store, bounds, signals)
     except OSError as error:
         remedy = "install it, or name it in CONFSTORE"
         if error.errno not in (errno.ENOENT, errno.EACCES, errno.ENOEXEC, errno.ENOTDIR):
@@ -759,16 +699,23 @@ def started(words: Sequence[str], bounds: Bounds, signals: Signals) -> Server:
 def run(arguments: argparse.Namespace, signals: Signals) -> int:
     with contextlib.closing(Listener(arguments.socket)) as listener:
         listener.look()
-        with listening(arguments.metrics) as scraped:
-            server = started(words_of(arguments), bounds_of(arguments), signals)
-            with contextlib.closing(server):
-                server.monitor.open(scraped, server.watch, server.unwatch)
-                if not server.opens():
-                    return server.why_not_opened()
-                listener.open(arguments.folder)
-                server.listener = listener
-                tell_manager()
-                return server.serve()
+        with contextlib.closing(Store(arguments.folder)) as store:
+            with listening(arguments.metrics, arguments.metrics_mode, store.folder) as door:
+                server = started(words_of(arguments), store, bounds_of(arguments), signals)
+                with contextlib.closing(server):
+                    server.monitor.open(door)
+                    return take_clients(server, listener)
+
+
+def take_clients(server: Server, listener: Listener) -> int:
+    """Takes clients once the session has opened the store, and serves them. The status."""
+    if not server.opens():
+        return server.why_not_opened()
+    server.store.hold(server.session.process.pid)
+    listener.open(server.store.folder)
+    server.listener = listener
+    tell_manager()
+    return server.serve()
 
 
 def main() -> int:

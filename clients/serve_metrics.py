@@ -2,12 +2,18 @@
 
 `GET /metrics` is answered by the counters, in exposition format 0.0.4. `GET /health` is answered by the status 200
 while commands are performed, and else by 503 and a line that says why they aren't. There is nothing else, and each
-connection has one request. The address is a path of a Unix socket, which has a slash, or 127.0.0.1:PORT. Whoever
-reaches it may read what is counted, which says nothing of what is stored.
+connection has one request. What is counted says nothing of what is stored: no name, no path and no text of it.
 
-Those who ask share the server's one loop with its clients, and never hold them up: at most 8 of them are connected,
-each for 2 seconds at most, at most 20 are taken in half a second, and a request has at most 4,096 bytes. All others
-wait.
+The address is a path of a Unix socket, which has a slash, or 127.0.0.1:PORT. At a socket those may ask that may read
+the store: they may read in its folder, and `store.yaml`. That is looked at again for each connection. With
+`--metrics-mode` the mode of the socket alone counts. A port has no access: whoever is on the machine may ask.
+
+Those who ask share the server's one loop with its clients, and never hold them up: after each moment that is spent on
+them, 19 times as long is for others. They don't hold up each other either. A connection lasts for 2 seconds at most,
+and a request has at most 4,096 bytes. There are 32 places, and they are never waited for: where all are taken, the user
+who has most of them loses the oldest one. A user who connects more than 50 times in a second is kept out of the
+socket for a minute, by its access list; root and the server's own user are not. At a port all are one user, and nobody
+is kept out.
 
 How long the base of `store.yaml` is stands in no answer, so it is read: the base is the first document of the file. At
 most some milliseconds are spent on that between two looks, so it takes a while where the base is long. Until then the
@@ -26,14 +32,20 @@ import selectors
 import socket
 import stat
 import time
-from typing import Callable, Iterable, Iterator, NamedTuple, Optional, Sized, Tuple, Union
+from typing import Callable, Iterable, Iterator, NamedTuple, Optional, Protocol, Sequence, Sized, Tuple, Union
 
-from serve_socket import Fault, Listener, reason
+from serve_socket import WRONG_WORDS, Fault, Listener, Peer, may_read, peer_of, reason, say
 
-MOST = 8  # connections at a time
-TAKEN = 20  # connections that are taken between two looks
+MOST = 32  # connections at a time
+TAKEN = 16  # connections that are taken at once
+SERVED = 8  # connections that are heard or answered at once
+MANY = 50  # connections of one user in a second, of which more are too many
+SHORTEST = 0.5  # seconds in which they are counted at least
+KEPT_OUT = 60  # seconds that a user with too many is kept out
+MOST_KEPT_OUT = 64  # users
+REST = 19  # how many times as long as on those who ask is spent on others
 STAY = 2  # seconds that a connection lasts at most
-WAITING = 64  # connections that the system lets wait
+WAITING = 1_024  # connections that the system lets wait
 LONGEST = 4_096  # bytes of a request
 HEARD = 65_536  # bytes that are read at once: what is left unread may cost the answer
 STUCK = 60  # seconds that a command may wait before the server calls itself unhealthy
@@ -58,7 +70,6 @@ REFUSAL = re.compile(rb"---\nrefused: ([A-Za-z]{1,40})\n")
 Number = Union[int, float]
 Sample = Tuple[str, Number]
 Watch = Callable[[int, int, Callable[[int], None]], None]
-Unwatch = Callable[[int], None]
 
 
 def address(text: str) -> str:
@@ -69,48 +80,72 @@ def address(text: str) -> str:
     raise argparse.ArgumentTypeError(f"{text!r} is neither a path with a slash nor 127.0.0.1:PORT")
 
 
+def mode_of(text: str) -> int:
+    """A word that is a mode. Raises `ArgumentTypeError`."""
+    if re.fullmatch("0?[0-7]{3}", text):
+        return int(text, 8)
+    raise argparse.ArgumentTypeError(f"{text!r} is no mode of three octal digits, as 0660")
+
+
+class Door(NamedTuple):
+    """Where those who ask come in: who has connected, whether they may ask, and how users are kept out."""
+
+    socket: socket.socket
+    peer_of: Callable[[socket.socket], Peer]
+    may_ask: Callable[[Peer], bool]
+    keep_out: Callable[[set[int]], None]
+
+
 @contextlib.contextmanager
-def listening(where: Optional[str]) -> Iterator[Optional[socket.socket]]:
+def listening(where: Optional[str], mode: Optional[int], folder: int) -> Iterator[Optional[Door]]:
     """A socket that listens at an address, or none without one. Raises `Fault` where that can't be."""
+    if mode is not None and (where is None or "/" not in where):
+        raise Fault("--metrics-mode is the mode of a Unix socket: name its path by --metrics", WRONG_WORDS)
     if where is None:
         yield None
-        return
-    if "/" in where:
-        listener = Listener(where)
-        try:
-            listener.open_for_all(WAITING)
-            yield listener.socket
-        finally:
-            listener.close()
-        return
-    with socket.socket(socket.AF_INET) as local:
-        try:
-            local.setsockopt(socket.SOL_SOCKET, socket.SO_REUSEADDR, 1)
-            local.bind(("127.0.0.1", int(where.rpartition(":")[2])))
-            local.setblocking(False)
-            local.listen(WAITING)
-        except OSError as error:
-            raise Fault(f"no metrics are told at {where}: {reason(error)}: choose another port") from None
-        yield local
+    elif "/" in where:
+        with contextlib.closing(Listener(where)) as listener:
+            if mode is None:
+                listener.open_for_readers(folder, WAITING)
+                yield Door(listener.socket, peer_of, lambda peer: may_read(peer, folder), listener.keep_out)
+            else:
+                listener.open_with_mode(mode, WAITING)
+                yield Door(listener.socket, peer_of, lambda _: True, listener.keep_out)
+    else:
+        with socket.socket(socket.AF_INET) as local:
+            open_port(local, where)
+            yield Door(local, lambda _: Peer(0, set()), lambda _: True, lambda _: None)
+
+
+def open_port(local: socket.socket, where: str) -> None:
+    """Listens at a port of this machine. Raises `Fault` where that can't be."""
+    try:
+        local.setsockopt(socket.SOL_SOCKET, socket.SO_REUSEADDR, 1)
+        local.bind(("127.0.0.1", int(where.rpartition(":")[2])))
+        local.setblocking(False)
+        local.listen(WAITING)
+    except OSError as error:
+        raise Fault(f"no metrics are told at {where}: {reason(error)}: choose another port") from None
 
 
 class Waits:
-    """How long commands waited for their answers."""
+    """How long commands waited for their answers, by the most seconds of each bucket."""
 
-    def __init__(self) -> None:
-        self.counts = [0] * (len(BUCKETS) + 1)
+    def __init__(self, buckets: Sequence[float] = BUCKETS) -> None:
+        self.buckets = buckets
+        self.counts = [0] * (len(buckets) + 1)
         self.sum = 0.0
         self.longest = 0.0
 
     def add(self, seconds: float) -> None:
-        self.counts[bisect.bisect_left(BUCKETS, seconds)] += 1
+        self.counts[bisect.bisect_left(self.buckets, seconds)] += 1
         self.sum += seconds
         self.longest = max(self.longest, seconds)
 
     def samples(self) -> Iterator[Sample]:
         """The samples of a histogram: each bucket counts those of the buckets before it too."""
         so_far = 0
-        for bound, count in zip([*BUCKETS, "+Inf"], self.counts):
+        for bound, count in zip([*self.buckets, "+Inf"], self.counts):
             so_far += count
             yield f'_bucket{{le="{bound}"}}', so_far
         yield "_sum", self.sum
@@ -223,15 +258,23 @@ class Monitor:
         self.renewals += 1
         self.waiting.clear()
 
-    def open(self, listener: Optional[socket.socket], watch: Watch, unwatch: Unwatch) -> None:
+    def open(self, door: Optional[Door]) -> None:
         """Takes those who ask, if there is a socket for them."""
-        if listener is not None:
-            self.scrapers = Scrapers(listener, self, watch, unwatch)
+        if door is not None:
+            self.scrapers = Scrapers(door, self)
 
     def look(self, now: float) -> None:
         if self.scrapers is not None:
             self.file.look()
             self.scrapers.look(now)
+
+    def turn(self, watch: Watch, most: float) -> float:
+        """Has those who ask watched, unless it is the others' time. How many seconds may be waited, at most so many."""
+        if self.scrapers is None:
+            return most
+        rest = max(self.scrapers.rests_until - time.monotonic(), 0.0)
+        watch(self.scrapers.selector.fileno(), 0 if rest else READ, self.scrapers.turn)
+        return min(most, rest) if rest else most
 
     def close(self) -> None:
         if self.scrapers is not None:
@@ -275,6 +318,14 @@ class Monitor:
         return "".join(family(*row) for row in rows)
 
 
+class Teller(Protocol):
+    """What makes the metrics, and says why nothing is performed, if so."""
+
+    def text(self) -> str: ...
+
+    def trouble(self) -> str: ...
+
+
 class Response(NamedTuple):
     """What is answered to a request."""
 
@@ -288,7 +339,7 @@ class Response(NamedTuple):
         return f"{head}{self.more}Connection: close\r\n\r\n".encode() + body
 
 
-def response_to(head: bytes, monitor: Monitor) -> Response:
+def response_to(head: bytes, teller: Teller) -> Response:
     """The answer to a request with this head."""
     line = REQUEST.fullmatch(head.partition(b"\n")[0].rstrip(b"\r"))
     if line is None:
@@ -297,9 +348,9 @@ def response_to(head: bytes, monitor: Monitor) -> Response:
         return Response("405 Method Not Allowed", "only GET is answered\n", "Allow: GET\r\n")
     path = line[2].partition(b"?")[0]
     if path == b"/metrics":
-        return Response("200 OK", monitor.text())
+        return Response("200 OK", teller.text())
     if path == b"/health":
-        trouble = monitor.trouble()
+        trouble = teller.trouble()
         return Response("503 Service Unavailable", f"{trouble}\n") if trouble else Response("200 OK", "ok\n")
     return Response("404 Not Found", "there are /metrics and /health\n")
 
@@ -307,8 +358,9 @@ def response_to(head: bytes, monitor: Monitor) -> Response:
 class Scraper:
     """One who asks: what it has sent, and what it has still to read."""
 
-    def __init__(self, connection: socket.socket) -> None:
+    def __init__(self, connection: socket.socket, user: int) -> None:
         self.connection = connection
+        self.user = user
         self.came = time.monotonic()
         self.head = bytearray()
         self.unsaid = b""
@@ -339,67 +391,92 @@ class Scraper:
 
 
 class Scrapers:
-    """Those who ask, within their bounds."""
+    """Those who ask, within their bounds. To the server's loop all of them are one thing, which it can leave alone."""
 
-    def __init__(self, listener: socket.socket, monitor: Monitor, watch: Watch, unwatch: Unwatch) -> None:
-        self.listener = listener
-        self.monitor = monitor
-        self.watch = watch
-        self.unwatch = unwatch
-        self.connected: dict[int, Scraper] = {}
-        self.may_take = TAKEN
-        self.listen()
+    def __init__(self, door: Door, teller: Teller) -> None:
+        self.door = door
+        self.teller = teller
+        self.connected: list[Scraper] = []  # in the order in which they came
+        self.came: collections.Counter[int] = collections.Counter()  # how often each user came since the last look
+        self.looked = time.monotonic()
+        self.kept_out: dict[int, float] = {}  # until when
+        self.rests_until = 0.0
+        self.selector = selectors.EpollSelector()
+        self.selector.register(door.socket, READ)
 
-    def listen(self) -> None:
-        """Waits for more, where there is room."""
-        has_room = len(self.connected) < MOST and self.may_take > 0
-        self.watch(self.listener.fileno(), READ if has_room else 0, self.accept)
+    def turn(self, _events: int) -> None:
+        """Does what can be done for them now, and rests for a multiple of the processor's time that it took."""
+        began = time.thread_time()
+        for key, events in self.selector.select(0)[:SERVED]:
+            if key.data is None:
+                self.accept()
+            elif key.data in self.connected:
+                self.serve(key.data, events)
+        rest = REST * (time.thread_time() - began)
+        self.rests_until = max(self.rests_until, time.monotonic() + rest)
 
-    def accept(self, _events: int) -> None:
-        self.may_take -= 1
-        try:
-            connection, _ = self.listener.accept()
-        except (BlockingIOError, ConnectionAbortedError):
-            pass
-        except OSError:
-            self.may_take = 0  # as where no more files may be open
-        else:
-            connection.setblocking(False)
-            scraper = Scraper(connection)
-            self.connected[connection.fileno()] = scraper
-            self.watch(connection.fileno(), READ, lambda events: self.serve(scraper, events))
-        self.listen()
+    def accept(self) -> None:
+        for _ in range(TAKEN):
+            try:
+                connection, _address = self.door.socket.accept()
+            except BlockingIOError:
+                return
+            except ConnectionAbortedError:
+                continue
+            except OSError:
+                self.rests_until = time.monotonic() + STAY  # as where no more files may be open
+                return
+            peer = self.door.peer_of(connection)
+            self.came[peer.user] += 1
+            if peer.user in self.kept_out or not self.door.may_ask(peer):
+                connection.close()
+            else:
+                self.take(connection, peer.user)
+
+    def take(self, connection: socket.socket, user: int) -> None:
+        """Gives one who connects a place, which another one loses where there is none."""
+        connection.setblocking(False)
+        scraper = Scraper(connection, user)
+        self.connected.append(scraper)
+        self.selector.register(connection, READ, scraper)
+        if len(self.connected) > MOST:
+            [(most, _count)] = collections.Counter(other.user for other in self.connected).most_common(1)
+            self.drop(next(other for other in self.connected if other.user == most))
 
     def serve(self, scraper: Scraper, events: int) -> None:
-        descriptor = scraper.connection.fileno()
-        if self.connected.get(descriptor) is not scraper:
-            return
         goes_on = scraper.hear() if events & READ else scraper.say()
         if goes_on and events & READ and scraper.has_asked():
             is_long = len(scraper.head) > LONGEST
             long = Response("431 Request Header Fields Too Large", f"a request has at most {LONGEST} bytes\n")
-            scraper.unsaid = (long if is_long else response_to(bytes(scraper.head), self.monitor)).written()
+            scraper.unsaid = (long if is_long else response_to(bytes(scraper.head), self.teller)).written()
             goes_on = scraper.say()
             if goes_on:
-                self.watch(descriptor, WRITE, lambda events: self.serve(scraper, events))
+                self.selector.modify(scraper.connection, WRITE, scraper)
         if not goes_on:
             self.drop(scraper)
 
     def drop(self, scraper: Scraper) -> None:
-        descriptor = scraper.connection.fileno()
-        del self.connected[descriptor]
-        self.unwatch(descriptor)
+        self.connected.remove(scraper)
+        self.selector.unregister(scraper.connection)
         scraper.connection.close()
-        self.listen()
 
     def look(self, now: float) -> None:
-        """Cuts off those that have been connected for long, and takes others."""
-        for scraper in [scraper for scraper in self.connected.values() if now - scraper.came > STAY]:
+        """Cuts off those that have been connected for long, and keeps out those who came too often."""
+        for scraper in [scraper for scraper in self.connected if now - scraper.came > STAY]:
             self.drop(scraper)
-        self.may_take = TAKEN
-        self.listen()
+        known = set(self.kept_out)
+        self.kept_out = {user: until for user, until in self.kept_out.items() if until > now}
+        most, self.looked = MANY * max(now - self.looked, SHORTEST), now
+        often = {user for user, count in self.came.items() if count > most} - {0, os.geteuid()} - set(self.kept_out)
+        self.came.clear()
+        for user in sorted(often)[: MOST_KEPT_OUT - len(self.kept_out)]:
+            self.kept_out[user] = now + KEPT_OUT
+            too_often = f"user {user} asks for the metrics too often, and is kept out for {KEPT_OUT} seconds"
+            say(f"{too_often}: have it ask at most {MANY} times in a second")
+        if set(self.kept_out) != known:
+            self.door.keep_out(set(self.kept_out))
 
     def close(self) -> None:
-        for scraper in list(self.connected.values()):
+        for scraper in list(self.connected):
             self.drop(scraper)
-        self.unwatch(self.listener.fileno())
+        self.selector.close()

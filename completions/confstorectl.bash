@@ -2,23 +2,24 @@
 # files.
 # python/pages_of_confstorectl.py makes this file of the table of words.
 
-_confstorectl_words='import set delete copy rename batch checkpoint export names keys get exists log verify watch help'
+_confstorectl_words='import set delete copy rename edit batch checkpoint export names keys get exists render log verify watch help'
 
 _confstorectl_options() {
     case $1 in
-    import) echo '--init --explain --if-value --if-absent --if-count --socket --wait --help' ;;
-    set) echo '--yaml --file --whole --explain --if-value --if-absent --if-count --socket --wait --help' ;;
-    delete) echo '--whole --if-value --if-absent --if-count --socket --wait --help' ;;
-    copy) echo '--if-value --if-absent --if-count --socket --wait --help' ;;
-    rename) echo '--if-value --if-absent --if-count --socket --wait --help' ;;
-    batch) echo '--explain --socket --wait --help' ;;
+    import) echo '--init --explain --if-value --if-absent --if-count --check --from --document --split --dir --socket --wait --help' ;;
+    set) echo '--yaml --file --whole --explain --if-value --if-absent --if-count --check --socket --wait --help' ;;
+    delete) echo '--whole --if-value --if-absent --if-count --check --socket --wait --help' ;;
+    copy) echo '--if-value --if-absent --if-count --check --socket --wait --help' ;;
+    rename) echo '--if-value --if-absent --if-count --check --socket --wait --help' ;;
+    edit) echo '--check --socket --wait --help' ;;
+    batch) echo '--explain --check --socket --wait --help' ;;
     export) echo '--json --plain --socket --wait --help' ;;
     names) echo '--json --at --socket --wait --help' ;;
     keys) echo '--at --socket --wait --help' ;;
     get) echo '--raw --no-newline --json --plain --default --at --socket --wait --help' ;;
     exists) echo '--at --socket --wait --help' ;;
     log) echo '--values --yaml --at --socket --wait --help' ;;
-    watch) echo '--yaml --from --socket --wait --help' ;;
+    watch) echo '--values --yaml --from --settle --socket --wait --help' ;;
     *) echo '--socket --wait --help' ;;
     esac
 }
@@ -35,7 +36,7 @@ _confstorectl() {
     COMPREPLY=()
     for ((index = 1; index < COMP_CWORD; index++)); do
         case ${COMP_WORDS[index]} in
-        --at | --default | --file | --from | --if-count | --if-value | --socket | --wait) index=$((index + 1)) ;;
+        --at | --check | --default | --dir | --document | --file | --from | --if-count | --if-value | --settle | --socket | --wait) index=$((index + 1)) ;;
         -?*) ;;
         *)
             place=$((place + 1))
@@ -50,7 +51,7 @@ _confstorectl() {
         mapfile -t COMPREPLY < <(compgen -f -- "$current")
         return
         ;;
-    --at | --default | --from | --if-count | --if-value | --wait) return ;;
+    --at | --check | --default | --dir | --document | --from | --if-count | --if-value | --settle | --wait) return ;;
     esac
     if [[ $current == -* ]]; then
         [ -n "$word" ] || more=--version
@@ -59,11 +60,11 @@ _confstorectl() {
     fi
     case $word:$place in
     :-1 | help:0) mapfile -t COMPREPLY < <(compgen -W "$_confstorectl_words" -- "$current") ;;
-    import:2 | batch:1)
+    import:2 | batch:1 | render:2 | render:1)
         compopt -o filenames
         mapfile -t COMPREPLY < <(compgen -f -- "$current")
         ;;
-    import:1 | set:1 | delete:1 | copy:1 | rename:1 | export:1 | keys:1 | get:1 | exists:1 | watch:1 | copy:2 | rename:2)
+    import:1 | set:1 | delete:1 | copy:1 | rename:1 | edit:1 | export:1 | keys:1 | get:1 | exists:1 | watch:1 | copy:2 | rename:2)
         mapfile -t COMPREPLY < <(compgen -W "$(_confstorectl_names "$folder")" -- "$current")
         ;;
     *:0)

@@ -8,7 +8,7 @@ function __confstorectl_places
     for word in (commandline -opc)[2..-1]
         if test $is_value = 1
             set is_value 0
-        else if contains -- $word --at --default --file --from --if-count --if-value --socket --wait
+        else if contains -- $word --at --check --default --dir --document --file --from --if-count --if-value --settle --socket --wait
             set is_value 1
         else if not string match -q -- '-?*' $word
             set -a places $word
@@ -51,6 +51,8 @@ complete -c confstorectl -n '__confstorectl_at -1' \
 complete -c confstorectl -n '__confstorectl_at -1' \
     -a copy -d 'Puts a copy of a configuration under another name'
 complete -c confstorectl -n '__confstorectl_at -1' -a rename -d 'Gives a configuration another name'
+complete -c confstorectl -n '__confstorectl_at -1' \
+    -a edit -d 'Opens a configuration in an editor, and imports what is saved'
 complete -c confstorectl -n '__confstorectl_at -1' -a batch -d 'Makes all edits of a list, or none of them'
 complete -c confstorectl -n '__confstorectl_at -1' \
     -a checkpoint -d 'Makes the store file as short as its state'
@@ -63,6 +65,8 @@ complete -c confstorectl -n '__confstorectl_at -1' \
     -a get -d 'Writes the value at a JSON Pointer of a configuration'
 complete -c confstorectl -n '__confstorectl_at -1' \
     -a exists -d 'Tells whether something is at a JSON Pointer, by the status'
+complete -c confstorectl -n '__confstorectl_at -1' \
+    -a render -d 'Writes a template with values of the store in it'
 complete -c confstorectl -n '__confstorectl_at -1' -a log -d 'Writes the commands since the last checkpoint'
 complete -c confstorectl -n '__confstorectl_at -1' \
     -a verify -d 'Reads the whole store file, and writes whether it can be opened'
@@ -82,6 +86,16 @@ complete -c confstorectl -n '__confstorectl_is import' -l if-absent \
     -d 'Changes the store only if nothing is at the place that is changed'
 complete -c confstorectl -n '__confstorectl_is import' -l if-count -x \
     -d 'Changes the store only if it has accepted N commands'
+complete -c confstorectl -n '__confstorectl_is import' -l check -x \
+    -d 'Makes the change only if COMMAND, of a shell, takes the text that comes of it'
+complete -c confstorectl -n '__confstorectl_is import' -l from -x \
+    -d 'Reads a text of another format, as yaml, toml, ini, env, properties or json5'
+complete -c confstorectl -n '__confstorectl_is import' -l document -x \
+    -d 'Of a YAML text with several documents takes number N, from 1'
+complete -c confstorectl -n '__confstorectl_is import' -l split \
+    -d 'Imports each document of a YAML text; {n} in NAME stands for its number'
+complete -c confstorectl -n '__confstorectl_is import' -l dir -x \
+    -d 'Imports each file of the folder DIR; {file} in NAME stands for its name'
 complete -c confstorectl -n '__confstorectl_is set' -l yaml \
     -d 'Reads VALUE, or standard input if that is `-`, as a YAML text'
 complete -c confstorectl -n '__confstorectl_is set' -l file -r -F \
@@ -96,6 +110,8 @@ complete -c confstorectl -n '__confstorectl_is set' -l if-absent \
     -d 'Changes the store only if nothing is at the place that is changed'
 complete -c confstorectl -n '__confstorectl_is set' -l if-count -x \
     -d 'Changes the store only if it has accepted N commands'
+complete -c confstorectl -n '__confstorectl_is set' -l check -x \
+    -d 'Makes the change only if COMMAND, of a shell, takes the text that comes of it'
 complete -c confstorectl -n '__confstorectl_is delete' -l whole \
     -d 'Allows the pointer "", which stands for the whole configuration'
 complete -c confstorectl -n '__confstorectl_is delete' -l if-value -x \
@@ -104,20 +120,30 @@ complete -c confstorectl -n '__confstorectl_is delete' -l if-absent \
     -d 'Changes the store only if nothing is at the place that is changed'
 complete -c confstorectl -n '__confstorectl_is delete' -l if-count -x \
     -d 'Changes the store only if it has accepted N commands'
+complete -c confstorectl -n '__confstorectl_is delete' -l check -x \
+    -d 'Makes the change only if COMMAND, of a shell, takes the text that comes of it'
 complete -c confstorectl -n '__confstorectl_is copy' -l if-value -x \
     -d 'Changes the store only if this text is at the place that is changed'
 complete -c confstorectl -n '__confstorectl_is copy' -l if-absent \
     -d 'Changes the store only if nothing is at the place that is changed'
 complete -c confstorectl -n '__confstorectl_is copy' -l if-count -x \
     -d 'Changes the store only if it has accepted N commands'
+complete -c confstorectl -n '__confstorectl_is copy' -l check -x \
+    -d 'Makes the change only if COMMAND, of a shell, takes the text that comes of it'
 complete -c confstorectl -n '__confstorectl_is rename' -l if-value -x \
     -d 'Changes the store only if this text is at the place that is changed'
 complete -c confstorectl -n '__confstorectl_is rename' -l if-absent \
     -d 'Changes the store only if nothing is at the place that is changed'
 complete -c confstorectl -n '__confstorectl_is rename' -l if-count -x \
     -d 'Changes the store only if it has accepted N commands'
+complete -c confstorectl -n '__confstorectl_is rename' -l check -x \
+    -d 'Makes the change only if COMMAND, of a shell, takes the text that comes of it'
+complete -c confstorectl -n '__confstorectl_is edit' -l check -x \
+    -d 'Makes the change only if COMMAND, of a shell, takes the text that comes of it'
 complete -c confstorectl -n '__confstorectl_is batch' -l explain \
     -d 'Shows the line at fault of a refused text, and says what to do'
+complete -c confstorectl -n '__confstorectl_is batch' -l check -x \
+    -d 'Makes the change only if COMMAND, of a shell, takes the text that comes of it'
 complete -c confstorectl -n '__confstorectl_is export' -l json \
     -d 'Writes a JSON text on one line; each text is a string'
 complete -c confstorectl -n '__confstorectl_is export' -l plain \
@@ -147,16 +173,21 @@ complete -c confstorectl -n '__confstorectl_is log' -l yaml \
     -d 'Writes the records as they stand in store.yaml'
 complete -c confstorectl -n '__confstorectl_is log' -l at -x \
     -d 'Reads the store as it was after command number N'
+complete -c confstorectl -n '__confstorectl_is watch' -l values \
+    -d 'Writes the value of each import and set, too, as a JSON text'
 complete -c confstorectl -n '__confstorectl_is watch' -l yaml \
     -d 'Writes the records as they stand in store.yaml'
 complete -c confstorectl -n '__confstorectl_is watch' -l from -x \
     -d 'Begins with change number N, which may have been made already'
-complete -c confstorectl -n '__confstorectl_at 0 import set delete copy rename batch checkpoint export names keys get exists log verify watch' \
+complete -c confstorectl -n '__confstorectl_is watch' -l settle -x \
+    -d 'Runs COMMAND once for the changes that come within so many seconds'
+complete -c confstorectl -n '__confstorectl_at 0 import set delete copy rename edit batch checkpoint export names keys get exists render log verify watch' \
     -a '(__fish_complete_directories)'
-complete -c confstorectl -n '__confstorectl_at 2 import' -F
+complete -c confstorectl -n '__confstorectl_at 2 import render' -F
 complete -c confstorectl -n '__confstorectl_at 1 batch' -F
-complete -c confstorectl -n '__confstorectl_at 1 import set delete copy rename export keys get exists watch' \
+complete -c confstorectl -n '__confstorectl_at 1 render' -F
+complete -c confstorectl -n '__confstorectl_at 1 import set delete copy rename edit export keys get exists watch' \
     -a '(__confstorectl_names)'
 complete -c confstorectl -n '__confstorectl_at 2 copy rename' -a '(__confstorectl_names)'
 complete -c confstorectl -n '__confstorectl_at 0 help' \
-    -a 'import set delete copy rename batch checkpoint export names keys get exists log verify watch'
+    -a 'import set delete copy rename edit batch checkpoint export names keys get exists render log verify watch'

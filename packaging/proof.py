@@ -4,16 +4,19 @@
     packaging/proof.py [JOBS]
 
 `./prove` calls it, from anywhere. A crate is proved once those below it are, by a run of `rt` of its own, and the crates
-with the longest chain above them come first. As many run at once as there are processors. Where fewer are ready, a crate
-gets more than one job; and the one whose chain is the longest gets a job for each processor, since the end waits for it.
-JOBS is how many crates run at one time: one for each processor, if there are 3 GiB of memory for each.
+with the longest chain above them come first. As many run at once as there are processors, each with one job: a check
+with four jobs takes up to three times the processor time, and ends little sooner. A crate that nothing can run beside
+gets a job for each processor. JOBS is how many crates run at one time: one for each processor, if there are 3 GiB of
+memory for each.
 
 `rt` locks a crate and all below it. So each crate is proved in a folder of its own below `out/proof`, which has the
 sources of these crates as they stood at the start, and links to the libraries below it. What the run makes is then moved into
 the crate's `out/`, where `rt` finds it.
 
-Lines on standard error say what is proved, and each half minute what runs and how long it has taken. The status is 0 if
-all is proved and built, 1 if something isn't, whose log is then printed, and 2 if the toolchain can't be run.
+Lines on standard error say what is proved, and each half minute what runs and how long it has taken. What each crate
+cost is kept in `out/proof-costs`, a line for each: its name, its seconds by the clock and of processors, and its jobs.
+`checks/crate_costs.py` makes a table of it. The status is 0 if all is proved and built, 1 if something isn't, whose log
+is then printed, and 2 if the toolchain can't be run.
 """
 
 from __future__ import annotations
@@ -33,15 +36,17 @@ from types import FrameType
 TOP = Path(__file__).resolve().parent.parent
 CRATES = TOP / "crates"
 ROOM = TOP / "out" / "proof"
+COSTS = TOP / "out" / "proof-costs"
 PROGRAM = "confstore"
 MEMORY_OF_A_JOB = 3 << 30
 # More jobs than this one crate doesn't use.
 MOST_JOBS = 4
 # The seconds between two lines that say what runs.
 QUIET = 30
-# What a run makes in a crate's out/, and what of it the crates above need.
+# What a run makes in a crate's out/; what of it the crates above need; and what a next run of the crate begins with.
 MADE = ("incremental", "rlib", PROGRAM)
 LIBRARY = "rlib"
+BEGUN = "incremental"
 
 
 @dataclass
@@ -64,6 +69,18 @@ class Run:
     jobs: int
     process: subprocess.Popen[bytes]
     start: float
+    # Seconds of processors, once it has ended.
+    processors: float = 0.0
+
+    def has_ended(self) -> bool:
+        """Looks whether the run has ended, and takes its status and what it used of processors, with all that it started."""
+        if self.process.returncode is None:
+            found, status, usage = os.wait4(self.process.pid, os.WNOHANG)
+            if not found:
+                return False
+            self.process.returncode = os.waitstatus_to_exitcode(status)
+            self.processors = usage.ru_utime + usage.ru_stime
+        return True
 
     def log(self) -> Path:
         return ROOM / f"{self.crate.name}.log"
@@ -155,15 +172,15 @@ def start(crate: Crate, jobs: int) -> Run:
     return Run(crate, jobs, process, time.monotonic())
 
 
-def take_made(crate: Crate) -> None:
-    """Moves what a run made into the crate's out/, while no rt works there."""
+def take_made(crate: Crate, names: tuple[str, ...] = MADE) -> None:
+    """Moves what a run made, under these names, into the crate's out/, while no rt works there."""
     made = ROOM / "rooms" / crate.name / "crates" / crate.name / "out"
     place = CRATES / crate.name / "out"
     place.mkdir(exist_ok=True)
     folder = os.open(CRATES / crate.name, os.O_RDONLY)
     try:
         fcntl.flock(folder, fcntl.LOCK_EX)
-        for name in MADE:
+        for name in names:
             if not (made / name).exists():
                 continue
             if (place / name).is_dir():
@@ -183,23 +200,17 @@ class Proof:
         self.waiting = sorted(crates.values(), key=lambda crate: -crate.chain)
         self.running: list[Run] = []
         self.done: set[str] = set()
+        self.costs: list[str] = []
         self.start = time.monotonic()
         self.said = self.start
 
     def begin(self) -> None:
         """Starts crates that are ready, one for each processor that none is proved on."""
         ready = [crate for crate in self.waiting if crate.below <= self.done]
-        free = self.jobs - len(self.running)
-        for at, crate in enumerate(ready[:free]):
-            share = -(-free // (len(ready) - at))
-            jobs = min(MOST_JOBS, self.jobs if self.all_wait_for(crate) else share)
+        is_alone = len(ready) == 1 and not self.running
+        for crate in ready[: self.jobs - len(self.running)]:
             self.waiting.remove(crate)
-            self.running.append(start(crate, jobs))
-            free -= share
-
-    def all_wait_for(self, crate: Crate) -> bool:
-        """Whether the chain of crates that wait for this one is longer than that of each crate that runs."""
-        return all(run.crate.chain < crate.chain for run in self.running)
+            self.running.append(start(crate, min(MOST_JOBS, self.jobs) if is_alone else 1))
 
     def what_runs(self, now: float) -> str:
         return ", ".join(run.says(now) for run in self.running) or "nothing"
@@ -216,8 +227,11 @@ class Proof:
         if run.process.returncode:
             sys.stderr.write(run.log().read_text(encoding="utf-8", errors="replace"))
             say(f"{run.crate.name} was not proved; the lines above say why")
+            take_made(run.crate, (BEGUN,))
             return False
         took = time.monotonic() - run.start
+        self.costs.append(f"{run.crate.name} {took:.0f} {run.processors:.0f} {run.jobs}\n")
+        COSTS.write_text("".join(self.costs), encoding="utf-8")
         take_made(run.crate)
         self.done.add(run.crate.name)
         self.begin()
@@ -228,7 +242,7 @@ class Proof:
         """Proves all, and returns whether that went well."""
         self.begin()
         while self.running:
-            ended = [run for run in self.running if run.process.poll() is not None]
+            ended = [run for run in self.running if run.has_ended()]
             if not all([self.end(run) for run in ended]):
                 return False
             if not ended:
@@ -260,6 +274,8 @@ def main() -> int:
         say(f"crates.txt names no crate {PROGRAM}")
         return 1
     jobs = int(sys.argv[1]) if len(sys.argv) > 1 else jobs_at_once()
+    # ./confstore runs no program that others may have changed.
+    os.umask(os.umask(0o077) | 0o022)
     ROOM.parent.mkdir(exist_ok=True)
     with ROOM.with_suffix(".lock").open("w", encoding="utf-8") as lock:
         try:

@@ -58,7 +58,7 @@ def for_bash() -> str:
         values=" | ".join(WITH_VALUE),
         of_files=" | ".join(OF_FILES),
         no_files=" | ".join(name for name in WITH_VALUE if name not in OF_FILES),
-        files=" | ".join(places("FILE")),
+        files=" | ".join([*places("FILE"), *places("TEMPLATE")]),
         names=" | ".join([*places("NAME"), *places("TO")]),
         version=VERSION.name,
     )
@@ -133,7 +133,7 @@ complete -F _confstorectl confstorectl
 
 ZSH_PLACES = {
     "FOLDER": "folder:_files -/", "NAME": "name:_confstorectl_names", "TO": "name:_confstorectl_names",
-    "FILE": "file:_files",
+    "FILE": "file:_files", "TEMPLATE": "template:_files",
 }  # fmt: skip
 
 
@@ -224,7 +224,7 @@ def for_fish() -> str:
     rows.append(fish_option(" -n '__confstorectl_at -1'", VERSION))
     for word in ALL:
         rows += [fish_option(f" -n '__confstorectl_is {word.name}'", option) for option in word.options]
-    for argument, action in (("FOLDER", "-a '(__fish_complete_directories)'"), ("FILE", "-F")):
+    for argument, action in (("FOLDER", "-a '(__fish_complete_directories)'"), ("FILE", "-F"), ("TEMPLATE", "-F")):
         rows += [f"complete -c confstorectl -n {place} {action}" for place in fish_places(argument)]
     for argument in ("NAME", "TO"):
         rows += [f"complete -c confstorectl -n {place} -a '(__confstorectl_names)'" for place in fish_places(argument)]

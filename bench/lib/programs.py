@@ -1,4 +1,7 @@
-"""The programs that are measured, and what is looked at before they are."""
+"""The programs that are measured, and what is looked at before they are.
+
+What the scripts of checks/ share is found as well: `lib` is both bench/lib and checks/lib.
+"""
 
 from __future__ import annotations
 
@@ -7,24 +10,14 @@ import shutil
 import subprocess
 import sys
 
-TOP = os.path.dirname(os.path.dirname(os.path.dirname(os.path.abspath(__file__))))
-PROGRAM = os.environ.get("CONFSTORE") or os.path.join(TOP, "crates", "confstore", "out", "confstore")
-DRIVER = os.path.join(TOP, "crates", "bench_driver", "out", "bench_driver")
+sys.path.append(os.path.join(os.path.dirname(os.path.abspath(__file__)), "..", "..", "checks"))
+
+from lib.store_runs import DRIVER as DRIVER, PROGRAM as PROGRAM, TOP as TOP, need_program as need_program  # noqa: E402
 
 MIB = 1024 * 1024
 
 # A folder in memory, so that no device is measured. Where there is none, it is that of temporary files.
 MEMORY = "/dev/shm" if os.path.isdir("/dev/shm") else None
-
-
-def need_program() -> None:
-    if not os.access(PROGRAM, os.X_OK):
-        sys.exit("the program is not built: run ./confstore --version first")
-
-
-def need_driver() -> None:
-    if not os.access(DRIVER, os.X_OK):
-        sys.exit("bench_driver is not built: run `rt run -- edits tree wide 1 1` in crates/bench_driver first")
 
 
 def has_valgrind() -> bool:

@@ -5,6 +5,7 @@ from __future__ import annotations
 import os
 import re
 import resource
+import shutil
 import subprocess
 import sys
 from collections.abc import Callable, Collection, Mapping, Sequence
@@ -69,6 +70,16 @@ def instructions_of(words: Words, source: str = os.devnull) -> int:
     with open(source, "rb") as text:
         done = subprocess.run([*CALLGRIND, *words], stdin=text, capture_output=True, check=True)
     return instructions_in(done.stderr)
+
+
+def syncs_of(words: Words, top: str, run: Callable[[Words], object]) -> int | None:
+    """How many syncs a program makes, or none where strace is not installed. `run` runs the words that it is given."""
+    if shutil.which("strace") is None:
+        return None
+    log = os.path.join(top, "syncs")
+    run(["strace", "-f", "-e", "trace=fsync,fdatasync", "-o", log, *words])
+    with open(log, encoding="utf-8") as calls:
+        return sum("sync(" in line for line in calls)
 
 
 def by_turns(ways: Mapping[str, Callable[[], Result]], turns: int) -> dict[str, list[Result]]:

@@ -1,6 +1,6 @@
 /* What a session costs without its parsing: reads pieces through their closing lines, appends each to a file, syncs
  * it, and writes an answer of the same length as a session's. With `group`, all pieces that one read brought are
- * appended, then synced once, and then answered by one write. For bench/session.py and bench/groups.py.
+ * appended, then synced once, and then answered by one write. For bench/session_rates.py and bench/group_rates.py.
  *
  *     append FILE [group] < pieces > answers
  */

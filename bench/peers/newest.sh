@@ -1,7 +1,7 @@
 #!/usr/bin/env bash
 # Unpacks the newest libfyaml and rapidyaml that Debian has into a folder, and builds the peers' drivers over them.
-# Nothing of the machine is installed or changed: apt keeps its lists in the folder, and the drivers run by the C library
-# that was unpacked beside them.
+# Nothing of the machine is installed or changed: apt keeps its lists in the folder, and the drivers run by the C
+# library that was unpacked beside them.
 #
 #     bench/peers/newest.sh FOLDER [SUITE]
 #
@@ -36,7 +36,7 @@ apt_of_suite apt-get update
 
 libraries=$tree/usr/lib/x86_64-linux-gnu
 loader=$(find "$tree" -name 'ld-linux-x86-64.so.2' | head -n 1)
-run_by_loader=(-Wl,--dynamic-linker="$loader" -Wl,-rpath,"$libraries" -Wl,--allow-shlib-undefined)
+run_by_loader=("-Wl,--dynamic-linker=$loader" "-Wl,-rpath,$libraries" "-Wl,--allow-shlib-undefined")
 cc -O2 -I "$tree/usr/include" -o "$folder/libfyaml" "$peers/libfyaml.c" -L "$libraries" -lfyaml "${run_by_loader[@]}"
-c++ -O2 -std=c++17 -DC4CORE_NO_FAST_FLOAT -I "$tree/usr/include" -o "$folder/rapidyaml" "$peers/rapidyaml.cpp" -L "$libraries" -lryml -lc4core \
-    "${run_by_loader[@]}"
+c++ -O2 -std=c++17 -DC4CORE_NO_FAST_FLOAT -I "$tree/usr/include" -o "$folder/rapidyaml" "$peers/rapidyaml.cpp" \
+    -L "$libraries" -lryml -lc4core "${run_by_loader[@]}"

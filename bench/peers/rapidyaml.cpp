@@ -1,6 +1,7 @@
 // Reads a file many times by rapidyaml: to a tree, or to a tree that is written again.
 //
-// Words: `tree` or `copy`, the file, and how often. It prints how many nodes or bytes the last round gave, or "refused".
+// Words: `tree` or `copy`, the file, and how often. It prints how many nodes or bytes the last round gave, or
+// "refused".
 #include <cstdio>
 #include <cstdlib>
 #include <cstring>

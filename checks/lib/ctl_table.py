@@ -12,7 +12,7 @@ from lib.store_runs import TOP
 
 sys.path.insert(0, os.path.join(TOP, "python"))
 
-from confstore.ctl_words import WORDS  # noqa: E402
+from confstore.ctl_words import CHECKED, FOREIGN, WORDS  # noqa: E402
 
 # A row of the help of a word: an argument, or an option, and a row of the words in the help of all.
 ARGUMENT = re.compile(r"(?m)^  (<|\[)([A-Z]+)[>\]](?:\.\.\.)?  +\S")
@@ -54,10 +54,11 @@ def table_of_program(program: str) -> Table:
 
 
 def table_of_ctl() -> Table:
+    """The words of confstorectl, without the options that confstore has of no word."""
     return {
         word.name: Shape(
             [(argument.name, argument.is_optional) for argument in word.arguments],
-            {option.name: option.value for option in word.options},
+            {option.name: option.value for option in word.options if option not in (*FOREIGN, *CHECKED)},
         )
         for word in WORDS.values()
     }

@@ -13,7 +13,7 @@ import time
 import unittest
 from typing import Any, Callable, Iterator, Sequence
 
-from lib.servers import NAMES, PROGRAM, PYTHON, SERVER, ServerTest, accepts, is_for_all
+from lib.servers import NAMES, PATIENCE, PROGRAM, PYTHON, SERVER, ServerTest, accepts, is_for_all
 
 # Users and groups for the trials of access: numbers, which need no names.
 ALICE, BOB, CAROL, DAVE, EVE = 70_001, 70_002, 70_003, 70_004, 70_005
@@ -43,6 +43,12 @@ FOLDERS: list[tuple[int, str]] = [
     (0o777, f"u:{EVE}:---,g:{GUESTS}:---"),
     (0o750, f"u:{BOB}:rwx,g:{GUESTS}:rwx,m::r-x"),
     (0o750, f"u:{BOB}:-w-,g:{GUESTS}:-wx"),
+    (0o722, ""),
+    (0o1777, ""),
+    (0o700, f"u:{BOB}:rw-"),
+    (0o770, f"u:{CAROL}:r-x"),
+    (0o770, f"u:{BOB}:rwx,m::r-x"),
+    (0o770, f"g:{GUESTS}:---"),
 ]
 
 
@@ -82,22 +88,33 @@ def may_write(folder: str) -> bool:
     return True
 
 
-@unittest.skipUnless(os.geteuid() == 0, "needs root")
-class Access(ServerTest):
-    """Who may connect, beside who may write in the folder: the system decides both."""
+def is_served(path: str) -> bool:
+    """Whether a server answers this process."""
+    with socket.socket(socket.AF_UNIX) as connection:
+        connection.settimeout(PATIENCE)
+        try:
+            connection.connect(path)
+            connection.sendall(NAMES)
+            return connection.recv(100).startswith(b"---\n")
+        except (PermissionError, BrokenPipeError, ConnectionResetError):
+            return False
+
+
+class AccessTest(ServerTest):
+    """A test with a folder of alice and staff, and other users who try what it lets them do."""
 
     def setUp(self) -> None:
         super().setUp()
         if shut_out():
             self.skipTest(shut_out())
 
-    def differences(self) -> dict[str, tuple[bool, bool]]:
+    def differences(self, may: Callable[[str], bool], does: Callable[[], bool]) -> dict[str, tuple[bool, bool]]:
+        """For whom it differs what the folder lets them do and what the server does."""
         found = {}
         for name, identity in IDENTITIES.items():
-            writes = as_another(identity, lambda: may_write(self.folder))
-            connects = as_another(identity, lambda: accepts(self.path))
-            if writes != connects:
-                found[name] = writes, connects
+            both = as_another(identity, lambda: may(self.folder)), as_another(identity, does)
+            if both[0] != both[1]:
+                found[name] = both
         return found
 
     def prepare(self, mode: int, entries: str) -> None:
@@ -110,6 +127,14 @@ class Access(ServerTest):
         if entries:
             subprocess.run(["setfacl", "-m", entries, self.folder], check=True)
 
+
+@unittest.skipUnless(os.geteuid() == 0, "needs root")
+class Access(AccessTest):
+    """Who may connect, beside who may write in the folder: the system decides both."""
+
+    def other_clients(self) -> dict[str, tuple[bool, bool]]:
+        return self.differences(may_write, lambda: accepts(self.path))
+
     def try_all(self, user: int, groups: list[int], folders: Sequence[tuple[int, str]] = FOLDERS) -> None:
         sockets = os.path.join(self.top, "sockets")
         os.mkdir(sockets)
@@ -119,7 +144,7 @@ class Access(ServerTest):
             with self.subTest(mode=oct(mode), entries=entries):
                 self.prepare(mode, entries)
                 server = self.serve(user=user, group=groups[0], extra_groups=groups)
-                self.assertEqual(self.differences(), {}, f"(may write, may connect); {os.stat(self.path)}")
+                self.assertEqual(self.other_clients(), {}, f"(may write, may connect); {os.stat(self.path)}")
                 self.assertEqual(server.end(), 0)
                 for name in os.listdir(self.folder):
                     os.unlink(os.path.join(self.folder, name))
@@ -145,7 +170,30 @@ class Access(ServerTest):
         subprocess.run(["setfacl", "-d", "-m", f"u:{EVE}:rwx,g:{GUESTS}:rwx,o::rwx", sockets], check=True)
         self.path = os.path.join(sockets, "socket")
         self.serve()
-        self.assertEqual(self.differences(), {})
+        self.assertEqual(self.other_clients(), {})
+
+    def test_access_that_was_narrowed(self) -> None:
+        """Who may not write in the folder any more is not served, though the socket had its list when all might."""
+        self.prepare(0o777, "")
+        server = self.serve()
+        connected = self.client()
+        for mode, entries in FOLDERS:
+            with self.subTest(mode=oct(mode), entries=entries):
+                self.prepare(mode, entries)
+                found = self.differences(may_write, lambda: is_served(self.path))
+                self.assertEqual(found, {}, "(may write, is served)")
+        self.assertTrue(connected.ask(NAMES).startswith(b"---\n"))
+        wanted = r"user [0-9]+ is not taken, since it may not write in the store's folder any more: [^\n]*"
+        self.assertRegex(server.errors(), rf"\Aserve\.py: {wanted}\n\Z")
+
+    def test_groups_that_are_many(self) -> None:
+        """A user of more groups than Python's call takes counts by those of the system's list, and by the user."""
+        self.prepare(0o777, "")
+        self.serve()
+        many = [EVE, *range(80_000, 80_400)]
+        self.assertTrue(as_another((EVE, many), lambda: is_served(self.path)))
+        self.prepare(0o700, "")
+        self.assertFalse(as_another((EVE, many), lambda: is_served(self.path)))
 
     def test_a_folder_without_access_lists(self) -> None:
         """Where the socket can't have the folder's list, its owner alone may connect."""

@@ -16,8 +16,9 @@ import unittest
 from pathlib import Path
 from typing import Any, Callable, Optional, Sequence
 
-TOP = os.path.dirname(os.path.dirname(os.path.dirname(os.path.abspath(__file__))))
-PROGRAM = os.environ.get("CONFSTORE") or os.path.join(TOP, "crates", "confstore", "out", "confstore")
+from .store_runs import PROGRAM as PROGRAM, TOP as TOP
+from .waiting import accepts as accepts, until
+
 SERVER = os.environ.get("SERVER") or os.path.join(TOP, "clients", "serve.py")
 
 
@@ -212,10 +213,8 @@ class ServerTest(unittest.TestCase):
     def await_that(self, holds: Callable[[], bool], what: str, limit: float = PATIENCE) -> float:
         """Waits until something holds. How long that took."""
         start = time.monotonic()
-        while not holds():
-            if time.monotonic() - start > limit:
-                self.fail(f"not within {limit} seconds: {what}")
-            time.sleep(0.01)
+        if not until(holds, limit):
+            self.fail(f"not within {limit} seconds: {what}")
         return time.monotonic() - start
 
     def assert_served(self, limit: float = BOUNDED, command: bytes = NAMES) -> Client:
@@ -229,9 +228,3 @@ class ServerTest(unittest.TestCase):
             self.fail(f"no answer within {limit} seconds")
         self.assertLess(time.monotonic() - start, limit)
         return client
-
-
-def accepts(path: str) -> bool:
-    with socket.socket(socket.AF_UNIX) as connection:
-        connection.setblocking(False)
-        return connection.connect_ex(path) == 0

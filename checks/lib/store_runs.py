@@ -1,20 +1,29 @@
-"""What the scripts on stores share: the built program, a worked session, runs without an allocation, and a list of what
-went wrong."""
+"""What the scripts on stores share: the built programs, a worked session, and a list of what went wrong."""
 
 from __future__ import annotations
 
-import itertools
 import os
 import subprocess
 import sys
-import tempfile
-from collections import Counter
-from collections.abc import Callable, Mapping, Sequence
+from collections.abc import Mapping, Sequence
 from os import PathLike
 from typing import Any
 
 TOP = os.path.dirname(os.path.dirname(os.path.dirname(os.path.abspath(__file__))))
-PROGRAM = os.environ.get("CONFSTORE") or os.path.join(TOP, "crates", "confstore", "out", "confstore")
+
+
+def program_of(crate: str) -> str:
+    """Where the program of a crate is once it is built."""
+    return os.path.join(TOP, "crates", crate, "out", crate)
+
+
+PROGRAM = os.environ.get("CONFSTORE") or program_of("confstore")
+DRIVER = program_of("bench_driver")
+STATE_PROBE = program_of("tree_probe")
+STORE_PROBE = program_of("store_probe")
+
+# The orders for the driver that build it. A probe is built by its rows.
+ORDERS_OF_DRIVER = "-- edits tree wide 1 1"
 
 # The file of an empty state.
 EMPTY = b'---\nstore: confstore-2\nat: "0"\nconfigs: {}\n...\n'
@@ -45,6 +54,11 @@ class Failures:
         if found != wanted:
             self.wrong.append(f"{name}: {found!r} instead of {wanted!r}")
 
+    def take(self, others: Failures) -> None:
+        """Adds what was tried and what went wrong elsewhere."""
+        self.tried += others.tried
+        self.wrong += others.wrong
+
     def report(self) -> int:
         """Prints what went wrong and the last line. Returns the status."""
         for wrong in self.wrong:
@@ -53,9 +67,15 @@ class Failures:
         return 1 if self.wrong else 0
 
 
-def need_program() -> None:
-    if not os.access(PROGRAM, os.X_OK):
-        sys.exit("the program is not built: run ./confstore --version first")
+def need_program(program: str = PROGRAM) -> None:
+    """Ends the script where a program is not built, and says what builds it."""
+    if os.access(program, os.X_OK):
+        return
+    if program == PROGRAM:
+        sys.exit("the program is not built: run ./prove first, or set CONFSTORE")
+    crate = os.path.basename(program)
+    given = ORDERS_OF_DRIVER if program == DRIVER else "< stdin"
+    sys.exit(f"{crate} is not built: run `rt run {given}` in crates/{crate} first")
 
 
 # The words for a session, for one in groups, and for one that also makes checkpoints in slices, as often as it can.
@@ -93,41 +113,6 @@ def compiled(source: str, folder: str | PathLike[str]) -> str:
     path = os.path.join(TOP, "checks", "shims", source)
     subprocess.run(["cc", "-shared", "-fPIC", "-O1", "-o", library, path, "-ldl"], check=True)
     return library
-
-
-def run_without(program: str, orders: Sequence[str], number: int, folder: str) -> tuple[bool, int, list[str]]:
-    """A run of a probe without the allocation of this number: whether it came to that, the status, and the answers."""
-    refused_file = os.path.join(folder, "refused")
-    names = {"LD_PRELOAD": os.path.join(folder, "refuse.so"), "REFUSE_ALLOCATION": str(number), "REFUSED_FILE": refused_file}
-    lines = "".join(f"{order}\n" for order in orders).encode()
-    done = subprocess.run([program], input=lines, capture_output=True, check=False, env={**os.environ, **names})
-    was_refused = os.path.exists(refused_file)
-    if was_refused:
-        os.remove(refused_file)
-    return was_refused, done.returncode, done.stdout.decode().splitlines()
-
-
-# Says how the run of a probe went, from its status, its answers and its name.
-Outcome = Callable[[int, list[str], str, Failures], str]
-
-
-def refuse_each(program: str, orders: Sequence[str], outcome: Outcome, failures: Failures) -> None:
-    """Refuses each allocation of a probe's run in turn, and prints how many runs went how. `outcome` says how one went,
-    from its status, its answers and its name; without a refused allocation that has to be 'done without'."""
-    if not os.access(program, os.X_OK):
-        sys.exit(f"{program} is not built: run `rt run < stdin` in its crate first")
-    outcomes: Counter[str] = Counter()
-    with tempfile.TemporaryDirectory() as folder:
-        compiled("refuse.c", folder)
-        for number in itertools.count(1):
-            was_refused, status, answers = run_without(program, orders, number, folder)
-            ended = outcome(status, answers, f"allocation {number}", failures)
-            if not was_refused:
-                failures.expect("no allocation refused", ended, "done without")
-                break
-            outcomes[ended] += 1
-    failures.expect("a call was refused memory", outcomes["answered by out of memory"] > 0, True)
-    print(f"{number - 1} allocations refused in turn: " + ", ".join(f"{count} {ended}" for ended, count in outcomes.items()))
 
 
 def write_file(path: str | PathLike[str], content: bytes) -> None:

@@ -3,9 +3,11 @@
 from __future__ import annotations
 
 import os
+import subprocess
+from collections.abc import Mapping
 from dataclasses import dataclass, field
 
-from .store_runs import EMPTY, read_file, write_file
+from .store_runs import EMPTY, PROGRAM, Ended, read_file, write_file
 
 TEXT = b'host: example\nport: "8080"\ntls:\n  - a\n  - "no"\n'
 JSON = b'{"host":"example","port":"8080","tls":["a","no"]}\n'
@@ -44,6 +46,12 @@ class Word:
     input: bytes = b""
     file: str = "confstore"
     ends_by_writing: bool = False
+
+    def run(self, folder: str, environment: Mapping[str, str]) -> Ended:
+        """Runs it in a folder."""
+        words = [PROGRAM, *self.words.split()]
+        done = subprocess.run(words, cwd=folder, input=self.input, capture_output=True, check=False, env=environment)
+        return done.returncode, done.stdout, done.stderr.decode()
 
     def files(self) -> dict[str, bytes]:
         return {**FILES, **self.made, "S/store.yaml": self.store}

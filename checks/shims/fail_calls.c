@@ -6,8 +6,8 @@
 //   FAULT_ANSWER  what it returns: count (what was done), zero, error; or exit, which ends the process
 //   FAULT_ERROR   the error's number
 //   FAULT_LATER   if set, every later call fails with that error and does nothing
-//   FAULT_HIDE    if set, the file of this name is hidden in place of that: from the call on, each that opens or looks at
-//                 it by name says that it is not there; FAULT_TIMES says how often, without it always
+//   FAULT_HIDE    if set, the file of this name is hidden in place of that: from the call on, each that opens or looks
+//                 at it by name says that it is not there; FAULT_TIMES says how often, without it always
 //   FAULT_SWAP    if set, the call is made as it is, after the names FAULT_SWAP and FAULT_WITH were exchanged
 //   FAULT_MOST    if set, a read or a write moves at most so many bytes
 //   FAULT_LOG     a file to which each call adds a line, as `write store.yaml 47`
@@ -190,22 +190,22 @@ static void name_anew(const char *from, const char *to) {
     }
 }
 
-int rename(const char *from, const char *to) {
-    enum turn turn = next_turn("rename", last_part(from), 0);
-    int done = is_made(turn) ? REAL(rename)(from, to) : -1;
+// What a call that gave a file a name returns after it has done its part.
+static int answer_named(enum turn turn, int done, const char *from, const char *to) {
     if (done == 0) {
         name_anew(from, to);
     }
     return (int)answer(turn, done);
 }
 
+int rename(const char *from, const char *to) {
+    enum turn turn = next_turn("rename", last_part(from), 0);
+    return answer_named(turn, is_made(turn) ? REAL(rename)(from, to) : -1, from, to);
+}
+
 int link(const char *from, const char *to) {
     enum turn turn = next_turn("link", last_part(from), 0);
-    int done = is_made(turn) ? REAL(link)(from, to) : -1;
-    if (done == 0) {
-        name_anew(from, to);
-    }
-    return (int)answer(turn, done);
+    return answer_named(turn, is_made(turn) ? REAL(link)(from, to) : -1, from, to);
 }
 
 ssize_t read(int handle, void *bytes, size_t size) {

@@ -1,9 +1,9 @@
 #!/usr/bin/env python3
 """Tries the Ansible collection: the modules and the lookup over folders and sockets, and the playbook of the examples.
 
-    ./confstore --version && clients/ansible/try.py
+    ./prove && clients/ansible/try.py
 
-- Texts in the one style beside `confstore format`, and planned edits beside a store.
+- The parts by themselves (`plans.py`).
 - The modules with the Python package and without it, over a folder and over the socket of `clients/serve.py`: a second
   run changes nothing, check mode changes nothing, and refusals say what was refused, where, and what to do.
 - `clients/examples/deploy.yaml` by `ansible-playbook` on this host, the lookup, secrets, the documentation, and the
@@ -15,9 +15,9 @@ where that isn't installed. The last line is 'N passed, M failed', and the statu
 
 from __future__ import annotations
 
+import copy
 import json
 import os
-import random
 import re
 import shutil
 import subprocess
@@ -33,138 +33,23 @@ HERE = os.path.dirname(os.path.abspath(__file__))
 TOP = os.path.dirname(os.path.dirname(HERE))
 sys.path[:0] = [HERE, os.path.join(TOP, "checks"), os.path.join(TOP, "python")]
 
-from ansible_collections.confstore.store.plugins.module_utils import edits, faults, style  # noqa: E402
-from confstore import Refused, Store, __version__  # noqa: E402
+from ansible_collections.confstore.store.plugins.module_utils import faults  # noqa: E402
+from confstore import __version__  # noqa: E402
 from lib.store_runs import EMPTY, PROGRAM, Failures, need_program, read_file, write_file  # noqa: E402
+from plans import SECRET, try_parts  # noqa: E402
 
 COLLECTION = os.path.join(HERE, "ansible_collections", "confstore", "store")
 PLUGINS = "ansible_collections.confstore.store.plugins"
 PLAYBOOK = os.path.join(TOP, "clients", "examples", "deploy.yaml")
 PATIENCE = 120
-SECRET = "s3cret-of-the-trial"
+
+# What Ansible shows in the place of an option that is not to be shown.
+HIDDEN = "VALUE_SPECIFIED_IN_NO_LOG_PARAMETER"
 
 Result = dict[str, Any]
 
 
-# ---- The parts by themselves
-
-
-def random_text(choices: random.Random) -> str:
-    pieces = [*"ab-_./: #'\"\\\n\n \t\0\x7f\x85\xa0\u2028\ufeffé", "\U0001f600", "yes", "|", "- ", "? ", "..."]
-    pieces.append("k" * 999)
-    return "".join(choices.choice(pieces) for _ in range(choices.randrange(8)))
-
-
-def random_tree(choices: random.Random, depth: int = 0) -> style.Tree:
-    kind = choices.randrange(3) if depth < 5 else 0
-    if kind == 0:
-        return random_text(choices)
-    if kind == 1:
-        return [random_tree(choices, depth + 1) for _ in range(choices.randrange(4))]
-    return {random_text(choices): random_tree(choices, depth + 1) for _ in range(choices.randrange(4))}
-
-
-def in_flow(tree: style.Tree) -> str:
-    """A tree in flow style, with each character of a text as an escape."""
-    if isinstance(tree, str):
-        return '"' + "".join(f"\\U{ord(character):08X}" for character in tree) + '"'
-    if isinstance(tree, list):
-        return "[" + ", ".join(map(in_flow, tree)) + "]"
-    return "{" + ", ".join(f"? {in_flow(key)} : {in_flow(value)}" for key, value in tree.items()) + "}"
-
-
-def try_style(failures: Failures) -> None:
-    """Random trees beside `confstore format`."""
-    choices = random.Random(11)
-    trees = [random_tree(choices) for _ in range(2_000)]
-    for tree in [*trees[:100], *(trees[start : start + 100] for start in range(100, 2_000, 100))]:
-        done = subprocess.run([PROGRAM, "format"], input=in_flow(tree).encode(), capture_output=True, check=False)
-        text = style.to_text(tree)
-        failures.expect(f"the text of {str(tree)[:60]}", text.encode(), done.stdout)
-        failures.expect(f"the tree of {str(tree)[:60]}", style.same(style.from_text(text), tree), True)
-    for text in ("a: b: c\n", "- a\n  - b\n", '"\\q"\n', "a\nb\n", "a:\n b\n", "'a'\n", ""):
-        try:
-            failures.expect(f"{text!r} is not in the one style", style.from_text(text), "a fault")
-        except faults.Fault as fault:
-            failures.expect(f"{text!r} is not in the one style", fault.name, "BadAnswer")
-
-
-def random_wish(choices: random.Random) -> edits.Wish:
-    steps = ["a", "b", "-", "0", "1", "2", "01", "~0", "~1x", "", "x~"]
-    path = "".join(f"/{choices.choice(steps)}" for _ in range(choices.randrange(4)))
-    trees: list[style.Tree] = ["x", "y", [], {"a": ["x"]}, ["x", {"b": "y"}]]
-    tree = choices.choice(trees)
-    is_present = choices.random() < 0.6
-    return edits.Wish(choices.choice(["web"] * 20 + ["none", "Bad"]), path, tree if is_present else None, is_present)
-
-
-def told(store: Store, wish: edits.Wish) -> str:
-    """How the store takes what a wish says, as one edit."""
-    try:
-        if wish.tree is None:
-            store.delete(wish.name, wish.path)
-        elif wish.path:
-            store.set(wish.name, wish.path, wish.tree)
-        else:
-            store.put(wish.name, wish.tree)
-    except Refused as refused:
-        return refused.word
-    return "done"
-
-
-def planned(store: Store, wish: edits.Wish) -> tuple[str, style.Tree | None]:
-    """How a wish is planned, and the configuration then."""
-    try:
-        plan = edits.plan_of([wish], lambda name: store.get(name, default=None))
-    except faults.Fault as fault:
-        return fault.name, None
-    return "done", plan.after[wish.name]
-
-
-def try_plans(folder: str, failures: Failures) -> None:
-    """Random wishes beside what a store does with the same edits."""
-    choices = random.Random(13)
-    starts: list[style.Tree] = ["x", [], {"a": "x", "-": "y"}, ["x", "y"], {"a": ["x", {"b": "y"}], "b": {"a": "x"}}]
-    with Store(folder, make=True) as store:
-        for _ in range(1_500):
-            store["web"] = choices.choice(starts)
-            wish = random_wish(choices)
-            how, after = planned(store, wish)
-            taken = told(store, wish)
-            is_gone_already = not wish.is_present and taken in ("NoConfig", "NoSuchPlace") and how == "done"
-            if how == "BadPath" and taken == "NoConfig":
-                taken = how  # both are so, and which is said first is the module's own
-            failures.expect(f"{wish}", "done" if is_gone_already else taken, how)
-            if how == "done" and not wish.path.endswith("/-"):
-                failures.expect(f"after {wish}", store.get(wish.name, default=None), after)
-
-
-def reads(tree: style.Tree | None) -> edits.Read:
-    """Reads this as each configuration."""
-    return lambda _: tree
-
-
-def try_wishes(failures: Failures) -> None:
-    """What is the module's own: elements of lists, and what is missing above a path."""
-    rows: list[tuple[style.Tree | None, edits.Wish, style.Tree | None, list[str]]] = [
-        ({"l": ["a"]}, edits.Wish("web", "/l/-", "b"), {"l": ["a", "b"]}, ["set /l/-"]),
-        ({"l": ["a", "b"]}, edits.Wish("web", "/l/-", "b"), {"l": ["a", "b"]}, []),
-        ({"l": ["b", "a", "b"]}, edits.Wish("web", "/l/-", "b", False), {"l": ["a"]}, ["delete /l/2", "delete /l/0"]),
-        ({"l": ["a"]}, edits.Wish("web", "/l/-", "b", False), {"l": ["a"]}, []),
-        (None, edits.Wish("web", "/a/b", "x", True, True), {"a": {"b": "x"}}, ["import "]),
-        ({"c": "y"}, edits.Wish("web", "/a/b", "x", True, True), {"c": "y", "a": {"b": "x"}}, ["set /a"]),
-        ({"a": {"b": "x"}}, edits.Wish("web", "/a/b", "x", True, True), {"a": {"b": "x"}}, []),
-        ({}, edits.Wish("web", "/l/-", "x", True, True), {"l": ["x"]}, ["set /l"]),
-        ({"l": [{"b": "x"}]}, edits.Wish("web", "/l/-/b", "x", True, True), {"l": [{"b": "x"}]}, []),
-        ({"a": "x", "b": "y"}, edits.Wish("web", "", {"b": "y", "a": "x"}), {"b": "y", "a": "x"}, ["import "]),
-        (None, edits.Wish("web", "", None, False), None, []),
-    ]
-    for before, wish, after, wanted in rows:
-        plan = edits.plan_of([wish], reads(before))
-        failures.expect(f"{wish} of {before}", plan.after["web"], after)
-        failures.expect(f"edits of {wish}", [f"{edit.kind} {edit.path}" for edit in plan.edits], wanted)
-    back = [edits.Wish("web", "/a", "y"), edits.Wish("web", "/a", "x")]
-    failures.expect("an edit that is taken back", edits.plan_of(back, reads({"a": "x"})).edits, [])
+# ---- The names and the version
 
 
 def try_names(failures: Failures) -> None:
@@ -191,22 +76,32 @@ class Modules:
 
     def __init__(self, interpreter: str, top: str, *folders: str) -> None:
         self._interpreter = interpreter
+        self._before: list[str] = []  # what starts the interpreter
         self._environment = {**os.environ, "CONFSTORE": PROGRAM, "TMPDIR": top}
         self._environment["PYTHONPATH"] = os.pathsep.join([HERE, *folders])
 
-    def run(self, module: str, **options: Any) -> Result:
-        """What a module returns. `check` is the mode."""
+    def written(self, start: list[str], **options: Any) -> "subprocess.CompletedProcess[bytes]":
+        """What a module writes that is started so. `check` is the mode."""
         words = {"_ansible_check_mode": options.pop("check", False), "_ansible_diff": True, **options}
-        done = subprocess.run(
-            [self._interpreter, "-m", f"{PLUGINS}.modules.{module}"],
-            input=json.dumps({"ANSIBLE_MODULE_ARGS": words}).encode(), env=self._environment, capture_output=True,
-            check=False, timeout=PATIENCE,
+        return subprocess.run(
+            [*self._before, self._interpreter, *start], input=json.dumps({"ANSIBLE_MODULE_ARGS": words}).encode(),
+            env=self._environment, capture_output=True, check=False, timeout=PATIENCE,
         )  # fmt: skip
+
+    def run(self, module: str, **options: Any) -> Result:
+        """What a module returns, without its options."""
+        done = self.written(["-m", f"{PLUGINS}.modules.{module}"], **options)
         try:
             found: Result = json.loads(done.stdout)
         except ValueError:
             return {"output": done.stdout, "errors": done.stderr}
         found.pop("invocation", None)
+        return found
+
+    def ignoring(self) -> "Modules":
+        """The same, started by a process that ignores SIGCHLD."""
+        found = copy.copy(self)
+        found._before = ["/bin/sh", "-c", "trap '' CHLD; exec \"$@\"", "sh"]
         return found
 
     def change(self, **options: Any) -> Result:
@@ -239,21 +134,20 @@ def short(result: Result) -> tuple[Any, Any, list[str]]:
     return result.get("changed"), result.get("after", result), made
 
 
-# Tasks, one after the other, each with what is there after it, and the edits that it makes.
+# Tasks, one after the other, each with what is at the places that it changes, and the edits that it makes.
 TASKS: list[tuple[Result, Any, list[str]]] = [
     ({"name": "web", "value": {"port": 80, "tls": True, "hosts": []}},
-     {"web": {"port": "80", "tls": "true", "hosts": []}}, ["import web "]),
-    ({"name": "web", "path": "/port", "value": "81"}, {"web": {"port": "81", "tls": "true", "hosts": []}},
-     ["set web /port"]),
-    ({"name": "web", "path": "/hosts/-", "value": "a"}, {"web": {"port": "81", "tls": "true", "hosts": ["a"]}},
-     ["set web /hosts/-"]),
+     {"web": {"": {"port": "80", "tls": "true", "hosts": []}}}, ["import web "]),
+    ({"name": "web", "path": "/port", "value": "81"}, {"web": {"/port": "81"}}, ["set web /port"]),
+    ({"name": "web", "path": "/hosts/-", "value": "a"}, {"web": {"/hosts/0": "a"}}, ["set web /hosts/-"]),
     ({"name": "web", "text": "v: 1.10\nw: yes\nx: |\n  two\n  lines\n"},
-     {"web": {"v": "1.10", "w": "yes", "x": "two\nlines\n"}}, ["import web "]),
+     {"web": {"/port": None, "/tls": None, "/hosts": None, "/v": "1.10", "/w": "yes", "/x": "two\nlines\n"}},
+     ["import web "]),
     ({"name": "web", "edits": [{"path": "/w", "state": "absent"}, {"path": "/t/s", "value": {}, "parents": True},
                                {"name": "mail", "value": ["é\u2028\0"]}, {"path": "/v", "value": "1.10"}]},
-     {"web": {"v": "1.10", "x": "two\nlines\n", "t": {"s": {}}}, "mail": ["é\u2028\0"]},
+     {"web": {"/w": None, "/t": {"s": {}}}, "mail": {"": ["é\u2028\0"]}},
      ["delete web /w", "set web /t", "import mail "]),
-    ({"name": "mail", "state": "absent"}, {"mail": None}, ["delete mail "]),
+    ({"name": "mail", "state": "absent"}, {"mail": {"": None}}, ["delete mail "]),
 ]  # fmt: skip
 
 
@@ -271,7 +165,7 @@ def try_tasks(name: str, modules: Modules, where: Result, file: str, failures: F
         failures.expect(f"{name}: the same difference", made.get("diff"), checked.get("diff"))
         held = read_file(file)
         again = modules.change(**where, **task)
-        failures.expect(f"{name}: task {number} again", short(again), (False, after, []))
+        failures.expect(f"{name}: task {number} again", short(again), (False, {}, []))
         failures.expect(f"{name}: what it left", read_file(file), held)
     shown = subprocess.run([PROGRAM, "get", os.path.dirname(file), "web"], capture_output=True, check=False)
     failures.expect(f"{name}: the store", shown.stdout, b'v: "1.10"\nx: |\n  two\n  lines\nt:\n  s: {}\n')
@@ -396,6 +290,52 @@ def try_conditions(name: str, modules: Modules, where: Result, failures: Failure
     modules.change(**where, name="web", edits=[{"path": "/v", "value": "1.10"}, {"path": "/b", "state": "absent"}])
 
 
+# Starts the module so that what Ansible writes to the log of the host is on standard error.
+LOGGED = f"""
+import runpy, sys
+from ansible.module_utils.basic import AnsibleModule
+AnsibleModule.log = lambda self, msg, log_args=None: print(msg, log_args, file=sys.stderr)
+runpy.run_module("{PLUGINS}.modules.confstore", run_name="__main__")
+"""
+
+# Tasks with a secret, each with whether its result may have that: it is what the task changes, and the task is well.
+SECRETS: list[tuple[Result, bool]] = [
+    ({"name": "mail", "value": {"password": SECRET, "port": "1"}}, True),
+    ({"name": "mail", "path": "/port", "value": "2"}, False),
+    ({"name": "mail", "path": "/port", "state": "absent"}, False),
+    ({"name": "mail", "text": f"password: {SECRET}\nport: 3\n"}, False),
+    ({"name": "mail", "edits": [{"path": "/port", "value": "4"}, {"path": "/password", "value": SECRET}]}, False),
+    ({"name": "mail", "path": "/port", "value": SECRET, "if_value": SECRET}, False),
+    ({"name": "mail", "path": "/none/x", "value": SECRET}, False),
+    ({"name": "mail", "path": "/none/x", "text": f"{{{SECRET}: 1, {SECRET}: 2}}"}, False),
+    ({"name": "mail", "value": {SECRET: 1.5}, "text": SECRET}, False),
+    ({"name": "mail", "edits": [{"path": "/none/x", "value": SECRET, "if_value": [SECRET]}]}, False),
+    ({"name": "mail", "edits": [{"value": SECRET, "state": "none"}]}, False),
+    ({"name": "mail", "value": SECRET, "state": SECRET[::-1]}, False),
+]
+
+
+def try_secrets(name: str, modules: Modules, where: Result, failures: Failures) -> None:
+    """A secret is in the result alone, and there only of a task that changes it. What is short stays as it is."""
+    for task, may_show in SECRETS:
+        for check in (True, False):
+            done = modules.written(["-c", LOGGED], check=check, **where, **task)
+            about = f"{name}: {'check of ' if check else ''}{str(task)[:70]}"
+            result = json.loads(done.stdout)
+            invocation = json.dumps(result.pop("invocation", {}))
+            failures.expect(f"{about}: the options", SECRET in invocation, False)
+            failures.expect(f"{about}: the log", SECRET.encode() in done.stderr, False)
+            failures.expect(f"{about}: the result", SECRET in json.dumps(result), may_show)
+    done = modules.written(["-c", LOGGED], **where, name="mail", path="/port", value="1")
+    result = json.loads(done.stdout)
+    failures.expect(f"{name}: a short value", result["after"], {"mail": {"/port": "1"}})
+    failures.expect(f"{name}: the number", type(result["count"]), int)
+    shown = result["invocation"]["module_args"]
+    failures.expect(f"{name}: what is shown of it", (shown["path"], shown["value"]), ("/port", HIDDEN))
+    failures.expect(f"{name}: the log has it", b"Invoked with" in done.stderr, True)
+    modules.change(**where, name="mail", state="absent")
+
+
 def try_held(name: str, modules: Modules, folder: str, failures: Failures) -> None:
     """A folder that a session holds: what is there already is fine, and a change is refused."""
     session = subprocess.Popen([PROGRAM, "run", folder], stdin=subprocess.PIPE, stdout=subprocess.PIPE)
@@ -448,6 +388,8 @@ def try_places(name: str, modules: Modules, top: str, failures: Failures) -> Non
     ]
     for where, fault in rows:
         failures.expect(f"{name}: {where}", modules.change(**where, **whole).get("fault"), fault)
+        found = modules.ignoring().change(**where, **whole)
+        failures.expect(f"{name}: {where}, without SIGCHLD", found.get("fault"), fault)
     failures.expect(f"{name}: nowhere", modules.change(**whole).get("failed"), True)
     both = modules.change(folder=top, socket=top, **whole)
     failures.expect(f"{name}: a folder and a socket", both.get("failed"), True)
@@ -457,7 +399,7 @@ def try_places(name: str, modules: Modules, top: str, failures: Failures) -> Non
     source = os.path.join(top, "source.yaml")
     write_file(source, f"password: {SECRET}\n".encode())
     changed = modules.change(folder=made, create=True, program=spied, name="web", src=source)
-    failures.expect(f"{name}: a folder is made", changed.get("after"), {"web": {"password": SECRET}})
+    failures.expect(f"{name}: a folder is made", changed.get("after"), {"web": {"": {"password": SECRET}}})
     words = read_file(f"{spied}.words")
     failures.expect(f"{name}: the program's words", (b"run" in words, SECRET.encode() in words), (True, False))
 
@@ -476,6 +418,7 @@ def try_modules(interpreter: str, top: str, failures: Failures) -> None:
         try_refusals(name, modules, {"folder": folder}, file, failures)
         try_reading(name, modules, {"folder": folder}, failures)
         try_conditions(name, modules, {"folder": folder}, failures)
+        try_secrets(name, modules, {"folder": folder}, failures)
         try_held(name, modules, folder, failures)
         try_together(name, modules, os.path.join(top, f"together-{name}"), failures)
         try_places(name, modules, top, failures)
@@ -526,11 +469,32 @@ def try_playbook(top: str, failures: Failures) -> None:
     failures.expect("the second run", (status, counts(said)), (0, ("4", "0", "0")))
     status, said = play(folder, "--check", "--diff", port="8081")
     failures.expect("check mode of a change", (status, counts(said)), (0, ("3", "1", "0")))
-    failures.expect("what it would be", '-port: "8080"\n+port: "8081"\n' in said, True)
+    failures.expect("what it would be", '-"/port": "8080"\n+"/port": "8081"\n' in said, True)
+    failures.expect("what stays as it is", "version" in said, False)
     failures.expect("what both left", read_file(os.path.join(folder, "store.yaml")), held)
     status, said = play(folder, port="[a,,b]")
     failures.expect("a template that is refused", (status, counts(said)), (2, ("0", "0", "1")))
     failures.expect("where it is", "the text for 'web', at line 3, column 10: Syntax Flow: " in said, True)
+
+
+def try_shown(top: str, failures: Failures) -> None:
+    """What all of Ansible shows and says most of a task that changes a configuration beside its secret, and of tasks
+    that fail."""
+    folder, book = os.path.join(top, "shown"), os.path.join(top, "shown.yaml")
+    whole = {"port": "80", "password": SECRET, "last": "1"}
+    tasks: list[tuple[Result, Result]] = [
+        ({"name": "web", "value": whole, "create": True}, {"no_log": True}),
+        ({"name": "web", "path": "/port", "value": "81"}, {}),
+        ({"name": "web", "value": {**whole, "port": "82"}}, {}),
+        ({"name": "web", "path": "/x/y", "value": SECRET}, {"ignore_errors": True}),
+        ({"name": "web", "text": f"{{{SECRET}: 1, {SECRET}: 2}}"}, {"ignore_errors": True}),
+    ]
+    plays = [{"confstore.store.confstore": {"folder": folder, **options}, **more} for options, more in tasks]
+    write_file(book, json.dumps([{"hosts": "all", "gather_facts": False, "tasks": plays}]).encode())
+    status, said = ansible("ansible-playbook", "-i", "localhost,", "-c", "local", "-vvv", "--diff", book)
+    failures.expect("tasks beside a secret", (status, counts(said)), (0, ("5", "3", "0")))
+    failures.expect("the secret in what is shown", SECRET in said, False)
+    failures.expect("the change in it", '-"/port": "80"\n+"/port": "81"\n' in said, True)
 
 
 def task(module: str, *words: str) -> tuple[int, str]:
@@ -566,13 +530,12 @@ def try_lookup(top: str, failures: Failures) -> None:
 
 
 def options_of(documentation: Any) -> Any:
-    """The options of a documentation in the form of a module's."""
+    """What a documentation, or a module itself, says of options."""
     found: Result = {}
     for name, option in documentation.items():
         kept = {key: option[key] for key in ("type", "choices", "default", "elements") if key in option}
-        if "suboptions" in option:
-            kept["options"] = options_of(option["suboptions"])
-        found[name] = kept
+        inner = option.get("suboptions") or option.get("options")
+        found[name] = {**kept, "options": options_of(inner)} if inner else kept
     return found
 
 
@@ -594,7 +557,8 @@ def try_documentation(interpreter: str, top: str, failures: Failures) -> None:
             done = subprocess.run(
                 [interpreter, "-c", say], env={**os.environ, "PYTHONPATH": HERE}, capture_output=True, check=False
             )
-            failures.expect(f"the options of {name}", options_of(page["doc"]["options"]), json.loads(done.stdout))
+            options = options_of(json.loads(done.stdout))
+            failures.expect(f"the options of {name}", options_of(page["doc"]["options"]), options)
     installed = os.path.join(top, "installed")
     status, said = ansible("ansible-galaxy", "collection", "install", "-p", installed, COLLECTION)
     failures.expect("the collection is installed", (status, said if status else ""), (0, ""))
@@ -616,9 +580,7 @@ def main() -> int:
     os.environ["CONFSTORE"] = PROGRAM
     failures = Failures()
     with tempfile.TemporaryDirectory() as top:
-        try_style(failures)
-        try_plans(os.path.join(top, "plans"), failures)
-        try_wishes(failures)
+        try_parts(top, failures)
         try_names(failures)
         try_version(failures)
         interpreter = interpreter_of_ansible()
@@ -627,6 +589,7 @@ def main() -> int:
             return failures.report()
         try_modules(interpreter, top, failures)
         try_playbook(top, failures)
+        try_shown(top, failures)
         try_lookup(top, failures)
         try_documentation(interpreter, top, failures)
     return failures.report()

@@ -32,10 +32,9 @@ struct confstore {
     pid_t process;               /* -1: none, or it is gone */
     int to, from, errors;        /* -1: closed */
     int timeout;                 /* milliseconds */
-    int exit_status;             /* of the process, once it is gone */
+    int exit_status;             /* of the process, once it is gone, or CONFSTORE_STATUS_UNKNOWN */
     size_t due;                  /* how many commands have no answer that was taken */
     bool is_cut;                 /* a command was sent in part */
-    bool is_closing;             /* nobody takes the answers */
     enum confstore_status ended; /* CONFSTORE_OK while the session goes on */
     struct confstore_bytes got;  /* what came */
     size_t taken;                /* where the first answer that was not taken begins */
@@ -61,6 +60,7 @@ static const char *const STATUS_NAMES[] = {
     "CONFSTORE_ANSWER_CUT",   "CONFSTORE_ANSWER_LONG",      "CONFSTORE_ENDED",        "CONFSTORE_DEVICE",
     "CONFSTORE_LOCKED",       "CONFSTORE_NOT_A_STORE",      "CONFSTORE_DAMAGED",      "CONFSTORE_OUT_OF_MEMORY",
     "CONFSTORE_COMMAND_LONG", "CONFSTORE_SESSION_LONG",     "CONFSTORE_INPUT_FAILED", "CONFSTORE_OUTPUT_FAILED",
+    "CONFSTORE_NOT_IN_STYLE", "CONFSTORE_NO_STATUS",
 };
 
 const char *confstore_status_name(enum confstore_status status) {
@@ -104,6 +104,7 @@ static void let_go(struct confstore *store) {
     close_end(&store->to);
     close_end(&store->from);
     close_end(&store->errors);
+    if (store->process > 0) store->exit_status = CONFSTORE_STATUS_UNKNOWN;
     store->process = -1;
     store->ended = CONFSTORE_FORKED;
 }
@@ -130,22 +131,33 @@ static bool is_forked(struct confstore *store) {
 
 static bool take_errors(struct confstore *store);
 
+/* Notes that the process is gone, if it is. Its status isn't known where this process ignores SIGCHLD, so that the
+ * system keeps none, or where others in it take the statuses of all. With `how` 0 this waits for it. */
+static void take_status(struct confstore *store, int how) {
+    int status = 0;
+    pid_t gone = waitpid(store->process, &status, how);
+    if (gone == 0 || (gone < 0 && errno == EINTR)) return;
+    if (gone < 0) store->exit_status = CONFSTORE_STATUS_UNKNOWN;
+    else store->exit_status = WIFSIGNALED(status) ? -WTERMSIG(status) : WEXITSTATUS(status);
+    store->process = -1;
+}
+
+/* Kills the process, if it is still there. If not, another one may have its number. */
+static void kill_process(struct confstore *store) {
+    if (store->process > 0) take_status(store, WNOHANG);
+    if (store->process > 0) kill(store->process, SIGKILL);
+}
+
 /* Waits for the process to be gone, at most so long, and takes what it writes to standard error; then kills it. */
 static void await_process(struct confstore *store, int milliseconds) {
     int64_t deadline = now() + milliseconds;
-    bool is_killed = false;
+    int how = WNOHANG;
     while (store->process > 0) {
-        int status;
-        pid_t gone = waitpid(store->process, &status, is_killed ? 0 : WNOHANG);
-        if (gone == store->process) {
-            store->exit_status = WIFSIGNALED(status) ? -WTERMSIG(status) : WEXITSTATUS(status);
-            store->process = -1;
-        } else if (gone < 0 && errno != EINTR) {
-            store->process = -1; /* somebody else has taken its status */
-        } else if (gone == 0 && now() >= deadline) {
-            kill(store->process, SIGKILL);
-            is_killed = true;
-        } else if (gone == 0) {
+        take_status(store, how);
+        if (now() >= deadline) {
+            kill_process(store);
+            how = 0;
+        } else if (store->process > 0) {
             struct pollfd errors = {store->errors, POLLIN, 0};
             if (poll(&errors, 1, 1) > 0) take_errors(store);
         }
@@ -226,7 +238,7 @@ static enum confstore_status finish(struct confstore *store) {
 
 /* Ends a session that says what none says, and notes why. */
 static enum confstore_status distrust(struct confstore *store, enum confstore_status why) {
-    if (store->process > 0) kill(store->process, SIGKILL);
+    kill_process(store);
     finish(store);
     return store->ended = why;
 }
@@ -251,7 +263,7 @@ static enum confstore_status take_answers(struct confstore *store) {
     ssize_t count = read(store->from, store->got.data + store->got.length, PART);
     if (count > 0) {
         store->got.length += (size_t)count;
-        return store->is_closing ? CONFSTORE_OK : look_at_answers(store, (size_t)count);
+        return look_at_answers(store, (size_t)count);
     }
     if (count < 0 && (errno == EINTR || errno == EAGAIN)) return CONFSTORE_OK;
     return finish(store);
@@ -385,7 +397,7 @@ static enum confstore_status begin(struct confstore *store, struct confstore **o
     bool says_nothing = store->ended == CONFSTORE_ENDED || store->ended == CONFSTORE_ANSWER_CUT;
     if (says_nothing && (store->exit_status == NOT_RUN || store->exit_status == NOT_FOUND))
         status = CONFSTORE_NO_PROGRAM;
-    if (store->process > 0) kill(store->process, SIGKILL);
+    kill_process(store);
     store->timeout = 0;
     confstore_close(store, NULL);
     return status;
@@ -547,6 +559,23 @@ enum confstore_status confstore_connect(const char *path, int timeout, struct co
     return begin(store, out);
 }
 
+/* Drops the answers that came and that nobody takes. */
+static void drop_answers(struct confstore *store) {
+    if (store->answers == 0) return;
+    store->due -= store->answers;
+    store->answers = 0;
+    store->taken = store->whole;
+    drop_taken(store);
+}
+
+/* What a session has ended with that got no more commands. Where it said nothing, it was told to end; so all went well
+ * if each command has its answer, and the status is 0. */
+static enum confstore_status told_end(const struct confstore *store) {
+    if (store->ended != CONFSTORE_ENDED || store->due > store->answers) return store->ended;
+    if (store->exit_status == CONFSTORE_STATUS_UNKNOWN) return CONFSTORE_NO_STATUS;
+    return store->exit_status == 0 ? CONFSTORE_OK : store->ended;
+}
+
 /* Awaits the end of a session that gets no more commands. What it had to say of that it took too long. */
 static enum confstore_status await_end(struct confstore *store) {
     int64_t deadline = now() + store->timeout;
@@ -554,24 +583,29 @@ static enum confstore_status await_end(struct confstore *store) {
     size_t left = 0;
     if (store->is_cut) return CONFSTORE_TIMED_OUT;
     shutdown(store->to, SHUT_WR);
-    store->is_closing = true;
     while (store->ended == CONFSTORE_OK) {
-        store->got.length = store->taken = store->whole = 0; /* answers that nobody takes */
+        drop_answers(store);
         enum confstore_status status = turn(store, deadline, &none, &left);
         if (store->ended == CONFSTORE_OK && status != CONFSTORE_OK) return status;
     }
-    return store->ended == CONFSTORE_ENDED && store->exit_status == 0 ? CONFSTORE_OK : store->ended;
+    return told_end(store);
 }
 
 enum confstore_status confstore_close(struct confstore *store, int *status) {
+    return confstore_close_counted(store, status, NULL);
+}
+
+enum confstore_status confstore_close_counted(struct confstore *store, int *status, size_t *unanswered) {
+    if (unanswered) *unanswered = 0;
     if (!store) return CONFSTORE_OK;
     is_forked(store);
     enum confstore_status ended = store->ended == CONFSTORE_OK ? await_end(store) : store->ended;
     if (store->ended == CONFSTORE_OK) {
-        if (store->process > 0) kill(store->process, SIGKILL);
+        kill_process(store);
         finish(store);
     }
     if (status) *status = store->exit_status;
+    if (unanswered) *unanswered = store->due - store->answers;
     forget_store(store);
     confstore_bytes_free(&store->got);
     free(store);

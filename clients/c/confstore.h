@@ -88,7 +88,9 @@ enum confstore_status {
     CONFSTORE_INPUT_FAILED,  /* Input */
     CONFSTORE_OUTPUT_FAILED, /* Output */
     /* Of a watch, which is over too, and of a record or the value of a condition. */
-    CONFSTORE_NOT_IN_STYLE /* it is not written as the program writes it: by hand, or it is none */
+    CONFSTORE_NOT_IN_STYLE, /* it is not written as the program writes it: by hand, or it is none */
+    /* Of confstore_close. */
+    CONFSTORE_NO_STATUS /* every command has its answer, and how the program ended is not known */
 };
 
 /* The status's name, as "CONFSTORE_OK". It is never freed. */
@@ -136,11 +138,22 @@ enum confstore_status confstore_take(struct confstore *store, struct confstore_b
 enum confstore_status confstore_ask(struct confstore *store, const char *command, size_t length,
                                     struct confstore_bytes *answer);
 
+/* What confstore_close says of a program's status that is not known. No program has it. */
+#define CONFSTORE_STATUS_UNKNOWN 256
+
 /* Has the session perform what it was sent, and ends it, or kills it if that takes too long. Frees the store in any
- * case. `status`, if it isn't NULL, is the program's, the negative number of the signal that ended it, or 0 of a
- * server. Returns CONFSTORE_OK if all was performed, and otherwise what the session ended with. NULL is closed already.
- */
+ * case. `status`, if it isn't NULL, is the program's, the negative number of the signal that ended it, 0 of a server,
+ * or CONFSTORE_STATUS_UNKNOWN. Answers that were not taken are awaited, and dropped. Returns CONFSTORE_OK if every
+ * command that was sent has its answer and the program ended well, and otherwise what the session ended with.
+ *
+ * The system keeps no status for a process that ignores SIGCHLD, and gives it once: a process that waits for all its
+ * children may have taken it. Then this returns CONFSTORE_NO_STATUS where it would return CONFSTORE_OK. NULL is closed
+ * already. */
 enum confstore_status confstore_close(struct confstore *store, int *status);
+
+/* The same. `unanswered`, if it isn't NULL, is how many commands that were sent have no answer: the last ones. Whether
+ * these were performed is not known. It is 0 if this returns CONFSTORE_OK or CONFSTORE_NO_STATUS. */
+enum confstore_status confstore_close_counted(struct confstore *store, int *status, size_t *unanswered);
 
 /* Writes a text as a value in the one style of docs/STYLE.md, at the end of the bytes: a word, lines after a header, or
  * in double quotes. Lines are indented by so many spaces. The line feed that ends it is written too, so what is written

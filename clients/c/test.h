@@ -49,6 +49,13 @@ void endless_programs(void);
 void longest_answers(void);
 void paths(const char *program);
 
+/* Whether this runs under valgrind, where posix_spawn does not tell why a program was not started. */
+int is_under_valgrind(void);
+
+/* What is tried of closing: with commands that have no answer, and where statuses are not told. */
+void closing(const char *program);
+void statuses_of_children(const char *program);
+
 /* What is tried of watches, batches and edits. */
 void watches(const char *program);
 

@@ -413,6 +413,8 @@ int main(int count, char **words) {
     endless_programs();
     longest_answers();
     paths(program);
+    closing(program);
+    statuses_of_children(program);
     watches(program);
     if (count > 3) {
         expect_status("connect", confstore_connect(words[3], PATIENCE, &store), CONFSTORE_OK);

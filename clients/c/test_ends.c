@@ -219,8 +219,7 @@ void longest_answers(void) {
     }
 }
 
-/* Whether this runs under valgrind, where posix_spawn does not tell why a program was not started. */
-static int is_under_valgrind(void) {
+int is_under_valgrind(void) {
     const char *loaded = getenv("LD_PRELOAD");
     return loaded && strstr(loaded, "vgpreload");
 }

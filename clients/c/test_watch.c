@@ -448,6 +448,16 @@ static void make_batch(struct confstore_bytes *command) {
     expect_status("end", confstore_end(command), CONFSTORE_OK);
 }
 
+/* Its second edit is of a configuration that is not there. */
+static void make_refused_batch(struct confstore_bytes *command) {
+    confstore_begin_batch(command);
+    confstore_begin_edit(command, "delete", "d", 1);
+    confstore_write_edit_pair(command, "path", "", 0);
+    confstore_begin_edit(command, "delete", "none", 4);
+    confstore_write_edit_pair(command, "path", "", 0);
+    confstore_end(command);
+}
+
 /* A batch is made whole or not at all, and a watch tells it as one change. */
 static void batches(void) {
     static const char COMMAND[] = "---\nbatch:\n  - import: d\n    text: |\n      a: {b: [x]}\n      l: []\n"
@@ -470,12 +480,7 @@ static void batches(void) {
     expect("its count", (long)said.count, 2);
     said = ask(store, command.data, command.length, &answer);
     expect("again", (long)said.count, 3);
-    confstore_begin_batch(&command);
-    confstore_begin_edit(&command, "delete", "d", 1);
-    confstore_write_edit_pair(&command, "path", "", 0);
-    confstore_begin_edit(&command, "delete", "none", 4);
-    confstore_write_edit_pair(&command, "path", "", 0);
-    confstore_end(&command);
+    make_refused_batch(&command);
     said = ask(store, command.data, command.length, &answer);
     expect_bytes("refused", said.value, said.length, "NoConfig", 8);
     said = ask_text(store, "get: d\npath: \"\"\n...\n", &answer);

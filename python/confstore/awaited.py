@@ -260,6 +260,7 @@ class AsyncStore(Answers):
 
     async def clear(self) -> None:
         """Deletes all configurations in one batch, as `Store.clear` does."""
+        deadline = time.monotonic() + self._timeout
         while names := await self.names():
             try:
                 async with self.batch() as batch:
@@ -267,7 +268,8 @@ class AsyncStore(Answers):
                         batch.delete(name)
                 return
             except NoConfig:
-                continue
+                if time.monotonic() > deadline:
+                    raise
 
     async def _perform_batch(self, edits: List[Tree], conditions: Sequence[Condition]) -> int:
         try:

@@ -13,8 +13,7 @@ import signal
 if __name__ == "__main__":
     signal.signal(signal.SIGINT, signal.SIG_DFL)  # it ends this program as it ends confstore, without a trace
 
-import os  # noqa: E402
-import sys
+import sys  # noqa: E402
 import time
 from typing import Callable, Dict, List, Optional, Sequence
 
@@ -25,12 +24,12 @@ from .ctl_changes import conditions_of, move
 from .ctl_faults import DEVICE, NOTHING_THERE, OF_TEXTS, REFUSED, Fault, TextFault, unread
 from .ctl_help import help_of, help_of_all
 from .ctl_outputs import has_form, output_of, output_of_default
-from .ctl_program import Source, edits_of, program_if_any, run, styled, tree_of
+from .ctl_program import Source, edits_of, is_without_store, program_if_any, run, styled, tree_of
 from .ctl_sockets import NO_SERVER, Command, Connection, Place, SessionReply, answer_of, place_of
 from .ctl_streams import MOST_INPUT, ClosedPipe, hold_closed, is_error_terminal, read_text, write, write_error
 from .ctl_watch import watch
-from .ctl_words import AT, BATCH, EXISTS, EXPLAIN, FROM_FILE, IMPORT, LOOKING_BACK, MOVING, READING, SET, WATCH
-from .ctl_words import YAML_VALUE, Option
+from .ctl_words import AT, BATCH, CHECK, EDIT, EXISTS, EXPLAIN, FOREIGN, FROM_FILE, IMPORT, LOOKING_BACK, MOVING
+from .ctl_words import READING, RENDER, SET, WATCH, YAML_VALUE, Option
 from .session import LONGEST_COMMAND
 from .style import Tree, document
 
@@ -137,8 +136,10 @@ class Work:
         with Connection(place) as connection:
             if self.asked.word in MOVING:
                 move(self.asked, lambda command: answer_of(connection.ask(command), command, program_if_any()))
+                connection.finish()
                 return 0
             answer = connection.ask(self.command)
+            connection.finish()
         try:
             reply = answer_of(answer, self.command, program_if_any())
         except Fault as fault:
@@ -164,11 +165,6 @@ class Work:
         except TextFault as told:
             return told
         return fault
-
-
-def is_without_store(folder: str) -> bool:
-    """Whether there is a folder, and no store in it."""
-    return os.path.isdir(folder) and not os.path.lexists(os.path.join(folder, "store.yaml"))
 
 
 # ---- the commands of the words
@@ -258,6 +254,9 @@ def do(asked: Asked) -> int:
     """Does what is asked. The status. Raises a `Fault`."""
     if asked.word is WATCH:
         watch(asked)
+    composed = composed_of(asked)
+    if composed is not None:
+        return composed(asked)
     work, deadline = Work(asked), time.monotonic() + asked.wait
     while True:
         try:
@@ -266,6 +265,36 @@ def do(asked: Asked) -> int:
             if not work.may_try_again(fault) or time.monotonic() >= deadline:
                 raise
         time.sleep(min(PAUSE, max(deadline - time.monotonic(), 0)))
+
+
+def composed_of(asked: Asked) -> Optional[Callable[[Asked], int]]:
+    """What does a word that takes more than one command, or None of another one. Only that is imported then."""
+    if asked.word is EDIT:
+        from .ctl_edit import edit
+
+        return edit
+    if asked.word is RENDER:
+        from .ctl_render import render
+
+        return render
+    if asked.word is IMPORT and any(asked.has(option) for option in FOREIGN):
+        from .ctl_import import import_foreign
+
+        return import_foreign
+    return check_and_do if asked.has(CHECK) else None
+
+
+def check_and_do(asked: Asked) -> int:
+    """Does a word whose change a command looks at before. The status. Raises a `Fault`."""
+    from .ctl_check import change
+
+    if asked.word in MOVING:
+        return change(asked, {}, conditions_of(asked))
+    work = Work(asked)
+    if asked.word is IMPORT:
+        styled(work.text or b"", work.source)  # a text that is refused is named by its file
+    command = {key: value for key, value in work.command.items() if key != "if"}
+    return change(asked, command, conditions_of(asked))
 
 
 def perform_words(words: Sequence[str]) -> int:
@@ -297,6 +326,7 @@ def _help(asked: "Help | Version") -> str:
 def main() -> int:
     """The program. The status."""
     signal.signal(signal.SIGINT, signal.SIG_DFL)
+    signal.signal(signal.SIGCHLD, signal.SIG_DFL)  # else the system would not say how the program confstore ended
     hold_closed()
     return perform_words(sys.argv[1:])
 

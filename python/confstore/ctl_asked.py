@@ -3,11 +3,12 @@
 from __future__ import annotations
 
 import re
-from typing import Dict, List, NamedTuple, Sequence
+from typing import Dict, List, NamedTuple, Sequence, Tuple
 
 from .ctl_faults import Fault, shown
-from .ctl_words import AT, COMMON, FROM, FROM_FILE, HELP, IF_ABSENT, IF_COUNT, IF_VALUE, JSON, NO_NEWLINE, PLAIN, RAW
-from .ctl_words import SET, SOCKET, VALUES, VERSION, WAIT, WHOLE, WORDS, YAML_RECORDS, YAML_VALUE, Option, Word
+from .ctl_words import COMMON, FROM_FILE, HELP, IF_ABSENT, IF_VALUE, JSON, NO_NEWLINE, PLAIN, RAW
+from .ctl_words import RENDER, SET, SETTLE, SOCKET, VALUES, VERSION, WAIT, WHOLE, WORDS, YAML_RECORDS, YAML_VALUE
+from .ctl_words import Option, Word
 
 _OPTIONS: Dict[str, Option] = {
     option.name: option for word in WORDS.values() for option in (*word.options, *COMMON, VERSION)
@@ -37,6 +38,7 @@ class Asked(NamedTuple):
     word: Word
     arguments: Dict[str, str]
     options: Dict[str, str]
+    command: Tuple[str, ...] = ()
 
     @property
     def folder(self) -> str:
@@ -84,13 +86,14 @@ class _Cut:
     def __init__(self, words: Sequence[str]) -> None:
         self.arguments: List[str] = []
         self.options: Dict[str, str] = {}
+        self.command: Tuple[str, ...] = ()
         self._left = list(reversed(words))
         while self._left:
             self._take(self._left.pop())
 
     def _take(self, word: str) -> None:
         if word == "--":
-            self.arguments += reversed(self._left)
+            self._take_rest(list(reversed(self._left)))
             self._left.clear()
         elif word.startswith("--"):
             self._take_option(*word.partition("="))
@@ -100,6 +103,22 @@ class _Cut:
             raise wrong(f"there is no option {shown(word)}", self._word())
         else:
             self.arguments.append(word)
+
+    def _take_rest(self, rest: List[str]) -> None:
+        """Takes what follows `--`: a command where that may stand, and else arguments, and a command after another."""
+        of = self._word()
+        if of is None or not of.takes_command:
+            self.arguments += rest
+            return
+        if len(self.arguments) <= sum(not argument.is_optional for argument in of.arguments):
+            end = rest.index("--") if "--" in rest else len(rest)
+            self.arguments += rest[:end]
+            if end == len(rest):
+                return
+            rest = rest[end + 1 :]
+        if not rest:
+            raise wrong("COMMAND is missing", of)
+        self.command = tuple(rest)
 
     def _word(self) -> "Word | None":
         return WORDS.get(self.arguments[0]) if self.arguments else None
@@ -147,7 +166,7 @@ def asked_of(words: Sequence[str]) -> "Asked | Help | Version":
     if HELP.name in cut.options:
         return Help(name)
     _check_options(word, cut.options)
-    asked = Asked(word, _arguments_of(word, cut.arguments[1:]), cut.options)
+    asked = Asked(word, _arguments_of(word, cut.arguments[1:]), cut.options, cut.command)
     _check_pointer(asked)
     _check_together(asked)
     return asked
@@ -179,12 +198,13 @@ def _check_options(word: Word, options: Dict[str, str]) -> None:
     for name in options:
         if all(name != option.name for option in (*word.options, *COMMON)):
             raise wrong(f"{word.name} has no option {name}", word)
-    _check_number(word, AT.name, options.get(AT.name, "0"))
-    _check_number(word, FROM.name, options.get(FROM.name, "0"))
-    _check_number(word, IF_COUNT.name, options.get(IF_COUNT.name, "0"))
-    seconds = options.get(WAIT.name, "0")
-    if not _SECONDS.fullmatch(seconds):
-        raise wrong(f"{WAIT.name} wants a number of seconds, not {shown(seconds)}", word)
+    for option in word.options:
+        if option.value == "N":
+            _check_number(word, option.name, options.get(option.name, "0"))
+    for option in (WAIT, SETTLE):
+        seconds = options.get(option.name, "0")
+        if not _SECONDS.fullmatch(seconds):
+            raise wrong(f"{option.name} wants a number of seconds, not {shown(seconds)}", word)
     if options.get(SOCKET.name) == "":
         raise wrong(f"{SOCKET.name} wants a path", word)
 
@@ -208,5 +228,9 @@ def _check_together(asked: Asked) -> None:
             raise wrong(f"{one.name} beside {other.name}", asked.word)
     if asked.has(NO_NEWLINE) and not asked.has(RAW):
         raise wrong(f"{NO_NEWLINE.name} needs {RAW.name}", asked.word)
+    if asked.has(SETTLE) and not asked.command:
+        raise wrong(f"{SETTLE.name} needs `-- COMMAND`", asked.word)
+    if asked.word is RENDER and asked.command and "FILE" not in asked.arguments:
+        raise wrong("a COMMAND needs FILE", asked.word)
     if asked.word is SET and ("VALUE" in asked.arguments) == asked.has(FROM_FILE):
         raise wrong(f"either VALUE or {FROM_FILE.name} is needed", asked.word)

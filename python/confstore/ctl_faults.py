@@ -12,10 +12,9 @@ DEVICE, REFUSED, WRONG_WORDS = 3, 1, 2
 # The statuses of names that are neither refusals nor about a store.
 _STATUSES: Dict[str, int] = {
     "WrongWords": WRONG_WORDS,
-    **dict.fromkeys(
-        ("Device", "Locked", "Input", "Output", "Reopen", "Disconnected", "TimedOut", "BadAnswer", "Failed"), DEVICE
-    ),
-    **dict.fromkeys(("MissingProgram", "NotStarted"), DEVICE),
+    **dict.fromkeys(("Device", "Locked", "Input", "Output", "Reopen", "Failed", "Unknown"), DEVICE),
+    **dict.fromkeys(("Disconnected", "TimedOut", "BadAnswer", "OtherStore"), DEVICE),
+    **dict.fromkeys(("MissingProgram", "NotStarted", "EditorFailed"), DEVICE),
 }
 
 # What to do, where it isn't plain.
@@ -42,6 +41,7 @@ _HINTS: Dict[str, str] = {
     "NotText": "the value is a list or a mapping: leave out --raw",
     "NotCollection": "a text has neither keys nor indexes",
     "Unmet": "a condition does not hold, so nothing was changed",
+    "Replaced": "another store stands in the place of the one that the server held: start the server again",
     "MissingProgram": "install confstore, or name it in CONFSTORE",
 }
 

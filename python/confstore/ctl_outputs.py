@@ -70,8 +70,8 @@ def _text(asked: Asked, reply: Reply) -> bytes:
 
 def _names(asked: Asked, reply: Reply) -> bytes:
     names = reply.tree()
-    if not isinstance(names, list):
-        raise Fault("BadAnswer", "the names are no list")
+    if not isinstance(names, list) or not all(isinstance(name, str) for name in names):
+        raise Fault("BadAnswer", "the names are no list of texts")
     return json_line(names) if asked.has(JSON) else "".join(f"{name}\n" for name in names).encode()
 
 

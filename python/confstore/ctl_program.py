@@ -2,6 +2,7 @@
 
 from __future__ import annotations
 
+import os
 import subprocess
 from typing import List, NamedTuple, Optional, Sequence
 
@@ -14,8 +15,6 @@ from .style import Tree, from_text, to_text
 
 # What the program's lines begin with, and those of confstorectl.
 THEIRS, OURS = "confstore: ", "confstorectl: "
-
-LOCKED = b"confstore: Locked"
 
 # What the lines on a text of standard input begin with.
 INPUT = "-:"
@@ -51,7 +50,11 @@ class Ended:
 
     @property
     def was_locked(self) -> bool:
-        return self.status != 0 and LOCKED in self.errors.split(b"\n")
+        return self.has_fault("Locked")
+
+    def has_fault(self, name: str) -> bool:
+        """Whether it ended with the fault of a name."""
+        return self.status != 0 and f"{THEIRS}{name}".encode() in self.errors.split(b"\n")
 
     def lines(self, source: Source = Source()) -> str:
         """Its lines on standard error, as confstorectl says them where this text was on standard input."""
@@ -91,6 +94,11 @@ def styled(text: bytes, source: Source) -> bytes:
     if not lines:
         raise Fault("BadAnswer", f"the program ended with status {ended.status}, and did not say why")
     raise TextFault(lines, ended.status)
+
+
+def is_without_store(folder: str) -> bool:
+    """Whether there is a folder, and no store in it."""
+    return os.path.isdir(folder) and not os.path.lexists(os.path.join(folder, "store.yaml"))
 
 
 def tree_of(text: bytes, source: Source) -> Tree:

@@ -46,8 +46,8 @@ class Served:
         while True:
             try:
                 return self._connected()
-            except Fault:
-                if time.monotonic() > deadline:
+            except Fault as fault:
+                if fault.kind != NO_SERVER or time.monotonic() > deadline:
                     raise
             time.sleep(PAUSE)
 

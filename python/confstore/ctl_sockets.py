@@ -16,14 +16,15 @@ import select
 import socket
 import stat
 import time
-from typing import Dict, List, NamedTuple, Optional, Union
+from typing import Dict, List, NamedTuple, Optional, Tuple, Union
 
 import yaml
 
-from .ctl_faults import Fault, fault_of, shown
+from .children import await_event
 from .commands import refused
+from .ctl_faults import Fault, fault_of, shown
 from .faults import BadAnswer, ConfstoreError
-from .other import Cutter, await_event
+from .other import Cutter
 from .session import LONGEST_ANSWER, LONGEST_COMMAND
 from .style import Tree, document, to_text, trees_of
 
@@ -34,6 +35,12 @@ PATIENCE = 60.0
 PAUSE = 0.05
 
 PART = 1_048_576
+
+# How many seconds a server may take to go once nothing more is asked.
+PARTING = 1.0
+
+# What is said of a server that says more than one answer.
+_MORE = "more came than the answer; a change was made or not: look"
 
 # The fault of a socket where nobody answers, or that this process may not use.
 NO_SERVER = "Disconnected"
@@ -46,6 +53,16 @@ STORES, SOCKETS = "/var/lib/confstore", "/run/confstore"
 _ESCAPED = re.compile("[\x80-\x9f\u2028\u2029\ufeff\ufffe\uffff]")
 _KEY = re.compile(rb"---\n([a-z]+):")
 
+# The start of a line of a document that is not under the key of its first line.
+_BESIDE = re.compile(rb"(?m)^(?!  |$)")
+
+# The name by which a server binds its socket: the device and the inode of its store's folder.
+_STORE = re.compile(r"store-([0-9]+)-([0-9]+)")
+
+# The key of the answer to a command, by the command's key. To all others it is `ok`, with a number.
+_ANSWERS = {"get": "value", "export": "text", "names": "names"}
+_NUMBER = re.compile("0|[1-9][0-9]*")
+
 # What a replicated node takes for no command, and why.
 _NOT_BY_NODES = {
     "checkpoint": "a replicated node makes its checkpoints itself",
@@ -55,23 +72,28 @@ _NOT_BY_NODES = {
 
 
 class Place(NamedTuple):
-    """Where a server may be, and whether it was named by the user."""
+    """Where a server may be: the path of its socket, and the folder of the store for which that was found, or None if
+    the user has named the socket."""
 
     path: str
-    is_given: bool
+    folder: Optional[str] = None
+
+    @property
+    def is_given(self) -> bool:
+        return self.folder is None
 
 
 def place_of(given: str, folder: str) -> Optional[Place]:
     """The socket for a store: the one that was given, or the one that is found."""
     given = given or os.environ.get("CONFSTORE_SOCKET", "")
     if given:
-        return Place(given, True)
+        return Place(given)
     folder = os.path.abspath(folder)
     above, name = os.path.split(folder)
     likely = [os.path.join(folder, "confstore.sock")]
     if above == STORES:
         likely.append(os.path.join(SOCKETS, name, "socket"))
-    return next((Place(path, False) for path in likely if _is_socket(path)), None)
+    return next((Place(path, folder) for path in likely if _is_socket(path)), None)
 
 
 def _is_socket(path: str) -> bool:
@@ -108,6 +130,10 @@ class SessionReply(Reply):
             raise Fault("BadAnswer", "the server's answer is no document of a session")
         super().__init__(found[1].decode())
         self._piece, self._rest = piece, piece[found.end() : -len(b"...\n")]
+        if self._rest[:1] not in (b" ", b"\n") or _BESIDE.search(self._rest, self._rest.index(b"\n") + 1):
+            raise Fault("BadAnswer", "the server's answer has other keys than one")
+        if not self._rest.strip():
+            raise Fault("BadAnswer", "the server's answer has nothing under its key")
 
     def tree(self) -> Tree:
         try:
@@ -158,11 +184,16 @@ class Connection:
         self._heard = bytearray()
         self._cutter = Cutter()
         self._count = 0  # of the bytes of the answer
+        self._is_node = False
         try:
             self._connect()
+            self._need_store(place)
         except OSError as error:
             self._socket.close()
             raise self._refused(error) from None
+        except Fault:
+            self._socket.close()
+            raise
 
     def _refused(self, error: OSError) -> Fault:
         about = f"no server takes clients at {shown(self._path)}: {error.strerror or error}"
@@ -192,6 +223,19 @@ class Connection:
             self._socket.connect(f"/proc/self/fd/{above}/{name}")
         finally:
             os.close(above)
+
+    def _need_store(self, place: Place) -> None:
+        """Raises a `Fault` where the socket was found for one store, and its server has another one. The system gives
+        a connection the name by which the server has bound the socket, through whatever link it was reached."""
+        if place.folder is None:
+            return
+        about = f"remove {shown(place.path)}, or name the server with --socket"
+        found = _STORE.fullmatch(os.path.basename(os.fsdecode(self._socket.getpeername())))
+        if found is None:
+            if os.path.islink(place.path):
+                raise Fault("OtherStore", f"the server to which a link leads does not say which store it has: {about}")
+        elif _identity_of(place.folder) not in (None, (int(found[1]), int(found[2]))):
+            raise Fault("OtherStore", f"the server has another store than {shown(place.folder)}: {about}")
 
     def close(self) -> None:
         self._socket.close()
@@ -236,6 +280,19 @@ class Connection:
             return self._answer_to(document(command))  # as where a key is too long to stand in one line
         return reply
 
+    def finish(self) -> None:
+        """Ends what is asked. Raises a `Fault` where a session says more than was asked."""
+        if self._is_node:
+            return
+        try:
+            self._socket.shutdown(socket.SHUT_WR)
+            self._socket.settimeout(PARTING)
+            more = self._socket.recv(PART)
+        except OSError:
+            return  # it goes without a word, or stays and is silent
+        if more:
+            raise Fault("BadAnswer", _MORE)
+
     def _answer_to(self, sent: bytes) -> Union[SessionReply, NodeReply]:
         self._count = 0
         try:
@@ -243,7 +300,8 @@ class Connection:
                 self._socket.sendall(sent)
             if not self._heard:
                 self._hear()
-            return NodeReply(self._line()) if self._heard[:1] == b"{" else SessionReply(self._piece())
+            self._is_node = self._heard[:1] == b"{"
+            return NodeReply(self._line()) if self._is_node else SessionReply(self._piece())
         except socket.timeout:
             about = f"no answer within {PATIENCE:g} seconds; a change was made or not, or will be: look"
             raise Fault("TimedOut", about) from None
@@ -280,20 +338,43 @@ class Connection:
             pieces = cutter.cut(heard)
             if not pieces:
                 self._hear()
+        if len(pieces) > 1 or cutter.rest:
+            raise Fault("BadAnswer", _MORE)
         return pieces[0]
 
 
+def _identity_of(folder: str) -> Optional[Tuple[int, int]]:
+    """The device and the inode of a folder, which are none of one that is not there; or None if that may not be said."""
+    try:
+        found = os.stat(folder)
+    except PermissionError:
+        return None
+    except OSError:
+        return -1, -1
+    return found.st_dev, found.st_ino
+
+
 def answer_of(reply: Reply, command: Command, program: Optional[str]) -> Reply:
-    """The answer to a command, which was not refused. Raises the `Fault` of one that was, or that failed.
+    """The answer to a command, which was not refused. Raises the `Fault` of one that was, or that failed, or that is no
+    answer to this command.
 
     The program says where a text was refused.
     """
     if reply.key == "refused":
         raise _refusal_of(reply, command, program)
-    if reply.key == "failed":
+    if reply.key == "failed" and isinstance(reply, NodeReply):
         about = "the node could not do it; a change may be in its log or not: look, or ask another node"
         raise Fault(shown(f"Failed {reply.tree()}"), about)
+    word = next(key for key in command if key != "if")
+    if word in _ANSWERS and reply.key != _ANSWERS[word]:
+        raise Fault("BadAnswer", f"`{word}` was answered by `{shown(reply.key)}`")
+    if word not in _ANSWERS and not (reply.key == "ok" and _is_number(reply.tree())):
+        raise Fault("BadAnswer", f"`{word}` was not answered by `ok` and a number; a change was made or not: look")
     return reply
+
+
+def _is_number(tree: Tree) -> bool:
+    return isinstance(tree, str) and _NUMBER.fullmatch(tree) is not None
 
 
 def _refusal_of(reply: Reply, command: Command, program: Optional[str]) -> Fault:

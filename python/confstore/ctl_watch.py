@@ -4,16 +4,17 @@ from __future__ import annotations
 
 import os
 import select
-from typing import NoReturn, Optional, Sequence
+from typing import List, NoReturn, Optional, Sequence, Tuple, Union
 
 from .commands import is_name, is_pointer
 from .ctl_asked import Asked
+from .ctl_commands import Runner, line_with_values
 from .ctl_faults import Fault, fault_of
 from .ctl_program import program
 from .ctl_served import Served
 from .ctl_sockets import PATIENCE, Place, place_of
 from .ctl_streams import STANDARD_OUTPUT, ClosedPipe, write
-from .ctl_words import FROM, YAML_RECORDS
+from .ctl_words import FROM, VALUES, YAML_RECORDS
 from .faults import ConfstoreError
 from .following import Cut, Event, Following, Replaced, Told
 from .places import need_folder
@@ -34,26 +35,28 @@ def watch(asked: Asked) -> None:
     if not is_pointer(asked.argument("POINTER")):
         raise Fault("BadPath")
     start = int(asked.options[FROM.name]) if asked.has(FROM) else None
+    sink: Sink = Runner(asked) if asked.command else Writer()
     folder = os.path.abspath(asked.folder)
     place = place_of(asked.socket, folder)
     if place is not None and not os.access(os.path.join(folder, NAME), os.R_OK):
-        _watch_served(asked, place, start)
+        _watch_served(asked, sink, place, start)
     try:
-        _watch_folder(asked, folder, start)
+        _watch_folder(asked, sink, folder, start)
     except ConfstoreError as error:
         raise fault_of(error) from None
 
 
-def _watch_served(asked: Asked, place: Place, start: Optional[int]) -> NoReturn:
+def _watch_served(asked: Asked, sink: Sink, place: Place, start: Optional[int]) -> NoReturn:
     served = Served(place, start, asked.wait, max(asked.wait, PATIENCE))
     try:
         while True:
-            _write(asked, served.look())
+            sink.take(_watched(asked, served.look()))
     finally:
+        sink.finish()
         served.close()
 
 
-def _watch_folder(asked: Asked, folder: str, start: Optional[int]) -> NoReturn:
+def _watch_folder(asked: Asked, sink: Sink, folder: str, start: Optional[int]) -> NoReturn:
     need_folder(folder)
     waker = Waker(folder)
     try:
@@ -61,24 +64,43 @@ def _watch_folder(asked: Asked, folder: str, start: Optional[int]) -> NoReturn:
         try:
             while True:
                 told = following.look()
-                _write(asked, told)
+                sink.take(_watched(asked, told))
                 if told:
                     waker.found()
                 else:
-                    waker.wait(waker.longest)
+                    waker.wait(sink.within(waker.longest))
         finally:
+            sink.finish()
             following.close()
     finally:
         waker.close()
 
 
-def _write(asked: Asked, told: Sequence[Told]) -> None:
-    """Writes what is told. Raises `ClosedPipe` where nobody reads it."""
-    text = b"".join(text_of(asked, one) for one in told)
-    if text:
-        write(text)
-    elif not _is_read():
-        raise ClosedPipe
+class Writer:
+    """Writes each change."""
+
+    def take(self, told: "Sequence[Tuple[Told, bytes]]") -> None:
+        """Writes what is told. Raises `ClosedPipe` where nobody reads it."""
+        if told:
+            write(b"".join(text for _, text in told))
+        elif not _is_read():
+            raise ClosedPipe
+
+    def within(self, seconds: float) -> float:
+        """How long it may be until the next call, of so many seconds at most."""
+        return seconds
+
+    def finish(self) -> None:
+        """Does nothing: all is written."""
+
+
+# What takes the changes that are watched.
+Sink = Union[Writer, Runner]
+
+
+def _watched(asked: Asked, told: Sequence[Told]) -> "List[Tuple[Told, bytes]]":
+    """The changes that are watched, each with what is written of it."""
+    return [(one, text) for one in told if (text := text_of(asked, one))]
 
 
 def _is_read() -> bool:
@@ -94,19 +116,20 @@ def text_of(asked: Asked, told: Told) -> bytes:
     if asked.has(YAML_RECORDS):
         text = told.text or document_of(event)
     else:
-        text = f"{line_of(event)}\n".encode()
+        has_values = asked.has(VALUES) or bool(asked.command)
+        text = f"{line_of(event, has_values=has_values)}\n".encode()
     if isinstance(event, (Cut, Replaced)) or not name or event.may_change(name, asked.argument("POINTER")):
         return text
     return b""
 
 
-def line_of(event: Event) -> str:
-    """The line of an event: of a change, that of `confstore log`."""
+def line_of(event: Event, *, has_values: bool = False) -> str:
+    """The line of an event: of a change, that of `confstore log`, also with values."""
     if isinstance(event, Cut):
         return f"{event.first}-{event.last} cut"
     if isinstance(event, Replaced):
         return f"after {event.last} replaced"
-    return event.line
+    return line_with_values(event) if has_values else event.line
 
 
 def document_of(event: Event) -> bytes:

@@ -22,7 +22,8 @@ class Option(NamedTuple):
 
 
 class Word(NamedTuple):
-    """A word, with a line about it, its options and arguments, further sentences, and lines that show it."""
+    """A word, with a line about it, its options and arguments, further sentences, and lines that show it. What follows
+    `--` behind its needed arguments is a command, if it takes one."""
 
     name: str
     about: str
@@ -30,6 +31,7 @@ class Word(NamedTuple):
     arguments: Tuple[Argument, ...]
     details: Tuple[str, ...]
     examples: Tuple[str, ...]
+    takes_command: bool = False
 
     @property
     def usage(self) -> str:
@@ -38,7 +40,8 @@ class Word(NamedTuple):
         needed = [argument.name for argument in self.arguments if not argument.is_optional]
         more = [argument.name for argument in self.arguments if argument.is_optional]
         shown = " [".join(["", *more])[1:] + "]" * len(more)
-        return " ".join(["confstorectl", self.name, *options, *needed, *([shown] if more else [])])
+        command = ["[-- COMMAND ..]"] if self.takes_command else []
+        return " ".join(["confstorectl", self.name, *options, *needed, *([shown] if more else []), *command])
 
 
 SOCKET = Option("--socket", "The socket of the server or the node that holds the store", "PATH")
@@ -54,6 +57,11 @@ FROM = Option("--from", "Begins with change number N, which may have been made a
 RAW = Option("--raw", "Writes a text as it is, with a line feed after it")
 INIT = Option("--init", "Makes a store in the folder, if it has none")
 WHOLE = Option("--whole", 'Allows the pointer "", which stands for the whole configuration')
+FORMAT = Option("--from", "Reads a text of another format, as yaml, toml, ini, env, properties or json5", "FORMAT")
+DOCUMENT = Option("--document", "Of a YAML text with several documents takes number N, from 1", "N")
+SPLIT = Option("--split", "Imports each document of a YAML text; {n} in NAME stands for its number")
+DIR = Option("--dir", "Imports each file of the folder DIR; {file} in NAME stands for its name", "DIR")
+CHECK = Option("--check", "Makes the change only if COMMAND, of a shell, takes the text that comes of it", "COMMAND")
 IF_VALUE = Option("--if-value", "Changes the store only if this text is at the place that is changed", "TEXT")
 IF_ABSENT = Option("--if-absent", "Changes the store only if nothing is at the place that is changed")
 IF_COUNT = Option("--if-count", "Changes the store only if it has accepted N commands", "N")
@@ -64,6 +72,7 @@ FROM_FILE = Option(
 )
 YAML_RECORDS = Option("--yaml", "Writes the records as they stand in store.yaml")
 VALUES = Option("--values", "Writes the value of each import and set, too, as a JSON text")
+SETTLE = Option("--settle", "Runs COMMAND once for the changes that come within so many seconds", "SECONDS")
 DEFAULT = Option(
     "--default", "Writes TEXT where nothing is at the place; `--default=TEXT` if it begins with `-`", "TEXT"
 )
@@ -75,6 +84,12 @@ PLAIN = Option("--plain", "Writes texts as 80, true and null without quotes, for
 # Those of each word that changes what is at one place.
 CONDITIONS = (IF_VALUE, IF_ABSENT, IF_COUNT)
 
+# Those of each word that changes a configuration, which confstore does not have.
+CHECKED = (CHECK,)
+
+# Those of `import` for texts of other formats, which confstore does not have.
+FOREIGN = (FORMAT, DOCUMENT, SPLIT, DIR)
+
 FOLDER = Argument("FOLDER", "The store's folder")
 NAME = Argument("NAME", "The name of the configuration")
 POINTER = Argument("POINTER", "A JSON Pointer (RFC 6901), as /port or /tags/0")
@@ -82,29 +97,43 @@ WHOLE_POINTER = Argument("POINTER", "A JSON Pointer, as /port; the whole configu
 VALUE = Argument("VALUE", "The value; after `--` if it begins with `-` and is no number", True)
 TO = Argument("TO", "The other name; after `--` if it begins with `-`")
 FILE = Argument("FILE", "The file of the text; standard input if it is left out or `-`", True)
+TEMPLATE = Argument("TEMPLATE", "The file of the template; standard input for `-`")
 WATCHED_NAME = Argument("NAME", "The configuration; all of them if it is left out", True)
 
 IMPORT = Word(
     "import",
     "Reads a YAML text, and puts its tree under a name",
-    (INIT, EXPLAIN, *CONDITIONS),
+    (INIT, EXPLAIN, *CONDITIONS, *CHECKED, *FOREIGN),
     (FOLDER, NAME, FILE),
     (
         "A configuration that has the name is replaced. Nothing is printed where it is done. Comments and quotes are"
         " not kept, and `3` is written `\"3\"`. A folder without a store is refused (NotAStore), and stays as it is,"
         " unless `--init` is given. If a condition does not hold, nothing changes (Unmet).",
+        "With `--from` the text is of another format, or is YAML with what a store does not have: aliases and merges"
+        " are expanded, tags are dropped, and standard error says which. Several documents or files are imported all or"
+        " none, and what comes of them is read by the program. In yaml, json5, ini, env and properties each value keeps"
+        " its spelling, so that 3.10, 0x1F, yes and null are those texts. In toml a float does; an integer, a truth"
+        " value, a date and a time get the plain form, as 31, true and 1979-05-27T07:32:00Z. An env text in which"
+        " readers would replace a variable, or differ, is refused, with what to write instead; the keys of properties"
+        " are not cut at dots.",
+        "`--dir` takes the files of DIR itself that have an ending of the format: .yaml, .yml; .toml; .ini, .cfg,"
+        " .conf; .env; .properties; .json5, .json, .jsonc. What a name can't have of a file's name becomes `-`.",
     ),
     (
         "confstorectl import store web web.yaml",
         "confstorectl import --init store web web.yaml",
         "confstorectl import store web web.yaml --if-absent",
         "printf 'port: 80\\n' | confstorectl import store web",
+        "confstorectl import --from toml store app pyproject.toml",
+        "confstorectl import --from yaml --document 2 store web all.yaml",
+        "confstorectl import --from yaml --split store 'web-{n}' all.yaml",
+        "confstorectl import --from ini --dir /etc/app.d store 'app-{file}'",
     ),
 )
 SET = Word(
     "set",
     "Sets the value at a JSON Pointer of a configuration",
-    (YAML_VALUE, FROM_FILE, WHOLE, EXPLAIN, *CONDITIONS),
+    (YAML_VALUE, FROM_FILE, WHOLE, EXPLAIN, *CONDITIONS, *CHECKED),
     (FOLDER, NAME, POINTER, VALUE),
     (
         "VALUE is the text itself. With `--yaml` it is read as a YAML text, so that a list or a mapping can be set;"
@@ -125,7 +154,7 @@ SET = Word(
 DELETE = Word(
     "delete",
     "Removes a configuration, or what is at a JSON Pointer of it",
-    (WHOLE, *CONDITIONS),
+    (WHOLE, *CONDITIONS, *CHECKED),
     (FOLDER, NAME, WHOLE_POINTER),
     (
         "Nothing is printed where it is done. Without POINTER the whole configuration is removed; the pointer \"\""
@@ -140,7 +169,7 @@ DELETE = Word(
 COPY = Word(
     "copy",
     "Puts a copy of a configuration under another name",
-    CONDITIONS,
+    (*CONDITIONS, *CHECKED),
     (FOLDER, NAME, TO),
     (
         "A configuration that has the name TO is replaced, unless `--if-absent` is given. All of it is done or nothing,"
@@ -155,7 +184,7 @@ COPY = Word(
 RENAME = Word(
     "rename",
     "Gives a configuration another name",
-    CONDITIONS,
+    (*CONDITIONS, *CHECKED),
     (FOLDER, NAME, TO),
     (
         "A configuration that has the name TO is replaced, unless `--if-absent` is given; it keeps the place of TO"
@@ -168,10 +197,28 @@ RENAME = Word(
         "confstorectl rename store web site --if-absent",
     ),
 )
+EDIT = Word(
+    "edit",
+    "Opens a configuration in an editor, and imports what is saved",
+    CHECKED,
+    (FOLDER, NAME),
+    (
+        "The editor is VISUAL, else EDITOR, else vi. It has the text in a private file. A text that is refused is"
+        " opened again, with comment lines before it that say why; they are taken out again. One that is left as it"
+        " is then,"
+        " or that is empty, changes nothing, and so does an editor that fails. Where the configuration was changed"
+        " meanwhile, the edited text is refused (Unmet), so that nobody's change is lost. The file is removed, unless"
+        " it has a text that was not taken; then a line says where it is. Comments are not kept.",
+    ),
+    (
+        "confstorectl edit store web",
+        "confstorectl edit --wait 10 store web",
+    ),
+)
 BATCH = Word(
     "batch",
     "Makes all edits of a list, or none of them",
-    (EXPLAIN,),
+    (EXPLAIN, *CHECKED),
     (FOLDER, FILE),
     (
         "The text is a YAML list. Each edit is a mapping with the keys `import` and `text`, or `import` and `tree`; or"
@@ -261,6 +308,28 @@ EXISTS = Word(
     ),
     ("confstorectl exists store web /port && echo there",),
 )
+RENDER = Word(
+    "render",
+    "Writes a template with values of the store in it",
+    (),
+    (FOLDER, TEMPLATE, Argument("FILE", "The file that is written; standard output if it is left out", True)),
+    (
+        "In the template `{{ web/port }}` stands for the text at the pointer /port of the configuration web. Between"
+        " `{% for host in web/hosts %}` and `{% end %}` it is written once for each element of a list or value of a"
+        " mapping, and `{{ host }}` or `{{ host/name }}` is of that; `{% for key, host in web/hosts %}` has the key or"
+        " the index, too. A line with such a tag alone is not written. `{{ web/port | sh }}` is quoted for sh, and"
+        " `{{ web/hosts | json }}` is a JSON text, each text a string. `{{ \"{{\" }}` writes two braces. What is not"
+        " there, or is no text, is refused with its place, and nothing is written.",
+        "FILE is replaced whole, with its mode and owner, only if it changes; then COMMAND is run, with CONFSTORE_FILE"
+        " in its environment. If that fails the status is 1 (CommandFailed), and FILE stays as it was written. Each"
+        " configuration is read once; two of them may be of two moments.",
+    ),
+    (
+        "confstorectl render store site.conf.template",
+        "confstorectl render store site.conf.template /etc/nginx/site.conf -- nginx -s reload",
+    ),
+    True,
+)
 LOG = Word(
     "log",
     "Writes the commands since the last checkpoint",
@@ -287,28 +356,39 @@ VERIFY = Word(
 WATCH = Word(
     "watch",
     "Writes each change as it is made",
-    (YAML_RECORDS, FROM),
+    (VALUES, YAML_RECORDS, FROM, SETTLE),
     (FOLDER, WATCHED_NAME, Argument("POINTER", "A JSON Pointer; what is at, above or below it is watched", True)),
     (
-        "Each change is one line, as of `log`; with `--yaml` it is its record, which has the values. With a name, and a"
-        " pointer, these are the changes that may change what is there. It begins after the last change that there is,"
+        "Each change is one line, as of `log`; with `--values` the value of an import or a set follows as a JSON text,"
+        " and with `--yaml` it is its record, which has the values. With a name, and a pointer, these are the changes"
+        " that may change what is there. It begins after the last change that there is,"
         " and goes on over checkpoints and over servers that end and begin, until it is ended. Where the folder can't"
         " be read, the server at the socket tells the changes, and is waited for a minute where it ends.",
         "Where a checkpoint dropped changes before they were seen, the line `5-9 cut` stands in their place; with"
         " `--yaml` it is a document with the key `cut`, and the numbers `first` and `last`. The line"
         " `after 4 replaced`, or the key `replaced`, says that the store has another history than before, as that of a"
         " backup, whose changes after number 4 follow.",
+        "With `-- COMMAND` nothing is written. COMMAND is run for each change, one run after the other, or once for the"
+        " changes that come within `--settle` after the first of them; also for a `cut` and a `replaced`. Its standard"
+        " input has their lines with the values, or their records with `--yaml`. In its environment are"
+        " CONFSTORE_FOLDER, CONFSTORE_NAME (the name that is watched, or those that were changed, with a space"
+        " between),"
+        " CONFSTORE_NUMBER (of the last change), and CONFSTORE_CHANGES: the lines, but nothing of more than 100,000"
+        " bytes. If it fails a line says so (CommandFailed), and the next change is waited for.",
     ),
     (
         "confstorectl watch store",
         "confstorectl watch store web /port --yaml",
         "confstorectl watch store --from 1",
+        "confstorectl watch store web --settle 2 -- systemctl reload nginx",
+        "confstorectl watch store web -- confstorectl render store t /etc/app.conf -- systemctl reload app",
     ),
+    True,
 )
 
-CHANGING = (IMPORT, SET, DELETE, COPY, RENAME, BATCH, CHECKPOINT)
+CHANGING = (IMPORT, SET, DELETE, COPY, RENAME, EDIT, BATCH, CHECKPOINT)
 MOVING = (COPY, RENAME)
-READING = (EXPORT, NAMES, KEYS, GET, EXISTS)
+READING = (EXPORT, NAMES, KEYS, GET, EXISTS, RENDER)
 LOOKING_BACK = (LOG, VERIFY, WATCH)
 
 WORDS: Dict[str, Word] = {word.name: word for word in (*CHANGING, *READING, *LOOKING_BACK)}
@@ -332,8 +412,14 @@ DESCRIPTION = (
     " /run/confstore/NAME/socket. With one that is given FOLDER only counts for the words and options that look into"
     " the file of a store: `log`, `verify`, `watch` and `--at`. These read the folder, also beside a server, by the"
     " program, which is CONFSTORE or confstore on the PATH; where the folder can't be read, `watch` asks the server.",
+    "A socket that is not given is only used where its server has the store in FOLDER, and not where a copy of a folder"
+    " has a link to the socket of the first one.",
     "With `--wait SECONDS` a word that finds the store locked, or no server at a socket that is given, tries again for"
     " so long. An argument that begins with `-` comes after `--`.",
+    "With `--check COMMAND` a change is first made in a store of its own by the program, and each configuration that it"
+    " gives is the standard input of COMMAND, in the one style, with its name in CONFSTORE_NAME. If COMMAND ends with"
+    " another status than 0 nothing is changed (CheckFailed), and its last lines follow. The change is made only while"
+    " the configurations are as COMMAND has seen them; else it is tried again. One that is removed is not looked at.",
 )
 
 # Each status, with what it means.
@@ -358,9 +444,16 @@ OWN_FAULTS = (
     ("WrongWords", "2", "the words are none that confstorectl takes"),
     ("Disconnected", "3", "no server answers at the socket; a change that was sent was made or not"),
     ("TimedOut", "3", "no answer came within a minute; a change was made or not, or will be"),
-    ("BadAnswer", "3", "what the server said is no answer"),
+    ("BadAnswer", "3", "what the server said is no answer to the command, or more than that"),
+    ("OtherStore", "3", "the server at a socket that was found for FOLDER has another store; nothing was sent"),
+    ("Replaced", "1", "another store stands in the place of the one that the server held; nothing was changed"),
     ("Failed", "3", "a replicated node could not perform a command; the word behind it says why"),
     ("MissingProgram", "3", "there is no program confstore where it was looked for"),
     ("NotStarted", "3", "the system did not start the program"),
+    ("Unknown", "3", "nobody says how the program ended"),
     ("Unsupported", "1", "a replicated node has no such word"),
+    ("EditorFailed", "3", "the editor could not be started, or ended with another status than 0"),
+    ("CheckFailed", "1", "the command of `--check` has refused a configuration; nothing was changed"),
+    ("CommandFailed", "1", "a command that was run has ended with another status than 0"),
+    ("NothingToImport", "1", "no file of the folder has an ending of the format"),
 )

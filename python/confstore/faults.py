@@ -19,8 +19,8 @@ __all__ = [
     "ConfstoreError", "CountFull", "Damaged", "Device", "Disconnected", "Documents", "EmptyBatch", "InputFailed",
     "JournalLong", "KeyNotText", "KeyTwice", "LargeInStyle", "Locked", "MissingFolder", "MissingProgram", "NoConfig",
     "NoSuchCommand", "NoSuchPlace", "NotAStore", "NotATree", "NotIndex", "NotStarted", "NotText", "NotUtf8",
-    "OutOfMemory", "OutputFailed", "RecordLong", "Refused", "SessionEnded", "SessionLong", "StoreFull", "Syntax",
-    "TimedOut", "TooDeep", "TooLong", "TooLongToSend", "Unknown", "Unmet", "Unsupported", "UnusablePath",
+    "OutOfMemory", "OutputFailed", "RecordLong", "Refused", "SessionEnded", "SessionLong", "StoreFull", "StoreReplaced",
+    "Syntax", "TimedOut", "TooDeep", "TooLong", "TooLongToSend", "Unknown", "Unmet", "Unsupported", "UnusablePath",
 ]  # fmt: skip
 
 
@@ -195,6 +195,12 @@ class NoSuchCommand(Refused, LookupError):
     because = "the file has no state of this number: it is beyond the last command, or a checkpoint dropped it"
 
 
+class StoreReplaced(Refused):
+    """Another store stands in the place of the one that the server of the socket held. The server ends."""
+
+    because = "another store stands in the place of the one that the server held; start the server again"
+
+
 class SessionEnded(ConfstoreError):
     """The session is over, or the run of the program that was to read. What was answered stands; `reopen` starts
     another session.
@@ -261,8 +267,8 @@ class Disconnected(SessionEnded):
 
 
 class Unknown(SessionEnded):
-    """The session was given up, since a thread of it was interrupted half way, as where memory ran out. Each command
-    that was not answered was performed or not."""
+    """The session was given up, since a thread of it was interrupted half way, as where memory ran out; or nobody says
+    how its program ended. Each command that was not answered was performed or not."""
 
 
 class NotATree(ConfstoreError, TypeError):
@@ -320,6 +326,7 @@ REFUSALS: Dict[str, Type[Refused]] = {
         RecordLong, NoSuchCommand,
     )
 }  # fmt: skip
+REFUSALS["Replaced"] = StoreReplaced
 
 # What the system says of a path that may be fine where nothing is, or where what is there can't be run.
 _NOTHING_THERE = (errno.ENOENT, errno.ENOTDIR)
@@ -368,7 +375,9 @@ def end_of(status: Optional[int], errors: bytes, cut: bool) -> SessionEnded:
     kind = ENDS.get(re.split(r"\W", name, maxsplit=1)[0])
     if kind is not None:
         return kind(name, status)
-    if status is not None and status < 0:
+    if status is None:
+        how = "how the program ended isn't known: SIGCHLD is ignored here, or somebody else waits for all children"
+    elif status < 0:
         how = f"the session was ended by signal {-status}"
     elif status:
         how = f"the session ended with status {status}" + (f": {name}" if name else "")
@@ -376,4 +385,4 @@ def end_of(status: Optional[int], errors: bytes, cut: bool) -> SessionEnded:
         how = "the session ended"
     if cut:
         return AnswerCut(f"{how}, in the middle of an answer", status)
-    return SessionEnded(how, status)
+    return Unknown(how) if status is None else SessionEnded(how, status)

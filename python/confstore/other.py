@@ -7,10 +7,10 @@ import io
 import os
 import select
 import socket
-import subprocess
 import time
 from typing import List, NamedTuple, Optional, Sequence, Set, Tuple, Union
 
+from .children import Child, await_event
 from .faults import AnswerCut, ConfstoreError, Disconnected, end_of, program_fault
 
 # How many bytes are read at once, and how many of standard error are kept.
@@ -70,13 +70,13 @@ class Gone(NamedTuple):
     an exception of a signal handler would be lost there."""
 
     pid: int
-    returncode: Optional[int]
+    status: Optional[int]
 
 
 class Program:
     """A program that is a session over its standard streams."""
 
-    process: "subprocess.Popen[bytes] | Gone"
+    process: "Child | Gone"
 
     def __init__(self, words: Sequence[str]) -> None:
         with _WithoutForks():
@@ -130,7 +130,9 @@ class Program:
             self._commands.close()
             for stream in self._streams:
                 stream.close()
-        self.process = Gone(self.process.pid, self.process.returncode)
+        if not isinstance(self.process, Gone):
+            self.process.close()
+            self.process = Gone(self.process.pid, self.process.status)
 
     def let_go(self) -> None:
         """Closes a forked process's copies."""
@@ -194,15 +196,13 @@ class Server:
 Other = Union[Program, Server]
 
 
-def started(words: Sequence[str], source: int) -> "Tuple[subprocess.Popen[bytes], io.FileIO, io.FileIO]":
+def started(words: Sequence[str], source: int) -> Tuple[Child, io.FileIO, io.FileIO]:
     """Starts a program with such a standard input, and returns it with the ends of its output and its errors."""
     ends: List[int] = []
     try:
         ends += os.pipe()
         ends += os.pipe()
-        process = subprocess.Popen(
-            list(words), stdin=source, stdout=ends[1], stderr=ends[3], start_new_session=True, restore_signals=False
-        )
+        process = Child(words, source, ends[1], ends[3])
     except BaseException as error:
         for end in ends:
             os.close(end)
@@ -219,13 +219,6 @@ def shut(connection: socket.socket, how: int) -> None:
         connection.shutdown(how)
     except OSError:
         pass
-
-
-def await_event(end: int, event: int, seconds: float) -> bool:
-    """Whether an event is there within so many seconds."""
-    poll = select.poll()
-    poll.register(end, event)
-    return bool(poll.poll(max(seconds, 0) * 1000))
 
 
 def take(source: int) -> Optional[bytes]:
@@ -246,24 +239,22 @@ def take_errors(source: int, errors: bytearray) -> bool:
     return part != b""
 
 
-def finished(process: "subprocess.Popen[bytes]", source: int, errors: bytearray, seconds: float = GOING) -> int:
-    """The status of a program that has closed its output, and is killed if it stays longer than so many seconds. What
-    it writes to standard error until then is read."""
+def finished(process: Child, source: int, errors: bytearray, seconds: float = GOING) -> Optional[int]:
+    """The status of a program that has closed its output, and is killed if it stays longer than so many seconds; None
+    if it isn't known. What the program writes to standard error until then is read."""
     deadline = time.monotonic() + seconds
     is_open = True
-    while is_open and process.poll() is None and time.monotonic() < deadline:
+    while is_open and not process.is_over() and time.monotonic() < deadline:
         if await_event(source, select.POLLIN, LOOK):
             is_open = take_errors(source, errors)
-    try:
-        status = process.wait(max(deadline - time.monotonic(), 0))
-    except subprocess.TimeoutExpired:
+    if not process.ends_within(deadline - time.monotonic()):
         process.kill()
-        status = process.wait()
+        process.ends_within()
     for _ in range(PART // ERRORS_KEPT):  # what is in the pipe
         if not is_open or not await_event(source, select.POLLIN, 0):
             break
         is_open = take_errors(source, errors)
-    return status
+    return process.status
 
 
 def let_go() -> None:

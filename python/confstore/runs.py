@@ -14,6 +14,7 @@ import threading
 import time
 from typing import Optional, Sequence, Tuple
 
+from .children import Child
 from .faults import AnswerLong, ConfstoreError, NotStarted, TimedOut, Unknown
 from .other import finished, started, take, take_errors
 
@@ -22,10 +23,11 @@ LOOK = 0.1
 
 
 class Run:
-    """A run of the program. `status`, `output` and the end of `errors` are there once it is done."""
+    """A run of the program. `status`, `output` and the end of `errors` are there once it is done. The status is None if
+    it isn't known."""
 
     def __init__(self, words: Sequence[str], timeout: float, longest: int, given: bytes = b"") -> None:
-        self.status = 0
+        self.status: Optional[int] = None
         self.output = bytearray()
         self.errors = bytearray()
         self._words, self._longest, self._given = words, longest, given
@@ -63,7 +65,7 @@ class Run:
         finally:
             self._done.release()
 
-    def _started(self) -> "Tuple[subprocess.Popen[bytes], io.FileIO, io.FileIO]":
+    def _started(self) -> Tuple[Child, io.FileIO, io.FileIO]:
         """Starts the program with what it is given on standard input."""
         if not self._given:
             return started(self._words, subprocess.DEVNULL)

@@ -7,7 +7,7 @@ import operator
 import os
 import time
 from types import TracebackType
-from typing import Any, Callable, Dict, List, MutableMapping, Optional, Sequence, Tuple, Type, overload
+from typing import Any, Callable, Dict, List, MutableMapping, Optional, Sequence, Tuple, Type, TypeVar, overload
 
 from .commands import CHECKPOINT, NAMES, Answers, delete_of, get_of, import_of, put_of, refused, set_of
 from .conditions import PROBE, Condition, Test, at_place, move_of, under
@@ -20,6 +20,8 @@ from .reader import Reader, View
 from .records import Record
 from .session import Session
 from .style import Tree, document
+
+T = TypeVar("T")
 
 # How many seconds a call may take, unless a store is opened with another number.
 TIMEOUT = 60.0
@@ -149,6 +151,11 @@ class Store(Answers, Configurations, MutableMapping[str, Tree]):
                 session.distrust(ConfstoreError("the session did not open the store"))
                 raise
 
+    @property
+    def end(self) -> Optional[ConfstoreError]:
+        """Why its session is over, as each call raises it until `reopen`, or None while it goes on."""
+        return self._session.latest().end
+
     def close(self) -> None:
         """Ends the session. What was answered is on the disk. Does nothing the second time, and raises nothing."""
         self._session.latest().close(self._timeout)
@@ -222,7 +229,8 @@ class Store(Answers, Configurations, MutableMapping[str, Tree]):
         if_value: Tree = MISSING, if_absent: bool = False, if_count: Optional[int] = None,
     ) -> int:  # fmt: skip
         """Puts what a configuration is under another name too, in one step. The conditions are on that name, whose
-        configuration is replaced if there is one."""
+        configuration is replaced if there is one. Where another user changes the first one meanwhile, it is read
+        again, so what is put is what it is then; after `timeout` seconds this raises `Unmet`."""
         return self._move("copy", source, target, at_place(target, "", if_value, if_absent, if_count))
 
     def rename(
@@ -230,7 +238,8 @@ class Store(Answers, Configurations, MutableMapping[str, Tree]):
         if_value: Tree = MISSING, if_absent: bool = False, if_count: Optional[int] = None,
     ) -> int:  # fmt: skip
         """Puts a configuration under another name in place of its own, in one step. The conditions are on the new name,
-        whose configuration is replaced if there is one."""
+        whose configuration is replaced if there is one. Nothing is lost that another user puts meanwhile under the old
+        name: it is read again, as by `copy`."""
         return self._move("rename", source, target, at_place(target, "", if_value, if_absent, if_count))
 
     def _move(self, word: str, source: str, target: str, conditions: Sequence[Condition]) -> int:
@@ -353,25 +362,55 @@ class Store(Answers, Configurations, MutableMapping[str, Tree]):
     def pop(self, name: str, /, default: Any = MISSING) -> Any:
         """Deletes a configuration, and returns what it was; or the default, if one is given, where it is not there.
 
-        These are two commands: what another user puts between them is deleted unseen. Where many pop one configuration
-        that nobody puts again, one of them gets it.
+        It is deleted only while it is what was read; else it is read again. So of many who pop at once each gets what
+        another one has put, once, and nothing is deleted unseen. After `timeout` seconds it raises `Unmet`.
         """
         try:
-            tree = self[name]
-            del self[name]
-            return tree
+            return self._tried(lambda: self._popped(name))
         except (BadName, NoConfig):
             if default is MISSING:
                 raise
             return default
 
+    def _popped(self, name: str) -> Tree:
+        tree = self[name]
+        self.delete(name, if_value=tree)
+        return tree
+
     def popitem(self) -> Tuple[str, Tree]:
-        """Deletes the last configuration, as `pop` does, and returns its name and what it was."""
+        """Deletes the last configuration, as `pop` does, and returns its name and what it was. It is the last one of
+        those that there were when it looked: another user may have put one behind it meanwhile."""
         while names := self.names():
             tree = self.pop(names[-1], MISSING_HERE)
             if not isinstance(tree, Missing):
                 return names[-1], tree
         raise refusal("NoConfig", "`popitem` of an empty store")
+
+    def setdefault(self, name: str, default: Any = None) -> Any:
+        """What a configuration is; where there is none, the default is put under the name, and returned.
+
+        It is put only while there is none; else what another user has put is returned. So of many who do this at once
+        one puts its own, and all return that. After `timeout` seconds it raises `Unmet`.
+        """
+        return self._tried(lambda: self._found_or_put(name, default))
+
+    def _found_or_put(self, name: str, tree: Tree) -> Tree:
+        try:
+            return self[name]
+        except NoConfig:
+            self.put(name, tree, if_absent=True)
+            return tree
+
+    def _tried(self, attempt: Callable[[], T]) -> T:
+        """What a call returns that reads, and then changes under a condition. Where another user came between, it is
+        called again, for `timeout` seconds."""
+        deadline = time.monotonic() + self._timeout
+        while True:
+            try:
+                return attempt()
+            except Unmet:
+                if time.monotonic() > deadline:
+                    raise
 
     @overload
     def update(self, other: Any = (), /, **more: Tree) -> None: ...
@@ -380,7 +419,8 @@ class Store(Answers, Configurations, MutableMapping[str, Tree]):
     def update(self, name: str, path: str, function: Callable[[Tree], Tree], /) -> int: ...
 
     def update(self, other: Any = (), /, *place: Any, **more: Tree) -> Any:
-        """Puts each tree of a mapping, or of pairs, under its name: all in one batch, so all of them or none.
+        """Puts each tree of a mapping, or of pairs, under its name: all in one batch, so all of them or none. What is
+        under the names by then is replaced, whoever has put it.
 
         Without trees it sends nothing. It raises `TooLongToSend` where they are together longer than a command may be.
 
@@ -405,22 +445,20 @@ class Store(Answers, Configurations, MutableMapping[str, Tree]):
         return None
 
     def _update_at(self, name: str, path: str, function: Callable[[Tree], Tree]) -> int:
-        deadline = time.monotonic() + self._timeout
-        while True:
+        def attempt() -> int:
             tree = self.get(name, path)
-            made = function(copy.deepcopy(tree))
-            try:
-                return self.set(name, path, made, if_value=tree)
-            except Unmet:
-                if time.monotonic() > deadline:
-                    raise
+            return self.set(name, path, function(copy.deepcopy(tree)), if_value=tree)
+
+        return self._tried(attempt)
 
     def clear(self) -> None:
         """Deletes all configurations in one batch, so all of them or none.
 
-        These are those that the store had before the batch. Where another user deletes one of them before it is
-        performed, the batch is refused, and made again of those that are left.
+        These are those that the store had before the batch, as they are by then. Where another user deletes one of them
+        before it is performed, the batch is refused, and made again of those that are left. After `timeout` seconds it
+        raises `NoConfig`.
         """
+        deadline = time.monotonic() + self._timeout
         while names := self.names():
             try:
                 with self.batch() as batch:
@@ -428,4 +466,5 @@ class Store(Answers, Configurations, MutableMapping[str, Tree]):
                         batch.delete(name)
                 return
             except NoConfig:
-                continue
+                if time.monotonic() > deadline:
+                    raise

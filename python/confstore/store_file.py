@@ -115,6 +115,8 @@ class StoreFile:
             return tree
         run = Run([self._program, "format", "-"], self._timeout, LONGEST, piece)
         run.wait()
+        if run.status is None:
+            raise end_of(None, bytes(run.errors), False)
         if run.status != 0:
             raise BadAnswer(run.errors.decode("utf-8", "replace").strip())
         return from_text(bytes(run.output))

@@ -34,7 +34,7 @@ def place_of(fault: Refused) -> Optional[Place]:
     for text in fault.texts:
         run = Run([program, "check", "-"], TIMEOUT, LONGEST, text)
         run.wait()
-        found = _PLACE.search(bytes(run.errors)) if run.status == 1 else None
+        found = _PLACE.search(bytes(run.errors)) if run.status in (1, None) else None
         if found and found[3].decode() == fault.word:
             return Place(int(found[1]), int(found[2]), (found[4] or b"").decode()) if found[1] else None
     return None

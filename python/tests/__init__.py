@@ -9,4 +9,4 @@ BUILT = os.path.join(TOP, "crates", "confstore", "out", "confstore")
 
 os.environ.setdefault("CONFSTORE", BUILT)
 if shutil.which(os.environ["CONFSTORE"]) is None:
-    sys.exit("the program is not built: run ./confstore --version first, or set CONFSTORE")
+    sys.exit("the program is not built: run ./prove first, or set CONFSTORE")

@@ -21,7 +21,7 @@ from . import TOP
 from .places import StoreTest
 
 CLIENTS, TURNS = 16, 100
-PATIENCE = 60
+PATIENCE = 600
 
 # A client of a server, which adds one to a number so many times.
 CLIENT = """
@@ -352,6 +352,77 @@ class Awaited(ConditionTest):
             self.assertEqual(await store.get("web", "/n"), str(CLIENTS * TURNS // 4))
 
         self.run_with(task)
+
+
+class Disturbed(Store):
+    """A store that another user changes right after each of the next reads of it, by one of these calls each."""
+
+    others: "list[Callable[[Store], object]]"
+
+    def _read_at(self, name: str, path: str) -> Tree:
+        try:
+            return super()._read_at(name, path)
+        finally:
+            if self.others:
+                self.others.pop(0)(self)
+
+
+class BetweenTwoCommands(StoreTest):
+    """Calls that read and then change, where another user comes between."""
+
+    def setUp(self) -> None:
+        super().setUp()
+        self.held = Disturbed(self.folder)
+        self.addCleanup(self.held.close)
+
+    def disturbed(self, *others: Callable[[Store], object], **trees: Tree) -> Disturbed:
+        """The store with these configurations, and with what others do meanwhile."""
+        self.held.others = []
+        self.held.clear()
+        self.held.update(trees)
+        self.held.others = list(others)
+        return self.held
+
+    def test_pop(self) -> None:
+        """It returns what it has deleted, and deletes nothing that it has not returned."""
+        store = self.disturbed(lambda store: store.put("a", "y"), lambda store: store.put("a", "z"), a="x", b="w")
+        self.assertEqual((store.pop("a"), dict(store)), ("z", {"b": "w"}))
+        store = self.disturbed(lambda store: store.delete("a"), a="x")
+        self.assertEqual((store.pop("a", None), dict(store)), (None, {}))
+        store = self.disturbed(lambda store: store.delete("a"), a="x")
+        with self.assertRaises(confstore.NoConfig):
+            store.pop("a")
+        store = self.disturbed(lambda store: store.put("b", "v"), a="x", b="w")
+        self.assertEqual((store.pop("a"), dict(store)), ("x", {"b": "v"}))
+
+    def test_popitem(self) -> None:
+        store = self.disturbed(lambda store: store.put("b", "y"), a="x", b="w")
+        self.assertEqual((store.popitem(), dict(store)), (("b", "y"), {"a": "x"}))
+        store = self.disturbed(lambda store: store.delete("b"), a="x", b="w")
+        self.assertEqual((store.popitem(), dict(store)), (("a", "x"), {}))
+
+    def test_setdefault(self) -> None:
+        """What another user has put stays, and is returned."""
+        store = self.disturbed(lambda store: store.put("a", "y"))
+        self.assertEqual((store.setdefault("a", "x"), dict(store)), ("y", {"a": "y"}))
+        store = self.disturbed(lambda store: store.put("a", "y"), lambda store: store.delete("a"))
+        self.assertEqual((store.setdefault("a", "x"), dict(store)), ("y", {}))
+        store = self.disturbed(lambda store: (store.put("a", "y"), store.delete("a")))
+        self.assertEqual((store.setdefault("a", "x"), dict(store)), ("x", {"a": "x"}))
+
+    def test_one_that_never_comes_through(self) -> None:
+        """Each call ends in time where another user comes between each time."""
+        numbers = iter(range(10**9))
+        others: list[Callable[[Store], object]] = [lambda store: store.put("a", str(next(numbers)))] * 100_000
+        store = self.disturbed(*others, a="x")
+        store._timeout = 0.5
+        calls: list[Callable[[], object]] = [lambda: store.pop("a"), store.popitem, lambda: store.pop("a", None),
+                                             lambda: Store.update(store, "a", "", lambda _: "z")]  # fmt: skip
+        for call in calls:
+            began = time.monotonic()
+            with self.assertRaises(confstore.Unmet):
+                call()
+            self.assertLess(time.monotonic() - began, PATIENCE)
 
 
 if __name__ == "__main__":

@@ -14,10 +14,11 @@ import signal
 import socket
 import subprocess
 import sys
+import tempfile
 import threading
 import time
 import unittest
-from typing import Any, BinaryIO
+from typing import Any, BinaryIO, Callable
 from unittest import mock
 
 import yaml
@@ -28,6 +29,7 @@ from confstore.ctl_asked import Asked, Help, Version, asked_of
 from confstore.ctl_faults import Fault, shown
 from confstore.ctl_help import help_of, help_of_all
 from confstore.ctl_program import Ended, Source
+from confstore.ctl_served import Served
 from confstore.ctl_sockets import Command, Connection, Place, SessionReply, line_of, place_of
 from confstore.ctl_words import COMMON, WORDS
 from confstore.other import Cutter
@@ -235,11 +237,15 @@ class Sessions(StoreTest):
         self.assertEqual(found, trees, f"seed {seed}")
 
     def test_what_is_no_answer(self) -> None:
-        for piece in (b"", b"x\n...\n", b"---\nvalue: x\n", b"---\n- a\n...\n", b"---\nVALUE: x\n...\n"):
-            with self.assertRaises(Fault) as caught:
+        for piece in (
+            b"", b"x\n...\n", b"---\nvalue: x\n", b"---\n- a\n...\n", b"---\nVALUE: x\n...\n", b"---\nvalue:x\n...\n",
+            b"---\nvalue:\n...\n", b"---\nvalue: x\nmore: y\n...\n", b"---\nvalue:\n  a: b\n c: d\n...\n",
+            b"---\nvalue: |\n  a\n---\nvalue: x\n...\n", b"---\nvalue: x\n\tmore: y\n...\n",
+        ):  # fmt: skip
+            with self.subTest(piece), self.assertRaises(Fault) as caught:
                 SessionReply(piece)
-            self.assertEqual(caught.exception.status, 3)
-        for piece in (b"---\nvalue: x\nmore: y\n...\n", b"---\nvalue: *a\n...\n", b"---\nvalue: [\n...\n"):
+            self.assertEqual((caught.exception.name, caught.exception.status), ("BadAnswer", 3))
+        for piece in (b"---\nvalue: *a\n...\n", b"---\nvalue: [\n...\n"):
             with self.assertRaises(Fault):
                 SessionReply(piece).tree()
 
@@ -353,7 +359,7 @@ class Sockets(SocketTest):
     def test_what_no_line_can_hold_is_sent_as_a_document(self) -> None:
         self.listen(b"---\nrefused: BadCommand\n...\n", b'---\nok: "2"\n...\n')
         command: dict[str, Tree] = {"set": "web", "path": "", "value": {"k" * 2_000: "v"}}
-        with Connection(Place(self.path, True)) as connection:
+        with Connection(Place(self.path)) as connection:
             self.assertEqual(connection.ask(command).key, "ok")
         self.assertEqual(self.heard[1].decode(), f"---\n{to_text(command)}")
 
@@ -442,6 +448,75 @@ class Sockets(SocketTest):
             self.assertEqual(self.fault("set", self.folder, "web", "/a", "b" * 100), (1, "TooLong"))
 
 
+class Stores(SocketTest):
+    """Servers of this store and of others, by the names by which they bind their sockets."""
+
+    def setUp(self) -> None:
+        super().setUp()
+        self.other = os.path.join(self.top, "other")
+        os.mkdir(self.other)
+        patch = mock.patch.dict(os.environ, {"CONFSTORE_SOCKET": ""})
+        patch.start()
+        self.addCleanup(patch.stop)
+
+    def bind(self, bound: str) -> str:
+        """A socket that was bound by a name of its own, and has another one now. Nobody who is told the truth asks."""
+        folder = tempfile.mkdtemp(dir=self.top)
+        self.path = os.path.join(folder, bound)
+        self.listen(b"---\nnames: []\n...\n")
+        moved = os.path.join(folder, "socket")
+        os.rename(self.path, moved)
+        return moved
+
+    def identity_of(self, folder: str) -> str:
+        found = os.stat(folder)
+        return f"store-{found.st_dev}-{found.st_ino}"
+
+    def found(self, place: Callable[[str, str], None], folder: str, socket_there: str) -> tuple[int, str]:
+        """The status and the error of a word where a socket is placed so in a folder."""
+        in_folder = os.path.join(folder, "confstore.sock")
+        with contextlib.suppress(FileNotFoundError):
+            os.remove(in_folder)
+        place(socket_there, in_folder)
+        output, errors = io.BytesIO(), io.StringIO()
+        with mock.patch.multiple("confstore.ctl", write=output.write, write_error=errors.write):
+            status = perform_words(["names", folder])
+        return status, errors.getvalue().partition(": ")[2].partition(":")[0]
+
+    def test_the_server_of_this_store_and_of_another(self) -> None:
+        here, there = self.identity_of(self.folder), self.identity_of(self.other)
+        gone = f"store-{os.stat(self.folder).st_dev}-1"
+        well, refused = (0, ""), (3, "OtherStore")
+        rows = [(here, well, well), (there, refused, refused), (gone, refused, refused), ("made", refused, well),
+                (f"{here}0", refused, refused), (f"x{here}", refused, well), ("store--1-1", refused, well)]  # fmt: skip
+        for bound, by_link, by_itself in rows:
+            with self.subTest(bound):
+                self.assertEqual(self.found(os.symlink, self.folder, self.bind(bound)), by_link)
+                self.assertEqual(self.found(os.link, self.folder, self.bind(bound)), by_itself)
+                self.assertEqual(self.found(os.rename, self.folder, self.bind(bound)), by_itself)
+
+    def test_a_folder_that_is_reached_by_a_link(self) -> None:
+        here, link = self.identity_of(self.folder), os.path.join(self.top, "link")
+        os.symlink(self.folder, link)
+        self.assertEqual(self.found(os.symlink, link, self.bind(here)), (0, ""))
+
+    def test_one_that_is_given(self) -> None:
+        """It is the server that says which store is changed, and not FOLDER."""
+        self.path = self.bind(self.identity_of(self.other))
+        self.assertEqual(self.perform("names", self.folder), (0, b"", ""))
+
+    def test_a_watch(self) -> None:
+        """It is refused at once, however long it may wait for a server."""
+        place = Place(self.bind(self.identity_of(self.other)), self.folder)
+        with self.assertRaises(Fault) as caught:
+            Served(place, None, PATIENCE, PATIENCE)
+        self.assertEqual(caught.exception.kind, "OtherStore")
+
+    def test_nothing_is_sent(self) -> None:
+        self.found(os.symlink, self.folder, self.bind(self.identity_of(self.other)))
+        self.assertEqual(b"".join(self.heard), b"")
+
+
 class Places(SocketTest):
     def test_which_socket(self) -> None:
         place_in_folder = os.path.join(self.folder, "confstore.sock")
@@ -449,11 +524,11 @@ class Places(SocketTest):
             self.assertIsNone(place_of("", self.folder))
             with socket.socket(socket.AF_UNIX) as listener:
                 listener.bind(place_in_folder)
-                self.assertEqual(place_of("", self.folder), Place(place_in_folder, False))
-                self.assertEqual(place_of("/x", self.folder), Place("/x", True))
+                self.assertEqual(place_of("", self.folder), Place(place_in_folder, self.folder))
+                self.assertEqual(place_of("/x", self.folder), Place("/x"))
                 os.environ["CONFSTORE_SOCKET"] = "/y"
-                self.assertEqual(place_of("", self.folder), Place("/y", True))
-                self.assertEqual(place_of("/x", self.folder), Place("/x", True))
+                self.assertEqual(place_of("", self.folder), Place("/y"))
+                self.assertEqual(place_of("/x", self.folder), Place("/x"))
 
     def test_that_of_the_unit(self) -> None:
         """packaging/confstore@.service has stores and sockets there."""
@@ -465,7 +540,7 @@ class Places(SocketTest):
             with socket.socket(socket.AF_UNIX) as listener:
                 listener.bind(os.path.join(sockets, "app", "socket"))
                 found = place_of("", os.path.join(stores, "app", ""))
-                self.assertEqual(found, Place(os.path.join(sockets, "app", "socket"), False))
+                self.assertEqual(found, Place(os.path.join(sockets, "app", "socket"), os.path.join(stores, "app")))
                 self.assertIsNone(place_of("", os.path.join(stores, "other")))
 
 

@@ -4,10 +4,13 @@ from __future__ import annotations
 
 import json
 import os
+import socket
+import threading
 import unittest
 from typing import Any, Iterable
+from unittest import mock
 
-from confstore import Record
+from confstore import Record, ctl_sockets
 from confstore.ctl_faults import Fault
 from confstore.ctl_outputs import json_text
 from confstore.ctl_served import Served
@@ -100,6 +103,96 @@ class Changes(AnswerTest):
         self.assertEqual((status, errors.split()[1][:7], b"".join(self.heard)), (1, "NotUtf8", b""))
 
 
+class OtherAnswers(AnswerTest):
+    """What is no answer to the command, though it may be one to another."""
+
+    WORDS = {
+        "ok": (["set", "S", "web", "/a", "b"], ["delete", "S", "web"], ["checkpoint", "S"], ["import", "S", "web", "T"],
+               ["batch", "S", "E"]),
+        "value": (["get", "S", "web"], ["keys", "S", "web"], ["exists", "S", "web"], ["export", "S", "web", "--json"]),
+        "text": (["export", "S", "web"],),
+        "names": (["names", "S"],),
+    }  # fmt: skip
+    ANSWERS = {
+        "ok": b'---\nok: "5"\n...\n', "value": b"---\nvalue:\n  a: b\n...\n", "text": b"---\ntext: |\n  a\n...\n",
+        "names": b"---\nnames:\n  - a\n...\n", "watch": b'---\nwatch: "5"\n...\n', "at": b'---\nat: "5"\n...\n',
+        "failed": b"---\nfailed: Busy\n...\n",
+    }  # fmt: skip
+
+    def words_of(self, key: str) -> list[list[str]]:
+        """The words whose answers have this key, with files that are there."""
+        files = {name: os.path.join(self.top, name) for name in ("T", "E")}
+        for name, text in (("T", "a: b\n"), ("E", "[{delete: web, path: /a}]\n")):
+            with open(files[name], "w", encoding="ascii") as file:
+                file.write(text)
+        return [[files.get(word, word) for word in words] for words in self.WORDS[key]]
+
+    def test_an_answer_to_another_command(self) -> None:
+        for key in self.WORDS:
+            for words in self.words_of(key):
+                for other, answer in self.ANSWERS.items():
+                    self.answered(answer)
+                    if key == other:
+                        self.assertEqual(self.perform(*words)[::2], (0, ""), words)
+                        continue
+                    with self.subTest(words, answered=other):
+                        self.assertEqual(self.fault(*words), (3, "BadAnswer"))
+
+    def test_a_change_that_is_answered_by_no_number(self) -> None:
+        for said in (b'""', b"x", b'"-1"', b'"07"', b'"1.0"', b"[]", b"\n  a: b", b"\n  - a"):
+            with self.subTest(said):
+                self.answered(b"---\nok: " + said + b"\n...\n")
+                self.assertEqual(self.fault("set", "S", "web", "/a", "b"), (3, "BadAnswer"))
+        for line in (b'{"ok": 5}\n', b'{"ok": null}\n', b'{"value": "5"}\n'):
+            with self.subTest(line):
+                self.answered(line)
+                self.assertEqual(self.fault("set", "S", "web", "/a", "b"), (3, "BadAnswer"))
+        self.answered(b'{"ok": "5"}\n')
+        self.assertEqual(self.perform("set", "S", "web", "/a", "b"), (0, b"", ""))
+        self.answered(b'{"names": ["a", 1]}\n')
+        self.assertEqual(self.fault("names", "S"), (3, "BadAnswer"))
+
+    def test_documents_behind_the_answer(self) -> None:
+        for key in self.WORDS:
+            for words in self.words_of(key):
+                for more in (b'---\nok: "6"\n...\n', b"---\n", b"x", b"\n"):
+                    with self.subTest(words, more=more):
+                        self.answered(self.ANSWERS[key] + more)
+                        self.assertEqual(self.fault(*words), (3, "BadAnswer"))
+        self.answered(VALUE + OK)
+        self.assertEqual(self.fault("rename", "S", "web", "old"), (3, "BadAnswer"))
+        self.answered(VALUE, OK + OK)
+        self.assertEqual(self.fault("rename", "S", "web", "old"), (3, "BadAnswer"))
+
+    def test_a_server_whose_store_was_replaced(self) -> None:
+        for words in (["get", "S", "web"], ["set", "S", "web", "/a", "b"]):
+            self.answered(b"---\nrefused: Replaced\n...\n")
+            self.assertEqual(self.fault(*words), (1, "Replaced"))
+
+    def test_a_document_that_comes_late(self) -> None:
+        """It comes once the answer was read, and nothing more is asked."""
+        self.answered(OK, b"---\nok: \"6\"\n...\n")
+        self.assertEqual(self.fault("set", "S", "web", "/a", "b"), (3, "BadAnswer"))
+
+    def test_a_server_that_does_not_go(self) -> None:
+        """It is not waited for for long, and not taken amiss."""
+        over = threading.Event()
+        with socket.socket(socket.AF_UNIX) as listener, mock.patch.object(ctl_sockets, "PARTING", 0.2):
+            listener.bind(self.path)
+            listener.listen()
+
+            def stay() -> None:
+                with listener.accept()[0] as connection:
+                    connection.sendall(OK)
+                    over.wait(PATIENCE)
+
+            thread = threading.Thread(target=stay)
+            thread.start()
+            self.assertEqual(self.perform("set", "S", "web", "/a", "b"), (0, b"", ""))
+            over.set()
+            thread.join(PATIENCE)
+
+
 class Readings(AnswerTest):
     def test_what_is_written(self) -> None:
         tree = b"---\nvalue:\n  a:\n    - x\n  \"b\\n\": \"\\x85\\u2028\\e\"\n...\n"
@@ -170,7 +263,7 @@ class ToldChanges(AnswerTest):
 
     def serves(self, start: int | None, *documents: bytes) -> Served:
         self.answered(b"".join(documents))
-        served = Served(Place(self.path, True), start, 0, PATIENCE)
+        served = Served(Place(self.path), start, 0, PATIENCE)
         self.addCleanup(served.close)
         return served
 
@@ -236,7 +329,7 @@ class ToldChanges(AnswerTest):
 
     def test_no_server(self) -> None:
         with self.assertRaises(Fault) as caught:
-            Served(Place(self.path, True), None, 0.3, PATIENCE)
+            Served(Place(self.path), None, 0.3, PATIENCE)
         self.assertEqual(caught.exception.name, "Disconnected")
         served = self.serves(None, begun(1))
         served._patience = 0.3

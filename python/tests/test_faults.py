@@ -150,13 +150,15 @@ class Ending(StoreTest):
     def test_killed(self) -> None:
         store = self.store()
         store["a"] = "x"
+        self.assertIsNone(store.end)
         os.kill(process_of(store).pid, signal.SIGKILL)
         for _ in range(2):
             with self.assertRaises(SessionEnded) as caught:
                 store.set("a", "", "y")
             self.assertEqual(caught.exception.status, -signal.SIGKILL)
+        self.assertIsInstance(store.end, SessionEnded)
         store.reopen()
-        self.assertEqual((store["a"], store.checkpoint()), ("x", 1))
+        self.assertEqual((store["a"], store.checkpoint(), store.end), ("x", 1, None))
 
     def test_killed_among_threads(self) -> None:
         store = self.store()
@@ -304,6 +306,10 @@ class WrongAnswers(StoreTest):
             store.set("a", "", "x")
         with self.assertRaises(confstore.BadAnswer):
             store.names()
+
+    def test_a_server_whose_store_was_replaced(self) -> None:
+        fault = self.set_fault(confstore.StoreReplaced, "heard()\nsay(b'---\\nrefused: Replaced\\n...\\n')\nheard()\n")
+        self.assertEqual((fault.word, fault.name), ("Replaced", "a"))
 
     def test_an_unknown_refusal(self) -> None:
         fault = self.set_fault(confstore.Refused, "heard()\nsay(b'---\\nrefused: Moonlight\\n...\\n')\nheard()\n")

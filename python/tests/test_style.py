@@ -10,7 +10,8 @@ import unittest
 from typing import Any
 
 from confstore import ConfstoreError, NotATree, NotText, TooDeep, Tree, document, from_text, to_text
-from confstore.style import scalar, to_plain_text
+from confstore.style import to_plain_text
+from confstore.written import scalar
 
 # Texts with what they are as values, indented by two, worked out by hand from docs/STYLE.md.
 SCALARS = [

@@ -10,13 +10,17 @@ them.
 
 from __future__ import annotations
 
+import contextlib
+import errno
 import hashlib
 import json
 import os
 import secrets
+import stat
 from dataclasses import asdict
-from typing import Callable, List, Optional, Sequence, Tuple
+from typing import BinaryIO, Callable, List, Optional, Sequence, Tuple
 
+from .access import take_after
 from .etcd import Etcd, Guard, Item
 from .history import Base, base_in
 from .metrics import Counts
@@ -27,6 +31,9 @@ NAMES_KEPT = 100_000
 # A base is kept in etcd in parts of so many bytes, of which so many are read at once.
 PART = 700_000
 PARTS_AT_ONCE = 8
+
+# The file of a store, the one that is to take its place, and the name that it has then.
+STORE, NEW, KEPT = "store.yaml", "base.new", "before-base.yaml"
 
 # Into how many steps the entries are divided after which names are forgotten.
 STEPS = 100
@@ -130,19 +137,47 @@ class Bases:
 
 
 def install(folder: str, base: bytes) -> None:
-    """Has a base stand in the place of the file of a store, which is closed. That file gets another name."""
-    new, store, kept = (os.path.join(folder, name) for name in ("base.new", "store.yaml", "before-base.yaml"))
-    with open(new, "wb") as file:
-        file.write(base)
-        file.flush()
-        os.fsync(file.fileno())
-    if os.path.exists(store):
-        if os.path.exists(kept):
-            os.unlink(kept)
-        os.link(store, kept)
-    os.replace(new, store)
-    directory = os.open(folder, os.O_RDONLY)
+    """Has a base stand in the place of the file of a store, which is closed. That file gets another name. The new one
+    has its owner, group, mode and access list before it has a byte."""
+    directory = os.open(folder, os.O_RDONLY | os.O_DIRECTORY)
     try:
+        _remove(NEW, directory)
+        has_replaced = _write_new(base, directory)
+        if has_replaced:
+            _remove(KEPT, directory)
+            os.link(STORE, KEPT, src_dir_fd=directory, dst_dir_fd=directory, follow_symlinks=False)
+        os.replace(NEW, STORE, src_dir_fd=directory, dst_dir_fd=directory)
         os.fsync(directory)
     finally:
         os.close(directory)
+
+
+def _write_new(base: bytes, directory: int) -> bool:
+    """Writes the new file of a store. Whether there is one that it will replace."""
+    how = os.O_WRONLY | os.O_CREAT | os.O_EXCL
+    try:
+        replaced = os.open(STORE, os.O_RDONLY | os.O_NOFOLLOW | os.O_NONBLOCK, dir_fd=directory)
+    except FileNotFoundError:
+        with open(os.open(NEW, how, 0o666, dir_fd=directory), "wb") as file:
+            _write_to_disk(file, base)
+        return False
+    try:
+        if not stat.S_ISREG(os.fstat(replaced).st_mode):
+            raise OSError(errno.EINVAL, "it is no plain file", STORE)
+        with open(os.open(NEW, how, stat.S_IRUSR | stat.S_IWUSR, dir_fd=directory), "wb") as file:
+            take_after(file.fileno(), replaced)
+            _write_to_disk(file, base)
+    finally:
+        os.close(replaced)
+    return True
+
+
+def _write_to_disk(file: BinaryIO, content: bytes) -> None:
+    file.write(content)
+    file.flush()
+    os.fsync(file.fileno())
+
+
+def _remove(name: str, directory: int) -> None:
+    with contextlib.suppress(FileNotFoundError):
+        os.unlink(name, dir_fd=directory)

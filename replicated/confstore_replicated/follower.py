@@ -237,7 +237,8 @@ class Follower(threading.Thread):
 
     def trouble(self) -> str:
         """Why this node doesn't serve, or nothing."""
-        if self.store is None:
+        store = self.store
+        if store is None or store.end is not None:
             return "no session holds the store"
         with self._state:
             if self._fault is not None:
@@ -263,6 +264,7 @@ class Follower(threading.Thread):
                 if self.store is None:
                     self.open()
                 while not self._ended.is_set():
+                    self._need_session()
                     try:
                         self._follow()
                     except Unavailable as error:
@@ -377,8 +379,14 @@ class Follower(threading.Thread):
         finally:
             stream.close()
 
+    def _need_session(self) -> None:
+        """Raises why the session is over, if it is, so that another one is opened, whether there are entries or not."""
+        if self.store is not None and self.store.end is not None:
+            raise self.store.end
+
     def _perform_from(self, stream: Stream) -> None:
         while not self._ended.is_set():
+            self._need_session()
             entries = stream.take(MOST_ENTRIES, LOOK)
             if entries is None:
                 self._ended.wait(PAUSE)

@@ -39,11 +39,12 @@ from confstore import ConfstoreError, NotATree, NotText, Refused as StoreRefused
 
 from .answers import Answers
 from .bases import NAMES_KEPT
+from .beside import Fault, Sample, address, family, known, mode_of
 from .entries import RESERVED, Refused, command_of, digest_of, edits_in, edits_of, entry_of
 from .etcd import Access, Created, Etcd, Item, Unavailable
 from .follower import Follower, NotReplicated
 from .history import Behind, OtherHistory, Place
-from .metrics import Counts, Sample, Scrapers, address, family, known, named
+from .metrics import Counts, Teller, Telling, named
 from .server import Server
 
 # How many seconds a client waits for an answer at most.
@@ -240,7 +241,7 @@ def metrics_of(node: Node) -> str:
         ("store_bytes", "gauge", "Length of store.yaml.", known(standing.length)),
         ("store_growth_bytes", "gauge", "Bytes of store.yaml behind its base.", known(growth)),
     ]  # fmt: skip
-    return "".join(family(*row) for row in rows)
+    return "".join(family(f"node_{name}", kind, about, samples) for name, kind, about, samples in rows)
 
 
 def _is_id(identity: Any) -> bool:
@@ -279,6 +280,8 @@ def _parser() -> argparse.ArgumentParser:
     parser.add_argument("--ids-kept", type=int, default=NAMES_KEPT, help=kept)
     told = "tell health and counters over HTTP: a Unix socket, with a slash, or 127.0.0.1:PORT"
     parser.add_argument("--metrics", metavar="ADDRESS", type=address, help=told)
+    mode = "the mode of that socket, as 0666 (default: those that may read the store may ask)"
+    parser.add_argument("--metrics-mode", metavar="MODE", type=mode_of, help=mode)
     parser.add_argument("--ca", metavar="FILE", help="reach etcd over TLS, and trust these authorities")
     parser.add_argument("--cert", metavar="FILE", help="the certificate of this node for etcd")
     parser.add_argument("--key", metavar="FILE", help="its key")
@@ -320,16 +323,20 @@ def _open(follower: Follower) -> None:
 
 def _node_of(words: argparse.Namespace, ends: ExitStack) -> Node:
     """The node, whose store is open if that was possible. Until `ends` is closed those are answered who ask for its
-    metrics. Raises `OSError`, `ValueError` or `NotReplicated`."""
+    metrics. Raises `OSError`, `Fault`, `ValueError` or `NotReplicated`."""
     access = _access_of(words)
+    words.folder = os.path.abspath(words.folder)
     os.makedirs(words.folder, exist_ok=True)
     node = Node(
         words.folder, words.members, words.cluster, program=words.program, base_after=words.base_after,
         names_kept=words.ids_kept, access=access,
     )  # fmt: skip
-    if words.metrics is not None:
+    if words.metrics is not None or words.metrics_mode is not None:
         node.counts.is_told = True
-        ends.callback(Scrapers(words.metrics, lambda: metrics_of(node), node.follower.trouble).end)
+        folder = os.open(words.folder, os.O_RDONLY | os.O_DIRECTORY)
+        ends.callback(os.close, folder)
+        telling = Telling(lambda: metrics_of(node), node.follower.trouble)
+        ends.callback(Teller(words.metrics, words.metrics_mode, folder, telling).end)
     _open(node.follower)
     return node
 
@@ -356,7 +363,7 @@ def _run(words: argparse.Namespace, ends: ExitStack) -> int:
     try:
         node = _node_of(words, ends)
         server = Server(words.socket, words.folder, node.answer, node.counts)
-    except (OSError, ValueError, NotReplicated) as fault:
+    except (OSError, Fault, ValueError, NotReplicated) as fault:
         print(f"node: {fault}", file=sys.stderr)
         return 1
     if is_told_to_end.is_set():

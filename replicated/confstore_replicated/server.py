@@ -10,7 +10,7 @@ import threading
 import time
 from typing import Any, Callable, Dict, List, Optional, Set
 
-from .listener import listen
+from .beside import Listener, may_write, peer_of
 from .metrics import Counts
 
 # How many clients are served at once. While others wait, those are cut off that asked nothing for so many seconds.
@@ -180,18 +180,31 @@ class _Client:
         return True
 
 
+def listening(path: str, folder: int) -> Listener:
+    """A socket at a path, for those who may write in an open folder. Raises `Fault` where that can't be."""
+    listener = Listener(path)
+    try:
+        listener.open(folder)
+    except BaseException:
+        listener.close()
+        raise
+    return listener
+
+
 class Server:
-    """Takes clients at a path, those who may write in a folder, until it is ended."""
+    """Takes clients at a path, those who may write in a folder when they connect, until it is ended."""
 
     def __init__(self, path: str, folder: str, answer: Answering, counts: Optional[Counts] = None) -> None:
         self.answer = answer
         self.counts = counts or Counts()
         self.room = _Room()
         self.long_ones = threading.Semaphore(LONG_ONES)
-        self._path = path
-        self._listener = listen(path, folder)
-        self._listener.setblocking(False)
-        self._inode = os.lstat(path).st_ino
+        self._folder = os.open(folder, os.O_RDONLY | os.O_DIRECTORY)
+        try:
+            self._listener = listening(path, self._folder)
+        except BaseException:
+            os.close(self._folder)
+            raise
         self._clients: Set[_Client] = set()
         self._lock = threading.Lock()
         self._is_ended = threading.Event()
@@ -201,14 +214,14 @@ class Server:
         """Serves until `end` is called."""
         try:
             while not self._is_ended.is_set():
-                ready, _, _ = select.select([self._listener, self._ear], [], [])
-                if self._listener in ready and self._has_place():
+                ready, _, _ = select.select([self._listener.socket, self._ear], [], [])
+                if self._listener.socket in ready and self._has_place():
                     self._accept()
         finally:
-            for end in (self._listener, self._bell, self._ear):
-                end.close()
-            if os.path.lexists(self._path) and os.lstat(self._path).st_ino == self._inode:
-                os.unlink(self._path)
+            self._listener.close()
+            os.close(self._folder)
+            self._bell.close()
+            self._ear.close()
 
     def end(self) -> None:
         self._is_ended.set()
@@ -233,11 +246,14 @@ class Server:
 
     def _accept(self) -> None:
         try:
-            connection, _ = self._listener.accept()
+            connection = self._listener.accept()
         except BlockingIOError:
             return
         except OSError:  # as where there are no more descriptors
             self._is_ended.wait(TURN)
+            return
+        if not may_write(peer_of(connection), self._folder):  # its access was taken away since the start
+            connection.close()
             return
         connection.setblocking(True)
         client = _Client(connection, self)

@@ -9,6 +9,7 @@ import importlib
 import json
 import os
 import re
+import select
 import signal
 import socket
 import subprocess
@@ -20,14 +21,17 @@ import unittest
 from typing import Any, Dict, List, Tuple, Union
 
 from confstore_replicated import Client, follower as following, node as module
-from confstore_replicated.metrics import STAY, THREADS, Counts, Scrapers
+from confstore_replicated.metrics import Counts, Teller, Telling
 from confstore_replicated.node import Node, metrics_of
 from confstore_replicated.server import Server
+from serve_metrics import STAY
+from serve_socket import Fault
 
 from . import TOP
 from .test_node import IDS, LOG, NodeTest, until
 
 DEBIAN = "/usr/lib/python3/dist-packages"
+NOBODY = 65_534
 HALF = b"GET /metrics HTTP/1.1\r\nHost: x"
 
 # Those who keep asking, in a process of their own, with as many connections as they get.
@@ -198,8 +202,7 @@ class Figures(NodeTest):
                 self.addCleanup(some.set)
                 self.patched(late.follower, "_perform", held)
                 late.follower.open()
-                wanted = self.entries(late.follower.place().number)
-                self.assertEqual(wanted, count)
+                self.assertEqual(self.entries(late.follower.place().number), count)
                 late.follower.start()
                 until(lambda: figures_in(metrics_of(late)).get("entries_behind") == count)
                 some.set()
@@ -273,7 +276,7 @@ class Figures(NodeTest):
                     content = file.read()
                 found = figures_in(metrics_of(node))
                 growth = len(content) - content.index(b"\n...\n") - 5
-                return (found["store_bytes"], found["store_growth_bytes"]) == (len(content), growth)
+                return (found["store_bytes"], found.get("store_growth_bytes")) == (len(content), growth)
 
             until(agrees)
         node.end()
@@ -307,67 +310,67 @@ class Waits(unittest.TestCase):
 
 
 class Asking(unittest.TestCase):
+    """What is asked and answered is that of `clients/serve_metrics.py`, and tried by `checks/server.py`."""
+
     def setUp(self) -> None:
         holder = tempfile.TemporaryDirectory()
         self.addCleanup(holder.cleanup)
-        self.where = os.path.join(holder.name, "metrics")
+        os.chmod(holder.name, 0o755)
+        self.where, self.folder = os.path.join(holder.name, "metrics"), os.path.join(holder.name, "store")
+        os.mkdir(self.folder, 0o750)
 
-    def scrapers(self, where: str = "", trouble: str = "") -> Scrapers:
-        scrapers = Scrapers(where or self.where, lambda: "page\n", lambda: trouble)
-        self.addCleanup(scrapers.end)
-        return scrapers
+    def teller(self, where: str = "", trouble: str = "", mode: "int | None" = None) -> Teller:
+        folder = os.open(self.folder, os.O_RDONLY)
+        self.addCleanup(os.close, folder)
+        return Teller(where or self.where, mode, folder, Telling(lambda: "page\n", lambda: trouble))
+
+    def told(self, request: bytes, where: str = "", trouble: str = "") -> Tuple[int, bytes]:
+        teller = self.teller(where, trouble)
+        try:
+            status, _, body = told_by(where or self.where, request)
+            return status, body
+        finally:
+            teller.end()
 
     def test_requests(self) -> None:
-        self.scrapers()
-        rows = [
-            (b"GET /metrics HTTP/1.1\r\n\r\n", 200, b"page\n"), (b"GET /health HTTP/1.0\r\n\r\n", 200, b"ok\n"),
-            (b"GET /health?x HTTP/1.1\nHost: y\n\n", 200, b"ok\n"), (b"GET / HTTP/1.1\r\n\r\n", 404, None),
-            (b"GET /metrics/ HTTP/1.1\r\n\r\n", 404, None), (b"HEAD /metrics HTTP/1.1\r\n\r\n", 405, None),
-            (b"POST /metrics HTTP/1.1\r\n\r\n", 405, None), (b"GET /metrics\r\n\r\n", 400, None),
-            (b"GET /metrics HTTP/2.0\r\n\r\n", 400, None), (b"GET http://x/metrics HTTP/1.1\r\n\r\n", 400, None),
-            (b'{"names": ""}\n\n', 400, None), (b"GET /health HTTP/1.1\r\nA: " + b"b" * 4_073, 431, None),
-            (b"GET /health HTTP/1.1\r\nA: " + b"b" * 4_000 + b"\r\n\r\n", 200, b"ok\n"),
-        ]  # fmt: skip
-        for request, status, body in rows:
-            with self.subTest(request=request[:40]):
-                told = told_by(self.where, request)
-                self.assertEqual(told[0], status)
-                self.assertIn(told[2], (told[2] if body is None else body,))
-                self.assertEqual((int(told[1]["content-length"]), told[1]["connection"]), (len(told[2]), "close"))
-        kind = told_by(self.where, b"GET /metrics HTTP/1.1\r\n\r\n")[1]["content-type"]
-        self.assertEqual(kind, "text/plain; version=0.0.4; charset=utf-8")
-
-    def test_trouble(self) -> None:
-        self.scrapers(trouble="it is so")
-        told = told_by(self.where, b"GET /health HTTP/1.1\r\n\r\n")
-        self.assertEqual((told[0], told[2]), (503, b"it is so\n"))
+        self.assertEqual(self.told(b"GET /metrics HTTP/1.1\r\n\r\n"), (200, b"page\n"))
+        self.assertEqual(self.told(b"GET /health HTTP/1.1\r\n\r\n"), (200, b"ok\n"))
+        self.assertEqual(self.told(b"GET /health HTTP/1.1\r\n\r\n", trouble="it is so"), (503, b"it is so\n"))
+        self.assertEqual(self.told(b"GET / HTTP/1.1\r\n\r\n")[0], 404)
 
     def test_a_port(self) -> None:
         with socket.socket() as probe:
             probe.bind(("127.0.0.1", 0))
             where = f"127.0.0.1:{probe.getsockname()[1]}"
-            with self.assertRaises(OSError):
-                probe.listen()
-                Scrapers(where, lambda: "", lambda: "")
-        self.scrapers(where)
-        self.assertEqual(told_by(where, b"GET /health HTTP/1.1\r\n\r\n")[0], 200)
+            probe.listen()
+            with self.assertRaisesRegex(Fault, "choose another port"):
+                self.teller(where)
+        self.assertEqual(self.told(b"GET /health HTTP/1.1\r\n\r\n", where), (200, b"ok\n"))
+
+    def test_who_may_ask(self) -> None:
+        """Those that may read the store, or whom a mode lets connect."""
+        for mode, wanted in ((None, 0o660), (0o666, 0o666), (0o600, 0o600)):
+            teller = self.teller(mode=mode)
+            self.assertEqual(os.stat(self.where).st_mode & 0o777, wanted)
+            teller.end()
+        with self.assertRaisesRegex(Fault, "--metrics-mode"):
+            self.teller("127.0.0.1:9", mode=0o666)
 
     def test_the_end(self) -> None:
-        scrapers = Scrapers(self.where, lambda: "", lambda: "")
-        self.assertEqual(os.stat(self.where).st_mode & 0o777, 0o666)
+        teller = self.teller()
         with socket.socket(socket.AF_UNIX) as held:
             held.connect(self.where)
             held.sendall(HALF)
             began = time.monotonic()
-            scrapers.end()
-            self.assertLess(time.monotonic() - began, STAY + 3)
+            teller.end()
+            self.assertLess(time.monotonic() - began, STAY)
         self.assertFalse(os.path.exists(self.where))
 
     def test_half_requests(self) -> None:
         """They are cut off after a while, and another one is answered."""
-        self.scrapers()
-        held = []
-        for _ in range(2 * THREADS):
+        teller, held = self.teller(), []
+        self.addCleanup(teller.end)
+        for _ in range(8):
             connection = socket.socket(socket.AF_UNIX)
             self.addCleanup(connection.close)
             connection.settimeout(30)
@@ -389,11 +392,11 @@ class Process(NodeTest):
         super().setUp()
         self.where, self.path = os.path.join(self.top, "metrics"), os.path.join(self.top, "socket")
 
-    def start(self, where: str) -> "subprocess.Popen[str]":
+    def start(self, where: str, *options: str) -> "subprocess.Popen[str]":
         paths = os.pathsep.join(os.path.join(TOP, name) for name in ("python", "replicated"))
         words = [sys.executable, "-m", "confstore_replicated.node", self.path, os.path.join(self.top, "p")]
         process = subprocess.Popen(
-            [*words, self.etcd.address, "--metrics", where], env={**os.environ, "PYTHONPATH": paths}, text=True,
+            [*words, self.etcd.address, "--metrics", where, *options], env={**os.environ, "PYTHONPATH": paths}, text=True,
             stdout=subprocess.PIPE, stderr=subprocess.PIPE,
         )  # fmt: skip
         self.addCleanup(process.communicate)
@@ -432,8 +435,29 @@ class Process(NodeTest):
         process = self.start(self.where)
         self.assertEqual(process.wait(30), 1)
         assert process.stderr
-        self.assertRegex(process.stderr.read(), r"\Anode: [^\n]*File exists[^\n]*\n\Z")
+        said = r"\Anode: no clients are taken at [^\n]*: what is there is no socket: remove it, [^\n]*\n\Z"
+        self.assertRegex(process.stderr.read(), said)
         self.assertEqual((os.path.getsize(self.where), os.path.exists(self.path)), (0, False))
+
+    @unittest.skipUnless(os.geteuid() == 0, "needs root")
+    def test_another_user_who_asks_too_much(self) -> None:
+        """Others are answered at once, and who asks so is kept out for a while."""
+        os.chmod(self.top, 0o755)
+        process = self.start(self.where, "--metrics-mode", "666")
+        until(self.is_healthy)
+        words = [sys.executable, "-c", HOSTILE, self.where, HALF.decode()]
+        hostile = subprocess.Popen(words, stdout=subprocess.PIPE, user=NOBODY, group=NOBODY)
+        self.addCleanup(hostile.wait)
+        self.addCleanup(hostile.kill)
+        assert hostile.stdout and process.stderr
+        hostile.stdout.readline()
+        hostile.stdout.close()
+        self.assertTrue(select.select([process.stderr], [], [], 20)[0], "nobody is kept out")
+        self.assertIn(f"user {NOBODY} asks for the metrics too often", process.stderr.readline())
+        for _ in range(10):
+            began = time.monotonic()
+            self.assertEqual(told_by(self.where, b"GET /health HTTP/1.1\r\n\r\n")[0], 200)
+            self.assertLess(time.monotonic() - began, 1)
 
     def test_those_who_ask_too_much(self) -> None:
         """Clients are answered in time beside a thousand who ask by halves, or never read."""

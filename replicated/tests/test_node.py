@@ -9,10 +9,10 @@ import tempfile
 import threading
 import time
 import unittest
-from typing import Callable, TypeVar
+from typing import Any, Callable, TypeVar
 from unittest import mock
 
-from confstore import Store, Tree
+from confstore import Closed, Store, Tree
 from confstore_replicated import follower as following
 from confstore_replicated import node as module
 from confstore_replicated.bases import Bases
@@ -110,6 +110,22 @@ class Questions(NodeTest):
         self.assertEqual(self.set(one, "x", id="i"), {"ok": "5"})
         self.assertEqual(self.set(one, "y", id="i"), {"refused": "IdTaken"})
         self.assertEqual(self.set(one, "y", id=""), {"refused": "BadCommand"})
+
+    def test_a_session_that_is_killed_while_no_entry_comes(self) -> None:
+        node = self.node()
+        self.begin(node, 1)
+        for _ in range(2):
+            store: Any = until(lambda: node.follower.store)
+            store._session._other.kill()
+            until(lambda: store.end is not None)
+            self.assertEqual(until(lambda: self.get(node, "no") == {"value": "0"}), True)
+            self.assertEqual(node.follower.trouble(), "")
+
+    def test_what_is_told_of_a_session_that_is_over(self) -> None:
+        node = self.node()
+        self.begin(node, 1)
+        with mock.patch.object(Store, "end", Closed("over")):
+            self.assertEqual(node.follower.trouble(), "no session holds the store")
 
     def test_an_answer_of_etcd_that_is_lost(self) -> None:
         """The command is sent again, with another nonce, and is in the log once."""

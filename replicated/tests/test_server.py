@@ -4,10 +4,8 @@ from __future__ import annotations
 
 import json
 import os
-import shutil
 import socket
 import stat
-import subprocess
 import tempfile
 import threading
 import time
@@ -15,7 +13,7 @@ import unittest
 from typing import Any, Callable, Dict
 from unittest import mock
 
-from confstore_replicated import Client, listener as listening, server as module
+from confstore_replicated import Client, server as module
 from confstore_replicated.server import Server
 
 Answering = Callable[[Dict[str, Any]], Dict[str, Any]]
@@ -168,37 +166,19 @@ class Bounds(ServerTest):
 
 
 class Access(ServerTest):
-    def mode(self) -> int:
-        return stat.S_IMODE(os.stat(self.path).st_mode)
+    """The socket of a server; `test_listener.py` tries who may connect, and what is at its name."""
 
-    def listen(self) -> None:
-        if os.path.lexists(self.path):
-            os.unlink(self.path)
-        listener = listening.listen(self.path, self.folder)
-        self.addCleanup(listener.close)
-
-    def test_modes(self) -> None:
-        for mode, wanted in ((0o700, 0o600), (0o770, 0o660), (0o750, 0o600), (0o777, 0o666), (0o707, 0o606)):
+    def test_who_may_write_in_the_folder_may_connect(self) -> None:
+        for mode, wanted in ((0o700, 0o600), (0o770, 0o660), (0o777, 0o666)):
             os.chmod(self.folder, mode)
-            self.listen()
-            self.assertEqual(self.mode(), wanted, oct(mode))
-            self.assertEqual(sorted(os.listdir(self.top)), ["socket", "store"])
-
-    def test_what_is_at_the_path(self) -> None:
-        self.listen()
-        with self.assertRaises(OSError):
-            listening.listen(self.path, self.folder)
-        os.unlink(self.path)
-        makes: list[Callable[[], None]] = [
-            lambda: open(self.path, "x").close(),
-            lambda: os.symlink(self.folder, self.path),
-        ]
-        for make in makes:
-            make()
-            with self.assertRaises(OSError):
-                listening.listen(self.path, self.folder)
-            os.unlink(self.path)
-        self.assertEqual(os.listdir(self.top), ["store"])
+            server = self.serve()
+            self.assertEqual(stat.S_IMODE(os.stat(self.path).st_mode), wanted, oct(mode))
+            server.end()
+            for _ in range(1_000):
+                if not os.path.lexists(self.path):
+                    break
+                time.sleep(0.01)
+            self.assertEqual(sorted(os.listdir(self.top)), ["store"])
 
     def test_one_that_is_left(self) -> None:
         left = socket.socket(socket.AF_UNIX)
@@ -206,24 +186,6 @@ class Access(ServerTest):
         left.close()
         self.serve()
         self.assertIn(b"asked", self.said(b"{}\n"))
-
-    def test_no_mode_is_set_through_a_link(self) -> None:
-        """Nothing that others put at the path while the socket is made gets a mode, an owner or a list."""
-        other = os.path.join(self.top, "other")
-        with open(other, "wb"):
-            pass
-        os.chmod(other, 0o600)
-        os.chmod(self.folder, 0o777)
-        before = listening._give_to_writers
-
-        def slow(path: str, folder: str) -> None:
-            os.symlink(other, self.path)
-            before(path, folder)
-
-        with mock.patch.object(listening, "_give_to_writers", slow), self.assertRaises(OSError):
-            listening.listen(self.path, self.folder)
-        self.assertEqual(stat.S_IMODE(os.stat(other).st_mode), 0o600)
-        os.unlink(self.path)
 
     def test_the_end_leaves_what_is_another_one(self) -> None:
         server = self.serve()
@@ -233,52 +195,6 @@ class Access(ServerTest):
         server.end()
         time.sleep(0.3)
         self.assertTrue(os.path.exists(self.path))
-
-    @unittest.skipUnless(os.geteuid() == 0, "needs root")
-    def test_group_and_owner(self) -> None:
-        os.chown(self.folder, 12_345, 54_321)
-        os.chmod(self.folder, 0o770)
-        self.listen()
-        found = os.stat(self.path)
-        self.assertEqual((found.st_uid, found.st_gid, self.mode()), (12_345, 54_321, 0o660))
-
-    @unittest.skipUnless(os.geteuid() == 0, "needs root")
-    def test_a_group_that_may_not_be_given(self) -> None:
-        """Then nobody but the owner may connect."""
-        os.chown(self.folder, 0, 54_321)
-        os.chmod(self.folder, 0o777)
-        os.chmod(self.top, 0o777)
-        if child := os.fork():
-            self.assertEqual(os.waitpid(child, 0)[1], 0)
-        else:
-            os.setresgid(65_534, 65_534, 65_534)
-            os.setresuid(65_534, 65_534, 65_534)
-            listener = listening.listen(self.path, self.folder)
-            os._exit(0 if self.mode() == 0o600 and listener else 1)
-
-    @unittest.skipIf(shutil.which("setfacl") is None, "needs setfacl")
-    def test_access_lists(self) -> None:
-        rows = [
-            # the folder's list, and what getfacl has to say of the socket then
-            ("u::rwx,u:12345:rwx,g::r-x,m::rwx,o::---", "user::rw- user:12345:rw- group::--- mask::rw- other::---"),
-            ("u::rwx,u:12345:r-x,g::rwx,m::rwx,o::r-x", "user::rw- user:12345:--- group::rw- mask::rw- other::---"),
-            ("u::rwx,g:12345:rwx,g::rwx,m::r-x,o::---", "user::rw- group::rw- group:12345:rw- mask::--- other::---"),
-        ]
-        for given, wanted in rows:
-            done = subprocess.run(["setfacl", "--set", given, self.folder], check=False, capture_output=True)
-            if done.returncode != 0:
-                self.skipTest("this file system has no access lists")
-            self.listen()
-            listed = subprocess.run(["getfacl", "-ncE", self.path], check=True, capture_output=True, text=True).stdout
-            self.assertEqual(listed.split(), wanted.split(), given)
-
-    @unittest.skipIf(shutil.which("setfacl") is None, "needs setfacl")
-    def test_an_access_list_that_can_not_be_set(self) -> None:
-        subprocess.run(["setfacl", "-m", "u:12345:rwx", self.folder], check=True)
-
-        with mock.patch.object(os, "setxattr", side_effect=OSError(95, "not supported")):
-            self.listen()
-        self.assertEqual(self.mode(), 0o600)
 
 
 if __name__ == "__main__":

@@ -1,5 +1,5 @@
 //! Works on texts and trees, for the scripts of `bench/`, which measure its speed, and for
-//! `checks/refuse_tree_allocations.sh`, which refuses it memory. Its words are orders, performed one after another,
+//! `checks/refuse_allocations.py`, which refuses it memory. Its words are orders, performed one after another,
 //! with `then` between them:
 //!
 //! - `read events FILE ROUNDS` and `read tree FILE ROUNDS` read a file that many times in one process, to its events

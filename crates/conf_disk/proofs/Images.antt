@@ -1,18 +1,15 @@
 -- What each call makes of the images.
-use Rattle.std.proofs.Common.{◌≡◌, ◌⊎◌, inl, inr, ⊎_elim, ℕ, zero, suc, ◌+◌, ◌-◌, ◌≤◌, List, [], ◌∷◌, ◌++◌, length}
-use Rattle.std.proofs.Common.{get_or, set, take, drop, replicate, Option, Some, None, Contains, Result, Ok, Err, refl}
-use Rattle.std.proofs.Common.{sym, ◌∙◌, ap, subst, arith, append_assoc, length-append, length-take, length-drop}
-use Rattle.std.proofs.Common.{take-append-drop}
+use Rattle.std.proofs.Common.{◌≡◌, ◌⊎◌, inl, inr, ⊎_elim, ℕ, zero, suc, ◌+◌, ◌-◌, ◌≤◌, List, [], ◌∷◌, ◌++◌, length, get_or, set, take, drop}
+use Rattle.std.proofs.Common.{replicate, Option, Some, None, Contains, Result, Ok, Err, refl, sym, ◌∙◌, ap, subst, arith, append_assoc}
+use Rattle.std.proofs.Common.{length-append, length-take, length-drop, take-append-drop}
 use Rattle.std.proofs.lemmas.List.{get_or-set_same, get_or-set_other, set_past, take_all, drop_all, take-append-le}
 use Rattle.std.proofs.lemmas.List.{get_or_append_left, get_or_past, get_or-append_right}
 use Rattle.std.proofs.lemmas.List.Elements.{Contains-append_left, Contains-append_right, Contains-append_cases}
 use Rattle.std.proofs.lemmas.Bool.{cases_eq, cases_lt}
-use Rattle.conf_disk.specs.Folder.{Stage, File, empty_file, Folder, stages, under, Step, CreateNext, Append, Sync}
-use Rattle.conf_disk.specs.Folder.{RenameNext, RemoveNext, SyncFolder, with_file, with_pending, synced_whole}
-use Rattle.conf_disk.specs.Folder.{synced_first, after_create, after_rename, after_remove, after, after_part}
-use Rattle.conf_disk.specs.Folder.{Performs}
-use Rattle.conf_disk.specs.Image.{Image, IsImage, IsTorn, IsTornAt}
-use Rattle.conf_disk.specs.declared.disk.DiskFault.{DiskFault}
+use Rattle.conf_disk.specs.{Image.Image, Image.IsImage, Image.IsTorn, Image.IsTornAt, declared.disk.DiskFault.DiskFault}
+use Rattle.conf_disk.specs.Folder.{Stage, File, empty_file, Folder, stages, under, Step, CreateNext, Append, Sync, RenameNext, RemoveNext}
+use Rattle.conf_disk.specs.Folder.{SyncFolder, with_file, with_pending, synced_whole, synced_first, after_create, after_rename}
+use Rattle.conf_disk.specs.Folder.{after_remove, after, after_part, Performs}
 
 -- whatever the one file may be torn into, the other may be too
 abbrev pub TearsInto : File → File → Type 0

@@ -1,13 +1,11 @@
 -- One step more after a list of them.
-use Rattle.std.proofs.Common.{◌≡◌, ◌⊎◌, inl, inr, ⊎_elim, ℕ, zero, suc, ◌+◌, ◌≤◌, ◌<◌, List, [], ◌∷◌, ◌++◌, length}
-use Rattle.std.proofs.Common.{take, slice_get, Option, Some, refl, sym, ◌∙◌, ap, subst, arith, length-append}
+use Rattle.std.proofs.Common.{◌≡◌, ◌⊎◌, inl, inr, ⊎_elim, ℕ, zero, suc, ◌+◌, ◌≤◌, ◌<◌, List, [], ◌∷◌, ◌++◌, length, take, slice_get, Option}
+use Rattle.std.proofs.Common.{Some, refl, sym, ◌∙◌, ap, subst, arith, length-append}
 use Rattle.std.proofs.lemmas.List.{take_all, take-append-le}
 use Rattle.std.proofs.lemmas.Bool.{cases_lt, cases_eq}
+use Rattle.conf_disk.specs.{Image.Image, Image.IsImage, LogLaws.folder_at-length, LogLaws.left_now, Moments.Elapses}
 use Rattle.conf_disk.specs.Folder.{Folder, empty_folder, Step, after, after_part}
-use Rattle.conf_disk.specs.Image.{Image, IsImage}
 use Rattle.conf_disk.specs.Log.{folder_after, folder_within, folder_at, IsLeftSince}
-use Rattle.conf_disk.specs.LogLaws.{folder_at-length, left_now}
-use Rattle.conf_disk.specs.Moments.{Elapses}
 use Rattle.conf_disk.proofs.Images.{after_part-cases}
 
 folder_after-push : (steps : List Step) (step : Step) (folder : Folder)
@@ -47,11 +45,6 @@ folder_at-within steps step part =
     (folder_after (take (length steps) (steps ++ step ∷ [])) empty_folder)) (slice_get-push_at steps step)
     ∙ ap (λ (l : List Step). after_part part step (folder_after l empty_folder))
     (take-append-le (length steps) steps (step ∷ []) (omega arith) ∙ take_all (length steps) steps (omega arith))
-
--- time goes on when no step is done
-pub Elapses-same : (steps : List Step) → Elapses (length steps) (length steps) (IsLeftSince steps) (IsLeftSince steps)
-    (IsImage (folder_after steps empty_folder))
-Elapses-same steps = record { later = omega arith; nothing_else = λ t image le left. inl left; keeps = λ t image le left. left }
 
 module _ (steps : List Step) (step : Step) where
   abbrev more : List Step

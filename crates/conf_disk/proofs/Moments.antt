@@ -1,10 +1,7 @@
 -- What a stop during a run of calls leaves.
 use Rattle.std.proofs.Common.{◌≤◌, inl, inr, ⊎_elim, ◌≡◌, ℕ, Result, subst, arith}
-use Rattle.conf_disk.specs.Folder.{Folder, Step, Performs}
-use Rattle.conf_disk.specs.Image.{Image, IsImage}
-use Rattle.conf_disk.specs.Models.{DiskModel}
-use Rattle.conf_disk.specs.Moments.{Elapses, LeavesOnly}
-use Rattle.conf_disk.specs.declared.disk.DiskFault.{DiskFault}
+use Rattle.conf_disk.specs.{Folder.Folder, Folder.Step, Folder.Performs, Image.Image, Image.IsImage, Models.DiskModel, Moments.Elapses}
+use Rattle.conf_disk.specs.{Moments.LeavesOnly, declared.disk.DiskFault.DiskFault}
 use Rattle.conf_disk.proofs.Images.{grown, grown-grows, Performs-grown}
 
 -- no call

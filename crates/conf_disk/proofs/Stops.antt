@@ -1,14 +1,13 @@
 -- The cuts of a stage and its images; what a crash leaves.
-use Rattle.std.proofs.Common.{◌≡◌, ◌↔◌, ℕ, zero, suc, ◌+◌, List, [], ◌∷◌, ◌++◌, length, get_or, take, replicate}
-use Rattle.std.proofs.Common.{Option, Some, None, Contains, slice_get, Bool, true, false, ◌&&◌, if◌then◌else◌, refl}
-use Rattle.std.proofs.Common.{sym, ◌∙◌, ap, subst, arith}
+use Rattle.std.proofs.Common.{◌≡◌, ◌↔◌, ℕ, zero, suc, ◌+◌, List, [], ◌∷◌, ◌++◌, length, get_or, take, replicate, Option, Some, None}
+use Rattle.std.proofs.Common.{Contains, slice_get, Bool, true, false, ◌&&◌, if◌then◌else◌, refl, sym, ◌∙◌, ap, subst, arith}
 use Rattle.std.proofs.lemmas.List.{append-nil, take_all}
 use Rattle.std.proofs.lemmas.List.Elements.{Contains-append_right}
 use Rattle.std.proofs.lemmas.Bool.{le-leb, leb-true}
 use Rattle.std.proofs.lemmas.Option.{slice_get-get_or, slice_get_within, get_or_from_slice_get}
 use Rattle.conf_disk.specs.Folder.{File, empty_file, file_bytes, Stage, Folder, stages, bytes_at}
-use Rattle.conf_disk.specs.Image.{Image, IsImage, IsTorn, IsTornAt, image_now, folder_of_image, folder_with_files}
-use Rattle.conf_disk.specs.Image.{fits_at, torn_at, image_of_stage, image_at}
+use Rattle.conf_disk.specs.Image.{Image, IsImage, IsTorn, IsTornAt, image_now, folder_of_image, folder_with_files, fits_at, torn_at}
+use Rattle.conf_disk.specs.Image.{image_of_stage, image_at}
 use Rattle.conf_disk.specs.declared.cuts.Cuts.{Cuts}
 
 -- a torn file is one under a cut that fits

@@ -1,11 +1,9 @@
 -- A folder of two names: its files, its stages, and what each call makes of it.
-use Rattle.std.specs.Prelude.{◌≡◌, ℕ, zero, suc, ◌≤◌, ◌<◌, List, [], ◌∷◌, ◌++◌, length, get_or, take, drop, set}
-use Rattle.std.specs.Prelude.{Option, Some, None, IsSome, Result, MatchResult}
-use Rattle.conf_disk.specs.declared.disk.Name.{Name}
+use Rattle.std.specs.Prelude.{◌≡◌, ℕ, zero, suc, ◌≤◌, ◌<◌, List, [], ◌∷◌, ◌++◌, length, get_or, take, drop, set, Option}
+use Rattle.std.specs.Prelude.{Some, None, IsSome, Result, MatchResult}
+use Rattle.conf_disk.specs.{declared.disk.Name.Name, declared.disk.Content.Content, declared.disk.DiskFault.DiskFault}
 use Rattle.conf_disk.specs.declared.disk.Name.TheVariants.{Store, Next}
-use Rattle.conf_disk.specs.declared.disk.Content.{Content}
 use Rattle.conf_disk.specs.declared.disk.Content.TheVariants.{Missing, Bytes, TooLong}
-use Rattle.conf_disk.specs.declared.disk.DiskFault.{DiskFault}
 
 -- A file's bytes: those that a crash leaves, then those that were appended since the last sync (pending).
 pub record File : Type 0 where

@@ -1,8 +1,7 @@
 -- Facts about the model that hold of every folder.
 use Rattle.std.specs.Prelude.{◌≡◌, ◌⊎◌, ◌↔◌, ℕ, Some}
-use Rattle.conf_disk.specs.Folder.{Folder, Step, after, after_part}
+use Rattle.conf_disk.specs.{Folder.Folder, Folder.Step, Folder.after, Folder.after_part, declared.cuts.Cuts.Cuts}
 use Rattle.conf_disk.specs.Image.{Image, IsImage, image_now, folder_of_image, image_at}
-use Rattle.conf_disk.specs.declared.cuts.Cuts.{Cuts}
 
 -- the stages and their cuts give every image, and nothing else
 abbrev pub ImagesAreCuts : Type 0

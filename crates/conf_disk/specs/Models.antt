@@ -1,7 +1,6 @@
 -- A disk, by what contracts see of it.
 use Rattle.std.specs.Prelude.{ℕ}
-use Rattle.conf_disk.specs.Folder.{Folder}
-use Rattle.conf_disk.specs.Image.{Image}
+use Rattle.conf_disk.specs.{Folder.Folder, Image.Image}
 
 pub record DiskModel (D : Type 0) : Type 1 where
   -- whether the disk is one that the clauses speak of; no call changes it

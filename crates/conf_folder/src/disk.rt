@@ -7,6 +7,7 @@ use crate::files::{
     LOCK, Paths, Replacing, STORE, create_staged, file_content, look_at_files, open_folder, rename,
     subject_of,
 };
+use crate::known::KnownFile;
 use crate::lock::{HeldLock, find_unlocked, lock_store};
 use crate::note::Note;
 use crate::{FolderError, FolderFault};
@@ -27,6 +28,10 @@ use std::{fs, io};
 /// `store.yaml` puts all bytes on the device before it returns them. [`release`](FolderDisk::release) notes that there
 /// are none.
 ///
+/// Before it says that `store.yaml` is synced, and before it replaces the file, it finds the file as it read or left
+/// it. If others have written to it, cut, replaced or removed it, as two runs may where the system's locks don't
+/// exclude each other, the call fails.
+///
 /// One that was opened [`for_reading`](FolderDisk::for_reading) holds no lock, and reads what the system gives. On it
 /// each call but `read` and `failures` fails, and changes nothing.
 #[derive(Drop)]
@@ -39,7 +44,10 @@ pub struct FolderDisk<'r, R: Files<File = File>> {
     next: Appended,
     /// What is noted in `store.lock`. `None` if a note failed: either may stand there.
     note: Option<Note>,
-    replacing: Replacing,
+    /// Whether the device has the names as this run left them.
+    names: Names,
+    /// What the `next.yaml` that this run made is to do when it is renamed. `None` if there is none that it made.
+    replacing: Option<Replacing>,
     presence: Presence,
     /// The file that a new `store.yaml` takes after where there is none.
     like: Option<Metadata>,
@@ -74,6 +82,8 @@ struct Appended {
     /// The handle for appending, once it is open.
     file: Option<File>,
     bytes: Bytes,
+    /// The file as this run read or left it, if it did.
+    known: Option<KnownFile>,
 }
 
 /// Where the bytes of a file are.
@@ -87,24 +97,58 @@ enum Bytes {
     Unsure,
 }
 
+/// Where the names of the files are.
+#[derive(Clone, Copy, PartialEq, Eq)]
+enum Names {
+    /// The device has them.
+    OnDevice,
+    /// The next sync of the folder puts them on the device.
+    Pending,
+}
+
 impl Appended {
     /// A file that is not open yet.
     fn closed(bytes: Bytes) -> Appended {
-        Appended { file: None, bytes }
+        Appended {
+            file: None,
+            bytes,
+            known: None,
+        }
     }
 
-    /// Takes note of an append.
-    fn was_appended_to(&mut self) {
+    /// Appends bytes by an open handle, which is kept if all were written.
+    fn append(&mut self, file: File, bytes: &[u8]) -> io::Result<()> {
         if self.bytes == Bytes::OnDevice {
             self.bytes = Bytes::Pending;
         }
+        let known = self.known.take();
+        let mut file = file;
+        file.write_all(bytes)?;
+        self.file = Some(file);
+        self.known = known.and_then(|known| known.longer(bytes));
+        Ok(())
     }
 
-    /// Takes note of a sync that succeeded.
-    fn was_synced(&mut self) {
+    /// Syncs the file by an open handle, which is kept then, and finds the file as this run read or left it, if it did.
+    fn sync(&mut self, file: File) -> io::Result<()> {
+        if let Err(error) = sync_known(&file, self.known) {
+            self.bytes = Bytes::Unsure;
+            return Err(error);
+        }
         if self.bytes == Bytes::Pending {
             self.bytes = Bytes::OnDevice;
         }
+        self.file = Some(file);
+        Ok(())
+    }
+}
+
+/// Syncs an open file, and finds it as it is known, if it is.
+fn sync_known(file: &File, known: Option<KnownFile>) -> io::Result<()> {
+    file.sync_all()?;
+    match known {
+        Some(known) => known.find_open(file),
+        None => Ok(()),
     }
 }
 
@@ -231,7 +275,8 @@ impl<'r, R: Files<File = File>> FolderDisk<'r, R> {
             store: Appended::closed(bytes),
             next: Appended::closed(Bytes::OnDevice),
             note: Some(note),
-            replacing: Replacing::Nothing,
+            names: Names::OnDevice,
+            replacing: None,
             presence: Presence::Unknown,
             like: None,
             failures: 0,
@@ -244,17 +289,34 @@ impl<'r, R: Files<File = File>> FolderDisk<'r, R> {
         self.cause
     }
 
-    /// Ends the run, and lets go of the locks. If the device has all bytes of `store.yaml`, it is noted in
-    /// `store.lock`; where the system refuses that, the next run puts a copy in its place once more. If there is no
-    /// `store.yaml`, a `store.lock` that this run made is removed.
+    /// Ends the run, and lets go of the locks. If the device has all bytes of `store.yaml`, and its name, it is noted
+    /// in `store.lock`; where the system refuses that, the next run puts a copy in its place once more. If there is no
+    /// `store.yaml`, a `store.lock` and a `next.yaml` that this run made are removed.
     pub fn release(self) {
         let Access::Changing { lock } = &self.access else {
             return;
         };
         if lock.is_made() && self.has_no_store() {
+            self.remove_unfinished();
             let _ = fs::remove_file(self.rt, self.paths.lock.as_str());
-        } else if self.note != Some(Note::OnDevice) && self.store.bytes == Bytes::OnDevice {
+        } else if self.note != Some(Note::OnDevice) && self.is_on_device() {
             let _ = Note::OnDevice.write(lock.file());
+        }
+    }
+
+    /// Whether the device has all bytes of `store.yaml`, and its name.
+    fn is_on_device(&self) -> bool {
+        self.store.bytes == Bytes::OnDevice && self.names == Names::OnDevice
+    }
+
+    /// Removes a `next.yaml` that this run made and didn't rename. Where others have changed it, or the system refuses,
+    /// it stays.
+    fn remove_unfinished(&self) {
+        if self.replacing.is_none() || self.find_known(Name::Next).is_err() {
+            return;
+        }
+        if let Ok(path) = self.path(Name::Next) {
+            let _ = fs::remove_file(self.rt, path);
         }
     }
 
@@ -314,8 +376,8 @@ impl<'r, R: Files<File = File>> FolderDisk<'r, R> {
         }
     }
 
-    /// Takes out the handle for appending to a file, or opens the file if there is none. A caller that succeeds gives
-    /// the handle back to `keep_handle`; after a failure it is closed.
+    /// Takes out the handle for appending to a file, or opens the file if there is none. A caller that succeeds keeps
+    /// the handle; after a failure it is closed.
     fn take_handle(&mut self, name: Name) -> Result<File, Cause>
         ensures { self.new.failures ≡ self.old.failures }
     {
@@ -333,12 +395,18 @@ impl<'r, R: Files<File = File>> FolderDisk<'r, R> {
         }
     }
 
-    fn keep_handle(&mut self, name: Name, file: File)
-        ensures { self.new.failures ≡ self.old.failures }
-    {
-        match name {
-            Name::Store => self.store.file = Some(file),
-            Name::Next => self.next.file = Some(file),
+    /// Finds that the file under a name is as this run read or left it, if it did.
+    ///
+    /// # Errors
+    /// If others have changed it, or the system refuses.
+    fn find_known(&self, name: Name) -> Result<(), Cause> {
+        let (file, path) = match name {
+            Name::Store => (&self.store, self.paths.store.as_str()),
+            Name::Next => (&self.next, self.paths.next.as_str()),
+        };
+        match file.known {
+            Some(known) => subject_of(name).blame(known.find_at(self.rt, path)),
+            None => Ok(()),
         }
     }
 
@@ -346,17 +414,15 @@ impl<'r, R: Files<File = File>> FolderDisk<'r, R> {
         ensures { self.new.failures ≡ self.old.failures }
     {
         self.may_change()?;
-        let mut file = self.take_handle(name)?;
-        match name {
+        let file = self.take_handle(name)?;
+        let appended = match name {
             Name::Store => {
                 self.have_noted(Note::Unsure)?;
-                self.store.was_appended_to();
+                self.store.append(file, bytes)
             }
-            Name::Next => self.next.was_appended_to(),
-        }
-        subject_of(name).blame(file.write_all(bytes))?;
-        self.keep_handle(name, file);
-        Ok(())
+            Name::Next => self.next.append(file, bytes),
+        };
+        subject_of(name).blame(appended)
     }
 
     fn try_sync(&mut self, name: Name) -> Result<(), Cause>
@@ -365,22 +431,17 @@ impl<'r, R: Files<File = File>> FolderDisk<'r, R> {
         self.may_change()?;
         let file = match self.take_handle(name) {
             Ok(file) => file,
-            Err(cause) if cause.error.kind() == ErrorKind::NotFound => return Ok(()),
+            Err(cause) if cause.error.kind() == ErrorKind::NotFound => return self.find_known(name),
             Err(cause) => return Err(cause),
         };
-        let synced = subject_of(name).blame(file.sync_all());
-        match (name, &synced) {
-            (Name::Store, Ok(())) => self.store.was_synced(),
-            (Name::Next, Ok(())) => self.next.was_synced(),
-            (Name::Store, Err(_)) => {
-                self.store.bytes = Bytes::Unsure;
-                let _ = self.have_noted(Note::Unsure);
-            }
-            (Name::Next, Err(_)) => self.next.bytes = Bytes::Unsure,
+        let synced = match name {
+            Name::Store => self.store.sync(file),
+            Name::Next => self.next.sync(file),
+        };
+        if name == Name::Store && synced.is_err() {
+            let _ = self.have_noted(Note::Unsure);
         }
-        synced?;
-        self.keep_handle(name, file);
-        Ok(())
+        subject_of(name).blame(synced)
     }
 
     fn try_create_next(&mut self) -> Result<(), Cause>
@@ -391,14 +452,16 @@ impl<'r, R: Files<File = File>> FolderDisk<'r, R> {
         if replaced.is_some() {
             self.find_store()?;
         }
-        self.replacing = match replaced {
-            Some(_) => Replacing::Store,
-            None => Replacing::Nothing,
-        };
         let file = self.create_next_file(replaced.as_ref())?;
+        self.replacing = match replaced {
+            Some(_) => Some(Replacing::Store),
+            None => Some(Replacing::Nothing),
+        };
+        let made = subject_of(Name::Next).blame(file.metadata())?;
         self.next = Appended {
             file: Some(file),
             bytes: Bytes::OnDevice,
+            known: Some(KnownFile::new(&made, 0)),
         };
         Ok(())
     }
@@ -418,15 +481,22 @@ impl<'r, R: Files<File = File>> FolderDisk<'r, R> {
         ensures { self.new.failures ≡ self.old.failures }
     {
         self.may_change()?;
+        self.have_noted(Note::Unsure)?;
         self.store.file = None;
         let staged = self.next.file.take();
-        let replacing = self.replacing;
+        let replacing = self.replacing.unwrap_or(Replacing::Nothing);
         let (from, to) = (self.path(Name::Next)?, self.path(Name::Store)?);
-        STORE.blame(rename(self.rt, replacing, from, to))?;
+        self.find_known(Name::Next)?;
+        self.find_known(Name::Store)?;
+        let renamed = STORE.blame(rename(self.rt, replacing, from, to));
+        self.names = Names::Pending;
+        renamed?;
+        self.replacing = None;
         self.presence = Presence::There;
         self.store = Appended {
             file: staged,
             bytes: self.next.bytes,
+            known: self.next.known.take(),
         };
         Ok(())
     }
@@ -436,16 +506,29 @@ impl<'r, R: Files<File = File>> FolderDisk<'r, R> {
     {
         self.may_change()?;
         self.next.file = None;
+        self.next.known = None;
         let (next, path) = (subject_of(Name::Next), self.path(Name::Next)?);
-        match next.blame(look(self.rt, path))? {
-            Some(_) => next.blame(fs::remove_file(self.rt, path)),
-            None => Ok(()),
+        if next.blame(look(self.rt, path))?.is_some() {
+            next.blame(fs::remove_file(self.rt, path))?;
         }
+        self.replacing = None;
+        Ok(())
     }
 
-    fn try_sync_folder(&self) -> Result<(), Cause> {
+    /// Syncs the folder. One that failed says as much of the bytes as a failed sync of the file: none is surely under
+    /// its name.
+    fn try_sync_folder(&mut self) -> Result<(), Cause>
+        ensures { self.new.failures ≡ self.old.failures }
+    {
         self.may_change()?;
-        Subject::Given.blame(self.folder.sync())
+        let synced = Subject::Given.blame(self.folder.sync());
+        if synced.is_err() {
+            self.store.bytes = Bytes::Unsure;
+            let _ = self.have_noted(Note::Unsure);
+        } else {
+            self.names = Names::OnDevice;
+        }
+        synced
     }
 
     /// Returns if `store.yaml` may be there, which was found.
@@ -489,6 +572,7 @@ impl<'r, R: Files<File = File>> FolderDisk<'r, R> {
             return Ok(());
         };
         if let Err(cause) = self.put_copy(bytes.as_slice()) {
+            self.remove_unfinished();
             self.access = Access::Reading;
             return Err(cause);
         }
@@ -506,10 +590,7 @@ impl<'r, R: Files<File = File>> FolderDisk<'r, R> {
         self.try_append(Name::Next, bytes)?;
         self.try_sync(Name::Next)?;
         self.try_rename_next()?;
-        self.store.bytes = Bytes::Unsure;
-        self.try_sync_folder()?;
-        self.store.bytes = Bytes::OnDevice;
-        Ok(())
+        self.try_sync_folder()
     }
 
     /// Reads the file under a name, if there is one. A file of more than `max` bytes is `TooLong`. A run that may
@@ -517,23 +598,23 @@ impl<'r, R: Files<File = File>> FolderDisk<'r, R> {
     fn try_read(&mut self, alloc: Global, name: Name, max: u64) -> Result<Content, Cause>
         ensures { self.new.failures ≡ self.old.failures }
     {
-        let opened = open_to_read(self.rt, self.path(name)?);
-        match (opened, name) {
-            (Ok(file), Name::Store) => {
-                self.find_store()?;
-                let content = STORE.blame(file_content(alloc, file, max))?;
-                self.put_on_device(&content)?;
-                Ok(content)
-            }
-            (Ok(file), Name::Next) => subject_of(name).blame(file_content(alloc, file, max)),
-            (Err(error), name) if error.kind() == ErrorKind::NotFound => {
+        let file = match open_to_read(self.rt, self.path(name)?) {
+            Ok(file) => file,
+            Err(error) if error.kind() == ErrorKind::NotFound => {
                 if name == Name::Store {
                     self.find_no_store()?;
                 }
-                Ok(Content::Missing)
+                return Ok(Content::Missing);
             }
-            (Err(error), name) => Err(subject_of(name).cause(error)),
+            Err(error) => return Err(subject_of(name).cause(error)),
+        };
+        let (content, known) = subject_of(name).blame(file_content(alloc, file, max))?;
+        if name == Name::Store {
+            self.find_store()?;
+            self.store.known = known;
+            self.put_on_device(&content)?;
         }
+        Ok(content)
     }
 
     /// Returns if a failure can still be counted.

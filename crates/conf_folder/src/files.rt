@@ -1,6 +1,7 @@
 // The files of a folder: their names and paths, and what a disk does with one of them.
 ghost use Rattle.std.specs.Prelude.{◌≡◌, ◌⊎◌, IfErr};
 
+use crate::known::KnownFile;
 use crate::{FolderError, FolderFault};
 use conf_disk::{Content, Name};
 use conf_files::{OWNER_ALONE, OpenFolder, Subject, look, take_after};
@@ -89,17 +90,23 @@ pub(crate) fn look_at_files<R: Files<File = File>>(
     Ok(store)
 }
 
-/// The bytes of a file, or `TooLong` if it has more than `max`.
-pub(crate) fn file_content(alloc: Global, file: File, max: u64) -> io::Result<Content> {
-    if file.metadata()?.len() > max {
-        return Ok(Content::TooLong);
+/// The bytes of a file, and what is known of it then; or `TooLong` if it has more than `max`.
+pub(crate) fn file_content(
+    alloc: Global,
+    file: File,
+    max: u64,
+) -> io::Result<(Content, Option<KnownFile>)> {
+    let found = file.metadata()?;
+    if found.len() > max {
+        return Ok((Content::TooLong, None));
     }
     let mut bytes = Vec::new(alloc);
     file.take(max.saturating_add(1)).read_to_end(&mut bytes)?;
-    if bytes.len() as u64 > max {
-        return Ok(Content::TooLong);
+    let length = bytes.len() as u64;
+    if length > max {
+        return Ok((Content::TooLong, None));
     }
-    Ok(Content::Bytes(bytes))
+    Ok((Content::Bytes(bytes), Some(KnownFile::new(&found, length))))
 }
 
 /// Makes an empty file under a path, for appending. If it is to take after a file, nobody but its owner has access

@@ -10,22 +10,24 @@ use std::os::unix::fs::FileExt;
 pub(crate) enum Note {
     /// `-`: the device has them.
     OnDevice,
-    /// `!`: some may be in memory alone, since a run appended or a sync failed. So it is where nothing is noted.
+    /// `!`: some may be in memory alone, or not under their name, since a run appended or renamed, or a sync failed. So
+    /// it is where nothing is noted.
     Unsure,
 }
 
 impl Note {
-    /// What is noted in an open `store.lock`.
+    /// What is noted in an open `store.lock`. More than one byte is no note, and is cut off.
     ///
     /// # Errors
-    /// If the system refuses to read.
+    /// If the system refuses to read or to cut.
     pub(crate) fn read(lock: &File) -> io::Result<Note> {
-        let mut byte = [0_u8];
-        match lock.read_at(&mut byte, 0) {
-            Ok(1) if byte[0] == b'-' => Ok(Note::OnDevice),
-            Ok(_) => Ok(Note::Unsure),
-            Err(error) => Err(error),
+        let mut bytes = [0_u8; 2];
+        match lock.read_at(&mut bytes, 0)? {
+            1 if bytes[0] == b'-' => return Ok(Note::OnDevice),
+            0 | 1 => {}
+            _ => lock.set_len(0)?,
         }
+        Ok(Note::Unsure)
     }
 
     /// Notes this in an open `store.lock`.

@@ -1,17 +1,11 @@
 -- A prefix of the bytes of a store's file.
 use Rattle.std.proofs.Common.{◌≡◌, ⊎_elim, refl, sym, ◌∙◌, ap, subst, arith, ◌<◌, ◌≤◌, append_assoc, take-append-drop, length-take}
 use Rattle.std.specs.Prelude.{ℕ, ◌+◌, ◌-◌, zero, suc, List, [], ◌∷◌, ◌++◌, length, take, drop, replicate}
-use Rattle.std.specs.List.{All, concat}
+use Rattle.conf_history.proofs.Prelude.{All, concat, All-nil, All-cons, All-head, All-tail, ClosesAt, ClosesOnce, Pieces, File, Command}
+use Rattle.conf_history.proofs.Prelude.{RecordsTear, records_bytes, AreRecords, after-prefix, journal-left}
 use Rattle.std.proofs.lemmas.Bool.{cases_lt}
-use Rattle.std.proofs.lemmas.List.Elements.{All-nil, All-cons, All-head, All-tail}
-use Rattle.yaml_grammar.specs.Closings.{ClosesAt, ClosesOnce, Pieces}
 use Rattle.yaml_docs.proofs.ClosingLines.{lies_within}
 use Rattle.yaml_docs.proofs.CutLines.{closes-longer, closes-shorter}
-use Rattle.conf_disk.specs.Folder.{File}
-use Rattle.conf_state.specs.Commands.{Command}
-use Rattle.conf_record.specs.Documents.{RecordsTear, records_bytes}
-use Rattle.conf_store.specs.Meaning.{AreRecords}
-use Rattle.conf_store.proofs.MeaningLemmas.{after-prefix, journal-left}
 use Rattle.conf_history.specs.Beside.{PrefixesAreRead, AppendedRecordsAreRead}
 
 take-beyond : (k : ℕ) (xs ys : List ℕ) → take (length xs + k) (xs ++ ys) ≡ xs ++ take k ys

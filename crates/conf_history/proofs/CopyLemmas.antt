@@ -1,21 +1,10 @@
 -- A store with the base and the records of another one: what was read, what was made of it, and what a crash leaves.
 use Rattle.std.proofs.Common.{◌≡◌, ◌⊎◌, inl, inr, ⊎_elim, refl, sym, ◌∙◌, ap, subst, arith, length-append}
 use Rattle.std.specs.Prelude.{ℕ, List, [], ◌++◌, length, Option, Some}
-use Rattle.std.specs.List.{concat}
-use Rattle.std.proofs.KnownBytes.{Consumes-whole}
-use Rattle.std.proofs.lemmas.List.{append-nil}
-use Rattle.yaml_docs.specs.PieceReading.{piece_or_rest}
-use Rattle.conf_disk.specs.Folder.{Folder}
-use Rattle.conf_disk.specs.Models.{DiskModel}
-use Rattle.conf_disk.proofs.Moments.{LeavesOnly-weaker}
-use Rattle.conf_journal.specs.Store.{IsStoreOf, LeavesStoreOr}
-use Rattle.conf_state.specs.Commands.{Command}
-use Rattle.conf_state.specs.States.{Contents}
-use Rattle.conf_store.specs.Meaning.{FileMeans}
-use Rattle.conf_store.proofs.PieceLemmas.{no_closing}
+use Rattle.conf_history.proofs.Prelude.{concat, Consumes-whole, append-nil, piece_or_rest, Folder, DiskModel, LeavesOnly-weaker, IsStoreOf}
+use Rattle.conf_history.proofs.Prelude.{LeavesStoreOr, Command, Contents, FileMeans, no_closing}
+use Rattle.conf_history.specs.{Walks.IsAtEndOf, Walks.Walked, declared.fault.SalvageFault.SalvageFault}
 use Rattle.conf_history.specs.Copies.{BacksUp, CopiesPieces, CreatesFile, IsCopied, LeavesOldOrCopy, ReadsCopy, RefusesBackup, RefusesFile}
-use Rattle.conf_history.specs.Walks.{IsAtEndOf, Walked}
-use Rattle.conf_history.specs.declared.fault.SalvageFault.{SalvageFault}
 use Rattle.conf_history.specs.declared.fault.SalvageFault.TheVariants.{History, StoreExists, Device, OutOfMemory}
 use Rattle.conf_history.proofs.WalkLemmas.{end-read}
 

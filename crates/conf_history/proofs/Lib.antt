@@ -1,3 +1,4 @@
+pub mod Prelude
 pub mod WalkLemmas
 pub mod ReadingLemmas
 pub mod SurveyLemmas
@@ -6,4 +7,3 @@ pub mod CopyLemmas
 pub mod LogLemmas
 pub mod LineLemmas
 pub mod SalvageLemmas
-pub mod ReplayLemmas

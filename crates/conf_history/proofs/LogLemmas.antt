@@ -1,26 +1,15 @@
 -- The log: what is written so far, and how writing it ends.
-use Rattle.std.proofs.Common.{◌≡◌, inl, inr, refl, sym, ◌∙◌, ap, subst, arith, ◌<◌, append_assoc}
-use Rattle.std.specs.Prelude.{ℕ, ◌+◌, false, List, [], ◌∷◌, ◌++◌, length, take, Option, Some, None, Ok, IfSome}
-use Rattle.std.specs.List.{All, concat}
-use Rattle.std.specs.Io.KnownBytes.{Appends}
-use Rattle.std.proofs.KnownBytes.{Appends-nil, Appends-trans, Consumes-whole}
-use Rattle.std.proofs.lemmas.List.{append-nil}
-use Rattle.yaml_grammar.specs.Closings.{ClosesOnce}
-use Rattle.yaml_recognizers.specs.Closings.{SomePieces}
-use Rattle.yaml_docs.specs.PieceReading.{ahead, piece_or_rest}
-use Rattle.conf_state.specs.Commands.{Command}
-use Rattle.conf_state.specs.States.{Contents}
-use Rattle.conf_state.proofs.RunLaws.{after-count}
-use Rattle.conf_store.specs.Meaning.{AreRecords}
+use Rattle.std.proofs.Common.{◌≡◌, ◌⊎◌, inl, inr, refl, sym, ◌∙◌, ap, subst, arith, ◌<◌, append_assoc}
+use Rattle.std.specs.Prelude.{ℕ, ◌+◌, List, [], ◌∷◌, ◌++◌, length, take, Option, Some, None, IfSome}
+use Rattle.conf_history.proofs.Prelude.{All, concat, Appends, Appends-nil, Appends-trans, Consumes-whole, append-nil, ClosesOnce}
+use Rattle.conf_history.proofs.Prelude.{SomePieces, ahead, piece_or_rest, Command, Contents, after-count, AreRecords}
+use Rattle.conf_history.specs.{declared.log.LogForm.LogForm, declared.fault.HistoryFault.HistoryFault}
 use Rattle.conf_history.specs.Histories.{RefusesReading, RefusesSurvey}
-use Rattle.conf_history.specs.Logs.{entry_bytes, log_bytes, log_of_pieces, BeginsLog, IsUpTo, IsWholeLog, LogsAll}
-use Rattle.conf_history.specs.Logs.{LogsBefore, CutsLog, StopsLog, FailsToLogPiece}
-use Rattle.conf_history.specs.Walks.{HasRead, ArePerformed, IsBetween, IsAtPiece, IsAtEndOf, Performs, AfterGoing, RefusesPiece, Walked}
-use Rattle.conf_history.specs.declared.log.LogForm.{LogForm}
-use Rattle.conf_history.specs.declared.fault.HistoryFault.{HistoryFault}
+use Rattle.conf_history.specs.Logs.{entry_bytes, log_bytes, log_of_pieces, BeginsLog, IsWholeLog, LogsAll, LogsBefore, CutsLog, StopsLog}
+use Rattle.conf_history.specs.Walks.{HasRead, ArePerformed, HasEnded, IsBetween, IsAtEndOf, RefusesStart, Stops, Walked}
 use Rattle.conf_history.specs.declared.fault.HistoryFault.TheVariants.{Input, Output, NotAStore, Damaged, NoSuchCommand, OutOfMemory}
-use Rattle.conf_history.proofs.WalkLemmas.{known, some-map, begins-with, performs-on, end-read, between-read}
-use Rattle.conf_history.proofs.ReadingLemmas.{refuses-piece}
+use Rattle.conf_history.proofs.WalkLemmas.{known, some-map, begins-with, end-read, between-read}
+use Rattle.conf_history.proofs.ReadingLemmas.{reads-stop}
 
 some-both : (given : Option (List ℕ)) (P Q R : List ℕ → Type 0) → ((bytes : List ℕ) → P bytes → Q bytes → R bytes)
     → IfSome given P → IfSome given Q → IfSome given R
@@ -128,16 +117,10 @@ module _ (form : LogForm) (given left : Option (List ℕ)) (walk : Walked) (piec
         up_to = refl;
       }))
 
-  up-to-end : (at : Option ℕ) → ((number : ℕ) → at ≡ Some number → walk.state.count ≡ number) → IsUpTo at walk.state []
-  up-to-end None is = refl
-  up-to-end (Some number) is = is number refl
-
-  whole-end : IsAtEndOf given left walk pieces start commands → (at : Option ℕ)
-      → ((number : ℕ) → at ≡ Some number → walk.state.count ≡ number)
-      → IfSome given (λ bytes. IsWholeLog bytes at form log_here)
-  whole-end e at is =
+  whole-end : IsAtEndOf given left walk pieces start commands → IfSome given (λ bytes. IsWholeLog bytes None form log_here)
+  whole-end e =
       let rest = piece_or_rest walk.pieces in
-      Consumes-whole given left (concat pieces ++ rest) (λ bytes. IsWholeLog bytes at form log_here) e.taken e.at_end
+      Consumes-whole given left (concat pieces ++ rest) (λ bytes. IsWholeLog bytes None form log_here) e.taken e.at_end
       (record {
         begins = record {
           pieces = pieces;
@@ -152,163 +135,105 @@ module _ (form : LogForm) (given left : Option (List ℕ)) (walk : Walked) (piec
           mean = e.performed.mean;
           is = log-meant form pieces start commands walk.state e.performed;
         };
-        up_to = up-to-end at is;
+        up_to = refl;
       })
-
--- ---- the text of one command
-
-module _ (form : LogForm) (old new : Walked) (command : Command) (done : Performs old new command)
-    (held written : Option (List ℕ)) (bytes : List ℕ)
-    (is : bytes ≡ entry_bytes form (old.state.count + 1) (piece_or_rest old.pieces) command) where
-  -- it was written whole
-  pub entry-whole : Appends held written bytes → (c : Command) × Performs old new c
-      × Appends held written (entry_bytes form (old.state.count + 1) (piece_or_rest old.pieces) c)
-  entry-whole all = (command, done, subst (Appends held written) is all)
-
-  -- or in part
-  pub entry-cut : (f : HistoryFault) → f ≡ Output
-      → ((kept : ℕ) × (kept < length bytes) × Appends held written (take kept bytes))
-      → FailsToLogPiece form old held written f
-  entry-cut f fault part =
-      let Part : List ℕ → Type 0 = λ bs. (kept : ℕ) × (kept < length bs) × Appends held written (take kept bs) in
-      let cut = subst Part is part in
-      subst (FailsToLogPiece form old held written) (sym fault)
-      (record { new = new; command = command; done = done; kept = cut.0; out = cut.2; short = cut.1 })
-
--- a piece was not performed, and nothing written
-pub not-performed : (form : LogForm) (walk : Walked) (held : Option (List ℕ)) (f : HistoryFault) → RefusesPiece walk f
-    → FailsToLogPiece form walk held held f
-not-performed form walk held (Damaged bad) r = (r, Appends-nil held)
-not-performed form walk held OutOfMemory r = (r, Appends-nil held)
-not-performed form walk held Output r = absurd r
-not-performed form walk held NotAStore r = absurd r
-not-performed form walk held Input r = absurd r
-not-performed form walk held NoSuchCommand r = absurd r
 
 -- ---- how writing ends
 
-module _ (form : LogForm) (given left : Option (List ℕ)) (walk : Walked) (pieces : List (List ℕ)) (start : Contents)
-    (commands : List Command) (some : SomePieces) (held mid : Option (List ℕ))
-    (out : Appends held mid (log_of_pieces form start.count pieces commands)) where
+module _ (form : LogForm) (given before : Option (List ℕ)) (old : Walked) (pieces : List (List ℕ)) (start : Contents)
+    (commands : List Command) (b : IsBetween given before old pieces start commands) (some : SomePieces)
+    (held mid : Option (List ℕ)) (out : Appends held mid (log_of_pieces form start.count pieces commands)) where
   abbrev log : List ℕ
   log = log_of_pieces form start.count pieces commands
 
   -- all was written
-  pub logs-all : (at : Option ℕ) → AfterGoing at given left walk pieces start commands (Ok false)
-      → ((number : ℕ) → at ≡ Some number → walk.state.count ≡ number)
+  pub logs-all : (at : Option ℕ) (left : Option (List ℕ)) (now : Walked) → HasEnded at given left now pieces start commands
       → LogsAll at form given left held mid
-  logs-all at (inl (is, b)) number = record {
+  logs-all at left now (inl (is, b)) = record {
     log = log;
     out = out;
     whole = subst (λ a. IfSome given (λ bytes. IsWholeLog bytes a form log)) (sym is)
-        (whole-at form given left walk pieces start commands some b);
-    read = between-read given left walk pieces start commands b;
+        (whole-at form given left now pieces start commands some b);
+    read = between-read given left now pieces start commands b;
   }
-  logs-all at (inr (ne, e)) number = record {
+  logs-all at left now (inr (none, e)) = record {
     log = log;
     out = out;
-    whole = whole-end form given left walk pieces start commands e at number;
-    read = end-read given left walk pieces start commands e;
+    whole = subst (λ a. IfSome given (λ bytes. IsWholeLog bytes a form log)) (sym none)
+        (whole-end form given left now pieces start commands e);
+    read = end-read given left now pieces start commands e;
   }
 
-  ended-log : (at : Option ℕ) → AfterGoing at given left walk pieces start commands (Ok false)
-      → IfSome given (λ bytes. BeginsLog bytes form log)
-  ended-log at (inl (is, b)) = begun-log form given left walk pieces start commands some (ahead walk.pieces) b
-  ended-log at (inr (ne, e)) =
-      let none : (number : ℕ) → None ≡ Some number → walk.state.count ≡ number = λ number is. absurd (cc is) in
-      some-map given (λ bytes. IsWholeLog bytes None form log) _ (λ bytes b. b.begins)
-      (whole-end form given left walk pieces start commands e None none)
+  with-log : (P : List ℕ → Type 0) → IfSome given P → IfSome given (λ bytes. P bytes × ((log ≡ []) ⊎ BeginsLog bytes form log))
+  with-log P p =
+      some-both given P (λ bytes. BeginsLog bytes form log) (λ bytes. P bytes × ((log ≡ []) ⊎ BeginsLog bytes form log))
+      (λ bytes r begins. (r, inr begins)) p (begun-log form given before old pieces start commands some (ahead old.pieces) b)
 
-  -- the file ended before the number
-  pub number-fails : (at : Option ℕ) → AfterGoing at given left walk pieces start commands (Ok false)
-      → (f : HistoryFault) → f ≡ NoSuchCommand
-      → IfSome given (λ bytes. RefusesReading bytes at f) → StopsLog at form given held mid f
-  number-fails at ended f fault refused =
-      subst (StopsLog at form given held mid) (sym fault) (record {
+  -- the walk stopped
+  pub stops-log : (at : Option ℕ) (left : Option (List ℕ)) (now : Walked) (f : HistoryFault)
+      → Stops at given left now pieces start commands f → StopsLog at form given held mid f
+  stops-log at left now (Damaged bad) s = record {
+    log = log;
+    out = out;
+    before = some-both given (λ bytes. RefusesReading bytes at (Damaged bad))
+        (λ bytes. (begins : BeginsLog bytes form log) × (length begins.pieces ≡ length pieces))
+        (λ bytes. LogsBefore bytes at form log (Damaged bad))
+        (λ bytes refused begins. (refused, begins.0, begins.1 ∙ s.0.read.place.number ∙ s.1.number))
+        (reads-stop at given left now pieces start commands some (Damaged bad) s)
+        (begins-log form given left now pieces start commands some (piece_or_rest now.pieces ++ ahead now.pieces) s.0.read);
+  }
+  stops-log at left now NoSuchCommand s =
+      record {
         log = log;
         out = out;
-        before = some-both given (λ bytes. RefusesReading bytes at NoSuchCommand) (λ bytes. BeginsLog bytes form log)
-            (λ bytes. LogsBefore bytes at form log NoSuchCommand)
-            (λ bytes r b. (r, inr b)) (subst (λ f. IfSome given (λ bytes. RefusesReading bytes at f)) fault refused) (ended-log at ended);
-      })
-
-  not-next : (at : Option ℕ) (f : HistoryFault) (bytes : List ℕ) → RefusesSurvey bytes f → BeginsLog bytes form log
-      → LogsBefore bytes at form log f
-  not-next at NotAStore bytes r b = (r, inr b)
-  not-next at Input bytes r b = (tt, inr b)
-  not-next at OutOfMemory bytes r b = (tt, inr b)
-  not-next at NoSuchCommand bytes r b = absurd r
-  not-next at Output bytes r b = absurd r
-  not-next at (Damaged bad) bytes r b = absurd r
-
-  -- the next piece could not be had
-  pub next-fails : (before : Option (List ℕ)) (old : Walked) → IsBetween given before old pieces start commands
-      → (at : Option ℕ) (f : HistoryFault)
-      → IfSome given (λ bytes. RefusesSurvey bytes f) → StopsLog at form given held mid f
-  next-fails before old b at f refused = record {
+        before = with-log (λ bytes. RefusesReading bytes at NoSuchCommand)
+            (reads-stop at given left now pieces start commands some NoSuchCommand s);
+      }
+  stops-log at left now NotAStore s = record { log = log; out = out; before = with-log (λ bytes. RefusesSurvey bytes NotAStore) s }
+  stops-log at left now Input s = record { log = log; out = out; before = with-log (λ bytes. RefusesSurvey bytes Input) s }
+  stops-log at left now OutOfMemory s = record { log = log; out = out; before = with-log (λ bytes. RefusesSurvey bytes OutOfMemory) s }
+  stops-log at left now Output s = record {
     log = log;
     out = out;
-    before = some-both given (λ bytes. RefusesSurvey bytes f) (λ bytes. BeginsLog bytes form log)
-        (λ bytes. LogsBefore bytes at form log f) (not-next at f) refused
-        (begun-log form given before old pieces start commands some (ahead old.pieces) b);
+    before = some-map given (λ bytes. RefusesSurvey bytes Output)
+        (λ bytes. LogsBefore bytes at form log Output) (λ bytes r. absurd r) s;
   }
 
-  -- a piece was not written whole
-  pub piece-fails : (at : Option ℕ) → IfSome at (λ number. walk.state.count < number) → (written : Option (List ℕ))
-      → IsAtPiece given left walk pieces start commands → (f : HistoryFault)
-      → FailsToLogPiece form walk mid written f → StopsLog at form given held written f
-  piece-fails at before written p Output cut =
-      let piece = piece_or_rest walk.pieces in
-      let entry = entry_bytes form (walk.state.count + 1) piece cut.command in
-      let all = pieces ++ piece ∷ [] in
-      let made = commands ++ cut.command ∷ [] in
-      let next = performs-on given left walk pieces start commands p cut.new cut.command cut.done in
-      record {
-        log = log ++ take cut.kept entry;
-        out = Appends-trans held mid written log (take cut.kept entry) out cut.out;
-        before = some-map given (λ bytes. BeginsLog bytes form (log_of_pieces form start.count all made))
-            (λ bytes. CutsLog bytes form (log ++ take cut.kept entry))
-            (λ bytes b. record {
-              before = log;
-              entry = entry;
-              kept = cut.kept;
-              begins = subst (BeginsLog bytes form) (log-more form pieces start commands walk.state p.read.performed piece cut.command) b;
-              is = refl;
-              short = cut.short;
-            })
-            (begun-log form given left cut.new all start made some (ahead cut.new.pieces) next);
-      }
-  piece-fails at before written p (Damaged bad) r =
-      record {
-        log = log;
-        out = subst (Appends held written) (append-nil log) (Appends-trans held mid written log [] out r.1);
-        before = some-both given (λ bytes. RefusesReading bytes at (Damaged bad))
-            (λ bytes. (b : BeginsLog bytes form log) × (length b.pieces ≡ length pieces))
-            (λ bytes. LogsBefore bytes at form log (Damaged bad))
-            (λ bytes refused b. (refused, b.0, b.1 ∙ p.read.place.number ∙ r.0.number))
-            (refuses-piece given left walk pieces start commands some p at before (Damaged bad) r.0)
-            (begins-log form given left walk pieces start commands some (piece_or_rest walk.pieces ++ ahead walk.pieces) p.read);
-      }
-  piece-fails at before written p OutOfMemory r =
-      record {
-        log = log;
-        out = subst (Appends held written) (append-nil log) (Appends-trans held mid written log [] out r.1);
-        before = some-map given (λ bytes. BeginsLog bytes form log)
-            (λ bytes. LogsBefore bytes at form log OutOfMemory) (λ bytes b. (tt, inr b))
-            (begun-log form given left walk pieces start commands some (piece_or_rest walk.pieces ++ ahead walk.pieces) p.read);
-      }
-  piece-fails at before written p NotAStore r = absurd r.0
-  piece-fails at before written p Input r = absurd r.0
-  piece-fails at before written p NoSuchCommand r = absurd r.0
+  module _ (written : Option (List ℕ)) (piece : List ℕ) (command : Command) where
+    abbrev entry : List ℕ
+    entry = entry_bytes form (old.state.count + 1) piece command
 
-  -- one record more was written
-  pub logged-more : (written : Option (List ℕ)) (command : Command) → ArePerformed pieces start commands walk.state
-      → Appends mid written (entry_bytes form (walk.state.count + 1) (piece_or_rest walk.pieces) command)
-      → Appends held written (log_of_pieces form start.count (pieces ++ piece_or_rest walk.pieces ∷ []) (commands ++ command ∷ []))
-  logged-more written command p more =
-      let entry = entry_bytes form (walk.state.count + 1) (piece_or_rest walk.pieces) command in
-      subst (Appends held written) (sym (log-more form pieces start commands walk.state p (piece_or_rest walk.pieces) command))
-      (Appends-trans held mid written log entry out more)
+    abbrev more : log_of_pieces form start.count (pieces ++ piece ∷ []) (commands ++ command ∷ []) ≡ log ++ entry
+    more = log-more form pieces start commands old.state b.performed piece command
+
+    -- one record more was written
+    pub logged-more : Appends mid written entry
+        → Appends held written (log_of_pieces form start.count (pieces ++ piece ∷ []) (commands ++ command ∷ []))
+    logged-more added = subst (Appends held written) (sym more) (Appends-trans held mid written log entry out added)
+
+    -- or less than that
+    pub cuts-log : (at : Option ℕ) (left : Option (List ℕ)) (now : Walked)
+        → IsBetween given left now (pieces ++ piece ∷ []) start (commands ++ command ∷ [])
+        → ((kept : ℕ) × (kept < length entry) × Appends mid written (take kept entry))
+        → (f : HistoryFault) → f ≡ Output → StopsLog at form given held written f
+    cuts-log at left now next part f fault =
+        let all = pieces ++ piece ∷ [] in
+        let made = commands ++ command ∷ [] in
+        subst (StopsLog at form given held written) (sym fault) (record {
+          log = log ++ take part.0 entry;
+          out = Appends-trans held mid written log (take part.0 entry) out part.2;
+          before = some-map given (λ bytes. BeginsLog bytes form (log_of_pieces form start.count all made))
+              (λ bytes. CutsLog bytes form (log ++ take part.0 entry))
+              (λ bytes begins. record {
+                before = log;
+                entry = entry;
+                kept = part.0;
+                begins = subst (BeginsLog bytes form) more begins;
+                is = refl;
+                short = part.1;
+              })
+              (begun-log form given left now all start made some (ahead now.pieces) next);
+        })
 
 -- ---- before the first record
 
@@ -317,32 +242,25 @@ begins-empty form [] start = refl
 begins-empty form (base ∷ []) start = refl
 begins-empty form (base ∷ (record_piece ∷ records)) start = refl
 
-not-begun : (form : LogForm) (at : Option ℕ) (f : HistoryFault) (bytes : List ℕ) → RefusesSurvey bytes f → LogsBefore bytes at form [] f
-not-begun form at NotAStore bytes r = (r, inl refl)
-not-begun form at Input bytes r = (tt, inl refl)
-not-begun form at OutOfMemory bytes r = (tt, inl refl)
-not-begun form at NoSuchCommand bytes r = absurd r
-not-begun form at Output bytes r = absurd r
-not-begun form at (Damaged bad) bytes r = absurd r
-
--- there is no base
-pub begin-fails : (form : LogForm) (given held : Option (List ℕ)) (at : Option ℕ) (f : HistoryFault)
-    → IfSome given (λ bytes. RefusesSurvey bytes f) → StopsLog at form given held held f
-begin-fails form given held at f refused = record {
+-- the walk did not begin
+pub start-fails : (form : LogForm) (given held : Option (List ℕ)) (at : Option ℕ) (f : HistoryFault)
+    → IfSome given (λ bytes. RefusesStart at bytes f) → StopsLog at form given held held f
+start-fails form given held at f refused = record {
   log = [];
   out = Appends-nil held;
-  before = some-map given (λ bytes. RefusesSurvey bytes f) (λ bytes. LogsBefore bytes at form [] f) (not-begun form at f) refused;
+  before = some-map given (λ bytes. RefusesStart at bytes f) (λ bytes. LogsBefore bytes at form [] f) not-started refused;
 }
+  where
+    not-begun : (f : HistoryFault) (bytes : List ℕ) → RefusesSurvey bytes f → LogsBefore bytes at form [] f
+    not-begun NotAStore bytes r = (r, inl refl)
+    not-begun Input bytes r = (tt, inl refl)
+    not-begun OutOfMemory bytes r = (tt, inl refl)
+    not-begun NoSuchCommand bytes r = absurd r
+    not-begun Output bytes r = absurd r
+    not-begun (Damaged bad) bytes r = absurd r
 
--- the base comes after the number
-pub start-fails : (form : LogForm) (given held : Option (List ℕ)) (at : Option ℕ) (f : HistoryFault)
-    → f ≡ NoSuchCommand → IfSome given (λ bytes. RefusesReading bytes at f)
-    → StopsLog at form given held held f
-start-fails form given held at f fault refused =
-    subst (StopsLog at form given held held) (sym fault) (record {
-      log = [];
-      out = Appends-nil held;
-      before = some-map given (λ bytes. RefusesReading bytes at NoSuchCommand)
-          (λ bytes. LogsBefore bytes at form [] NoSuchCommand) (λ bytes r. (r, inl refl))
-          (subst (λ f. IfSome given (λ bytes. RefusesReading bytes at f)) fault refused);
-    })
+    not-started : (bytes : List ℕ) → RefusesStart at bytes f → LogsBefore bytes at form [] f
+    not-started bytes (inl r) = not-begun f bytes r
+    not-started bytes (inr (is, number, asked, starts)) =
+        subst (LogsBefore bytes at form []) (sym is)
+        (subst (λ a. RefusesReading bytes a NoSuchCommand) (sym asked) (inl starts), inl refl)

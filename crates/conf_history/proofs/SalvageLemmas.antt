@@ -1,14 +1,9 @@
 -- What a crash leaves while a store is saved.
 use Rattle.std.proofs.Common.{◌≡◌, ◌⊎◌, inl, inr, ⊎_elim}
 use Rattle.std.specs.Prelude.{List, Option, Some, ℕ}
-use Rattle.conf_disk.specs.Models.{DiskModel}
-use Rattle.conf_disk.proofs.Moments.{LeavesOnly-weaker}
-use Rattle.conf_journal.specs.Store.{IsStoreOf, LeavesStoreOr}
+use Rattle.conf_history.proofs.Prelude.{DiskModel, LeavesOnly-weaker, IsStoreOf, LeavesStoreOr, Contents}
 use Rattle.conf_state.specs.BaseTexts.{base_bytes}
-use Rattle.conf_state.specs.States.{Contents}
-use Rattle.conf_history.specs.Histories.{ReadsSurvey}
-use Rattle.conf_history.specs.Salvages.{IsSaved, LeavesOldOrSaved}
-use Rattle.conf_history.specs.declared.survey.Findings.{Findings}
+use Rattle.conf_history.specs.{Histories.ReadsSurvey, Salvages.IsSaved, Salvages.LeavesOldOrSaved, declared.survey.Findings.Findings}
 
 -- a store was made of what was found
 pub made-leaves : {D : Type 0} (model : DiskModel D) (given left : Option (List ℕ)) (old new : D) (s : Contents)

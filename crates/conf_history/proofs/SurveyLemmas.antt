@@ -1,33 +1,16 @@
 -- A survey: what was gone past after a bad piece, and what was found.
-use Rattle.std.proofs.Common.{◌≡◌, refl, sym, ◌∙◌, ap, subst, arith, ◌<◌, ◌≤◌, append_assoc, length-append, length-take}
-use Rattle.std.specs.Prelude.{ℕ, ◌+◌, ◌-◌, suc, List, [], ◌∷◌, ◌++◌, length, drop, Option, Some, None, Err, IfSome}
-use Rattle.std.specs.List.{All, concat}
-use Rattle.std.specs.Io.KnownBytes.{Consumes}
-use Rattle.std.proofs.KnownBytes.{Consumes-nil, Consumes-trans, Consumes-whole}
-use Rattle.std.proofs.lemmas.List.{append-nil}
-use Rattle.std.proofs.lemmas.List.Folds.{concat-append}
-use Rattle.std.proofs.lemmas.List.Elements.{All-nil, All-cons, All-append, All-push}
-use Rattle.yaml_grammar.specs.Closings.{ClosesOnce}
-use Rattle.yaml_docs.specs.PieceReading.{Advances, AdvancesToPiece, AdvancesToEnd, IsSound, ahead, bytes_read, piece_or_rest}
+use Rattle.std.proofs.Common.{◌≡◌, inl, inr, refl, sym, ◌∙◌, ap, subst, arith, ◌<◌, ◌≤◌, append_assoc, length-append, length-take}
+use Rattle.std.specs.Prelude.{ℕ, ◌+◌, ◌-◌, suc, List, [], ◌∷◌, ◌++◌, length, drop, Option, Some, None, IfSome}
+use Rattle.conf_history.proofs.Prelude.{All, concat, Consumes, Consumes-nil, Consumes-trans, Consumes-whole, append-nil, concat-append}
+use Rattle.conf_history.proofs.Prelude.{All-nil, All-cons, All-append, All-push, ClosesOnce, Advances, AdvancesToPiece, IsSound, ahead}
+use Rattle.conf_history.proofs.Prelude.{bytes_read, piece_or_rest, store_limit, Command, Contents, IsState, after-count, AreRecords}
 use Rattle.yaml_docs.specs.declared.pieces.Pieces.{Pieces as Reading}
-use Rattle.yaml_docs.specs.declared.pieces.PiecesFault.{PiecesFault}
-use Rattle.conf_journal.specs.Store.{store_limit}
-use Rattle.conf_state.specs.Commands.{Command}
-use Rattle.conf_state.specs.States.{Contents}
-use Rattle.conf_state.specs.Limits.{IsState}
-use Rattle.conf_state.proofs.RunLaws.{after-count}
-use Rattle.conf_store.specs.Meaning.{AreRecords}
-use Rattle.conf_history.specs.BadPieces.{IsBadPiece}
-use Rattle.conf_history.specs.Counting.{CountsPieces}
-use Rattle.conf_history.specs.Faults.{fault_of_pieces}
+use Rattle.conf_history.specs.{BadPieces.IsBadPiece, Counting.CountsPieces, declared.place.BadPiece.BadPiece}
+use Rattle.conf_history.specs.{declared.fault.HistoryFault.HistoryFault, declared.survey.Bad.Bad, declared.survey.Findings.Findings}
 use Rattle.conf_history.specs.Histories.{IsSurvey, ReadsSurvey, RefusesSurvey}
-use Rattle.conf_history.specs.Walks.{IsAtPiece, IsAtEndOf, IsBadHere, ArePerformed, RefusesPiece, Walked}
-use Rattle.conf_history.specs.declared.place.BadPiece.{BadPiece}
-use Rattle.conf_history.specs.declared.fault.HistoryFault.{HistoryFault}
+use Rattle.conf_history.specs.Walks.{IsAtPiece, IsAtEndOf, IsBadHere, ArePerformed, RefusesStart, Stops, Walked}
 use Rattle.conf_history.specs.declared.fault.HistoryFault.TheVariants.{Input, Output, NotAStore, Damaged, NoSuchCommand, OutOfMemory}
-use Rattle.conf_history.specs.declared.survey.Bad.{Bad}
-use Rattle.conf_history.specs.declared.survey.Findings.{Findings}
-use Rattle.conf_history.proofs.WalkLemmas.{any-bytes, moved, closed-some, refuses}
+use Rattle.conf_history.proofs.WalkLemmas.{moved, closed-some, some-map}
 
 -- ---- going past pieces
 
@@ -113,37 +96,6 @@ module _ (given mid left : Option (List ℕ)) (old now new : Reading) (count : �
         length-append (ahead now) a.more,
         length-append (piece_or_rest new) (ahead new),
       )
-
-  -- all pieces are counted
-  pub counts-all : AdvancesToEnd store_limit store_limit mid left now new → (known : Option (List ℕ)) (read : List ℕ)
-      → Consumes known given (read ++ ahead old)
-      → bytes_read old ≡ length (read ++ ahead old) → CountsPieces known left read new count
-  counts-all a known read taken total =
-      let more = s.more ++ a.more in
-      let on : (read ++ ahead old) ++ more ≡ read ++ (concat s.further ++ piece_or_rest new) =
-      append_assoc read (ahead old) more ∙ ap (λ l. read ++ l) (joined-on a.more (piece_or_rest new) a.joined) in
-      record {
-        further = s.further;
-        taken = subst (Consumes known left) on (Consumes-trans known given left (read ++ ahead old) more taken
-            (Consumes-trans given mid left s.more a.more s.taken a.taken));
-        at_end = a.at_end;
-        short = (let size = sym (ap length on) ∙ length-append (read ++ ahead old) more in
-            let both = length-append s.more a.more in omega (arith, size, both, total, s.total, a.total));
-        closed = s.closed;
-        unclosed = a.unclosed;
-        counted = s.counted;
-      }
-
-  -- or can't be
-  pub counts-refused : (f : PiecesFault) → Advances store_limit store_limit mid left now new (Err f)
-      → (known : Option (List ℕ)) (read : List ℕ) → Consumes known given (read ++ ahead old)
-      → bytes_read old ≡ length (read ++ ahead old) → IfSome known (λ bytes. RefusesSurvey bytes (fault_of_pieces f))
-  counts-refused f a known read taken total =
-      let on : (read ++ ahead old) ++ s.more ≡ (read ++ concat s.further) ++ ahead now =
-      append_assoc read (ahead old) s.more ∙ ap (λ l. read ++ l) s.joined ∙ sym (append_assoc read (concat s.further) (ahead now)) in
-      refuses known mid left now new (read ++ concat s.further)
-      (subst (Consumes known mid) on (Consumes-trans known given mid (read ++ ahead old) s.more taken s.taken))
-      (let size = sym (ap length on) ∙ length-append (read ++ ahead old) s.more in omega (arith, size, s.total, total)) f a
 
 -- a piece that the walk is at was read too
 pub past-piece : (given left : Option (List ℕ)) (walk : Walked) (pieces : List (List ℕ)) (start : Contents)
@@ -262,12 +214,22 @@ module _ (given left : Option (List ℕ)) (walk : Walked) (pieces : List (List �
         read = (bytes, c.taken, c.short);
       }
 
--- a piece that was not performed, and is not bad
-pub not-bad : (given : Option (List ℕ)) (walk : Walked) (f : HistoryFault) → ((bad : BadPiece) → f ≡ Damaged bad → ⊥)
-    → RefusesPiece walk f → IfSome given (λ bytes. RefusesSurvey bytes f)
-not-bad given walk (Damaged bad) other r = absurd (other bad refl)
-not-bad given walk OutOfMemory other r = any-bytes given _ (λ bytes. tt)
-not-bad given walk NotAStore other r = absurd r
-not-bad given walk Input other r = absurd r
-not-bad given walk Output other r = absurd r
-not-bad given walk NoSuchCommand other r = absurd r
+-- a file whose base is not refused for a number
+pub not-started : (given : Option (List ℕ)) (f : HistoryFault) → IfSome given (λ bytes. RefusesStart None bytes f)
+    → IfSome given (λ bytes. RefusesSurvey bytes f)
+not-started given f = some-map given (λ bytes. RefusesStart None bytes f) (λ bytes. RefusesSurvey bytes f) start
+  where
+    start : (bytes : List ℕ) → RefusesStart None bytes f → RefusesSurvey bytes f
+    start bytes (inl r) = r
+    start bytes (inr (is, number, asked, starts)) = absurd (cc asked)
+
+-- a walk without a number that has stopped, and not at a bad piece
+pub not-bad : (given left : Option (List ℕ)) (walk : Walked) (pieces : List (List ℕ)) (start : Contents) (commands : List Command)
+    (f : HistoryFault) → ((bad : BadPiece) → f ≡ Damaged bad → ⊥) → Stops None given left walk pieces start commands f
+    → IfSome given (λ bytes. RefusesSurvey bytes f)
+not-bad given left walk pieces start commands (Damaged bad) other s = absurd (other bad refl)
+not-bad given left walk pieces start commands NoSuchCommand other s = absurd (let asked = s.1 in cc asked)
+not-bad given left walk pieces start commands NotAStore other s = s
+not-bad given left walk pieces start commands Input other s = s
+not-bad given left walk pieces start commands Output other s = s
+not-bad given left walk pieces start commands OutOfMemory other s = s

@@ -1,40 +1,23 @@
 -- The walk over a store's file: what each call makes of what was read, and what the bytes of the file are then.
 use Rattle.std.proofs.Common.{◌≡◌, inl, inr, refl, sym, ◌∙◌, ap, subst, arith, ◌<◌, append_assoc, length-append}
-use Rattle.std.specs.Prelude.{ℕ, ◌+◌, ◌-◌, Bool, true, false, List, [], ◌∷◌, ◌++◌, length, ◌==◌, cond, Option, Some}
-use Rattle.std.specs.Prelude.{None, Result, Ok, Err, IfSome}
-use Rattle.std.specs.List.{All, concat}
-use Rattle.std.specs.Io.KnownBytes.{Consumes}
-use Rattle.std.proofs.KnownBytes.{Consumes-nil, Consumes-trans, Consumes-whole}
-use Rattle.std.proofs.lemmas.List.{append-nil}
-use Rattle.std.proofs.lemmas.List.Folds.{concat-append}
+use Rattle.std.specs.Prelude.{ℕ, ◌+◌, ◌-◌, Bool, true, false, List, [], ◌∷◌, ◌++◌, length, ◌==◌, cond, Option, Some, None, Result, Ok, Err}
+use Rattle.std.specs.Prelude.{IfSome}
+use Rattle.conf_history.proofs.Prelude.{All, concat, Consumes, Consumes-trans, Consumes-whole, append-nil, concat-append, All-nil, All-cons}
+use Rattle.conf_history.proofs.Prelude.{All-push, ClosesOnce, Pieces, SomePieces, Advances, AdvancesToPiece, AdvancesToEnd, FindsTooLong}
+use Rattle.conf_history.proofs.Prelude.{FindsInputLong, IsSound, ahead, bytes_read, input_limit, piece_limit, piece_or_rest, store_limit}
+use Rattle.conf_history.proofs.Prelude.{Command, Contents, after-count, IsBase, IsNoBase, AreRecords, Means, RefusesRecord, RecordFault}
+use Rattle.conf_history.proofs.Prelude.{pieces-joined, no_closing, records-joined, after-joined, after-done}
 use Rattle.std.proofs.lemmas.List.Sums.{sum_by-append, count_by-le-length}
-use Rattle.std.proofs.lemmas.List.Elements.{All-nil, All-cons, All-push}
 use Rattle.yaml_chars.specs.Signs.{line_feed}
-use Rattle.yaml_grammar.specs.Closings.{ClosesOnce, Pieces}
-use Rattle.yaml_recognizers.specs.Closings.{SomePieces}
-use Rattle.yaml_docs.specs.PieceReading.{Advances, AdvancesToPiece, AdvancesToEnd, FindsTooLong, FindsInputLong}
-use Rattle.yaml_docs.specs.PieceReading.{IsSound, ahead, bytes_read, input_limit, piece_limit, piece_or_rest}
 use Rattle.yaml_docs.specs.declared.pieces.Pieces.{Pieces as Reading}
 use Rattle.yaml_docs.specs.declared.pieces.PiecesFault.{PiecesFault}
-use Rattle.yaml_docs.specs.declared.pieces.PiecesFault.TheVariants as fault
-use Rattle.conf_journal.specs.Store.{store_limit}
-use Rattle.conf_state.specs.Commands.{Command}
-use Rattle.conf_state.specs.States.{Contents}
-use Rattle.conf_state.proofs.RunLaws.{after-count}
-use Rattle.conf_record.specs.Documents.{IsBase, IsNoBase}
-use Rattle.conf_store.specs.Meaning.{AreRecords, Means}
-use Rattle.conf_store.specs.NextRecords.{RefusesRecord}
-use Rattle.conf_store.specs.declared.records.RecordFault.{RecordFault}
-use Rattle.conf_store.specs.declared.records.RecordFault.TheVariants as record_fault
-use Rattle.conf_store.proofs.PieceLemmas.{pieces-joined, no_closing}
-use Rattle.conf_store.proofs.MeaningLemmas.{records-joined, after-joined, after-done}
-use Rattle.conf_history.specs.BadPieces.{line_feeds}
+use Rattle.conf_history.specs.{BadPieces.line_feeds, declared.place.BadPiece.BadPiece, declared.place.Place.Place}
 use Rattle.conf_history.specs.Faults.{fault_here, fault_of_pieces}
 use Rattle.conf_history.specs.Histories.{MeansUpTo, IsBadAt, StartsAfter, IsNoStore, RefusesSurvey, ReadsAtMost}
-use Rattle.conf_history.specs.Walks.{IsBetween, IsAtPiece, IsAtEndOf, Performs, IsBadHere, RefusesPiece, HasRoom, AfterAdvance}
-use Rattle.conf_history.specs.Walks.{HasLimits, Walked}
-use Rattle.conf_history.specs.declared.place.BadPiece.{BadPiece}
-use Rattle.conf_history.specs.declared.place.Place.{Place}
+use Rattle.conf_history.specs.Walks.{IsBetween, IsAtPiece, IsAtEndOf, Performs, IsBadHere, RefusesPiece, HasRoom, AfterAdvance, HasLimits}
+use Rattle.conf_history.specs.Walks.{LacksPiece, Walked}
+use Rattle.yaml_docs.specs.declared.pieces.PiecesFault.TheVariants as fault
+use Rattle.conf_store.specs.declared.records.RecordFault.TheVariants as record_fault
 
 -- ---- known bytes
 
@@ -150,11 +133,6 @@ placed start place piece bytes zero same is =
 module _ (given left : Option (List ℕ)) (old now : Reading) (none : ahead old ≡ []) (zero : bytes_read old ≡ 0) where
   first-piece : AdvancesToPiece store_limit store_limit given left old now → Consumes given left (piece_or_rest now ++ ahead now)
   first-piece a = subst (Consumes given left) (ap (λ l. l ++ a.more) (sym none) ∙ a.joined) a.taken
-
-  pub refuses-first : (f : PiecesFault) → Advances store_limit store_limit given left old now (Err f)
-      → IfSome given (λ bytes. RefusesSurvey bytes (fault_of_pieces f))
-  refuses-first = refuses given given left old now [] (subst (Consumes given given) (sym none) (Consumes-nil given))
-      (zero ∙ ap length (sym none))
 
   -- without a piece there is no base
   pub no-piece : AdvancesToEnd store_limit store_limit given left old now → IfSome given IsNoStore
@@ -278,8 +256,11 @@ module _ (given mid left : Option (List ℕ)) (old : Walked) (now : Reading) (pi
   advances false a = to-end a
 
   pub refuses-next : (f : PiecesFault) → Advances store_limit store_limit mid left old.pieces now (Err f)
-      → IfSome given (λ bytes. RefusesSurvey bytes (fault_of_pieces f))
-  refuses-next = refuses given mid left old.pieces now (concat pieces) b.taken b.total
+      → LacksPiece given (fault_of_pieces f)
+  refuses-next fault.Read a = any-bytes given _ (λ bytes. tt)
+  refuses-next fault.TooLong a = too-long given mid left old.pieces now (concat pieces) b.taken b.total a
+  refuses-next fault.InputLong a = input-long given mid left old.pieces now (concat pieces) b.taken b.total a
+  refuses-next fault.OutOfMemory a = any-bytes given _ (λ bytes. tt)
 
 -- ---- a piece
 
@@ -344,10 +325,6 @@ module _ (given left : Option (List ℕ)) (old : Walked) (pieces : List (List �
         };
       }
 
-  -- and fewer bytes are left
-  pub passes : (new : Walked) (command : Command) → Performs old new command → store_limit - new.place.byte < store_limit - old.place.byte
-  passes new command done = omega (arith, done.byte, has-room.short, closed-some (piece_or_rest old.pieces) at.piece)
-
   -- a piece that is none is the first bad one
   pub bad-at : SomePieces → (bad : BadPiece) → IsBadHere old bad
       → IfSome given (λ bytes. (following : ℕ) × IsBadAt bytes old.state bad following)
@@ -393,24 +370,6 @@ module _ (given left : Option (List ℕ)) (walk : Walked) (pieces : List (List �
         rest = piece_or_rest walk.pieces;
         cut = record { joined = refl; closed = e.performed.closed; unclosed = e.unclosed };
         mean = e.performed.mean;
-      })
-
-  -- and up to its count
-  pub end-up-to : IsAtEndOf given left walk pieces start commands → (number : ℕ) → walk.state.count ≡ number
-      → IfSome given (λ bytes. MeansUpTo bytes number walk.state)
-  end-up-to e number is =
-      Consumes-whole given left (concat pieces ++ piece_or_rest walk.pieces) (λ bytes. MeansUpTo bytes number walk.state) e.taken e.at_end
-      (record {
-        pieces = pieces;
-        further = [];
-        rest = piece_or_rest walk.pieces;
-        cut = record {
-          joined = ap (λ ps. concat ps ++ piece_or_rest walk.pieces) (sym (append-nil pieces));
-          closed = subst (All ClosesOnce) (sym (append-nil pieces)) e.performed.closed;
-          unclosed = e.unclosed;
-        };
-        mean = e.performed.mean;
-        numbered = is;
       })
 
   -- before the end, the bytes mean the state up to its count

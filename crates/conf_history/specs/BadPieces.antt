@@ -1,9 +1,7 @@
 -- Where the first bad piece of a store's file begins, and why it is no next record.
 use Rattle.std.specs.Prelude.{◌≡◌, ℕ, ◌+◌, List, length, count_by, ◌==◌}
-use Rattle.std.specs.List.{concat}
+use Rattle.conf_history.specs.Prelude.{concat, Contents, IsWhy}
 use Rattle.yaml_chars.specs.Signs.{line_feed}
-use Rattle.conf_state.specs.States.{Contents}
-use Rattle.conf_store.specs.NextRecords.{IsWhy}
 use Rattle.conf_history.specs.declared.place.BadPiece.{BadPiece}
 
 -- how many line feeds the bytes have

@@ -1,6 +1,6 @@
 -- The configurations of a base.
 use Rattle.std.specs.Prelude.{List}
-use Rattle.conf_state.specs.States.{Entry}
+use Rattle.conf_history.specs.Prelude.{Entry}
 use Rattle.conf_history.specs.declared.base.Base.{Base}
 use Rattle.conf_history.specs.declared.base.Base.TheVariants.{Written, Spelled}
 

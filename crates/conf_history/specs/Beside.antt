@@ -1,12 +1,7 @@
 -- What is read of a file to which another program appends.
 use Rattle.std.specs.Prelude.{◌≡◌, ◌+◌, ◌≤◌, ℕ, List, ◌++◌, length, take, replicate, Some, Ok}
-use Rattle.conf_journal.specs.Store.{store_limit}
-use Rattle.conf_state.specs.Commands.{Command}
-use Rattle.conf_state.specs.States.{Contents}
-use Rattle.conf_state.specs.Steps.{after}
-use Rattle.conf_record.specs.Documents.{record_pieces, records_bytes}
-use Rattle.conf_store.specs.Meaning.{AreRecords, Means}
-use Rattle.conf_store.specs.Durable.{AfterPrefix, IsWholeStore}
+use Rattle.conf_history.specs.Prelude.{store_limit, Command, Contents, after, record_pieces, records_bytes, AreRecords}
+use Rattle.conf_history.specs.Prelude.{Means, AfterPrefix, IsWholeStore}
 
 -- Any prefix of bytes that mean a state, if it holds their base, means the state after the first of their commands.
 abbrev pub PrefixesAreRead : Type 0

@@ -1,17 +1,8 @@
 -- A store's base and records as they stand in its file, in a new store, and why there is none.
 use Rattle.std.specs.Prelude.{◌≡◌, ◌≢◌, ◌⊎◌, ℕ, List, Option, Some, None, Result, Ok, Err, IfSome}
-use Rattle.std.specs.Io.KnownBytes.{IsAtEnd}
-use Rattle.std.specs.List.{concat}
-use Rattle.yaml_grammar.specs.Closings.{Pieces}
-use Rattle.conf_disk.specs.Folder.{Folder, bytes_under}
-use Rattle.conf_disk.specs.Image.{Image, IsImage, image_now}
-use Rattle.conf_disk.specs.Models.{DiskModel}
-use Rattle.conf_disk.specs.Moments.{LeavesOnly}
-use Rattle.conf_disk.specs.declared.disk.Name.TheVariants.{Store}
-use Rattle.conf_journal.specs.Store.{IsStoreOf, store_limit}
-use Rattle.conf_state.specs.States.{Contents}
-use Rattle.conf_store.specs.Durable.{AllImagesMean}
-use Rattle.conf_store.specs.Meaning.{Means, PiecesMean}
+use Rattle.conf_history.specs.Prelude.{IsAtEnd, concat, Pieces, Folder, bytes_under, Image, IsImage, image_now}
+use Rattle.conf_history.specs.Prelude.{DiskModel, LeavesOnly, Store, IsStoreOf, store_limit, Contents, AllImagesMean}
+use Rattle.conf_history.specs.Prelude.{Means, PiecesMean}
 use Rattle.conf_history.specs.Histories.{ReadsAtMost, RefusesReading}
 use Rattle.conf_history.specs.declared.fault.SalvageFault.{SalvageFault}
 use Rattle.conf_history.specs.declared.fault.SalvageFault.TheVariants.{History, StoreExists, Device, OutOfMemory}

@@ -1,14 +1,8 @@
 -- Going past the pieces after a bad one.
 use Rattle.std.specs.Prelude.{◌≡◌, ◌≤◌, ℕ, List, ◌++◌, length, Option, Result, Ok, Err, IfSome}
-use Rattle.std.specs.List.{All, concat}
-use Rattle.std.specs.Io.KnownBytes.{Consumes, IsAtEnd}
-use Rattle.yaml_grammar.specs.Closings.{ClosesOnce}
-use Rattle.yaml_docs.specs.Cutting.{Unclosed}
-use Rattle.yaml_docs.specs.PieceReading.{piece_or_rest}
+use Rattle.conf_history.specs.Prelude.{All, concat, Consumes, IsAtEnd, ClosesOnce, Unclosed, piece_or_rest, store_limit}
 use Rattle.yaml_docs.specs.declared.pieces.Pieces.{Pieces}
-use Rattle.conf_journal.specs.Store.{store_limit}
-use Rattle.conf_history.specs.Histories.{RefusesSurvey}
-use Rattle.conf_history.specs.declared.fault.HistoryFault.{HistoryFault}
+use Rattle.conf_history.specs.{Histories.RefusesSurvey, declared.fault.HistoryFault.HistoryFault}
 
 -- After the bytes `read` come so many pieces, and then a rest that is not closed. The file was read to its end.
 pub record CountsPieces (given left : Option (List ℕ)) (read : List ℕ) (now : Pieces) (count : ℕ) : Type 0 where

@@ -1,12 +1,11 @@
 -- The faults of a file, by what they come from.
 use Rattle.std.specs.Prelude.{◌+◌}
 use Rattle.yaml_docs.specs.declared.pieces.PiecesFault.{PiecesFault}
-use Rattle.yaml_docs.specs.declared.pieces.PiecesFault.TheVariants as pieces
 use Rattle.conf_store.specs.declared.records.RecordFault.{RecordFault}
-use Rattle.conf_store.specs.declared.records.RecordFault.TheVariants as records
-use Rattle.conf_history.specs.declared.place.Place.{Place}
-use Rattle.conf_history.specs.declared.fault.HistoryFault.{HistoryFault}
+use Rattle.conf_history.specs.{declared.place.Place.Place, declared.fault.HistoryFault.HistoryFault}
 use Rattle.conf_history.specs.declared.fault.HistoryFault.TheVariants.{Input, NotAStore, Damaged, OutOfMemory}
+use Rattle.yaml_docs.specs.declared.pieces.PiecesFault.TheVariants as pieces
+use Rattle.conf_store.specs.declared.records.RecordFault.TheVariants as records
 
 -- that of the pieces
 abbrev pub fault_of_pieces : PiecesFault → HistoryFault

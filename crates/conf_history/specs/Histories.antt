@@ -1,19 +1,12 @@
 -- What the bytes of a store's file hold: at each command, and before a bad piece.
 use Rattle.std.specs.Prelude.{◌≡◌, ◌<◌, ◌≤◌, ◌⊎◌, ℕ, suc, List, [], ◌∷◌, ◌++◌, length, Option, Some, None, IfSome}
-use Rattle.std.specs.Io.KnownBytes.{Consumes, IsAtEnd}
-use Rattle.yaml_grammar.specs.Closings.{Pieces}
-use Rattle.conf_journal.specs.Store.{store_limit}
-use Rattle.conf_state.specs.States.{Contents}
-use Rattle.conf_state.specs.Limits.{IsState}
-use Rattle.conf_record.specs.Documents.{IsBase}
-use Rattle.conf_store.specs.Meaning.{PiecesMean, Means}
-use Rattle.conf_store.specs.Opens.{HasNoBase}
-use Rattle.conf_history.specs.BadPieces.{IsBadPiece}
-use Rattle.conf_history.specs.declared.place.BadPiece.{BadPiece}
-use Rattle.conf_history.specs.declared.fault.HistoryFault.{HistoryFault}
-use Rattle.conf_history.specs.declared.fault.HistoryFault.TheVariants.{Input, Output, NotAStore, Damaged, NoSuchCommand, OutOfMemory}
-use Rattle.conf_history.specs.declared.survey.Bad.{Bad}
-use Rattle.conf_history.specs.declared.survey.Findings.{Findings}
+use Rattle.conf_history.specs.Prelude.{Consumes, IsAtEnd, Pieces, store_limit, Contents, IsState, IsBase, PiecesMean}
+use Rattle.conf_history.specs.Prelude.{Means, HasNoBase}
+use Rattle.conf_history.specs.{BadPieces.IsBadPiece, declared.place.BadPiece.BadPiece}
+use Rattle.conf_history.specs.{declared.fault.HistoryFault.HistoryFault, declared.survey.Bad.Bad}
+use Rattle.conf_history.specs.{declared.survey.Findings.Findings}
+use Rattle.conf_history.specs.declared.fault.HistoryFault.TheVariants.{Input, Output, NotAStore, Damaged, NoSuchCommand}
+use Rattle.conf_history.specs.declared.fault.HistoryFault.TheVariants.{OutOfMemory}
 
 -- The first pieces of the bytes are a base and the records up to the one with this number, and mean `s`.
 pub record MeansUpTo (bytes : List ℕ) (number : ℕ) (s : Contents) : Type 0 where

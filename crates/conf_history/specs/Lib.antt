@@ -1,3 +1,4 @@
+pub mod Prelude
 pub mod BadPieces
 pub mod Beside
 pub mod Copies

@@ -1,23 +1,16 @@
 -- The log of a store's file: a line for each command, with or without its values, or the records as they stand.
-use Rattle.std.specs.Prelude.{◌≡◌, ◌<◌, ◌⊎◌, ℕ, ◌+◌, List, [], ◌∷◌, ◌++◌, length, take, codes, decimal}
-use Rattle.std.specs.Prelude.{encode_utf8_all, Option, Some, None, IfSome}
-use Rattle.std.specs.Io.KnownBytes.{Appends, Keeps}
-use Rattle.yaml_grammar.specs.Closings.{Pieces}
-use Rattle.yaml_grammar.specs.Style.{in_double_quotes}
+use Rattle.std.specs.Prelude.{◌≡◌, ◌<◌, ◌⊎◌, ℕ, ◌+◌, List, [], ◌∷◌, ◌++◌, length, take, codes, decimal, encode_utf8_all, String}
+use Rattle.std.specs.Prelude.{string_bytes, Option, Some, None, IfSome}
+use Rattle.conf_history.specs.Prelude.{Appends, Keeps, Pieces, in_double_quotes, store_limit, Edit}
+use Rattle.conf_history.specs.Prelude.{import_as, set_at, delete_at, Command, single, batch, Contents, PiecesMean}
+use Rattle.std.specs.declared.alloc.Global.{Global}
 use Rattle.yaml_grammar.specs.Trees.{Tree}
-use Rattle.yaml_docs.specs.PieceReading.{piece_or_rest}
 use Rattle.yaml_forms.specs.Json.{json_text}
-use Rattle.conf_journal.specs.Store.{store_limit}
-use Rattle.conf_state.specs.Commands.{Edit, import_as, set_at, delete_at, Command, single, batch}
-use Rattle.conf_state.specs.States.{Contents}
-use Rattle.conf_store.specs.Meaning.{PiecesMean}
+use Rattle.conf_history.specs.{declared.fault.HistoryFault.HistoryFault, declared.line.LineForm.LineForm}
+use Rattle.conf_history.specs.{declared.log.LogForm.LogForm}
 use Rattle.conf_history.specs.Histories.{ReadsAtMost, RefusesReading}
-use Rattle.conf_history.specs.Walks.{Performs, RefusesPiece, Walked}
-use Rattle.conf_history.specs.declared.fault.HistoryFault.{HistoryFault}
 use Rattle.conf_history.specs.declared.fault.HistoryFault.TheVariants.{Output, Damaged, OutOfMemory}
-use Rattle.conf_history.specs.declared.line.LineForm.{LineForm}
 use Rattle.conf_history.specs.declared.line.LineForm.TheVariants.{Names, Values}
-use Rattle.conf_history.specs.declared.log.LogForm.{LogForm}
 use Rattle.conf_history.specs.declared.log.LogForm.TheVariants.{Lines, Records}
 
 -- a space and the JSON text of an edit's value, where the line shows it
@@ -50,6 +43,11 @@ command_line form number command = decimal number ++ command_words form command 
 abbrev pub entry_bytes : LogForm → ℕ → List ℕ → Command → List ℕ
 entry_bytes (Lines form) number bytes command = encode_utf8_all (command_line form number command)
 entry_bytes Records number bytes command = bytes
+
+-- what is kept of a command with a number before it is performed: its line, where lines are written
+abbrev pub TellsEntry : LogForm → String Global → ℕ → Command → Type 0
+TellsEntry (Lines form) line number command = string_bytes line ≡ encode_utf8_all (command_line form number command)
+TellsEntry Records line number command = Unit {0}
 
 -- the same for consecutive ones, numbered on from a count
 abbrev pub log_bytes : LogForm → ℕ → List (List ℕ) → List Command → List ℕ
@@ -133,20 +131,3 @@ FailsToLog (Some number) form given held written fault =
 abbrev pub fault_of_holding : HistoryFault → HistoryFault
 fault_of_holding Output = OutOfMemory
 fault_of_holding fault = fault
-
--- ---- one piece
-
--- the piece was performed, and less than its command was written
-pub record CutsEntry (form : LogForm) (walk : Walked) (held written : Option (List ℕ)) : Type 0 where
-  pub new : Walked
-  pub command : Command
-  pub done : Performs walk new command
-  pub kept : ℕ
-  pub out : Appends held written
-      (take kept (entry_bytes form (walk.state.count + 1) (piece_or_rest walk.pieces) command))
-  pub short : kept < length (entry_bytes form (walk.state.count + 1) (piece_or_rest walk.pieces) command)
-
--- why the piece was not written whole
-abbrev pub FailsToLogPiece : LogForm → Walked → Option (List ℕ) → Option (List ℕ) → HistoryFault → Type 0
-FailsToLogPiece form walk held written Output = CutsEntry form walk held written
-FailsToLogPiece form walk held written fault = RefusesPiece walk fault × Appends held written []

@@ -1,20 +1,14 @@
 -- What is saved from a store's file, and why nothing is.
 use Rattle.std.specs.Prelude.{◌≡◌, ◌⊎◌, ℕ, List, Option, Some, None, Result, Ok, Err, IfSome}
-use Rattle.conf_disk.specs.Folder.{Folder, bytes_under}
-use Rattle.conf_disk.specs.Models.{DiskModel}
-use Rattle.conf_disk.specs.Moments.{LeavesOnly}
-use Rattle.conf_disk.specs.declared.disk.Name.TheVariants.{Store}
-use Rattle.conf_journal.specs.Store.{IsStoreOf}
+use Rattle.conf_history.specs.Prelude.{Folder, bytes_under, DiskModel, LeavesOnly, Store, IsStoreOf, Contents}
+use Rattle.conf_history.specs.Prelude.{AllImagesMean}
 use Rattle.conf_state.specs.BaseTexts.{base_bytes}
-use Rattle.conf_state.specs.States.{Contents}
 use Rattle.conf_store.specs.Creates.{RefusesCreation}
-use Rattle.conf_store.specs.Durable.{AllImagesMean}
 use Rattle.conf_store.specs.declared.creating.CreateFault.{CreateFault}
-use Rattle.conf_store.specs.declared.creating.CreateFault.TheVariants as create
+use Rattle.conf_history.specs.{declared.fault.SalvageFault.SalvageFault, declared.survey.Findings.Findings}
 use Rattle.conf_history.specs.Histories.{ReadsSurvey, RefusesSurvey}
-use Rattle.conf_history.specs.declared.fault.SalvageFault.{SalvageFault}
 use Rattle.conf_history.specs.declared.fault.SalvageFault.TheVariants.{History, StoreExists, Device, OutOfMemory}
-use Rattle.conf_history.specs.declared.survey.Findings.{Findings}
+use Rattle.conf_store.specs.declared.creating.CreateFault.TheVariants as create
 
 -- A new store was made where there was none. It has the state that stands before the first bad piece of what was read,
 -- and a crash leaves it from now on.

@@ -1,27 +1,15 @@
 -- A walk over the pieces of a store's file, between two calls.
-use Rattle.std.specs.Prelude.{◌≡◌, ◌≢◌, ◌+◌, ◌≤◌, ◌⊎◌, ℕ, Bool, true, false, List, [], ◌∷◌, ◌++◌, length}
-use Rattle.std.specs.Prelude.{Option, Some, Result, Ok, Err, IfSome}
-use Rattle.std.specs.List.{All, concat}
-use Rattle.std.specs.Io.KnownBytes.{Consumes, IsAtEnd}
-use Rattle.yaml_grammar.specs.Closings.{ClosesOnce}
-use Rattle.yaml_docs.specs.Cutting.{Unclosed}
-use Rattle.yaml_docs.specs.PieceReading.{IsSound, ahead, bytes_read, piece_or_rest}
-use Rattle.conf_journal.specs.Store.{store_limit}
-use Rattle.conf_state.specs.Commands.{Command}
-use Rattle.conf_state.specs.States.{Contents}
-use Rattle.conf_state.specs.Steps.{step}
-use Rattle.conf_state.specs.declared.room.Room.TheVariants.{Enough}
-use Rattle.conf_record.specs.Documents.{IsBase, IsNoBase, IsRecord}
-use Rattle.conf_store.specs.Meaning.{PiecesMean}
-use Rattle.conf_store.specs.NextRecords.{IsWhy}
-use Rattle.conf_history.specs.BadPieces.{line_feeds}
-use Rattle.conf_history.specs.Histories.{IsNoStore, RefusesSurvey}
-use Rattle.conf_history.specs.declared.place.BadPiece.{BadPiece}
-use Rattle.conf_history.specs.declared.fault.HistoryFault.{HistoryFault}
-use Rattle.conf_history.specs.declared.fault.HistoryFault.TheVariants.{Damaged, OutOfMemory}
-use Rattle.conf_history.specs.declared.place.Place.{Place}
-use Rattle.conf_history.specs.declared.walk.Walk.{Walk}
+use Rattle.std.specs.Prelude.{◌≡◌, ◌+◌, ◌≤◌, ◌<◌, ◌⊎◌, ℕ, Bool, true, false, List, [], ◌∷◌, ◌++◌, length, Option, Some}
+use Rattle.std.specs.Prelude.{None, Result, Ok, Err, IfSome}
+use Rattle.conf_history.specs.Prelude.{All, concat, Consumes, IsAtEnd, ClosesOnce, Unclosed, IsSound, ahead, bytes_read}
+use Rattle.conf_history.specs.Prelude.{piece_or_rest, store_limit, Command, Contents, step, Enough, IsBase, IsNoBase}
+use Rattle.conf_history.specs.Prelude.{IsRecord, PiecesMean, IsWhy}
 use Rattle.yaml_docs.specs.declared.pieces.Pieces.{Pieces}
+use Rattle.conf_history.specs.{BadPieces.line_feeds, declared.place.BadPiece.BadPiece}
+use Rattle.conf_history.specs.{declared.fault.HistoryFault.HistoryFault, declared.place.Place.Place}
+use Rattle.conf_history.specs.{declared.walk.Walk.Walk}
+use Rattle.conf_history.specs.Histories.{IsNoStore, RefusesSurvey, StartsAfter}
+use Rattle.conf_history.specs.declared.fault.HistoryFault.TheVariants.{Damaged, NoSuchCommand, OutOfMemory}
 
 -- the place is after these pieces
 pub record IsAfter (pieces : List (List ℕ)) (place : Place) : Type 0 where
@@ -81,6 +69,13 @@ pub record IsAtEndOf (given left : Option (List ℕ)) (walk : Walked) (pieces : 
   pub performed : ArePerformed pieces start commands walk.state
   pub place : IsAfter pieces walk.place
 
+-- the place of this bad piece is that of the walk, and the reason is right
+pub record IsBadHere (walk : Walked) (bad : BadPiece) : Type 0 where
+  pub number : walk.place.number ≡ bad.number
+  pub byte : walk.place.byte ≡ bad.byte
+  pub line : walk.place.feeds + 1 ≡ bad.line
+  pub why : IsWhy (piece_or_rest walk.pieces) walk.state bad.why
+
 -- ---- what the calls of a walk make of it
 
 -- The first piece was read. A base begins the walk. What is no base begins no store.
@@ -89,22 +84,71 @@ pub record BeginsWith (given left : Option (List ℕ)) (walk : Walk) : Type 0 wh
       → IsBetween given left (with_state walk s) (piece_or_rest walk.pieces ∷ []) s []
   pub none : IsNoBase (piece_or_rest walk.pieces) → IfSome given IsNoStore
 
+-- why the next piece can't be had
+abbrev pub LacksPiece : Option (List ℕ) → HistoryFault → Type 0
+LacksPiece given (Damaged bad) = ⊥
+LacksPiece given NoSuchCommand = ⊥
+LacksPiece given fault = IfSome given (λ bytes. RefusesSurvey bytes fault)
+
 -- after the next piece was looked for
 abbrev pub AfterAdvance : Option (List ℕ) → Option (List ℕ) → Walked → List (List ℕ) → Contents → List Command
     → Result Bool HistoryFault → Type 0
 AfterAdvance given left walk pieces start commands (Ok true) = IsAtPiece given left walk pieces start commands
 AfterAdvance given left walk pieces start commands (Ok false) = IsAtEndOf given left walk pieces start commands
-AfterAdvance given left walk pieces start commands (Err fault) = IfSome given (λ bytes. RefusesSurvey bytes fault)
+AfterAdvance given left walk pieces start commands (Err fault) = LacksPiece given fault
 
--- The same up to a number. The piece is not looked for where the command with the number is performed.
+-- the same of a walk up to a number, which is not passed
+pub record IsOn (at : Option ℕ) (given left : Option (List ℕ)) (walk : Walked) (pieces : List (List ℕ))
+    (start : Contents) (commands : List Command) : Type 0 where
+  pub between : IsBetween given left walk pieces start commands
+  pub up_to : IfSome at (λ number. walk.state.count ≤ number)
+
+-- the same, whatever was read
+pub record IsWalking (at : Option ℕ) (left : Option (List ℕ)) (walk : Walked) : Type 0 where
+  pub given : Option (List ℕ)
+  pub pieces : List (List ℕ)
+  pub start : Contents
+  pub commands : List Command
+  pub on : IsOn at given left walk pieces start commands
+
+-- The walk has come to its end: the command with the number is performed, or, without a number, the file was read.
+abbrev pub HasEnded : Option ℕ → Option (List ℕ) → Option (List ℕ) → Walked → List (List ℕ) → Contents → List Command
+    → Type 0
+HasEnded at given left walk pieces start commands =
+    ((at ≡ Some walk.state.count) × IsBetween given left walk pieces start commands)
+    ⊎ ((at ≡ None) × IsAtEndOf given left walk pieces start commands)
+
+-- why a walk up to a number does not begin
+abbrev pub RefusesStart : Option ℕ → List ℕ → HistoryFault → Type 0
+RefusesStart at bytes fault =
+    RefusesSurvey bytes fault
+    ⊎ ((fault ≡ NoSuchCommand) × (number : ℕ) × (at ≡ Some number) × StartsAfter bytes number)
+
+-- The one rule of where a state ends: why a walk does not come to its end. The piece that it is at is the first that is
+-- no next record, or the file was read and the number not reached, or the next piece can't be had.
+abbrev pub Stops : Option ℕ → Option (List ℕ) → Option (List ℕ) → Walked → List (List ℕ) → Contents → List Command
+    → HistoryFault → Type 0
+Stops at given left walk pieces start commands (Damaged bad) =
+    IsAtPiece given left walk pieces start commands × IsBadHere walk bad × IfSome at (λ number. walk.state.count < number)
+Stops at given left walk pieces start commands NoSuchCommand =
+    (number : ℕ) × (at ≡ Some number) × (walk.state.count < number) × IsAtEndOf given left walk pieces start commands
+Stops at given left walk pieces start commands fault = LacksPiece given fault
+
+-- after the next piece up to a number was looked for
 abbrev pub AfterGoing : Option ℕ → Option (List ℕ) → Option (List ℕ) → Walked → List (List ℕ) → Contents → List Command
     → Result Bool HistoryFault → Type 0
 AfterGoing at given left walk pieces start commands (Ok true) =
-    (at ≢ Some walk.state.count) × IsAtPiece given left walk pieces start commands
-AfterGoing at given left walk pieces start commands (Ok false) =
-    ((at ≡ Some walk.state.count) × IsBetween given left walk pieces start commands)
-    ⊎ ((at ≢ Some walk.state.count) × IsAtEndOf given left walk pieces start commands)
-AfterGoing at given left walk pieces start commands (Err fault) = IfSome given (λ bytes. RefusesSurvey bytes fault)
+    IfSome at (λ number. walk.state.count < number) × IsAtPiece given left walk pieces start commands
+AfterGoing at given left walk pieces start commands (Ok false) = HasEnded at given left walk pieces start commands
+AfterGoing at given left walk pieces start commands (Err fault) = Stops at given left walk pieces start commands fault
+
+-- one more piece is performed, and this is told of its command
+pub record Goes (at : Option ℕ) (given left : Option (List ℕ)) (walk : Walked) (tells : Command → Type 0)
+    (pieces : List (List ℕ)) (start : Contents) (commands : List Command) : Type 0 where
+  pub command : Command
+  pub closes : ClosesOnce (piece_or_rest walk.pieces)
+  pub on : IsOn at given left walk (pieces ++ piece_or_rest walk.pieces ∷ []) start (commands ++ command ∷ [])
+  pub told : tells command
 
 -- the piece is performed, and the place is after it
 pub record Performs (old new : Walked) (command : Command) : Type 0 where
@@ -114,13 +158,6 @@ pub record Performs (old new : Walked) (command : Command) : Type 0 where
   pub number : new.place.number ≡ old.place.number + 1
   pub byte : new.place.byte ≡ old.place.byte + length (piece_or_rest old.pieces)
   pub feeds : new.place.feeds ≡ old.place.feeds + line_feeds (piece_or_rest old.pieces)
-
--- the place of this bad piece is that of the walk, and the reason is right
-pub record IsBadHere (walk : Walked) (bad : BadPiece) : Type 0 where
-  pub number : walk.place.number ≡ bad.number
-  pub byte : walk.place.byte ≡ bad.byte
-  pub line : walk.place.feeds + 1 ≡ bad.line
-  pub why : IsWhy (piece_or_rest walk.pieces) walk.state bad.why
 
 -- why the piece is not performed
 abbrev pub RefusesPiece : Walked → HistoryFault → Type 0

@@ -1,19 +1,11 @@
 // One configuration that the bytes of a store's file hold, which were read before.
-ghost use Rattle.std.specs.Prelude.{◌≡◌, ◌++◌, ℕ, List, option_map, OnOk, IfOk, IfErr};
-ghost use Rattle.std.specs.Str.{chars};
-ghost use Rattle.yaml_data.specs.Seen.{tree_of};
-ghost use Rattle.yaml_grammar.specs.Closings.{ClosesOnce};
-ghost use Rattle.conf_state.specs.States.{Contents, config_named};
-ghost use Rattle.conf_record.specs.Documents.{IsBase};
-ghost use Rattle.conf_store.specs.NextRecords.{RefusesRecord};
-ghost use Rattle.conf_store.specs.Opens.{IsNextRecord, RecoversTo, RefusesBytes};
+ghost use Rattle.std.specs.Prelude.{◌≡◌, option_map, IfOk, IfErr};
+ghost use Rattle.conf_history.specs.Prelude.{chars, tree_of, Contents, config_named, RecoversTo, RefusesBytes};
 
 use crate::base::Base;
-use crate::replayed::Replayed;
-use crate::walk::next_command;
-use conf_record::documents_are_read;
+use crate::replayed::{BasePart, OfBase};
 use conf_state::Part;
-use conf_store::{OnRefusal, OpenFault, Opened, RecordFault};
+use conf_store::{OpenFault, Opened, replay_records};
 use std::alloc::Global;
 use yaml_config::Config;
 use yaml_docs::next_close;
@@ -67,54 +59,12 @@ fn part_in(alloc: Global, bytes: Vec<u8>) -> Result<(Part<Base>, Opened), OpenFa
     };
     let mut base = bytes;
     base.truncate(end);
-    match Part::of_base(alloc, base) {
-        Ok(Some(mut part)) => match replay_records(alloc, &mut part, &records) {
-            Ok(opened) => Ok((part, opened)),
+    match BasePart::of_base(alloc, base) {
+        Ok(Some(mut held)) => match replay_records(alloc, &mut held, &records) {
+            Ok(opened) => Ok((held.part, opened)),
             Err(fault) => Err(fault),
         },
         Ok(None) => Err(OpenFault::NotAStore),
         Err(_) => Err(OpenFault::OutOfMemory),
     }
-}
-
-/// Performs the records after a base on its part. Counts them, and the bytes after the last one.
-///
-/// # Errors
-/// `Damaged` with the number of the first piece that is not the next record. `OutOfMemory`. The part has to be dropped.
-fn replay_records(alloc: Global, part: &mut Part<Base>, records: &[u8]) -> Result<Opened, OpenFault>
-    ensures ok { (base : List ℕ) → ClosesOnce base → IsBase base part.old → IfOk result (λ opened.
-        RecoversTo (base ++ records.now) part.new opened.commands opened.dropped) }
-    ensures refused { (base : List ℕ) → ClosesOnce base → IsBase base part.old →
-        IfErr result (RefusesBytes (base ++ records.now)) }
-{
-    documents_are_read();
-    piece_between_closings();
-    one_list_of_pieces();
-    let mut at = 0;
-    let mut commands = 0u64;
-    'records: while let Some(end) = next_close(records, at) {
-        match replay_record(alloc, part, &records[at..end]) {
-            Ok(()) => {}
-            Err(RecordFault::Bad(_)) => {
-                return Err(OpenFault::Damaged {
-                    number: commands + 1,
-                });
-            }
-            Err(RecordFault::OutOfMemory) => return Err(OpenFault::OutOfMemory),
-        }
-        commands += 1;
-        at = end;
-    }
-    let dropped = (records.len() - at) as u64;
-    Ok(Opened { commands, dropped })
-}
-
-/// Performs the command of a piece on a part, if the piece is the next record. After a refusal the part has to be
-/// dropped.
-fn replay_record(alloc: Global, part: &mut Part<Base>, piece: &[u8]) -> Result<(), RecordFault>
-    ensures ok { OnOk result (IsNextRecord piece.now part.old part.new) }
-    ensures refused { IfErr result (RefusesRecord piece.now part.old) }
-{
-    let command = next_command(alloc, part.count(), piece)?;
-    part.perform(alloc, command, OnRefusal::DropState)
 }

@@ -1,21 +1,16 @@
 // A new store with the base and the records of another one.
 ghost use Rattle.std.specs.Prelude.{◌≡◌, ◌≢◌, ◌≤◌, IfOk, IfErr, IfSome, IsErrOf, None, OnOk, Some, Err};
-ghost use Rattle.conf_disk.specs.Folder.{bytes_under};
-ghost use Rattle.conf_disk.specs.Image.{IsImage, image_now};
-ghost use Rattle.conf_disk.specs.Moments.{LeavesOnly};
+ghost use Rattle.conf_history.specs.Prelude.{bytes_under, IsImage, image_now, LeavesOnly, LeavesStoreOr, HasFailed};
 ghost use Rattle.conf_journal.specs.Held.{HoldsStore};
-ghost use Rattle.conf_journal.specs.Store.{LeavesStoreOr};
-ghost use Rattle.conf_store.specs.Calls.{HasFailed};
 ghost use Rattle.conf_history.specs.Copies.{BacksUp, CreatesFile, LeavesOldOrCopy, ReadsCopy, RefusesBackup, RefusesFile, disk_handed_back};
 ghost use Rattle.conf_history.specs.Histories.{RefusesReading};
 ghost use Rattle.conf_history.specs.declared.fault.HistoryFault.{HistoryFault};
 
-use crate::base::Base;
 use crate::fault::{HistoryFault, SalvageFault};
+use crate::replayed::BasePart;
 use crate::walk::Walk;
 use conf_disk::{Disk, Name, reading_is_an_image};
 use conf_journal::{held_store_is_left, held_store_is_the_only_one};
-use conf_state::Part;
 use conf_store::{CreateFault, OnRefusal, find_no_store, replace_store};
 use std::alloc::Global;
 use std::io::Read;
@@ -78,9 +73,8 @@ fn read_copy<R: Read>(alloc: Global, reader: &mut R) -> Result<Vec<u8>, HistoryF
     one_list_of_pieces();
     let mut walk = Walk::begin(alloc, reader)?;
     let mut copy = Vec::from_slice(alloc, walk.pieces.piece())?;
-    let mut part: Part<Base> = walk.take_base(alloc)?;
-    'records: while walk.advance(reader)? {
-        walk.replay_piece(alloc, &mut part, OnRefusal::DropState)?;
+    let mut part: BasePart = walk.take_base(alloc, None)?;
+    'records: while walk.next(alloc, reader, None, &mut part, OnRefusal::DropState)? {
         copy.extend_from_slice(walk.pieces.piece())?;
     }
     Ok(copy)

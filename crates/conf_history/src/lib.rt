@@ -20,6 +20,7 @@ mod fault;
 mod laws;
 mod line;
 mod log;
+mod logged;
 mod output;
 mod part_reading;
 mod place;

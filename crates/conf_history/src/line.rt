@@ -1,9 +1,6 @@
 // The line of a command in a log.
 ghost use Rattle.std.specs.Prelude.{◌≡◌, ◌++◌, [], codes, decimal, encode_utf8_all, map, string_bytes, IfOk, OnOk};
-ghost use Rattle.std.specs.Str.{chars};
-ghost use Rattle.yaml_grammar.specs.Style.{in_double_quotes};
-ghost use Rattle.yaml_data.specs.Seen.{tree_of};
-ghost use Rattle.conf_state.specs.Commands.{command_of, edit_of};
+ghost use Rattle.conf_history.specs.Prelude.{chars, in_double_quotes, tree_of, command_of, edit_of};
 ghost use Rattle.conf_history.specs.Logs.{command_line, command_words, edit_words, edits_words, value_words};
 
 use conf_state::{Command, Edit};

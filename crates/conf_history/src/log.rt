@@ -1,18 +1,13 @@
 // Which commands a store's file holds.
-ghost use Rattle.std.specs.Prelude.{◌≡◌, ◌+◌, Some, OnOk, IfOk, IfErr};
-ghost use Rattle.std.specs.Io.KnownBytes.{Appends};
-ghost use Rattle.yaml_docs.specs.PieceReading.{piece_or_rest};
-ghost use Rattle.conf_state.specs.Commands.{Command as Meant};
-ghost use Rattle.conf_history.specs.Logs.{FailsToLog, FailsToLogPiece, LogsAll, StopsLog, entry_bytes, fault_of_holding};
-ghost use Rattle.conf_history.specs.Walks.{HasRoom, Performs, with_state};
+ghost use Rattle.std.specs.Prelude.{◌≡◌, Some, OnOk, IfErr};
+ghost use Rattle.conf_history.specs.Logs.{FailsToLog, LogsAll, StopsLog, fault_of_holding};
 
-use crate::base::Base;
 use crate::fault::HistoryFault;
-use crate::line::{LineForm, record_line};
+use crate::line::LineForm;
+use crate::logged::Logged;
 use crate::output::put_bytes;
-use crate::reading::{check_end, check_start};
+use crate::replayed::BasePart;
 use crate::walk::Walk;
-use conf_state::Part;
 use conf_store::OnRefusal;
 use std::alloc::Global;
 use std::io::{Read, Write};
@@ -111,79 +106,10 @@ fn log_each<R: Read, W: Write>(
 {
     one_list_of_pieces();
     let mut walk = Walk::begin(alloc, reader)?;
-    let mut part: Part<Base> = walk.take_base(alloc)?;
-    check_start(part.count(), at)?;
-    'records: while walk.goes_on(reader, at, part.count())? {
-        log_piece(alloc, &mut walk, &mut part, form, writer)?;
+    let BasePart { part } = walk.take_base(alloc, at)?;
+    let mut logged = Logged::new(alloc, part, form);
+    'records: while walk.next(alloc, reader, at, &mut logged, OnRefusal::DropState)? {
+        put_bytes(writer, logged.entry(walk.pieces.piece()))?;
     }
-    check_end(part.count(), at)?;
-    Ok(())
-}
-
-/// Performs the piece as the next record, and writes its command.
-///
-/// # Errors
-/// Those of [`Walk::replay_piece`]: nothing is written. `Output`: not all of the command is written.
-fn log_piece<W: Write>(
-    alloc: Global,
-    walk: &mut Walk,
-    part: &mut Part<Base>,
-    form: LogForm,
-    writer: &mut W,
-) -> Result<(), HistoryFault>
-    requires { HasRoom walk.old.pieces walk.old.place }
-    ensures ok { OnOk result ((command : Meant)
-        × Performs (with_state walk.old part.old) (with_state walk.new part.new) command
-        × Appends (W.contents writer.old) (W.contents writer.new)
-        (entry_bytes form (part.old.count + 1) (piece_or_rest walk.old.pieces) command)) }
-    ensures refused { IfErr result (FailsToLogPiece form (with_state walk.old part.old)
-        (W.contents writer.old) (W.contents writer.new)) }
-{
-    match form {
-        LogForm::Lines(form) => log_line(alloc, walk, part, form, writer),
-        LogForm::Records => log_record(alloc, walk, part, writer),
-    }
-}
-
-/// The same as a line. The line is made before the command is performed, which takes the command.
-fn log_line<W: Write>(
-    alloc: Global,
-    walk: &mut Walk,
-    part: &mut Part<Base>,
-    form: LineForm,
-    writer: &mut W,
-) -> Result<(), HistoryFault>
-    requires { HasRoom walk.old.pieces walk.old.place }
-    ensures ok { OnOk result ((command : Meant)
-        × Performs (with_state walk.old part.old) (with_state walk.new part.new) command
-        × Appends (W.contents writer.old) (W.contents writer.new) (entry_bytes
-        (LogForm.Lines form) (part.old.count + 1) (piece_or_rest walk.old.pieces) command)) }
-    ensures refused { IfErr result (FailsToLogPiece (LogForm.Lines form)
-        (with_state walk.old part.old) (W.contents writer.old) (W.contents writer.new)) }
-{
-    let command = walk.command(alloc, part.count())?;
-    let line = record_line(alloc, part.count() + 1, &command, form)?;
-    walk.replay(alloc, part, command, OnRefusal::DropState)?;
-    put_bytes(writer, line.as_bytes())?;
-    Ok(())
-}
-
-/// The same as the bytes of the record.
-fn log_record<W: Write>(
-    alloc: Global,
-    walk: &mut Walk,
-    part: &mut Part<Base>,
-    writer: &mut W,
-) -> Result<(), HistoryFault>
-    requires { HasRoom walk.old.pieces walk.old.place }
-    ensures ok { OnOk result ((command : Meant)
-        × Performs (with_state walk.old part.old) (with_state walk.new part.new) command
-        × Appends (W.contents writer.old) (W.contents writer.new) (entry_bytes LogForm.Records
-        (part.old.count + 1) (piece_or_rest walk.old.pieces) command)) }
-    ensures refused { IfErr result (FailsToLogPiece LogForm.Records (with_state walk.old part.old)
-        (W.contents writer.old) (W.contents writer.new)) }
-{
-    walk.replay_piece(alloc, part, OnRefusal::DropState)?;
-    put_bytes(writer, walk.pieces.piece())?;
     Ok(())
 }

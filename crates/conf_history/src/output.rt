@@ -1,6 +1,6 @@
 // Writing a log.
 ghost use Rattle.std.specs.Prelude.{◌≡◌, ◌<◌, ℕ, OnOk, OnErr, IfErr, length, take};
-ghost use Rattle.std.specs.Io.KnownBytes.{Appends};
+ghost use Rattle.conf_history.specs.Prelude.{Appends};
 
 use crate::fault::HistoryFault;
 use std::io::Write;

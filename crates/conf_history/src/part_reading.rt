@@ -1,15 +1,11 @@
 // One configuration that a store's file held after a command, and the names of all.
 ghost use Rattle.std.specs.Prelude.{◌≡◌, map, option_map, IfOk, IfErr, IfSome};
-ghost use Rattle.std.specs.Str.{chars};
-ghost use Rattle.yaml_data.specs.Seen.{tree_of};
-ghost use Rattle.conf_state.specs.Commands.{text_of};
-ghost use Rattle.conf_state.specs.States.{Contents, names_of, config_named};
+ghost use Rattle.conf_history.specs.Prelude.{chars, tree_of, text_of, Contents, names_of, config_named};
 ghost use Rattle.conf_history.specs.Histories.{ReadsState, RefusesReading};
 
-use crate::base::Base;
 use crate::fault::HistoryFault;
 use crate::reading::read_up_to;
-use conf_state::Part;
+use crate::replayed::BasePart;
 use std::alloc::Global;
 use std::io::Read;
 use yaml_config::Config;
@@ -35,7 +31,7 @@ pub fn config_at<R: Read>(
     ensures refused { IfErr result (λ fault.
         IfSome (R.remaining reader.old) (λ bytes. RefusesReading bytes at fault)) }
 {
-    let part: Part<Base> = read_up_to(alloc, reader, at)?;
+    let BasePart { part } = read_up_to(alloc, reader, at)?;
     Ok(part.copy_of(alloc, name)?)
 }
 
@@ -55,6 +51,6 @@ pub fn names_at<R: Read>(
     ensures refused { IfErr result (λ fault.
         IfSome (R.remaining reader.old) (λ bytes. RefusesReading bytes at fault)) }
 {
-    let part: Part<Base> = read_up_to(alloc, reader, at)?;
+    let BasePart { part } = read_up_to(alloc, reader, at)?;
     Ok(part.names(alloc)?)
 }

@@ -1,9 +1,9 @@
 // The state that a store's file held after a command.
-ghost use Rattle.std.specs.Prelude.{◌≡◌, ◌≢◌, ◌<◌, ◌≤◌, ℕ, Some, true, false, OnOk, OnErr, IfOk, IfErr, IfSome};
+ghost use Rattle.std.specs.Prelude.{IfOk, IfErr, IfSome};
 ghost use Rattle.conf_history.specs.Histories.{ReadsState, RefusesReading};
 
 use crate::fault::HistoryFault;
-use crate::replayed::Replayed;
+use crate::replayed::OfBase;
 use crate::walk::Walk;
 use conf_state::State;
 use conf_store::OnRefusal;
@@ -43,7 +43,7 @@ pub fn state_at<R: Read>(
 ///
 /// # Errors
 /// Those of [`state_at`].
-pub(crate) fn read_up_to<R: Read, T: Replayed>(
+pub(crate) fn read_up_to<R: Read, T: OfBase>(
     alloc: Global,
     reader: &mut R,
     at: Option<u64>,
@@ -55,46 +55,7 @@ pub(crate) fn read_up_to<R: Read, T: Replayed>(
 {
     one_list_of_pieces();
     let mut walk = Walk::begin(alloc, reader)?;
-    let mut held: T = walk.take_base(alloc)?;
-    check_start(held.accepted(), at)?;
-    'records: while walk.goes_on(reader, at, held.accepted())? {
-        walk.replay_piece(alloc, &mut held, OnRefusal::DropState)?;
-    }
-    check_end(held.accepted(), at)?;
+    let mut held: T = walk.take_base(alloc, at)?;
+    'records: while walk.next(alloc, reader, at, &mut held, OnRefusal::DropState)? {}
     Ok(held)
-}
-
-/// Fails with `NoSuchCommand` if the number is before that of the base, which has `count` commands.
-pub(crate) fn check_start(count: u64, at: Option<u64>) -> Result<(), HistoryFault>
-    ensures ok { OnOk result ((number : ℕ) → at ≡ Some number → count ≤ number) }
-    ensures before { OnErr result ((number : ℕ) × (at ≡ Some number) × (number < count)) }
-    ensures fault { IfErr result (λ fault. fault ≡ HistoryFault.NoSuchCommand) }
-{
-    match at {
-        Some(number) if number < count => Err(HistoryFault::NoSuchCommand),
-        _ => Ok(()),
-    }
-}
-
-/// Fails with `NoSuchCommand` if the number is another than that of the last of `count` commands.
-pub(crate) fn check_end(count: u64, at: Option<u64>) -> Result<(), HistoryFault>
-    ensures ok { OnOk result ((number : ℕ) → at ≡ Some number → count ≡ number) }
-    ensures other { OnErr result ((number : ℕ) × (at ≡ Some number) × (count ≢ number)) }
-    ensures fault { IfErr result (λ fault. fault ≡ HistoryFault.NoSuchCommand) }
-{
-    match at {
-        Some(number) if number != count => Err(HistoryFault::NoSuchCommand),
-        _ => Ok(()),
-    }
-}
-
-/// Whether a count is the number that is asked for.
-pub(crate) fn is_reached(at: Option<u64>, count: u64) -> bool
-    ensures reached { result ≡ true → at ≡ Some count }
-    ensures not_yet { result ≡ false → at ≢ Some count }
-{
-    match at {
-        Some(number) => number == count,
-        None => false,
-    }
 }

@@ -1,6 +1,6 @@
 // A new store of what stands in a damaged file.
 ghost use Rattle.std.specs.Prelude.{◌≡◌, ◌≤◌, IfOk, IfErr, IfSome};
-ghost use Rattle.conf_store.specs.Calls.{HasFailed};
+ghost use Rattle.conf_history.specs.Prelude.{HasFailed};
 ghost use Rattle.conf_history.specs.declared.fault.HistoryFault.{HistoryFault};
 ghost use Rattle.conf_history.specs.Histories.{RefusesSurvey};
 ghost use Rattle.conf_history.specs.Salvages.{LeavesOldOrSaved, RefusesSalvage, Saves, disk_of};

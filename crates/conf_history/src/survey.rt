@@ -1,20 +1,16 @@
 // What an opening of a store would find in its file.
 ghost use Rattle.std.specs.Prelude.{◌≡◌, ◌-◌, ◌≤◌, ◌++◌, ℕ, List, Option, IfOk, IfErr, IfSome, length};
-ghost use Rattle.std.specs.Io.KnownBytes.{Consumes};
-ghost use Rattle.yaml_docs.specs.PieceReading.{ahead, bytes_read, piece_or_rest};
+ghost use Rattle.conf_history.specs.Prelude.{Consumes, ahead, bytes_read, piece_or_rest, IsState, Contents};
 ghost use Rattle.conf_state.specs.Commands.{Command as Meant};
-ghost use Rattle.conf_state.specs.Limits.{IsState};
-ghost use Rattle.conf_state.specs.States.{Contents};
 ghost use Rattle.conf_history.specs.Counting.{AfterCount};
 ghost use Rattle.conf_history.specs.Histories.{ReadsSurvey, RefusesSurvey};
 ghost use Rattle.conf_history.specs.Walks.{HasLimits, IsAtPiece, IsBadHere, with_state};
 
-use crate::base::Base;
 use crate::fault::{HistoryFault, fault_of_pieces};
 use crate::place::BadPiece;
-use crate::replayed::Replayed;
+use crate::replayed::{BasePart, OfBase};
 use crate::walk::Walk;
-use conf_state::{Part, State};
+use conf_state::State;
 use conf_store::OnRefusal;
 use std::alloc::Global;
 use std::io::Read;
@@ -65,7 +61,7 @@ pub fn find_in_store<R: Read>(alloc: Global, reader: &mut R) -> Result<Findings,
     ensures refused { IfErr result (λ fault.
         IfSome (R.remaining reader.old) (λ bytes. RefusesSurvey bytes fault)) }
 {
-    let (_, findings) = survey_pieces::<R, Part<Base>>(alloc, reader)?;
+    let (_, findings) = survey_pieces::<R, BasePart>(alloc, reader)?;
     Ok(findings)
 }
 
@@ -88,7 +84,7 @@ pub fn survey_store<R: Read>(alloc: Global, reader: &mut R) -> Result<Survey, Hi
 ///
 /// # Errors
 /// Those of [`find_in_store`].
-fn survey_pieces<R: Read, T: Replayed>(
+fn survey_pieces<R: Read, T: OfBase>(
     alloc: Global,
     reader: &mut R,
 ) -> Result<(T, Findings), HistoryFault>
@@ -99,12 +95,16 @@ fn survey_pieces<R: Read, T: Replayed>(
         IfSome (R.remaining reader.old) (λ bytes. RefusesSurvey bytes fault)) }
 {
     let mut walk = Walk::begin(alloc, reader)?;
-    let mut held: T = walk.take_base(alloc)?;
+    let mut held: T = walk.take_base(alloc, None)?;
     let base = held.accepted();
-    'records: while walk.advance(reader)? {
+    'records: loop {
         let count = held.accepted();
-        match walk.replay_piece(alloc, &mut held, OnRefusal::KeepState) {
-            Ok(()) => {}
+        match walk.next(alloc, reader, None, &mut held, OnRefusal::KeepState) {
+            Ok(true) => {}
+            Ok(false) => {
+                let findings = walk.findings(base, held.accepted(), None);
+                return Ok((held, findings));
+            }
             Err(HistoryFault::Damaged(bad)) => {
                 let findings = walk.find_after(reader, base, count, bad)?;
                 return Ok((held, findings));
@@ -112,8 +112,6 @@ fn survey_pieces<R: Read, T: Replayed>(
             Err(fault) => return Err(fault),
         }
     }
-    let findings = walk.findings(base, held.accepted(), None);
-    Ok((held, findings))
 }
 
 impl Walk {

@@ -1,22 +1,17 @@
 // A walk over the pieces of a store's file.
-ghost use Rattle.std.specs.Prelude.{◌≡◌, ◌<◌, ◌+◌, ℕ, List, [], ◌∷◌, Option, OnOk, OnErr, IfOk, IfErr, IfSome};
-ghost use Rattle.conf_state.specs.Commands.{Command as Meant, command_of};
-ghost use Rattle.conf_state.specs.States.{Contents};
-ghost use Rattle.yaml_docs.specs.PieceReading.{piece_or_rest};
-ghost use Rattle.conf_record.specs.Documents.{IsRecord};
-ghost use Rattle.conf_store.specs.NextRecords.{RefusesRecord};
+ghost use Rattle.std.specs.Prelude.{◌≡◌, ◌≢◌, ◌<◌, ◌≤◌, ◌+◌, ℕ, List, [], ◌∷◌, Option, Some, Ok, true, false};
+ghost use Rattle.std.specs.Prelude.{OnOk, OnErr, IfOk, IfErr, IfSome};
+ghost use Rattle.conf_history.specs.Prelude.{Contents, IsState, piece_or_rest};
+ghost use Rattle.conf_state.specs.Commands.{Command as Meant};
 ghost use Rattle.conf_history.specs.Histories.{RefusesSurvey};
-ghost use Rattle.conf_history.specs.Walks.{AfterAdvance, AfterGoing, BeginsWith, HasLimits, HasRoom, IsBetween};
-ghost use Rattle.conf_history.specs.Walks.{Performs, RefusesPiece, with_state};
+ghost use Rattle.conf_history.specs.Walks.{AfterAdvance, AfterGoing, BeginsWith, Goes, HasEnded, HasLimits, HasRoom};
+ghost use Rattle.conf_history.specs.Walks.{IsBetween, IsOn, IsWalking, Performs, RefusesPiece, RefusesStart, Stops, with_state};
 
 use crate::fault::{HistoryFault, fault_of_pieces};
 use crate::place::Place;
-use crate::reading::is_reached;
-use crate::replayed::Replayed;
+use crate::replayed::OfBase;
 use conf_journal::STORE_LIMIT;
-use conf_record::{NoNext, read_next};
-use conf_state::Command;
-use conf_store::{NoRecord, OnRefusal, RecordFault};
+use conf_store::{OnRefusal, Replayed, replay_record};
 use std::alloc::Global;
 use std::io::Read;
 use yaml_docs::Pieces;
@@ -54,18 +49,101 @@ impl Walk {
     /// Takes the first piece out as a base, and returns what its commands are performed on.
     ///
     /// # Errors
-    /// `NotAStore` if it is no base. `OutOfMemory`.
-    pub fn take_base<T: Replayed>(&mut self, alloc: Global) -> Result<T, HistoryFault>
+    /// `NotAStore` if it is no base. `NoSuchCommand` if the number `at` is before that of the base. `OutOfMemory`.
+    pub fn take_base<T: OfBase>(
+        &mut self,
+        alloc: Global,
+        at: Option<u64>,
+    ) -> Result<T, HistoryFault>
         ensures ok { IfOk result (λ held. (given left : Option (List ℕ))
             → BeginsWith given left self.old
-            → IsBetween given left (with_state self.new (T.contents held))
+            → IsOn at given left (with_state self.new (T.contents held))
             (piece_or_rest self.old.pieces ∷ []) (T.contents held) []) }
         ensures refused { IfErr result (λ fault. (given left : Option (List ℕ))
-            → BeginsWith given left self.old → IfSome given (λ bytes. RefusesSurvey bytes fault)) }
+            → BeginsWith given left self.old → IfSome given (λ bytes. RefusesStart at bytes fault)) }
     {
-        match T::of_base(alloc, self.pieces.take_piece())? {
-            Some(held) => Ok(held),
-            None => Err(HistoryFault::NotAStore),
+        one_list_of_pieces();
+        let Some(held) = T::of_base(alloc, self.pieces.take_piece())? else {
+            return Err(HistoryFault::NotAStore);
+        };
+        if is_before(at, held.accepted()) {
+            return Err(HistoryFault::NoSuchCommand);
+        }
+        Ok(held)
+    }
+
+    /// Performs the next piece as the next record, and goes past it. Returns whether there was one: there is none once
+    /// the command with the number `at` is performed, and, without a number, where the file ends. The walk is at the
+    /// piece, or at the bytes after the last one.
+    ///
+    /// # Errors
+    /// `Damaged` if the piece is not the next record. `NoSuchCommand` if the file ends before the number. `Input` if a
+    /// read failed. `NotAStore` if the file has more than 1,073,741,824 bytes. `OutOfMemory`. What becomes of a state
+    /// says `on_refusal`, and a part has to be dropped.
+    pub fn next<R: Read, T: Replayed>(
+        &mut self,
+        alloc: Global,
+        reader: &mut R,
+        at: Option<u64>,
+        held: &mut T,
+        on_refusal: OnRefusal,
+    ) -> Result<bool, HistoryFault>
+        requires { IsWalking at (R.remaining reader.old) (with_state self.old (T.contents held.old)) }
+        ensures goes { (given : Option (List ℕ)) (pieces : List (List ℕ)) (start : Contents)
+            (commands : List Meant)
+            → IsOn at given (R.remaining reader.old) (with_state self.old (T.contents held.old))
+            pieces start commands → result ≡ Ok true
+            → Goes at given (R.remaining reader.new) (with_state self.new (T.contents held.new))
+            (T.Tells held.old held.new ((T.contents held.old).count + 1)) pieces start commands }
+        ensures ended { (given : Option (List ℕ)) (pieces : List (List ℕ)) (start : Contents)
+            (commands : List Meant)
+            → IsOn at given (R.remaining reader.old) (with_state self.old (T.contents held.old))
+            pieces start commands → result ≡ Ok false
+            → HasEnded at given (R.remaining reader.new) (with_state self.new (T.contents held.new))
+            pieces start commands × IsState (T.contents held.new) }
+        ensures stops { (given : Option (List ℕ)) (pieces : List (List ℕ)) (start : Contents)
+            (commands : List Meant)
+            → IsOn at given (R.remaining reader.old) (with_state self.old (T.contents held.old))
+            pieces start commands
+            → IfErr result (Stops at given (R.remaining reader.new)
+            (with_state self.new (T.contents held.old)) pieces start commands) }
+        ensures kept { on_refusal ≡ OnRefusal.KeepState
+            → OnErr result (T.Keeps held.new (T.contents held.old)) }
+    {
+        if self.goes_on(reader, at, held.accepted())? {
+            self.replay_piece(alloc, held, on_refusal)?;
+            return Ok(true);
+        }
+        Ok(false)
+    }
+
+    /// Goes on to the next piece, if the command with the number is not the last of the `count` ones. Returns whether
+    /// there is one.
+    ///
+    /// # Errors
+    /// `NoSuchCommand` if the file ends before the number. Those of [`Walk::advance`].
+    fn goes_on<R: Read>(
+        &mut self,
+        reader: &mut R,
+        at: Option<u64>,
+        count: u64,
+    ) -> Result<bool, HistoryFault>
+        requires { HasLimits self.old.pieces }
+        ensures { (given : Option (List ℕ)) (s : Contents) (pieces : List (List ℕ))
+            (start : Contents) (commands : List Meant) → count ≡ s.count
+            → IsOn at given (R.remaining reader.old) (with_state self.old s) pieces start commands
+            → AfterGoing at given (R.remaining reader.new) (with_state self.new s)
+            pieces start commands result }
+    {
+        if is_reached(at, count) {
+            return Ok(false);
+        }
+        if self.advance(reader)? {
+            return Ok(true);
+        }
+        match at {
+            Some(_) => Err(HistoryFault::NoSuchCommand),
+            None => Ok(false),
         }
     }
 
@@ -73,14 +151,13 @@ impl Walk {
     ///
     /// # Errors
     /// `Input` if a read failed. `NotAStore` if the file has more than 1,073,741,824 bytes. `OutOfMemory`.
-    pub fn advance<R: Read>(&mut self, reader: &mut R) -> Result<bool, HistoryFault>
+    fn advance<R: Read>(&mut self, reader: &mut R) -> Result<bool, HistoryFault>
         requires { HasLimits self.old.pieces }
-        ensures walks { (given : Option (List ℕ)) (s : Contents) (pieces : List (List ℕ))
+        ensures { (given : Option (List ℕ)) (s : Contents) (pieces : List (List ℕ))
             (start : Contents) (commands : List Meant)
             → IsBetween given (R.remaining reader.old) (with_state self.old s) pieces start commands
             → AfterAdvance given (R.remaining reader.new) (with_state self.new s)
             pieces start commands result }
-        ensures place { self.new.place ≡ self.old.place }
     {
         match self.pieces.advance(reader) {
             Ok(found) => Ok(found),
@@ -88,86 +165,12 @@ impl Walk {
         }
     }
 
-    /// Goes on to the next piece, if the command with the number is not the last of the `count` ones. Returns whether
-    /// there is one.
-    ///
-    /// # Errors
-    /// Those of [`Walk::advance`].
-    pub fn goes_on<R: Read>(
-        &mut self,
-        reader: &mut R,
-        at: Option<u64>,
-        count: u64,
-    ) -> Result<bool, HistoryFault>
-        requires { HasLimits self.old.pieces }
-        ensures walks { (given : Option (List ℕ)) (s : Contents) (pieces : List (List ℕ))
-            (start : Contents) (commands : List Meant) → count ≡ s.count
-            → IsBetween given (R.remaining reader.old) (with_state self.old s) pieces start commands
-            → AfterGoing at given (R.remaining reader.new) (with_state self.new s)
-            pieces start commands result }
-        ensures place { self.new.place ≡ self.old.place }
-    {
-        if is_reached(at, count) {
-            return Ok(false);
-        }
-        self.advance(reader)
-    }
-
-    /// Reads the piece as the record after `count` commands, and returns its command.
-    ///
-    /// # Errors
-    /// `Damaged` if it is no record, or has another number. `OutOfMemory`.
-    pub fn command(&self, alloc: Global, count: u64) -> Result<Command, HistoryFault>
-        requires { HasRoom self.now.pieces self.now.place }
-        ensures ok { IfOk result (λ command.
-            IsRecord (piece_or_rest self.now.pieces) (command_of command) (count + 1)) }
-        ensures room { OnOk result (count < u64.MAX) }
-        ensures refused { IfErr result (λ fault. (s : Contents) → s.count ≡ count
-            → RefusesPiece (with_state self.now s) fault) }
-    {
-        match next_command(alloc, count, self.pieces.piece()) {
-            Ok(command) => Ok(command),
-            Err(fault) => Err(self.place.fault_here(fault)),
-        }
-    }
-
-    /// Performs the command of the piece, and goes past the piece.
-    ///
-    /// # Errors
-    /// `Damaged` if it is refused. `OutOfMemory`. The walk stays as it was. What becomes of a state says `on_refusal`,
-    /// and a part has to be dropped.
-    pub fn replay<T: Replayed>(
-        &mut self,
-        alloc: Global,
-        held: &mut T,
-        command: Command,
-        on_refusal: OnRefusal,
-    ) -> Result<(), HistoryFault>
-        requires room { HasRoom self.old.pieces self.old.place }
-        requires is_record { IsRecord (piece_or_rest self.old.pieces) (command_of command)
-            ((T.contents held.old).count + 1) }
-        ensures ok { OnOk result (Performs (with_state self.old (T.contents held.old))
-            (with_state self.new (T.contents held.new)) (command_of command)) }
-        ensures refused { IfErr result (RefusesPiece (with_state self.old (T.contents held.old))) }
-        ensures walk { OnErr result (self.new ≡ self.old) }
-        ensures kept { on_refusal ≡ OnRefusal.KeepState
-            → OnErr result (T.Keeps held.new (T.contents held.old)) }
-    {
-        match held.perform(alloc, command, on_refusal) {
-            Ok(()) => {
-                self.place = self.place.after(self.pieces.piece());
-                Ok(())
-            }
-            Err(fault) => Err(self.place.fault_here(fault)),
-        }
-    }
-
-    /// Reads the piece as the next record, performs it, and goes past the piece.
+    /// Performs the piece as the next record, and goes past it.
     ///
     /// # Errors
     /// `Damaged` if it is not the next record. `OutOfMemory`. The walk stays as it was. What becomes of a state says
     /// `on_refusal`, and a part has to be dropped.
-    pub fn replay_piece<T: Replayed>(
+    fn replay_piece<T: Replayed>(
         &mut self,
         alloc: Global,
         held: &mut T,
@@ -176,30 +179,41 @@ impl Walk {
         requires { HasRoom self.old.pieces self.old.place }
         ensures ok { OnOk result ((command : Meant)
             × Performs (with_state self.old (T.contents held.old))
-            (with_state self.new (T.contents held.new)) command) }
+            (with_state self.new (T.contents held.new)) command
+            × T.Tells held.old held.new ((T.contents held.old).count + 1) command) }
         ensures refused { IfErr result (RefusesPiece (with_state self.old (T.contents held.old))) }
         ensures walk { OnErr result (self.new ≡ self.old) }
         ensures kept { on_refusal ≡ OnRefusal.KeepState
             → OnErr result (T.Keeps held.new (T.contents held.old)) }
     {
-        let command = self.command(alloc, held.accepted())?;
-        self.replay(alloc, held, command, on_refusal)
+        match replay_record(alloc, held, self.pieces.piece(), on_refusal) {
+            Ok(_) => {
+                self.place = self.place.after(self.pieces.piece());
+                Ok(())
+            }
+            Err(fault) => Err(self.place.fault_here(fault)),
+        }
     }
 }
 
-/// Reads a piece as the record after `count` commands, and returns its command.
-pub(crate) fn next_command(alloc: Global, count: u64, piece: &[u8]) -> Result<Command, RecordFault>
-    ensures ok { IfOk result (λ command. IsRecord piece.now (command_of command) (count + 1)) }
-    ensures room { OnOk result (count < u64.MAX) }
-    ensures refused { IfErr result (λ fault. (s : Contents) → s.count ≡ count
-        → RefusesRecord piece.now s fault) }
+/// Whether the number is before that of a base with `count` commands.
+fn is_before(at: Option<u64>, count: u64) -> bool
+    ensures before { result ≡ true → (number : ℕ) × (at ≡ Some number) × (number < count) }
+    ensures not_before { result ≡ false → IfSome at (λ number. count ≤ number) }
 {
-    match read_next(alloc, piece, count) {
-        Ok(command) => Ok(command),
-        Err(NoNext::NotARecord) => Err(RecordFault::Bad(NoRecord::NotARecord)),
-        Err(NoNext::OtherNumber { found }) => {
-            Err(RecordFault::Bad(NoRecord::WrongNumber { found }))
-        }
-        Err(NoNext::OutOfMemory) => Err(RecordFault::OutOfMemory),
+    match at {
+        Some(number) => number < count,
+        None => false,
+    }
+}
+
+/// Whether a count is the number that is asked for.
+fn is_reached(at: Option<u64>, count: u64) -> bool
+    ensures reached { result ≡ true → at ≡ Some count }
+    ensures not_yet { result ≡ false → at ≢ Some count }
+{
+    match at {
+        Some(number) => number == count,
+        None => false,
     }
 }

@@ -1,16 +1,9 @@
 -- What a crash during an append leaves, from the images that it leaves.
 use Rattle.std.proofs.Common.{◌⊎◌, ℕ, List, option_map}
-use Rattle.conf_disk.specs.Folder.{Append, after, with_pending, bytes_under}
-use Rattle.conf_disk.specs.Image.{IsImage, IsWhole}
-use Rattle.conf_disk.specs.Models.{DiskModel}
-use Rattle.conf_disk.specs.Moments.{LeavesOnly}
-use Rattle.conf_disk.specs.declared.disk.Name.TheVariants.{Store}
-use Rattle.conf_disk.proofs.Moments.{LeavesOnly-weaker}
-use Rattle.conf_journal.specs.Appends.{LeavesAppended}
-use Rattle.conf_journal.specs.Held.{IsLeftOf}
-use Rattle.conf_journal.specs.Store.{IsStoreOf, IsTail}
-use Rattle.conf_journal.proofs.Held.{held-left, with_pending-holds}
-use Rattle.conf_journal.proofs.Stores.{appended_store-leaves}
+use Rattle.conf_journal.proofs.Prelude.{Append, after, with_pending, bytes_under, IsImage, IsWhole, DiskModel, LeavesOnly, Store}
+use Rattle.conf_journal.proofs.Prelude.{LeavesOnly-weaker}
+use Rattle.conf_journal.specs.{Appends.LeavesAppended, Held.IsLeftOf, Store.IsStoreOf, Store.IsTail}
+use Rattle.conf_journal.proofs.{Held.held-left, Held.with_pending-holds, Stores.appended_store-leaves}
 
 -- a run that leaves only images of an append to the store leaves what an append may leave
 pub leaves-with_pending : {D : Type 0} (model : DiskModel D) (bytes : List ℕ) (old new : D) → IsWhole (model.folder old)

@@ -1,9 +1,6 @@
 -- How a procedure fails that makes one call after another.
 use Rattle.std.proofs.Common.{◌≡◌, ℕ, Result, Ok, Err, sym, ◌∙◌, subst}
-use Rattle.conf_disk.specs.Folder.{Step}
-use Rattle.conf_disk.specs.Models.{DiskModel}
-use Rattle.conf_disk.specs.Moments.{CountsFailures, IsChange}
-use Rattle.conf_disk.specs.declared.disk.DiskFault.{DiskFault}
+use Rattle.conf_journal.proofs.Prelude.{DiskModel, CountsFailures, DiskFault}
 use Rattle.conf_journal.specs.Fails.{FailsAsCalls}
 
 -- the failures of a first call that succeeds, and of what comes after it
@@ -23,11 +20,6 @@ counts-passed {U} {old} {new} counts same =
       device = λ is. counts.device cc;
       spent = λ at. cc (counts.spent at);
     })
-
--- a call of the disk fails as one
-pub fails-call : {D : Type 0} {model : DiskModel D} {step : Step} {old : D} {result : Result (Unit {0}) DiskFault} {new : D}
-    → IsChange model step old result new → FailsAsCalls model old result new
-fails-call is = record { spent = is.spent; failures = is.failures; fault = is.fault }
 
 -- so does what comes after a success
 pub fails-then : {D : Type 0} {model : DiskModel D} {old mid new : D} {done : Unit {0}} {result : Result (Unit {0}) DiskFault}

@@ -1,16 +1,10 @@
 -- What a crash leaves of the file that is held under `store.yaml`, what it reads as, and what an append makes of it.
 use Rattle.std.proofs.Common.{◌≡◌, ℕ, List, length, get_or, Option, Some, None, option_map, refl, sym, ◌∙◌, ap, subst}
-use Rattle.std.proofs.lemmas.List.{append-nil, get_or-set_same}
-use Rattle.std.proofs.lemmas.List.Elements.{All-contains}
-use Rattle.conf_disk.specs.Folder.{File, empty_file, file_bytes, Stage, Folder, stages, Append, with_file}
-use Rattle.conf_disk.specs.Folder.{with_pending, after, bytes_at, bytes_under, Tells, Reads}
-use Rattle.conf_disk.specs.Image.{Image, IsImage, IsTornAt, synced_file, IsMade, IsWhole}
-use Rattle.conf_disk.specs.LogLaws.{now_staged}
-use Rattle.conf_disk.specs.declared.disk.Name.TheVariants.{Store}
-use Rattle.conf_disk.proofs.Stops.{IsTorn-synced}
+use Rattle.conf_journal.proofs.Prelude.{append-nil, get_or-set_same, All-contains, File, empty_file, file_bytes, Stage, Folder, stages}
+use Rattle.conf_journal.proofs.Prelude.{Append, with_file, with_pending, after, bytes_at, bytes_under, Tells, Reads, Image, IsImage}
+use Rattle.conf_journal.proofs.Prelude.{IsTornAt, synced_file, IsMade, IsWhole, now_staged, Store, IsTorn-synced}
 use Rattle.conf_disk.specs.declared.disk.Content.TheVariants.{Missing}
-use Rattle.conf_journal.specs.Store.{IsStoreOf}
-use Rattle.conf_journal.specs.Held.{file_at, HoldsStore, IsLeftOf}
+use Rattle.conf_journal.specs.{Store.IsStoreOf, Held.file_at, Held.HoldsStore, Held.IsLeftOf}
 
 left_of_torn : (files : List File) (place : Option ℕ) (store : Option (List ℕ)) → IsTornAt files place store
     → IsLeftOf (file_at files place) store

@@ -1,8 +1,6 @@
 -- Runs of calls, one after the other, that leave old stores.
 use Rattle.std.proofs.Common.{◌≡◌, ◌≤◌, ◌⊎◌, inl, inr, ⊎_elim, ℕ, List, Option, subst}
-use Rattle.conf_disk.specs.Image.{Image, IsImage}
-use Rattle.conf_disk.specs.Models.{DiskModel}
-use Rattle.conf_disk.proofs.Moments.{LeavesOnly-joined, LeavesOnly-now}
+use Rattle.conf_journal.proofs.Prelude.{Image, IsImage, DiskModel, LeavesOnly-joined, LeavesOnly-now}
 use Rattle.conf_journal.specs.Store.{IsStoreOf, LeavesOldStore, LeavesStoreOr}
 
 module _ {D : Type 0} (model : DiskModel D)

@@ -1,3 +1,4 @@
+pub mod Prelude
 pub mod Reading
 pub mod Runs
 pub mod Stores

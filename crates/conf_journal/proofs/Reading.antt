@@ -1,16 +1,10 @@
 -- What reads after a call.
-use Rattle.std.proofs.Common.{◌≡◌, inl, inr, ℕ, zero, suc, ◌<◌, List, ◌++◌, length, get_or, set, take, drop, Option}
-use Rattle.std.proofs.Common.{Some, None, Result, Ok, Err, OnOk, refl, sym, ◌∙◌, ap, append_assoc, take-append-drop}
-use Rattle.std.proofs.lemmas.List.{append-nil, get_or-set_same, get_or-set_other}
-use Rattle.conf_disk.specs.Folder.{File, empty_file, file_bytes, Folder, Step, Append, Sync, SyncFolder, with_file}
-use Rattle.conf_disk.specs.Folder.{with_pending, synced_whole, synced_first, after, after_part, Performs, bytes_at}
-use Rattle.conf_disk.specs.Folder.{bytes_under, under}
-use Rattle.conf_disk.specs.Image.{Image, image_now, IsMade, IsApartFrom, IsWhole}
-use Rattle.conf_disk.specs.LogLaws.{now_staged}
-use Rattle.conf_disk.specs.declared.disk.Name.{Name}
-use Rattle.conf_disk.specs.declared.disk.Name.TheVariants.{Store, Next}
-use Rattle.conf_disk.specs.declared.disk.DiskFault.{DiskFault}
-use Rattle.conf_disk.proofs.Images.{get_or-set_cases}
+use Rattle.std.proofs.Common.{◌≡◌, inl, inr, ℕ, zero, suc, ◌<◌, List, ◌++◌, length, get_or, set, take, drop, Option, Some, None, Result, Ok}
+use Rattle.std.proofs.Common.{Err, OnOk, refl, sym, ◌∙◌, ap, append_assoc, take-append-drop}
+use Rattle.conf_journal.proofs.Prelude.{append-nil, get_or-set_same, get_or-set_other, File, empty_file, file_bytes, Folder, Step, Append}
+use Rattle.conf_journal.proofs.Prelude.{Sync, SyncFolder, with_file, with_pending, synced_whole, synced_first, after, after_part, Performs}
+use Rattle.conf_journal.proofs.Prelude.{bytes_at, bytes_under, under, Image, image_now, IsMade, IsApartFrom, IsWhole, now_staged, Name}
+use Rattle.conf_journal.proofs.Prelude.{Store, Next, DiskFault, get_or-set_cases}
 use Rattle.conf_journal.specs.Store.{file_with_bytes}
 
 -- a file with more pending bytes reads as its bytes and then those

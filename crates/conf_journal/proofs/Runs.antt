@@ -1,13 +1,9 @@
 -- A run of steps on an honest disk: each is performed, or one fails and nothing more is done.
 use Rattle.std.proofs.Common.{◌≡◌, ◌⊎◌, inl, inr, ⊎_elim, List, [], ◌∷◌, ◌++◌, Result, refl, subst}
-use Rattle.conf_disk.specs.Folder.{Folder, Step, CreateNext, Append, Sync, RenameNext, RemoveNext, SyncFolder, after}
-use Rattle.conf_disk.specs.Image.{Image, IsImage}
+use Rattle.conf_journal.proofs.Prelude.{Folder, Step, CreateNext, Append, Sync, RenameNext, RemoveNext, SyncFolder, after, Image, IsImage}
+use Rattle.conf_journal.proofs.Prelude.{TimeGoesOn, IsChange, LeavesOnly, Ghosts, DiskFault, grown, grown-grows, grown-cases, after-grown}
+use Rattle.conf_journal.proofs.Prelude.{LeavesOnly-step, LeavesOnly-same, LeavesOnly-joined, LeavesOnly-weaker}
 use Rattle.conf_disk.specs.Log.{folder_after}
-use Rattle.conf_disk.specs.Moments.{TimeGoesOn, IsChange, LeavesOnly}
-use Rattle.conf_disk.specs.declared.disk.Disk.{Ghosts}
-use Rattle.conf_disk.specs.declared.disk.DiskFault.{DiskFault}
-use Rattle.conf_disk.proofs.Images.{grown, grown-grows, grown-cases, after-grown}
-use Rattle.conf_disk.proofs.Moments.{LeavesOnly-step, LeavesOnly-same, LeavesOnly-joined, LeavesOnly-weaker}
 
 -- an image of the folder before these steps, between two of them, or after them
 abbrev pub LeftDuring : List Step → Folder → Image → Type 0

@@ -1,27 +1,16 @@
 -- What a crash may leave of `store.yaml` when a call changed something else, or appended to it.
-use Rattle.std.proofs.Common.{◌≡◌, ◌≢◌, ◌⊎◌, inl, inr, ⊎_elim, ℕ, ◌<◌, List, [], ◌∷◌, ◌++◌, length, get_or, set, take}
-use Rattle.std.proofs.Common.{replicate, Option, Some, None, Contains, IsSome, Result, Ok, Err, OnOk, refl, sym, ◌∙◌}
-use Rattle.std.proofs.Common.{ap, subst, arith, length-append}
-use Rattle.std.proofs.lemmas.List.{append-nil, get_or-set_same, get_or-set_other, get_or_append_left}
-use Rattle.std.proofs.lemmas.List.Elements.{All-contains, Contains-append_right, Contains-append_cases}
+use Rattle.std.proofs.Common.{◌≡◌, ◌≢◌, ◌⊎◌, inl, inr, ⊎_elim, ℕ, ◌<◌, List, [], ◌∷◌, ◌++◌, length, get_or, set, take, replicate, Option}
+use Rattle.std.proofs.Common.{Some, None, Contains, IsSome, Result, Ok, Err, OnOk, refl, sym, ◌∙◌, ap, subst, arith, length-append}
+use Rattle.conf_journal.proofs.Prelude.{append-nil, get_or-set_same, get_or-set_other, get_or_append_left, All-contains}
+use Rattle.conf_journal.proofs.Prelude.{Contains-append_right, Contains-append_cases, File, empty_file, file_bytes, Stage, Folder, stages}
+use Rattle.conf_journal.proofs.Prelude.{Step, CreateNext, Append, Sync, RenameNext, RemoveNext, SyncFolder, with_file, with_pending}
+use Rattle.conf_journal.proofs.Prelude.{synced_whole, after_remove, after_create, after_rename, after, Performs, bytes_at, bytes_under}
+use Rattle.conf_journal.proofs.Prelude.{under, Image, IsImage, IsTorn, IsTornAt, IsMade, IsApartFrom, IsStage, IsWhole, now_staged}
+use Rattle.conf_journal.proofs.Prelude.{after-whole, LeavesOnly, Ghosts, Name, Store, Next, DiskFault, after-grown, LeavesOnly-weaker}
+use Rattle.conf_journal.proofs.Prelude.{IsTornAt-whole, IsTorn-synced, only_stage}
 use Rattle.std.proofs.lemmas.Bool.{cases_eq}
-use Rattle.conf_disk.specs.Folder.{File, empty_file, file_bytes, Stage, Folder, stages, Step, CreateNext, Append}
-use Rattle.conf_disk.specs.Folder.{Sync, RenameNext, RemoveNext, SyncFolder, with_file, with_pending, synced_whole}
-use Rattle.conf_disk.specs.Folder.{after_remove, after_create, after_rename, after, Performs, bytes_at, bytes_under}
-use Rattle.conf_disk.specs.Folder.{under}
-use Rattle.conf_disk.specs.Image.{Image, IsImage, IsTorn, IsTornAt, IsMade, IsApartFrom, IsStage, IsWhole}
-use Rattle.conf_disk.specs.LogLaws.{now_staged, after-whole}
-use Rattle.conf_disk.specs.Moments.{LeavesOnly}
-use Rattle.conf_disk.specs.declared.disk.Disk.{Ghosts}
-use Rattle.conf_disk.specs.declared.disk.Name.{Name}
-use Rattle.conf_disk.specs.declared.disk.Name.TheVariants.{Store, Next}
-use Rattle.conf_disk.specs.declared.disk.DiskFault.{DiskFault}
-use Rattle.conf_disk.proofs.Images.{after-grown}
-use Rattle.conf_disk.proofs.Moments.{LeavesOnly-weaker}
-use Rattle.conf_disk.proofs.Stops.{IsTornAt-whole, IsTorn-synced, only_stage}
 use Rattle.conf_journal.specs.Store.{IsStoreOf, IsTail, IsSynced, IsSyncedAt, LeavesOldStore}
-use Rattle.conf_journal.proofs.Reading.{synced-reads_same}
-use Rattle.conf_journal.proofs.Runs.{LeftDuring, SyncsLast, grown_after, grown-left}
+use Rattle.conf_journal.proofs.{Reading.synced-reads_same, Runs.LeftDuring, Runs.SyncsLast, Runs.grown_after, Runs.grown-left}
 
 -- one of the folder's stages has this store
 IsStoreOf-stage : (folder : Folder) (stage : Stage) (store : Option (List ℕ)) → Contains (stages folder) stage

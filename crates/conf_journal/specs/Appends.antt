@@ -1,12 +1,8 @@
 -- What a crash during an append to `store.yaml` leaves.
 use Rattle.std.specs.Prelude.{◌⊎◌, ℕ, List, Option, option_map}
-use Rattle.conf_disk.specs.Folder.{File, Append, after, with_pending, bytes_under}
-use Rattle.conf_disk.specs.Image.{IsImage}
-use Rattle.conf_disk.specs.Models.{DiskModel}
-use Rattle.conf_disk.specs.Moments.{LeavesOnly}
-use Rattle.conf_disk.specs.declared.disk.Name.TheVariants.{Store}
-use Rattle.conf_journal.specs.Held.{HoldsStore, IsLeftOf}
-use Rattle.conf_journal.specs.Store.{IsStoreOf, IsTail, IsSynced}
+use Rattle.conf_journal.specs.Prelude.{File, Append, after, with_pending, bytes_under, IsImage, DiskModel, LeavesOnly}
+use Rattle.conf_journal.specs.Prelude.{Store}
+use Rattle.conf_journal.specs.{Held.HoldsStore, Held.IsLeftOf, Store.IsStoreOf, Store.IsTail, Store.IsSynced}
 
 -- What a crash at any moment of the append leaves, whatever the append returned.
 pub record LeavesAppended {D : Type 0} (model : DiskModel D)

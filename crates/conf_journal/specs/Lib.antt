@@ -1,3 +1,4 @@
+pub mod Prelude
 pub mod Store
 pub mod Held
 pub mod Appends

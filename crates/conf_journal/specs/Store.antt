@@ -1,11 +1,9 @@
 -- What a crash may leave under `store.yaml`, in plain words.
-use Rattle.std.specs.Prelude.{◌≡◌, ◌⊎◌, ℕ, ◌+◌, ◌≤◌, List, [], ◌++◌, length, get_or, take, replicate, Option, Some, None, option_map}
-use Rattle.conf_disk.specs.Folder.{File, empty_file, Folder, under, bytes_under}
-use Rattle.conf_disk.specs.Image.{Image, IsImage, image_now}
-use Rattle.conf_disk.specs.Models.{DiskModel}
-use Rattle.conf_disk.specs.Moments.{LeavesOnly}
+use Rattle.std.specs.Prelude.{◌≡◌, ◌⊎◌, ℕ, ◌+◌, ◌≤◌, List, [], ◌++◌, length, get_or, take, replicate, Option, Some}
+use Rattle.std.specs.Prelude.{None, option_map}
+use Rattle.conf_journal.specs.Prelude.{File, empty_file, Folder, under, bytes_under, Image, IsImage, image_now}
+use Rattle.conf_journal.specs.Prelude.{DiskModel, LeavesOnly, Store, Next}
 use Rattle.conf_disk.specs.declared.disk.Name.{Name}
-use Rattle.conf_disk.specs.declared.disk.Name.TheVariants.{Store, Next}
 
 -- the most bytes of `store.yaml`
 abbrev pub store_limit : ℕ

@@ -1,8 +1,6 @@
 // Laws of the model, each the contract of a function that does nothing.
 ghost use Rattle.std.specs.Prelude.{ℕ, List, Option};
-ghost use Rattle.conf_disk.specs.Folder.{Folder};
-ghost use Rattle.conf_disk.specs.Image.{IsImage};
-ghost use Rattle.conf_disk.specs.Moments.{LeavesOnly};
+ghost use Rattle.conf_journal.specs.Prelude.{Folder, IsImage, LeavesOnly};
 ghost use Rattle.conf_journal.specs.Held.{HeldIsLeft, SyncedIsLeft, OnlyHeldIsLeft, HeldIsRead, MissingIsNone};
 ghost use Rattle.conf_journal.specs.Store.{LeavesOldStore, LeavesStoreOr};
 

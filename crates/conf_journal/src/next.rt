@@ -1,9 +1,7 @@
 // The procedures that replace `store.yaml` by a new file.
 ghost use Rattle.std.specs.Prelude.{◌≡◌, ◌⊎◌, [], ◌∷◌, Option, IsSome, OnOk, Some, None};
-ghost use Rattle.conf_disk.specs.Folder.{File, CreateNext, Append, Sync, RenameNext, RemoveNext, SyncFolder, after, bytes_under};
-ghost use Rattle.conf_disk.specs.Image.{IsImage, image_now};
-ghost use Rattle.conf_disk.specs.Log.{folder_after};
-ghost use Rattle.conf_disk.specs.Moments.{LeavesOnly};
+ghost use Rattle.conf_journal.specs.Prelude.{File, CreateNext, Append, Sync, RenameNext, RemoveNext, SyncFolder, after};
+ghost use Rattle.conf_journal.specs.Prelude.{bytes_under, IsImage, image_now, folder_after, LeavesOnly};
 ghost use Rattle.conf_journal.specs.Fails.{FailsAsCalls};
 ghost use Rattle.conf_journal.specs.Store.{IsSynced, LeavesOldStore, LeavesStoreOrStaged, ReadsAs, file_with_bytes};
 ghost use Rattle.conf_journal.specs.Held.{HoldsStaged, HoldsStore};

@@ -1,9 +1,7 @@
 // The procedure that reads `store.yaml`.
 ghost use Rattle.std.specs.Prelude.{◌≡◌, [], ◌∷◌, OnOk, IfOk, Err, option_map};
-ghost use Rattle.conf_disk.specs.Folder.{Sync, SyncFolder, bytes_under, Reads};
-ghost use Rattle.conf_disk.specs.Image.{IsImage, image_now, synced_file};
-ghost use Rattle.conf_disk.specs.Log.{folder_after};
-ghost use Rattle.conf_disk.specs.Moments.{CountsFailures, LeavesOnly};
+ghost use Rattle.conf_journal.specs.Prelude.{Sync, SyncFolder, bytes_under, Reads, IsImage, image_now, synced_file};
+ghost use Rattle.conf_journal.specs.Prelude.{folder_after, CountsFailures, LeavesOnly};
 ghost use Rattle.conf_journal.specs.Held.{HoldsStore};
 ghost use Rattle.conf_journal.specs.Store.{store_limit};
 

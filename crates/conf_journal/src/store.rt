@@ -1,9 +1,7 @@
 // The procedures that append to `store.yaml`.
 ghost use Rattle.std.specs.Prelude.{◌≡◌, [], ◌∷◌, Option, IsSome, OnOk, Err, option_map};
-ghost use Rattle.conf_disk.specs.Folder.{File, Append, Sync, after, with_pending, synced_whole};
-ghost use Rattle.conf_disk.specs.Image.{IsImage, image_now};
-ghost use Rattle.conf_disk.specs.Log.{folder_after};
-ghost use Rattle.conf_disk.specs.Moments.{LeavesOnly};
+ghost use Rattle.conf_journal.specs.Prelude.{File, Append, Sync, after, with_pending, synced_whole, IsImage, image_now};
+ghost use Rattle.conf_journal.specs.Prelude.{folder_after, LeavesOnly};
 ghost use Rattle.conf_journal.specs.Appends.{LeavesAppended};
 ghost use Rattle.conf_journal.specs.Fails.{FailsAsCalls};
 ghost use Rattle.conf_journal.specs.Store.{ReadsAppended};

@@ -1,41 +1,33 @@
 -- What holds of a command that `step` accepts: its name and its path are good, and its parts are small.
-use Rattle.std.proofs.Common.{◌≡◌, ℕ, ◌≤◌, Bool, true, false, nat_lt, if◌then◌else◌, List, [], ◌∷◌, Option, Some}
-use Rattle.std.proofs.Common.{None, Result, Ok, Err, is_ok, refl, ap, subst, arith}
-use Rattle.std.proofs.lemmas.Bool.Decides.{nat_tests}
-use Rattle.yaml_grammar.specs.Texts.{byte_len, same_text}
-use Rattle.yaml_grammar.specs.Trees.{Tree, depth}
-use Rattle.yaml_grammar.specs.Style.{style_text}
-use Rattle.tree_path.specs.Paths.{set, delete}
-use Rattle.json_pointer.specs.Pointers.{path_of}
-use Rattle.json_pointer.specs.declared.fault.PathFault.{PathFault}
-use Rattle.conf_state.specs.Names.{good_name}
-use Rattle.conf_state.specs.Commands.{Edit, import_as, set_at, delete_at, Command, single, batch, name_of}
-use Rattle.conf_state.specs.States.{Entry, Contents, config_named, put_config, cut_config}
-use Rattle.yaml_config.specs.Limits.{config_limits}
-use Rattle.conf_state.specs.Limits.{AreConfigs, IsState}
+use Rattle.std.proofs.Common.{◌≡◌, ℕ, ◌≤◌, Bool, true, false, nat_lt, if◌then◌else◌, List, [], ◌∷◌, Option, Some, None, Result, Ok, Err}
+use Rattle.std.proofs.Common.{is_ok, refl, ap, subst, ◌∙◌, arith}
+use Rattle.conf_record.proofs.Prelude.{nat_tests, byte_len, same_text, Tree, depth, style_text, set, delete, path_of, PathFault, good_name}
+use Rattle.conf_record.proofs.Prelude.{Edit, import_as, set_at, delete_at, Command, single, batch, name_of, Entry, Contents, config_named}
+use Rattle.conf_record.proofs.Prelude.{put_config, cut_config, config_limits, AreConfigs, IsState}
 use Rattle.conf_state.specs.Steps.{found, by_path, checked_tree, with_checked_config, configs_after_delete}
 use Rattle.conf_state.specs.Steps.{configs_after, edited, all_edited, performed, next_state, step}
 use Rattle.conf_state.specs.declared.fault.StoreFault.TheVariants.{BadName, Path, TooDeep, ConfigLarge}
 use Rattle.conf_state.specs.declared.room.Room.{Room}
-use Rattle.conf_record.specs.SmallCommands.{IsSmallTree, IsShortPath, IsSmallEdit, AreSmallEdits, IsSmallCommand}
-use Rattle.conf_record.proofs.SizeLemmas.{size}
-use Rattle.conf_record.proofs.PathLemmas.{tokens_size, set_holds, delete_holds}
-use Rattle.conf_record.proofs.PointerLemmas.{pointer_bytes}
 use Rattle.conf_state.proofs.RunLaws.{and_then-Ok}
+use Rattle.yaml_config.proofs.DepthLemmas.{set-deepens}
+use Rattle.conf_record.specs.SmallCommands.{IsSmallTree, IsShortPath, IsSmallEdit, AreSmallEdits, IsSmallCommand}
+use Rattle.conf_record.proofs.{SizeLemmas.size, PointerLemmas.pointer_bytes}
+use Rattle.conf_record.proofs.PathLemmas.{tokens_size, set_holds, delete_holds}
 
 -- ---- the answers of the parts
 
 no_less : (a b : ℕ) → nat_lt a b ≡ false → b ≤ a
 no_less a b e = grind (arith, nat_tests)
 
-limited_small : (t u : Tree) → checked_tree t ≡ Ok u → IsSmallTree t
-limited_small t u is = by (nat_lt config_limits.depth (depth t)) refl (nat_lt config_limits.style (byte_len (style_text t))) refl is
+-- a tree that is checked is small
+checked : (t u : Tree) → checked_tree t ≡ Ok u → IsSmallTree t × (t ≡ u)
+checked t u is = by (nat_lt config_limits.depth (depth t)) refl (nat_lt config_limits.style (byte_len (style_text t))) refl is
   where
     by : (d : Bool) → nat_lt config_limits.depth (depth t) ≡ d → (l : Bool) → nat_lt config_limits.style (byte_len (style_text t)) ≡ l
-        → (if d then Err TooDeep else if l then Err ConfigLarge else Ok t) ≡ Ok u → IsSmallTree t
+        → (if d then Err TooDeep else if l then Err ConfigLarge else Ok t) ≡ Ok u → IsSmallTree t × (t ≡ u)
     by true deep l long same = cc
     by false deep true long same = cc
-    by false deep false long same = record { deep = no_less _ _ deep; bytes = no_less _ _ long }
+    by false deep false long same = (record { deep = no_less _ _ deep; bytes = no_less _ _ long }, cc)
 
 found-Ok : (o : Option Tree) (t : Tree) → found o ≡ Ok t → o ≡ Some t
 found-Ok None t is = cc
@@ -84,104 +76,63 @@ short_cut (e ∷ es) name all = by (same_text name e.0) (cut_config es name) (sh
     by true rest more = all.1
     by false rest more = (all.0, more)
 
-checked_short : (t u : Tree) → checked_tree t ≡ Ok u → size u ≤ config_limits.style
-checked_short t u is = by (nat_lt config_limits.depth (depth t)) (nat_lt config_limits.style (byte_len (style_text t))) refl is
-  where
-    by : (d l : Bool) → nat_lt config_limits.style (byte_len (style_text t)) ≡ l
-        → (if d then Err TooDeep else if l then Err ConfigLarge else Ok t) ≡ Ok u
-        → size u ≤ config_limits.style
-    by true l long same = cc
-    by false true long same = cc
-    by false false long same =
-        let tree : t ≡ u = cc in
-        subst (λ v. size v ≤ config_limits.style) tree (no_less _ _ long)
-
 good_path : (path : List ℕ) (tokens : List (List ℕ)) → path_of path ≡ Ok tokens
     → tokens_size tokens ≤ config_limits.style → IsShortPath path
 good_path path tokens is few =
     let bytes = pointer_bytes path tokens is in
     record { parsed = ap is_ok is; bytes = omega arith }
 
--- ---- the whole
-
-placed_small : (configs : List Entry) (name : List ℕ) (t : Tree) (after : List Entry)
-    → with_checked_config configs name t ≡ Ok after → IsSmallTree t
-placed_small configs name t after is =
-    let done = and_then-Ok (checked_tree t) (λ u. Ok (put_config configs name u)) after is in
-    limited_small t done.0 done.1
-
-deleted_size : (configs : List Entry) (name : List ℕ) (t : Tree) (tokens : List (List ℕ)) (after : List Entry)
-    → size t ≤ config_limits.style
-    → configs_after_delete configs name t tokens ≡ Ok after → tokens_size tokens ≤ config_limits.style
-deleted_size configs name t [] after small is = omega arith
-deleted_size configs name t (token ∷ tokens) after small is =
-    let done = and_then-Ok (by_path (delete t (token ∷ tokens))) (with_checked_config configs name) after is in
-    let bytes = delete_holds t done.0 (token ∷ tokens) (by_path-Ok (delete t (token ∷ tokens)) done.0 done.1) in
-    omega arith
-
-placed_short : (configs : List Entry) (name : List ℕ) (t : Tree) (after : List Entry) → AreShort configs
-    → with_checked_config configs name t ≡ Ok after → AreShort after
-placed_short configs name t after all is =
-    let done = and_then-Ok (checked_tree t) (λ u. Ok (put_config configs name u)) after is in
-    let placed = done.2 in
-    let same : put_config configs name done.0 ≡ after = cc in
-    subst AreShort same (short_put configs name done.0 (checked_short t done.0 done.1) all)
-
-deleted_short : (configs : List Entry) (name : List ℕ) (t : Tree) (tokens : List (List ℕ)) (after : List Entry) → AreShort configs
-    → configs_after_delete configs name t tokens ≡ Ok after → AreShort after
-deleted_short configs name t [] after all is =
-    let same : cut_config configs name ≡ after = cc in
-    subst AreShort same (short_cut configs name all)
-deleted_short configs name t (token ∷ tokens) after all is =
-    let done = and_then-Ok (by_path (delete t (token ∷ tokens))) (with_checked_config configs name) after is in
-    placed_short configs name done.0 after all done.2
-
 -- ---- one edit
 
+module _ (configs after : List Entry) (all : AreShort configs) (name : List ℕ) where
+  placed : (t : Tree) → with_checked_config configs name t ≡ Ok after → IsSmallTree t × AreShort after
+  placed t is =
+      let done = and_then-Ok (checked_tree t) (λ u. Ok (put_config configs name u)) after is in
+      let small = checked t done.0 done.1 in
+      let put : put_config configs name done.0 ≡ after = let made = done.2 in cc in (
+        small.0,
+        subst AreShort (ap (put_config configs name) small.1 ∙ put) (short_put configs name t small.0.bytes all),
+      )
+
+  deleted : (t : Tree) (tokens : List (List ℕ)) → size t ≤ config_limits.style → configs_after_delete configs name t tokens ≡ Ok after
+      → (tokens_size tokens ≤ config_limits.style) × AreShort after
+  deleted t [] small is =
+      let cut : cut_config configs name ≡ after = cc in
+      (omega arith, subst AreShort cut (short_cut configs name all))
+  deleted t (token ∷ tokens) small is =
+      let done = and_then-Ok (by_path (delete t (token ∷ tokens))) (with_checked_config configs name) after is in
+      let bytes = delete_holds t done.0 (token ∷ tokens) (by_path-Ok (delete t (token ∷ tokens)) done.0 done.1) in
+      (omega (arith, bytes, small), (placed done.0 done.2).1)
+
 module _ (configs after : List Entry) (all : AreShort configs) where
-  after_accepted : (edit : Edit) → good_name (name_of edit) ≡ true → configs_after configs edit ≡ Ok after → IsSmallEdit edit
-  after_accepted (import_as name tree) named is = (named, placed_small configs name tree after is)
+  after_accepted : (edit : Edit) → good_name (name_of edit) ≡ true → configs_after configs edit ≡ Ok after
+      → IsSmallEdit edit × AreShort after
+  after_accepted (import_as name tree) named is = let new = placed configs after all name tree is in ((named, new.0), new.1)
   after_accepted (set_at name path value) named is =
       let config = and_then-Ok (found (config_named configs name)) _ after is in
       let parsed = and_then-Ok (by_path (path_of path)) _ after config.2 in
       let done = and_then-Ok (by_path (set config.0 parsed.0 value)) (with_checked_config configs name) after parsed.2 in
-      let small = placed_small configs name done.0 after done.2 in
-      let whole = small.bytes in
-      let deepest = small.deep in
-      let holds = set_holds config.0 value done.0 parsed.0 (by_path-Ok (set config.0 parsed.0 value) done.0 done.1) in
-      let bytes = holds.bytes in
-      let deep = holds.deep in (
-        named,
-        good_path path parsed.0 (by_path-Ok (path_of path) parsed.0 parsed.1) (omega arith),
-        record { deep = omega arith; bytes = omega arith },
-      )
+      let new = placed configs after all name done.0 done.2 in
+      let whole = by_path-Ok (set config.0 parsed.0 value) done.0 done.1 in
+      let bytes = set_holds config.0 value done.0 parsed.0 whole in
+      let deep = (set-deepens config.0 value done.0 parsed.0 whole).least in
+      let value_small : IsSmallTree value =
+      record { deep = omega (arith, deep, new.0.deep); bytes = omega (arith, bytes, new.0.bytes) } in
+      let short = good_path path parsed.0 (by_path-Ok (path_of path) parsed.0 parsed.1) (omega (arith, bytes, new.0.bytes)) in
+      ((named, short, value_small), new.1)
   after_accepted (delete_at name path) named is =
       let config = and_then-Ok (found (config_named configs name)) _ after is in
       let parsed = and_then-Ok (by_path (path_of path)) (configs_after_delete configs name config.0) after config.2 in
-      let small = named_small configs name config.0 all (found-Ok (config_named configs name) config.0 config.1) in (
-        named,
-        good_path path parsed.0 (by_path-Ok (path_of path) parsed.0 parsed.1)
-            (deleted_size configs name config.0 parsed.0 after small parsed.2),
-      )
-
-  after_short : (edit : Edit) → configs_after configs edit ≡ Ok after → AreShort after
-  after_short (import_as name tree) is = placed_short configs name tree after all is
-  after_short (set_at name path value) is =
-      let config = and_then-Ok (found (config_named configs name)) _ after is in
-      let parsed = and_then-Ok (by_path (path_of path)) _ after config.2 in
-      let done = and_then-Ok (by_path (set config.0 parsed.0 value)) (with_checked_config configs name) after parsed.2 in
-      placed_short configs name done.0 after all done.2
-  after_short (delete_at name path) is =
-      let config = and_then-Ok (found (config_named configs name)) _ after is in
-      let parsed = and_then-Ok (by_path (path_of path)) (configs_after_delete configs name config.0) after config.2 in
-      deleted_short configs name config.0 parsed.0 after all parsed.2
+      let small = named_small configs name config.0 all (found-Ok (config_named configs name) config.0 config.1) in
+      let new = deleted configs after all name config.0 parsed.0 small parsed.2 in
+      ((named, good_path path parsed.0 (by_path-Ok (path_of path) parsed.0 parsed.1) new.0), new.1)
 
   edit_accepted : (edit : Edit) → edited configs edit ≡ Ok after → IsSmallEdit edit × AreShort after
   edit_accepted edit is = by (good_name (name_of edit)) refl is
     where
       by : (b : Bool) → good_name (name_of edit) ≡ b
           → (if b then configs_after configs edit else Err BadName) ≡ Ok after → IsSmallEdit edit × AreShort after
-      by true named done = (after_accepted edit named done, after_short edit done)
+      by true named done = after_accepted edit named done
       by false named done = let refused : Err BadName ≡ Ok after = done in absurd (cc)
 
 -- ---- commands

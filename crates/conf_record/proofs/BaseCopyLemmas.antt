@@ -1,35 +1,15 @@
 -- A configuration that is built from its lines is the one of the base.
-use Rattle.std.proofs.Common.{◌≡◌, Bool, true, false, if◌then◌else◌, List, [], ◌∷◌, ◌++◌, codes, decimal, Some}
-use Rattle.std.proofs.Common.{encode_utf8_all, append-nil, length, ◌≤◌, ℕ, refl, sym, ap, subst, ◌∙◌, arith}
-use Rattle.std.proofs.lemmas.Str.{encodes-append}
-use Rattle.yaml_grammar.specs.Reads.{Good}
-use Rattle.yaml_grammar.specs.Texts.{same_text}
-use Rattle.yaml_grammar.specs.Trees.{Tree}
-use Rattle.yaml_grammar.specs.Style.{members_after}
-use Rattle.yaml_writer.specs.declared.size.Size.{Size}
-use Rattle.yaml_config.specs.Limits.{config_limits}
-use Rattle.yaml_data.proofs.CharacterLemmas.{same_text-true}
-use Rattle.conf_state.specs.BaseTexts.{members, base_bytes, entry_lines}
-use Rattle.conf_state.specs.Limits.{AreConfigs, IsState}
-use Rattle.conf_state.specs.Names.{good_name}
-use Rattle.conf_state.specs.States.{Entry, Contents, config_named, put_config}
-use Rattle.conf_state.proofs.DraftLemmas.{named-put-same}
+use Rattle.std.proofs.Common.{◌≡◌, Bool, true, false, if◌then◌else◌, List, [], ◌∷◌, ◌++◌, codes, decimal, Some, is_some, encode_utf8_all}
+use Rattle.std.proofs.Common.{append-nil}
+use Rattle.std.proofs.Common.{length, ◌≤◌, ℕ, refl, sym, ap, subst, ◌∙◌, arith}
+use Rattle.conf_record.proofs.Prelude.{encodes-append, Good, same_text, Tree, members_after, Size, config_limits, same_text-true, members}
+use Rattle.conf_record.proofs.Prelude.{base_bytes, entry_lines, IsState, Entry, Contents, config_named, put_config}
+use Rattle.conf_record.proofs.Prelude.{named-put-same}
+use Rattle.conf_state.proofs.EditLemmas.{found-good}
 use Rattle.conf_state.proofs.LimitLemmas.{AreConfigs-put, names_differ-put}
-use Rattle.conf_record.specs.BaseSpans.{entry_bytes, IsBuilt}
-use Rattle.conf_record.specs.Entries.{IsEntry}
+use Rattle.conf_record.specs.{BaseSpans.entry_bytes, BaseSpans.IsBuilt, Entries.IsEntry}
 use Rattle.conf_record.specs.Documents.{IsBase, BasesAreRead, OneBase}
-use Rattle.conf_record.proofs.BaseSpanLemmas.{bytes_length}
-use Rattle.conf_record.proofs.EntryLemmas.{style_within, whole_base}
-
--- a configuration has a good name
-named_well : (es : List Entry) (name : List ℕ) (t : Tree) → AreConfigs es → config_named es name ≡ Some t → good_name name ≡ true
-named_well [] name t all found = cc
-named_well (e ∷ es) name t all found = by (same_text name e.0) refl found (named_well es name t all.2)
-  where
-    by : (b : Bool) → same_text name e.0 ≡ b → (if b then Some e.1 else config_named es name) ≡ Some t
-        → (config_named es name ≡ Some t → good_name name ≡ true) → good_name name ≡ true
-    by true same is rest = ap good_name (same_text-true name e.0 same) ∙ all.0
-    by false same is rest = rest is
+use Rattle.conf_record.proofs.{BaseSpanLemmas.bytes_length, EntryLemmas.within, EntryLemmas.whole_base}
 
 -- configurations one of which is replaced by one with the same lines
 same_lines : (es : List Entry) (name : List ℕ) (t u : Tree) → config_named es name ≡ Some t → entry_bytes name t ≡ entry_bytes name u
@@ -85,7 +65,7 @@ built_is read one s name t u kept found good same =
     let size = bytes_length other ∙ ap (λ bs. length bs) bytes ∙ sym (bytes_length s) in
     let short = kept.short in
     let keeps : IsState other = record {
-      configs = AreConfigs-put es name u (named_well es name t kept.configs found) good kept.configs;
+      configs = AreConfigs-put es name u (found-good es name kept.configs (ap is_some found)) good kept.configs;
       distinct = names_differ-put es name u kept.distinct;
       short = omega (arith, size, short);
       numbered = kept.numbered;
@@ -93,24 +73,12 @@ built_is read one s name t u kept found good same =
     let is : other ≡ s = one (base_bytes s) s other (read s kept) (subst (λ bs. IsBase bs other) bytes (read other keeps)) in
     ap (λ c. config_named c.configs name) (sym is) ∙ named-put-same es name u
 
--- the first characters of a list with none
-pub no_bytes : (rest : List ℕ) → length rest ≡ 0 → rest ≡ []
-no_bytes [] none = refl
-no_bytes (c ∷ cs) none = cc
-
 -- what is read of lines, to their end, is built
 pub built_from : (at lines key rest name : List ℕ) (t : Tree) (size : Size) → lines ≡ at → IsEntry lines key t size rest → rest ≡ []
     → key ≡ name → size.bytes ≤ 4194304 → IsBuilt at name t
 built_from at lines key rest name t size there read none named small =
-    let bytes = ap (λ s. s.bytes) read.size_is in
-    let sound = read.sound in
     record {
       written = sym there ∙ read.written ∙ ap (λ r. entry_bytes key t ++ r) none ∙ append-nil (entry_bytes key t)
           ∙ ap (λ n. entry_bytes n t) named;
-      within = record {
-        texts = sound.texts;
-        keys = sound.keys;
-        deep = sound.shallow;
-        long = omega (arith, bytes, small, style_within t);
-      };
+      within = within t size read.size_is read.sound small;
     }

@@ -1,36 +1,19 @@
 -- The configurations that are found on the lines of a base, and their spans.
 use Rattle.std.proofs.Common.{◌≡◌, ℕ, ◌+◌, ◌-◌, ◌≤◌, Bool, true, false, cond, if◌then◌else◌, List, [], ◌∷◌, ◌++◌, codes, decimal, length}
-use Rattle.std.proofs.Common.{Option, Some, None, Bor, MatchOption, is_some, option_copied, take, drop, map, length-append}
-use Rattle.std.proofs.Common.{string_bytes, String, Global, IsUtf8}
-use Rattle.std.proofs.Common.{encode_utf8_all, append_assoc, refl, sym, ap, ap₂, subst, ◌∙◌, arith}
+use Rattle.std.proofs.Common.{Option, Some, None, Bor, MatchOption, is_some, option_copied, take, drop, map, length-append, string_bytes}
+use Rattle.std.proofs.Common.{String, Global, IsUtf8, encode_utf8_all, append_assoc, refl, sym, ap, ap₂, subst, ◌∙◌, arith}
+use Rattle.conf_record.proofs.Prelude.{IsUtf8-string_bytes, lookup, chars, Good, byte_len, same_text, Tree, key_lines, value_at}
+use Rattle.conf_record.proofs.Prelude.{members_after, byte_len-append, Size, byte_len-encoded, config_limits, same_text-true, GoesOn}
+use Rattle.conf_record.proofs.Prelude.{IsStyled, members, base_text, base_bytes, base_length, entry_lines, entry_length}
+use Rattle.conf_record.proofs.Prelude.{entries_length, text_of, is_name, lines_if_there, entry_named, AreConfigs, good_name, Entry}
+use Rattle.conf_record.proofs.Prelude.{Contents, names_of, config_named, has_name, names_differ, base_limit, count_limit, has_name-named}
+use Rattle.conf_record.proofs.Prelude.{names_differ-push}
+use Rattle.std.proofs.lemmas.List.{map-append}
 use Rattle.std.proofs.Math.Seq.{take-append_seam, drop-append_seam}
-use Rattle.std.proofs.lemmas.Str.{IsUtf8-string_bytes}
-use Rattle.std.specs.Map.{lookup}
-use Rattle.std.specs.Str.{chars}
-use Rattle.yaml_grammar.specs.Reads.{Good}
-use Rattle.yaml_grammar.specs.Texts.{spaces, byte_len, same_text}
-use Rattle.yaml_grammar.specs.Trees.{Tree}
-use Rattle.yaml_grammar.specs.Style.{key_lines, value_at, members_after}
-use Rattle.yaml_writer.specs.BudgetLaws.{byte_len-append}
-use Rattle.yaml_writer.specs.declared.size.Size.{Size}
-use Rattle.yaml_writer.proofs.ByteLemmas.{byte_len-encoded}
-use Rattle.yaml_config.specs.Limits.{config_limits}
-use Rattle.yaml_data.proofs.CharacterLemmas.{same_text-true}
-use Rattle.yaml_styled.specs.Comparing.{GoesOn, goes_on_both}
-use Rattle.yaml_styled.specs.Styles.{IsStyled}
-use Rattle.conf_state.specs.BaseTexts.{members, base_text, base_bytes, base_length, entry_lines, entry_length, entries_length}
-use Rattle.conf_state.specs.Commands.{text_of}
-use Rattle.conf_state.specs.Configs.{is_name}
-use Rattle.conf_state.specs.EntryTexts.{lines_if_there, entry_named}
-use Rattle.conf_state.specs.Limits.{AreConfigs}
-use Rattle.conf_state.specs.Names.{good_name}
-use Rattle.conf_state.specs.States.{Entry, Contents, names_of, config_named, has_name, names_differ, base_limit, count_limit}
-use Rattle.conf_state.proofs.DraftLemmas.{has_name-named, names_differ-push}
 use Rattle.conf_state.proofs.EntryLemmas.{same_key}
 use Rattle.conf_record.specs.BaseSpans.{entry_bytes, IsSpan, bytes_at, AreSpans, IsGoodEntry, AreFound, IsFound, names_under}
 use Rattle.conf_record.specs.declared.base_spans.Span.{Span}
-use Rattle.conf_record.proofs.EntryLemmas.{style_within, entries_and, whole_base}
-use Rattle.conf_record.proofs.WrittenLemmas.{ascii_bytes}
+use Rattle.conf_record.proofs.EntryLemmas.{entry_lines_of, within, entries_and, whole_base}
 
 -- a span under a name
 abbrev pub Named : Type 0
@@ -42,23 +25,14 @@ Named = String Global × Span
 pub good_entry : {Is : Tree → Type 0} (lines row value rest name : List ℕ) (size : Size) → lines ≡ codes "  " ++ row
     → GoesOn row (key_lines 2 name) value → IsStyled Is (λ t. value_at t 2) size value rest → size.bytes ≤ 4194304
     → good_name name ≡ true → (t : Tree) × IsGoodEntry lines name t rest
-good_entry lines row value rest name size cut key read small named =
-    let spaced = cut ∙ ap (λ bs. bs ++ row) (sym (ascii_bytes (codes "  ") refl)) in
-    let keyed = goes_on_both lines row value (spaces 2) (key_lines 2 name) spaced key in
-    let bytes = ap (λ s. s.bytes) read.size_is in
-    let sound = read.sound in (
-      read.tree,
-      record {
-        written = goes_on_both lines value rest (spaces 2 ++ key_lines 2 name) (value_at read.tree 2) keyed read.goes_on;
-        named = named;
-        within = record {
-          texts = sound.texts;
-          keys = sound.keys;
-          deep = sound.shallow;
-          long = omega (arith, bytes, small, style_within read.tree);
-        };
-      },
-    )
+good_entry lines row value rest name size cut key read small named = (
+  read.tree,
+  record {
+    written = entry_lines_of lines row value rest name read.tree cut key read.goes_on;
+    named = named;
+    within = within read.tree size read.size_is read.sound small;
+  },
+)
 
 -- ---- what is at a span
 
@@ -257,11 +231,8 @@ found_whole bytes lines ps es count total so some small short total_is is =
 pub names_pushed : (items new : List (String Global)) (string : String Global) (name : List ℕ) (left all : List (List ℕ))
     → new ≡ items ++ string ∷ [] → text_of string ≡ name → map text_of items ++ (name ∷ left) ≡ all → map text_of new ++ left ≡ all
 names_pushed items new string name left all pushed named so =
-    ap (λ ss. map text_of ss ++ left) pushed ∙ by items ∙ so
-  where
-    by : (items : List (String Global)) → map text_of (items ++ string ∷ []) ++ left ≡ map text_of items ++ (name ∷ left)
-    by [] = ap (λ n. n ∷ left) named
-    by (s ∷ items) = ap (λ ns. text_of s ∷ ns) (by items)
+    ap (λ ss. map text_of ss ++ left) pushed ∙ ap (λ ns. ns ++ left) (map-append text_of items (string ∷ []))
+    ∙ append_assoc (map text_of items) (text_of string ∷ []) left ∙ ap (λ n. map text_of items ++ (n ∷ left)) named ∙ so
 
 -- what is lent is there
 pub copied_is_some : (found : Option (Bor Span)) → is_some found ≡ is_some (option_copied found)

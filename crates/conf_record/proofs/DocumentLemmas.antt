@@ -1,29 +1,16 @@
 -- What is written reads back, bytes are one document at most, and where documents close.
 use Rattle.std.proofs.Common.{◌≡◌, refl, sym, ◌∙◌, ap, subst, arith, ◌≤◌, take-append-drop}
-use Rattle.std.specs.Prelude.{ℕ, ◌+◌, true, List, [], ◌∷◌, ◌++◌, length, take, drop, replicate, map, Some, encode_utf8_all}
-use Rattle.std.specs.List.{concat}
-use Rattle.std.specs.Str.{chars, IsUtf8, all_scalars}
+use Rattle.std.specs.Prelude.{ℕ, ◌+◌, true, List, [], ◌∷◌, ◌++◌, length, take, drop, replicate, map, encode_utf8_all}
+use Rattle.conf_record.proofs.Prelude.{concat, chars, IsUtf8, all_scalars, and_parts, and_from, nat_tests, chars-encodes, code_point}
+use Rattle.conf_record.proofs.Prelude.{IsText, byte_len, Pieces, Tree, Limits, own_limits, IsRead, byte_len-chars, framed_text_bytes}
+use Rattle.conf_record.proofs.Prelude.{all_framed_bytes, TornInPieces, TornPieces, Command, Contents, base_limit, IsState, base_tree}
+use Rattle.conf_record.proofs.Prelude.{base_text, base_bytes, base_length}
+use Rattle.std.proofs.lemmas.Option.{same_Some}
 use lib.Utf8.{scalar}
-use Rattle.std.proofs.lemmas.Bool.{and_parts, and_from}
-use Rattle.std.proofs.lemmas.Bool.Decides.{nat_tests}
-use Rattle.std.proofs.lemmas.Str.{chars-encodes}
-use Rattle.yaml_chars.specs.Classes.{code_point}
-use Rattle.yaml_grammar.specs.Texts.{IsText, byte_len}
-use Rattle.yaml_grammar.specs.Closings.{Pieces}
-use Rattle.yaml_grammar.specs.Trees.{Tree}
-use Rattle.yaml_grammar.specs.Reads.{Limits}
-use Rattle.yaml_config.specs.Kept.{own_limits}
-use Rattle.yaml_tree.specs.Reading.{IsRead}
-use Rattle.yaml_writer.proofs.ByteLemmas.{byte_len-chars}
-use Rattle.yaml_recognizers.specs.Closings.{framed_text_bytes, all_framed_bytes, TornInPieces, TornPieces}
-use Rattle.conf_state.specs.Commands.{Command}
-use Rattle.conf_state.specs.States.{Contents, base_limit}
-use Rattle.conf_state.specs.Limits.{IsState}
-use Rattle.conf_state.specs.BaseTexts.{base_tree, base_text, base_bytes, base_length}
 use Rattle.conf_record.specs.Records.{record_tree, record_text, record_bytes}
 use Rattle.conf_record.specs.RecordsRead.{record_of, base_of, ReadsRecord, ReadsBase}
-use Rattle.conf_record.proofs.RecordLemmas.{framed_document}
 use Rattle.conf_record.specs.Documents.{IsRecord, IsBase, record_pieces, records_bytes, OneBase, OneRecord, RecordsTear}
+use Rattle.conf_record.proofs.RecordLemmas.{framed_document}
 
 -- ---- texts as bytes
 
@@ -61,9 +48,6 @@ base_is s other reads = record {
 
 -- ---- one document at most
 
-some_same : {A : Type 0} (x y : A) → Some x ≡ Some y → y ≡ x
-some_same x y e = cc
-
 -- bytes give one tree at most
 abbrev pub BytesGiveOne : Type 0
 BytesGiveOne = (bytes : List ℕ) (limits : Limits) (t u : Tree) → IsRead bytes limits t → IsRead bytes limits u → t ≡ u
@@ -74,14 +58,14 @@ module _ (give_one : BytesGiveOne) where
   one_base bytes s other first second =
       let same = give_one bytes own_limits first.reads.tree second.reads.tree
       (record { utf8 = first.utf8; gives = first.reads.gives }) (record { utf8 = second.utf8; gives = second.reads.gives }) in
-      some_same s other (sym first.reads.tells ∙ ap base_of same ∙ second.reads.tells)
+      same_Some other s (sym second.reads.tells ∙ sym (ap base_of same) ∙ first.reads.tells)
 
   -- bytes hold one record at most
   pub one_record : OneRecord
   one_record bytes command other number another first second =
       let same = give_one bytes own_limits first.reads.tree second.reads.tree
       (record { utf8 = first.utf8; gives = first.reads.gives }) (record { utf8 = second.utf8; gives = second.reads.gives }) in
-      let pair = some_same (command, number) (other, another) (sym first.reads.tells ∙ ap record_of same ∙ second.reads.tells) in
+      let pair = same_Some (other, another) (command, number) (sym second.reads.tells ∙ sym (ap record_of same) ∙ first.reads.tells) in
       (ap (λ p. p.0) pair, ap (λ p. p.1) pair)
 
 -- ---- closings

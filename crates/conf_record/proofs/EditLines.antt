@@ -1,9 +1,7 @@
 -- The lines of edits and batches, as they are written one after another.
 use Rattle.std.proofs.Common.{◌≡◌, ℕ, List, [], ◌∷◌, ◌++◌, codes, append_assoc, append-nil, refl, ap, sym, ◌∙◌}
-use Rattle.yaml_grammar.specs.Texts.{spaces}
-use Rattle.yaml_grammar.specs.Trees.{Tree, text, mapping}
-use Rattle.yaml_grammar.specs.Style.{value_at, lines_after_dash, elements_after, members_at, members_after}
-use Rattle.conf_state.specs.Commands.{Edit, import_as, set_at, delete_at, batch}
+use Rattle.conf_record.proofs.Prelude.{spaces, Tree, text, mapping, value_at, lines_after_dash, elements_after, members_at, members_after}
+use Rattle.conf_record.proofs.Prelude.{Edit, import_as, set_at, delete_at, batch}
 use Rattle.conf_record.specs.Records.{edit_members, edit_elements, command_members}
 
 -- the lines of an import, at the indentation i

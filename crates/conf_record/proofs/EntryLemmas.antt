@@ -1,37 +1,39 @@
 -- Lines of configurations make the base of a state.
-use Rattle.std.proofs.Common.{◌≡◌, ℕ, ◌≤◌, List, [], ◌∷◌, ◌++◌, codes, decimal, length, String, Global}
-use Rattle.std.proofs.Common.{encode_utf8_all, append_assoc, append-nil, refl, sym, ap, ap₂, subst, ◌∙◌, arith}
-use Rattle.std.proofs.lemmas.Fmt.{decimal_is_IsNumeral}
-use Rattle.std.proofs.lemmas.Str.{encodes-append}
-use Rattle.yaml_grammar.specs.Texts.{spaces, byte_len}
-use Rattle.yaml_grammar.specs.Trees.{Tree, text, sequence, mapping}
-use Rattle.yaml_grammar.specs.Style.{key_lines, value_at, members_after, lines_after_dash, style_text}
-use Rattle.yaml_writer.specs.Sizes.{element_size}
-use Rattle.yaml_writer.specs.declared.size.Size.{Size}
-use Rattle.yaml_writer.proofs.SizeLaws.{elements_law, members_law}
-use Rattle.yaml_data.specs.Seen.{tree_of}
-use Rattle.yaml_data.specs.declared.tree.Tree as code
-use Rattle.yaml_styled.specs.Comparing.{GoesOn, goes_on_both}
+use Rattle.std.proofs.Common.{◌≡◌, ℕ, ◌≤◌, List, [], ◌∷◌, ◌++◌, codes, decimal, length, String, Global, encode_utf8_all, append_assoc}
+use Rattle.std.proofs.Common.{append-nil, refl, sym, ap, ap₂, subst, ◌∙◌, arith}
+use Rattle.conf_record.proofs.Prelude.{decimal_is_IsNumeral, encodes-append, spaces, Tree, text, mapping, key_lines}
+use Rattle.conf_record.proofs.Prelude.{value_at, members_after, element_size, Size, tree_of, GoesOn}
+use Rattle.conf_record.proofs.Prelude.{goes_on_both, IsStyled, members, base_text, base_bytes, text_of, entries_of, Entry, count_limit}
+use Rattle.conf_record.proofs.Prelude.{line, number_line, base_lines, Good, config_limits}
 use Rattle.yaml_styled.specs.Parts.{IsTree}
 use Rattle.yaml_styled.specs.Sounds.{Sound}
-use Rattle.yaml_styled.specs.Styles.{IsStyled}
-use Rattle.conf_state.specs.BaseTexts.{members, base_text, base_bytes}
-use Rattle.conf_state.specs.Commands.{text_of}
-use Rattle.conf_state.specs.Kept.{entries_of}
-use Rattle.conf_state.specs.States.{Entry, count_limit}
-use Rattle.conf_state.proofs.LineLemmas.{line, number_line, base_lines}
 use Rattle.conf_record.specs.Entries.{IsEntry, AreEntries}
+use Rattle.conf_record.proofs.{PieceLemmas.entries_of-one, SizeLemmas.element_least}
 use Rattle.conf_record.proofs.WrittenLemmas.{ascii_bytes, before, after}
+use Rattle.yaml_data.specs.declared.tree.Tree as code
 
 -- a key after its spaces, and the value after it
+pub entry_lines_of : (lines row value rest name : List ℕ) (t : Tree) → lines ≡ codes "  " ++ row
+    → GoesOn row (key_lines 2 name) value → GoesOn value (value_at t 2) rest
+    → GoesOn lines (spaces 2 ++ key_lines 2 name ++ value_at t 2) rest
+entry_lines_of lines row value rest name t cut key read =
+    let spaced = cut ∙ ap (λ bs. bs ++ row) (sym (ascii_bytes (codes "  ") refl)) in
+    goes_on_both lines value rest (spaces 2 ++ key_lines 2 name) (value_at t 2)
+    (goes_on_both lines row value (spaces 2) (key_lines 2 name) spaced key) read
+
+-- what was read is a configuration, if it is no longer than one
+pub within : (t : Tree) (size : Size) → size ≡ element_size t → Sound t 128 → size.bytes ≤ 4194304 → Good t config_limits
+within t size is sound small =
+    let bytes = ap (λ s. s.bytes) is in
+    record { texts = sound.texts; keys = sound.keys; deep = sound.shallow; long = omega (arith, bytes, small, element_least t) }
+
+-- the configuration of the code that was read so
 pub entry_of : (lines row value rest name : List ℕ) (made : code.Tree) (size : Size) → lines ≡ codes "  " ++ row
     → GoesOn row (key_lines 2 name) value → IsStyled (λ t. IsTree made t) (λ t. value_at t 2) size value rest
     → IsEntry lines name (tree_of made) size rest
 entry_of lines row value rest name made size cut key read =
     let same = sym read.is in
-    let spaced = cut ∙ ap (λ bs. bs ++ row) (sym (ascii_bytes (codes "  ") refl)) in
-    let keyed = goes_on_both lines row value (spaces 2) (key_lines 2 name) spaced key in
-    let all = goes_on_both lines value rest (spaces 2 ++ key_lines 2 name) (value_at read.tree 2) keyed read.goes_on in
+    let all = entry_lines_of lines row value rest name read.tree cut key read.goes_on in
     record {
       written = subst (λ t. GoesOn lines (spaces 2 ++ key_lines 2 name ++ value_at t 2) rest) same all;
       size_is = read.size_is ∙ ap element_size same;
@@ -58,28 +60,18 @@ entries_and lines left rest es name t first second =
 abbrev pub Part : Type 0
 Part = String Global × code.Tree
 
-entries_of-more : (ps : List Part) (p : Part) → entries_of (ps ++ p ∷ []) ≡ entries_of ps ++ (text_of p.0, tree_of p.1) ∷ []
-entries_of-more [] p = refl
-entries_of-more (q ∷ ps) p = ap (λ es. (text_of q.0, tree_of q.1) ∷ es) (entries_of-more ps p)
-
 -- the same of the code's
 pub entries_pushed : (lines rest : List ℕ) (ps new : List Part) (p : Part) (name : List ℕ) (t : Tree) → new ≡ ps ++ p ∷ []
     → text_of p.0 ≡ name → tree_of p.1 ≡ t → AreEntries lines (entries_of ps ++ (name, t) ∷ []) rest
     → AreEntries lines (entries_of new) rest
 entries_pushed lines rest ps new p name t pushed named is are =
-    let same = ap entries_of pushed ∙ entries_of-more ps p ∙ ap₂ (λ n u. entries_of ps ++ (n, u) ∷ []) named is in
+    let same = ap entries_of pushed ∙ entries_of-one ps p ∙ ap₂ (λ n u. entries_of ps ++ (n, u) ∷ []) named is in
     subst (λ es. AreEntries lines es rest) (sym same) are
 
 -- some parts are some configurations
 pub some_entries : (ps : List Part) → (length ps ≡ 0 → ⊥) → entries_of ps ≡ [] → ⊥
 some_entries [] some e = some refl
 some_entries (p ∷ ps) some e = cc
-
--- a configuration is no longer by itself than as an element
-pub style_within : (t : Tree) → byte_len (style_text t) ≤ byte_len (lines_after_dash t 0)
-style_within (text value) = omega arith
-style_within (sequence ts) = omega (arith, elements_law ts 2)
-style_within (mapping ms) = omega (arith, members_law ms 2)
 
 -- ---- the whole
 

@@ -1,3 +1,4 @@
+pub mod Prelude
 pub mod AcceptedLemmas
 pub mod PathLemmas
 pub mod PointerLemmas

@@ -1,31 +1,18 @@
 -- The parts of a tree that a `Config` keeps.
-use Rattle.std.proofs.Common.{◌≡◌, ◌<◌, ◌≤◌, ℕ, ◌+◌, true, ◌&&◌, List, [], ◌∷◌, ◌++◌, codes, length, max, map, not}
-use Rattle.std.proofs.Common.{Option, Some, None, option_map, String, Global, string_bytes, append_assoc, append-nil}
-use Rattle.std.proofs.Common.{arith, refl, sym, ap, ◌∙◌}
-use Rattle.std.proofs.lemmas.Bool.{and_parts}
-use Rattle.std.specs.Str.{chars}
-use Rattle.yaml_grammar.specs.Texts.{byte_len}
-use Rattle.yaml_grammar.specs.Style.{key_lines, value_at, lines_after_dash, elements_after, members_after}
-use Rattle.yaml_grammar.specs.Trees.{Tree, sequence, mapping, Elements, no_element, element, Members, no_member}
-use Rattle.yaml_grammar.specs.Trees.{member, has_key, distinct, elements_distinct, members_distinct, depth}
-use Rattle.yaml_grammar.specs.Trees.{elements_depth, members_depth, AreTextElements, AreTextMembers}
-use Rattle.yaml_writer.specs.BudgetLaws.{byte_len-append}
-use Rattle.yaml_config.specs.Kept.{own_limits, IsKept}
-use Rattle.yaml_data.specs.Seen.{Pair, tree_of, elements_of, members_of}
-use Rattle.yaml_data.specs.TextBytes.{text_bytes}
-use Rattle.yaml_data.specs.declared.text.Text.{Text}
-use Rattle.yaml_data.specs.declared.tree.Tree as code
-use Rattle.conf_state.specs.Kept.{entries_of}
-use Rattle.conf_state.specs.Commands.{Edit, edit_of}
-use Rattle.conf_state.specs.declared.command.Edit as edits
+use Rattle.std.proofs.Common.{◌≡◌, ◌<◌, ◌≤◌, ℕ, true, ◌&&◌, List, [], ◌∷◌, ◌++◌, codes, length, max, map, not, Option, Some, None}
+use Rattle.std.proofs.Common.{option_map, String, Global, string_bytes, append_assoc, append-nil, arith, refl, sym, ap, ◌∙◌}
+use Rattle.conf_record.proofs.Prelude.{and_parts, chars, byte_len, key_lines, value_at, lines_after_dash, elements_after, members_after}
+use Rattle.conf_record.proofs.Prelude.{sequence, mapping, Elements, no_element, element, Members, no_member, member, has_key}
+use Rattle.conf_record.proofs.Prelude.{distinct, elements_distinct, members_distinct, depth, elements_depth, members_depth, AreTextElements}
+use Rattle.conf_record.proofs.Prelude.{AreTextMembers, own_limits, IsKept, Pair, tree_of, elements_of, members_of}
+use Rattle.conf_record.proofs.Prelude.{text_bytes, Text, entries_of, Edit, edit_of}
 use Rattle.conf_record.specs.RecordsRead.{values, edit_in, ahead, edits_of, entries}
-use Rattle.conf_record.proofs.SizeLemmas.{element_least, value_size}
 use Rattle.conf_record.specs.Reading.{AreKept, AreKeptElements, trees_of}
-
-after_bytes : (key : List ℕ) (t : Tree) (ms : Members)
-    → byte_len (members_after (member key t ms) 0) ≡ byte_len (key_lines 0 key) + byte_len (value_at t 0) + byte_len (members_after ms 0)
-after_bytes key t ms =
-    omega (arith, byte_len-append (key_lines 0 key ++ value_at t 0) (members_after ms 0), byte_len-append (key_lines 0 key) (value_at t 0))
+use Rattle.std.proofs.lemmas.List.{map-append}
+use Rattle.yaml_writer.proofs.SizeLaws.{three}
+use Rattle.conf_record.proofs.SizeLemmas.{element_least, value_size}
+use Rattle.yaml_data.specs.declared.tree.Tree as code
+use Rattle.conf_state.specs.declared.command.Edit as edits
 
 max_parts : (a b c : ℕ) → max a b < c → (a < c) × (b < c)
 max_parts a b c h = (omega arith, omega arith)
@@ -37,7 +24,7 @@ values_kept (member key t ms) are keys deep long =
     let parts = and_parts (not (has_key key ms) && distinct t) (members_distinct ms) keys in
     let own = (and_parts (not (has_key key ms)) (distinct t) parts.0).1 in
     let levels = max_parts (depth t) (members_depth ms) own_limits.depth deep in
-    let bytes = after_bytes key t ms in
+    let bytes = three (key_lines 0 key) (value_at t 0) (members_after ms 0) in
     let alone = (value_size t).least in
     let low = levels.0 in (
       record { texts = are.1; keys = own; deep = omega (arith, low); long = omega (arith, bytes, alone, long) },
@@ -66,12 +53,11 @@ elements_kept no_element are keys deep long = tt
 elements_kept (element t ts) are keys deep long =
     let parts = and_parts (distinct t) (elements_distinct ts) keys in
     let levels = max_parts (depth t) (elements_depth ts) own_limits.depth deep in
-    let bytes = byte_len-append (codes "- " ++ lines_after_dash t 0) (elements_after ts 0) in
-    let dash = byte_len-append (codes "- ") (lines_after_dash t 0) in
+    let bytes = three (codes "- ") (lines_after_dash t 0) (elements_after ts 0) in
     let alone = element_least t in
     let low = levels.0 in (
-      record { texts = are.0; keys = parts.0; deep = omega (arith, low); long = omega (arith, bytes, dash, alone, long) },
-      elements_kept ts are.1 parts.1 levels.1 (omega (arith, bytes, dash, long)),
+      record { texts = are.0; keys = parts.0; deep = omega (arith, low); long = omega (arith, bytes, alone, long) },
+      elements_kept ts are.1 parts.1 levels.1 (omega (arith, bytes, long)),
     )
 
 -- the elements of a sequence within the limits are within them
@@ -91,7 +77,8 @@ pub record MovedSoFar (all : List Pair) (done : List Named) (left : List Pair) :
   pub whole : entries_of done ++ entries (members_of left) ≡ entries (members_of all)
   pub kept : AreKept (trees_of left)
 
-entries_of-one : (done : List Named) (e : Named)
+-- one configuration more
+pub entries_of-one : (done : List Named) (e : Named)
     → entries_of (done ++ e ∷ []) ≡ entries_of done ++ (chars (string_bytes e.0), tree_of e.1) ∷ []
 entries_of-one [] e = refl
 entries_of-one (d ∷ ds) e = ap (λ es. (chars (string_bytes d.0), tree_of d.1) ∷ es) (entries_of-one ds e)
@@ -137,10 +124,6 @@ same_option (Some es) = refl
 pub none_read : (all : List code.Tree) → AreKeptElements (elements_of all) → ReadSoFar all [] all
 none_read all kept = record { whole = same_option (edits_of (elements_of all)); kept = kept }
 
-pub edits-one : (done : List edits.Edit) (e : edits.Edit) → map edit_of (done ++ e ∷ []) ≡ map edit_of done ++ edit_of e ∷ []
-edits-one [] e = refl
-edits-one (d ∷ ds) e = ap (λ es. edit_of d ∷ es) (edits-one ds e)
-
 moved_over : (first : List Edit) (e : Edit) (o : Option (List Edit))
     → option_map (λ es. (first ++ e ∷ []) ++ es) o ≡ option_map (λ es. first ++ es) (option_map (λ rest. e ∷ rest) o)
 moved_over first e None = refl
@@ -152,7 +135,7 @@ pub one_read : (all : List code.Tree) (done : List edits.Edit) (t : code.Tree) (
     → ReadSoFar all done (t ∷ left) → (new : List edits.Edit) → new ≡ done ++ e ∷ [] → ReadSoFar all new left
 one_read all done t left e is so new pushed = record {
   whole =
-      ap (λ es. option_map (λ more. es ++ more) (edits_of (elements_of left))) (ap (map edit_of) pushed ∙ edits-one done e)
+      ap (λ es. option_map (λ more. es ++ more) (edits_of (elements_of left))) (ap (map edit_of) pushed ∙ map-append edit_of done (e ∷ []))
       ∙ moved_over (map edit_of done) (edit_of e) (edits_of (elements_of left))
       ∙ ap (λ first. option_map (λ es. map edit_of done ++ es) (ahead first (edits_of (elements_of left)))) is
       ∙ so.whole;
@@ -165,9 +148,3 @@ pub none_there : (all : List code.Tree) (done : List edits.Edit) (t : code.Tree)
     → None ≡ edits_of (elements_of all)
 none_there all done t left is so =
     ap (λ first. option_map (λ es. map edit_of done ++ es) (ahead first (edits_of (elements_of left)))) is ∙ so.whole
-
--- where no element is left, all were read
-pub all_read : (all : List code.Tree) (done : List edits.Edit) (left : List code.Tree) → ReadSoFar all done left → length left ≡ 0
-    → Some (map edit_of done) ≡ edits_of (elements_of all)
-all_read all done [] so none = ap Some (sym (append-nil (map edit_of done))) ∙ so.whole
-all_read all done (t ∷ ts) so none = absurd (omega arith)

@@ -1,12 +1,9 @@
 -- A pointer has at most twice the bytes of its tokens.
-use Rattle.std.proofs.Common.{◌≡◌, ℕ, ◌+◌, ◌*◌, ◌≤◌, Bool, true, false, not, ◌&&◌, ◌||◌, ◌==◌, if◌then◌else◌, List}
-use Rattle.std.proofs.Common.{[], ◌∷◌, map, Option, Some, None, option_map, Ok, Err, refl, ap, arith}
-use Rattle.std.proofs.lemmas.Bool.Decides.{nat_tests}
-use Rattle.std.proofs.lemmas.Str.{len_utf8_bounds}
-use Rattle.std.specs.Char.{len_utf8}
-use Rattle.yaml_chars.specs.Signs.{tilde}
-use Rattle.yaml_grammar.specs.Texts.{byte_len}
-use Rattle.json_pointer.specs.Pointers.{slash, stray, first_stray, first_piece, pieces, token_from_text, tokens_or_place, path_of}
+use Rattle.std.proofs.Common.{◌≡◌, ℕ, ◌+◌, ◌*◌, ◌<◌, ◌≤◌, Bool, true, false, not, ◌&&◌, ◌||◌, ◌==◌, if◌then◌else◌, List, [], ◌∷◌, map}
+use Rattle.std.proofs.Common.{Option}
+use Rattle.std.proofs.Common.{Some, None, option_map, Ok, Err, refl, ap, arith}
+use Rattle.conf_record.proofs.Prelude.{nat_tests, len_utf8_bounds, len_utf8, tilde, byte_len, slash, stray, first_stray, first_piece}
+use Rattle.conf_record.proofs.Prelude.{pieces, token_from_text, tokens_or_place, path_of}
 use Rattle.json_pointer.specs.declared.fault.PathFault.TheVariants.{BadPath}
 use Rattle.conf_record.proofs.PathLemmas.{tokens_size}
 
@@ -22,11 +19,8 @@ kept_after c cs none = by (stray (c ∷ cs)) (first_stray cs) none
     by false None e = (refl, refl)
     by false (Some n) e = cc
 
-slash_byte : (c : ℕ) → (c == slash) ≡ true → len_utf8 c ≡ 1
-slash_byte c e = grind (arith, nat_tests)
-
-tilde_byte : (c : ℕ) → (c == tilde) ≡ true → len_utf8 c ≡ 1
-tilde_byte c e = grind (arith, nat_tests)
+sign_byte : (c sign : ℕ) → sign < 128 → (c == sign) ≡ true → len_utf8 c ≡ 1
+sign_byte c sign small e = grind (arith, nat_tests)
 
 digit_byte : (d : ℕ) → ((d == 48) || (d == 49)) ≡ true → len_utf8 d ≡ 1
 digit_byte d e = grind (arith, nat_tests)
@@ -40,7 +34,7 @@ digit_no_tilde d e = grind (arith, nat_tests)
 slash_more : (c : ℕ) (cs : List ℕ) → (c == slash) ≡ true → byte_len cs ≤ 2 * parts_size cs → byte_len (c ∷ cs) ≤ 2 * parts_size (c ∷ cs)
 slash_more c cs is rest =
     let parts : parts_size (c ∷ cs) ≡ 1 + parts_size cs = rw is (omega arith) in
-    omega (arith, slash_byte c is, parts, rest)
+    omega (arith, sign_byte c slash (omega arith) is, parts, rest)
 
 itself_more : (c : ℕ) (cs : List ℕ) → (c == slash) ≡ false → (c == tilde) ≡ false → byte_len cs ≤ 2 * parts_size cs
     → byte_len (c ∷ cs) ≤ 2 * parts_size (c ∷ cs)
@@ -55,7 +49,7 @@ tilde_more c d ds no_slash is digit rest =
     let spelled = if d == 48 then tilde else slash in
     let parts : parts_size (c ∷ d ∷ ds) ≡ len_utf8 spelled + parts_size ds =
     rw (no_slash, is, digit_no_slash d digit, digit_no_tilde d digit) (omega arith) in
-    omega (arith, tilde_byte c is, digit_byte d digit, len_utf8_bounds spelled, parts, rest)
+    omega (arith, sign_byte c tilde (omega arith) is, digit_byte d digit, len_utf8_bounds spelled, parts, rest)
 
 pieces_bytes : (cs : List ℕ) → first_stray cs ≡ None → byte_len cs ≤ 2 * parts_size cs
 pieces_bytes [] none = omega arith

@@ -1,34 +1,23 @@
 -- The trees of records and bases: they are good, within the limits, and tell what they were made of.
-use Rattle.std.proofs.Common.{◌≡◌, ℕ, ◌+◌, ◌≤◌, true, not, ◌&&◌, ◌||◌, nat_le, if◌then◌else◌, List, [], ◌∷◌, ◌++◌}
-use Rattle.std.proofs.Common.{length, codes, decimal, Some, None, option_map, append_assoc, refl, ap, sym, ◌∙◌, arith}
-use Rattle.std.proofs.lemmas.Bool.{and_parts, and_from}
-use Rattle.std.proofs.lemmas.Bool.Decides.{nat_tests}
-use Rattle.std.proofs.lemmas.Fmt.{decimal_is_IsNumeral, length-decimal-le}
+use Rattle.std.proofs.Common.{◌≡◌, ℕ, ◌+◌, ◌<◌, ◌≤◌, true, not, ◌&&◌, ◌||◌, nat_le, if◌then◌else◌, List, [], ◌∷◌, ◌++◌, length, codes}
+use Rattle.std.proofs.Common.{decimal}
+use Rattle.std.proofs.Common.{Some, None, option_map, append_assoc, refl, ap, sym, ◌∙◌, arith}
+use Rattle.conf_record.proofs.Prelude.{byte_len-encoded, encodes-IsAscii, every-IsAscii, and_parts, and_from, nat_tests}
+use Rattle.conf_record.proofs.Prelude.{decimal_is_IsNumeral, length-decimal-le, AllDigits}
+use Rattle.conf_record.proofs.Prelude.{digits_value, code_point, in_range, list_all, IsText, byte_len, first, same_text, Tree, text}
+use Rattle.conf_record.proofs.Prelude.{Members, no_member, member, elements_depth, members_depth, distinct, elements_distinct}
+use Rattle.conf_record.proofs.Prelude.{members_distinct, has_key, AreTextElements, AreTextMembers, Good, scalar_lines, key_lines, value_at}
+use Rattle.conf_record.proofs.Prelude.{members_after, style_text, framed_text, byte_len-append, own_limits, config_limits, same_text-self}
+use Rattle.conf_record.proofs.Prelude.{small_letter, name_char, good_name, Edit, import_as, set_at, delete_at, Command, single, batch}
+use Rattle.conf_record.proofs.Prelude.{Entry, Contents, base_limit, count_limit, names_of, has_name, names_differ, AreConfigs, IsState}
+use Rattle.conf_record.proofs.Prelude.{members, base_tree, base_text, base_length, closed_document}
 use Rattle.std.proofs.lemmas.Str.Parse.{tells_digits}
-use Rattle.std.specs.Char.{len_utf8}
-use Rattle.std.specs.Str.Parse.{AllDigits, digits_value}
-use Rattle.yaml_chars.specs.Classes.{code_point, in_range}
-use Rattle.std.specs.List.{list_all}
-use Rattle.yaml_grammar.specs.Texts.{IsText, byte_len, first, same_text}
-use Rattle.yaml_grammar.specs.Trees.{Tree, text, Members, no_member, member, elements_depth, members_depth, distinct}
-use Rattle.yaml_grammar.specs.Trees.{elements_distinct, members_distinct, has_key, AreTextElements, AreTextMembers}
-use Rattle.yaml_grammar.specs.Reads.{Good}
-use Rattle.yaml_grammar.specs.Style.{scalar_lines, key_lines, value_at, members_after, style_text}
-use Rattle.yaml_recognizers.specs.Closings.{framed_text}
-use Rattle.yaml_writer.specs.BudgetLaws.{byte_len-append}
-use Rattle.yaml_config.specs.Kept.{own_limits}
-use Rattle.yaml_config.specs.Limits.{config_limits}
-use Rattle.yaml_data.proofs.CharacterLemmas.{same_text-self}
-use Rattle.conf_state.specs.Names.{small_letter, name_char, good_name}
-use Rattle.conf_state.specs.Commands.{Edit, import_as, set_at, delete_at, Command, single, batch}
-use Rattle.conf_state.specs.States.{Entry, Contents, base_limit, count_limit, names_of, has_name, names_differ}
-use Rattle.conf_state.specs.Limits.{AreConfigs, IsState}
-use Rattle.conf_state.specs.BaseTexts.{members, base_tree, base_text, base_length, closed_document}
-use Rattle.conf_record.specs.Records.{edit_members, edit_elements, command_members, record_tree, record_text, FitsRecord}
-use Rattle.conf_record.specs.RecordsRead.{number_from_digits, edit_from, ahead, edits_of, command_from, with_number}
-use Rattle.conf_record.specs.RecordsRead.{record_of, entries, base_of, IsEdit, AreEdits, IsCommand}
-use Rattle.conf_record.specs.SmallCommands.{IsSmallEdit, AreSmallEdits, IsSmallCommand}
 use Rattle.conf_state.proofs.BaseLemmas.{count_bytes}
+use Rattle.conf_record.specs.Records.{edit_members, edit_elements, command_members, record_tree, record_text, FitsRecord}
+use Rattle.conf_record.specs.RecordsRead.{number_from_digits, edit_from, ahead, edits_of, command_from, with_number, record_of, entries}
+use Rattle.conf_record.specs.RecordsRead.{base_of, IsEdit, AreEdits, IsCommand}
+use Rattle.conf_record.specs.SmallCommands.{IsSmallEdit, AreSmallEdits, IsSmallCommand}
+use Rattle.yaml_writer.proofs.SizeLaws.{three}
 use Rattle.conf_record.proofs.SizeLemmas.{size, scalar_most, value_size}
 
 -- ---- numbers and names
@@ -47,8 +36,8 @@ digits_are_text (c ∷ cs) all =
 name_char_is_text : (c : ℕ) → name_char c ≡ true → code_point c ≡ true
 name_char_is_text c e = grind (arith, nat_tests)
 
-name_char_byte : (c : ℕ) → name_char c ≡ true → len_utf8 c ≡ 1
-name_char_byte c e = grind (arith, nat_tests)
+name_char_small : (c : ℕ) → name_char c ≡ true → c < 128
+name_char_small c e = grind (arith, nat_tests)
 
 at_most : (n : ℕ) → nat_le n 64 ≡ true → n ≤ 64
 at_most n e = grind (arith, nat_tests)
@@ -60,10 +49,7 @@ chars_are_text (c ∷ cs) all =
     and_from (code_point c) (list_all code_point cs) (name_char_is_text c parts.0) (chars_are_text cs parts.1)
 
 chars_bytes : (cs : List ℕ) → list_all name_char cs ≡ true → byte_len cs ≡ length cs
-chars_bytes [] all = refl
-chars_bytes (c ∷ cs) all =
-    let parts = and_parts (name_char c) (list_all name_char cs) all in
-    omega (arith, name_char_byte c parts.0, chars_bytes cs parts.1)
+chars_bytes cs all = byte_len-encoded cs ∙ ap length (encodes-IsAscii cs (every-IsAscii name_char name_char_small cs all))
 
 -- a good name is a text
 pub name_is_text : (name : List ℕ) → good_name name ≡ true → IsText name
@@ -82,15 +68,13 @@ decimal_is_text n small = digits_are_text (decimal n) (decimal_is_IsNumeral n (o
 
 decimal_bytes : (n : ℕ) → n ≤ count_limit → byte_len (scalar_lines 2 (decimal n)) ≤ 23
 decimal_bytes n small =
-    omega (
-      arith,
-      count_bytes (decimal n) (decimal_is_IsNumeral n (omega arith)).0.1,
-      length-decimal-le 20 n (omega arith) (omega arith) (omega arith),
-    )
+    let digits = length-decimal-le 20 n (omega arith) (omega arith) (omega arith) in
+    omega (arith, count_bytes (decimal n) (decimal_is_IsNumeral n (omega arith)).0.1, digits)
 
 -- ---- a number is given by its decimal text
 
-le-true : (a b : ℕ) → a ≤ b → nat_le a b ≡ true
+-- a test of an order
+pub le-true : (a b : ℕ) → a ≤ b → nat_le a b ≡ true
 le-true a b h = grind (arith, nat_tests)
 
 -- the digits of a count give that count
@@ -144,62 +128,32 @@ framed_bytes t =
 -- the bytes of a mapping at the top, member by member
 members_bytes : (key : List ℕ) (t : Tree) (ms : Members)
     → byte_len (members_after (member key t ms) 0) ≡ byte_len (key_lines 0 key) + byte_len (value_at t 0) + byte_len (members_after ms 0)
-members_bytes key t ms =
-    omega (arith, byte_len-append (key_lines 0 key ++ value_at t 0) (members_after ms 0), byte_len-append (key_lines 0 key) (value_at t 0))
+members_bytes key t ms = three (key_lines 0 key) (value_at t 0) (members_after ms 0)
 
 edit_bytes : (edit : Edit) → IsSmallEdit edit → byte_len (members_after (edit_members edit) 0) ≤ 67000000
 edit_bytes (import_as name tree) ok =
-    let small = ok.1.bytes in
-    let value = (value_size tree).most in
-    omega (
-      arith,
-      small,
-      value,
-      name_bytes name ok.0,
-      scalar_most name,
-      members_bytes (codes "import") (text name) (member (codes "tree") tree no_member),
-      members_bytes (codes "tree") tree no_member,
-    )
+    let first = members_bytes (codes "import") (text name) (member (codes "tree") tree no_member) in
+    let last = members_bytes (codes "tree") tree no_member in
+    omega (arith, ok.1.bytes, (value_size tree).most, name_bytes name ok.0, scalar_most name, first, last)
 edit_bytes (set_at name path value) ok =
-    let short = ok.1.bytes in
-    let small = ok.2.bytes in
-    let valued = (value_size value).most in
-    omega (
-      arith,
-      short,
-      small,
-      valued,
-      name_bytes name ok.0,
-      scalar_most name,
-      scalar_most path,
-      members_bytes (codes "set") (text name) (member (codes "path") (text path) (member (codes "value") value no_member)),
-      members_bytes (codes "path") (text path) (member (codes "value") value no_member),
-      members_bytes (codes "value") value no_member,
-    )
+    let value_member : Members = member (codes "value") value no_member in
+    let first = members_bytes (codes "set") (text name) (member (codes "path") (text path) value_member) in
+    let second = members_bytes (codes "path") (text path) value_member in
+    let last = members_bytes (codes "value") value no_member in
+    let texts = scalar_most path in
+    omega (arith, ok.1.bytes, ok.2.bytes, (value_size value).most, name_bytes name ok.0, scalar_most name, texts, first, second, last)
 edit_bytes (delete_at name path) ok =
-    let short = ok.1.bytes in
-    omega (
-      arith,
-      short,
-      name_bytes name ok.0,
-      scalar_most name,
-      scalar_most path,
-      members_bytes (codes "delete") (text name) (member (codes "path") (text path) no_member),
-      members_bytes (codes "path") (text path) no_member,
-    )
+    let first = members_bytes (codes "delete") (text name) (member (codes "path") (text path) no_member) in
+    let last = members_bytes (codes "path") (text path) no_member in
+    omega (arith, ok.1.bytes, name_bytes name ok.0, scalar_most name, scalar_most path, first, last)
 
 -- the record of a single edit is short, and that of a batch is by its premise
 record_bytes : (command : Command) (number : ℕ) → IsSmallCommand command → number ≤ count_limit → FitsRecord command number
     → byte_len (framed_text (record_tree command number)) ≤ own_limits.bytes
 unfolding record_text
 record_bytes (single edit) number ok small fits =
-    omega (
-      arith,
-      edit_bytes edit ok,
-      decimal_bytes number small,
-      members_bytes (codes "at") (text (decimal number)) (edit_members edit),
-      framed_bytes (record_tree (single edit) number),
-    )
+    let first = members_bytes (codes "at") (text (decimal number)) (edit_members edit) in
+    omega (arith, edit_bytes edit ok, decimal_bytes number small, first, framed_bytes (record_tree (single edit) number))
 record_bytes (batch edits) number ok small fits =
     let same = ap byte_len (framed_document (record_tree (batch edits) number)) in
     omega (arith, same, fits)

@@ -1,42 +1,19 @@
 -- What a tree is as a record or a base.
-use Rattle.std.proofs.Common.{◌≡◌, refl, sym, ◌∙◌, ap, subst, ℕ, Bool, true, false, List, [], ◌∷◌, codes}
-use Rattle.std.proofs.Common.{if◌then◌else◌, Option, Some, None, option_map, IfSome, IfNone}
-use Rattle.std.specs.Str.{chars}
-use Rattle.yaml_grammar.specs.Texts.{same_text}
-use Rattle.yaml_grammar.specs.Trees.{Tree, text, sequence, mapping, Elements, Members, no_member, member}
-use Rattle.yaml_config.specs.Kept.{own_limits}
-use Rattle.yaml_tree.specs.Reading.{IsRead}
-use Rattle.yaml_data.specs.Seen.{Pair, members_of}
-use Rattle.conf_state.specs.Commands.{Command, single, command_of}
-use Rattle.conf_state.specs.Kept.{entries_of}
-use Rattle.conf_state.specs.Limits.{IsState}
-use Rattle.conf_record.specs.RecordsRead.{number_from_digits, keys_are, values, import_of, set_of, delete_of}
-use Rattle.conf_record.specs.RecordsRead.{edit_under, edit_from, batch_of, command_from, with_number, record_of}
-use Rattle.conf_record.specs.RecordsRead.{batch_keys, set_keys, delete_keys, base_keys, base_of, contents_of}
-use Rattle.conf_state.specs.States.{Contents}
-use Rattle.conf_state.specs.declared.command.Command as code
-use Rattle.conf_state.proofs.LineLemmas.{ascii}
+use Rattle.std.proofs.Common.{◌≡◌, refl, sym, ◌∙◌, ap, ap₂, subst, nat_lt, ℕ, Bool, true, false, List, [], ◌∷◌, codes, if◌then◌else◌}
+use Rattle.std.proofs.Common.{Option, Some, None}
+use Rattle.std.proofs.Common.{option_map, IfSome, IfNone}
+use Rattle.conf_record.proofs.Prelude.{and_parts, list_all, chars, same_text, Tree, text, sequence, mapping, Members, member, own_limits}
+use Rattle.conf_record.proofs.Prelude.{IsRead, Pair, members_of, Command, single, command_of, entries_of, IsState, Contents, ascii}
+use Rattle.std.proofs.lemmas.Option.{none-some, same_Some}
+use Rattle.conf_record.specs.RecordsRead.{number_from_digits, keys_are, values, import_of, set_of, delete_of, edit_under, edit_from}
+use Rattle.conf_record.specs.RecordsRead.{batch_of, command_from, with_number, record_of, batch_keys, set_keys, delete_keys, base_keys}
+use Rattle.conf_record.specs.RecordsRead.{base_of, contents_of}
 use Rattle.conf_record.specs.Documents.{IsRecord, IsNoRecord, IsBase, IsNoBase}
 use Rattle.conf_record.specs.Reading.{texts, is_text, command_and_number}
-use Rattle.conf_record.proofs.DocumentLemmas.{BytesGiveOne}
-use Rattle.conf_record.proofs.PieceLemmas.{Named}
+use Rattle.conf_record.proofs.{DocumentLemmas.BytesGiveOne, PieceLemmas.Named}
+use Rattle.conf_state.specs.declared.command.Command as code
 
 -- ---- records
-
--- a text is no record
-pub record_text : (v : List ℕ) → record_of (text v) ≡ None
-unfolding record_of
-record_text v = refl
-
--- a sequence is no record
-pub record_sequence : (ts : Elements) → record_of (sequence ts) ≡ None
-unfolding record_of
-record_sequence ts = refl
-
--- an empty mapping is no record
-pub record_empty : record_of (mapping no_member) ≡ None
-unfolding record_of
-record_empty = refl
 
 with_number-Some : (read : Option Command) (digits : List ℕ) (n : ℕ) → number_from_digits digits ≡ Some n
     → with_number read digits ≡ option_map (λ command. (command, n)) read
@@ -106,25 +83,16 @@ module _ (key : List ℕ) (ms : Members) where
     pub under_none : keys_are set_keys ms ≡ false → keys_are delete_keys ms ≡ false → edit_under key ms ≡ None
     under_none f g = rw (e, f, g) refl
 
--- the keys that the code asks for are those of the definitions
-pub batch_texts : texts batch_keys ≡ batch_keys
-batch_texts = λ i. ascii (codes "batch") refl i ∷ []
+-- keys of ASCII are themselves as texts, by a test that computes
+pub texts_ascii : (keys : List (List ℕ)) → list_all (list_all (λ c. nat_lt c 128)) keys ≡ true → texts keys ≡ keys
+texts_ascii [] e = refl
+texts_ascii (key ∷ keys) e =
+    let parts = and_parts (list_all (λ c. nat_lt c 128) key) (list_all (list_all (λ c. nat_lt c 128)) keys) e in
+    ap₂ (λ k ks. k ∷ ks) (ascii key parts.0) (texts_ascii keys parts.1)
 
 -- the keys of an import as texts
 pub import_texts : (key : List ℕ) → texts (codes "import" ∷ key ∷ []) ≡ codes "import" ∷ chars key ∷ []
 import_texts key = λ i. ascii (codes "import") refl i ∷ chars key ∷ []
-
--- the keys of a set as texts
-pub set_texts : texts set_keys ≡ set_keys
-set_texts = λ i. ascii (codes "set") refl i ∷ ascii (codes "path") refl i ∷ ascii (codes "value") refl i ∷ []
-
--- the keys of a delete as texts
-pub delete_texts : texts delete_keys ≡ delete_keys
-delete_texts = λ i. ascii (codes "delete") refl i ∷ ascii (codes "path") refl i ∷ []
-
--- the keys of a base as texts
-pub base_texts : texts base_keys ≡ base_keys
-base_texts = λ i. ascii (codes "store") refl i ∷ ascii (codes "at") refl i ∷ ascii (codes "configs") refl i ∷ []
 
 -- what a test of the keys has returned holds of the keys that were wanted
 pub asked : (ks wanted : List (List ℕ)) (ps items : List Pair) (r b : Bool) → r ≡ keys_are ks (members_of ps)
@@ -133,20 +101,7 @@ pub asked : (ks wanted : List (List ℕ)) (ps items : List Pair) (r b : Bool) �
 asked ks wanted ps items r b e same here is =
     ap (λ x. keys_are x (members_of items)) (sym same) ∙ ap (λ x. keys_are ks (members_of x)) (sym here) ∙ sym e ∙ is
 
-no_some : {A : Type 0} (x : A) → None ≡ Some x → ⊥
-no_some x e = cc
-
 -- ---- bases
-
--- a text is no base
-pub base_text : (v : List ℕ) → base_of (text v) ≡ None
-unfolding base_of
-base_text v = refl
-
--- a sequence is no base
-pub base_sequence : (ts : Elements) → base_of (sequence ts) ≡ None
-unfolding base_of
-base_sequence ts = refl
 
 -- a mapping with the keys of a base is read as one
 pub base_keyed : (ms : Members) → keys_are base_keys ms ≡ true → base_of (mapping ms) ≡ contents_of (values ms)
@@ -174,7 +129,7 @@ module _ (give_one : BytesGiveOne) (bytes : List ℕ) (t : Tree) (is : IsRead by
   -- a tree that is no record's was given by bytes that are none
   pub no_record : (read : Option (code.Command × ℕ)) → command_and_number read ≡ record_of t → IfNone read (IsNoRecord bytes)
   no_record None e = λ command number r.
-      no_some (command, number) (e ∙ ap record_of (same_as_record command number r) ∙ r.reads.tells)
+      none-some (command, number) (e ∙ ap record_of (same_as_record command number r) ∙ r.reads.tells)
   no_record (Some r) e = tt
 
   -- bytes are the record that their tree is read as
@@ -185,7 +140,7 @@ module _ (give_one : BytesGiveOne) (bytes : List ℕ) (t : Tree) (is : IsRead by
 
   -- bytes whose tree is no base are none
   pub no_parts : None ≡ base_of t → IsNoBase bytes
-  no_parts e = λ state r. no_some state (e ∙ ap base_of (same_as_base state r) ∙ r.reads.tells)
+  no_parts e = λ state r. none-some state (e ∙ ap base_of (same_as_base state r) ∙ r.reads.tells)
 
   module _ (configs : List Named) (count : ℕ) (parts : Some (state_of configs count) ≡ base_of t) where
     pub one_base : (read : Option Contents) → IfSome read (λ state. (state ≡ state_of configs count) × IsState state)
@@ -194,11 +149,8 @@ module _ (give_one : BytesGiveOne) (bytes : List ℕ) (t : Tree) (is : IsRead by
     one_base (Some s) e =
         record { utf8 = is.utf8; reads = record { tree = t; gives = is.gives; tells = sym parts ∙ ap Some (sym e.0); kept = e.1 } }
 
-    some_state : (a b : Contents) → Some a ≡ Some b → a ≡ b
-    some_state a b e = cc
-
     pub no_base : (read : Option Contents) → IfNone read (IsState (state_of configs count) → ⊥) → IfNone read (IsNoBase bytes)
     no_base (Some s) never = tt
     no_base None never = λ state r.
-        never (subst IsState (some_state state (state_of configs count)
+        never (subst IsState (same_Some state (state_of configs count)
         (sym r.reads.tells ∙ sym (ap base_of (same_as_base state r)) ∙ sym parts)) r.reads.kept)

@@ -1,52 +1,29 @@
 -- Lines as a store writes them make the record of a command.
-use Rattle.std.proofs.Common.{◌≡◌, ℕ, ◌+◌, ◌≤◌, ◌<◌, Bool, true, false, ◌&&◌, nat_le, nat_lt, if◌then◌else◌, zero}
-use Rattle.std.proofs.Common.{suc, List, [], ◌∷◌, ◌++◌, length, length-append, codes, decimal, Option, Some, None}
-use Rattle.std.proofs.Common.{IsUtf8, Bor, encode_utf8_all, append_assoc, append-nil, refl, sym, ap, subst, ◌∙◌}
-use Rattle.std.proofs.Common.{arith}
-use Rattle.std.proofs.lemmas.Bool.Decides.{nat_tests}
-use Rattle.std.proofs.lemmas.Fmt.{decimal_is_IsNumeral}
-use Rattle.std.proofs.lemmas.Str.{chars-IsAscii, encodes-append, encodes-chars, encodes-IsAscii}
-use Rattle.std.specs.List.{list_all}
-use Rattle.std.specs.Str.{chars}
-use Rattle.std.specs.Str.Parse.{digits_value}
-use Rattle.yaml_chars.specs.Signs.{line_feed, space_char, double_quote}
-use Rattle.yaml_grammar.specs.Style.{plain_in_style, literal_in_style, feeds_at_end, literal_mark, literal_lines}
-use Rattle.yaml_grammar.specs.Style.{quoted_chars, in_double_quotes, scalar_lines, value_at, elements_after}
-use Rattle.yaml_grammar.specs.Style.{members_at, members_after}
-use Rattle.yaml_grammar.specs.Texts.{IsText, byte_len, same_text, spaces}
-use Rattle.yaml_grammar.specs.Trees.{Tree, text, Members, no_member, member}
-use Rattle.yaml_writer.specs.declared.scalar_style.ScalarStyle.{ScalarStyle}
-use Rattle.yaml_writer.specs.declared.scalar_style.ScalarStyle.TheVariants.{Plain, Double, LiteralStrip, LiteralClip, LiteralKeep}
-use Rattle.yaml_writer.specs.Runs.{stands_alone}
-use Rattle.yaml_writer.specs.ScalarStyles.{value_style, literal_style}
-use Rattle.yaml_writer.specs.Sizes.{indented_literal_lines, element_size}
-use Rattle.yaml_writer.specs.declared.size.Size.{Size}
-use Rattle.yaml_writer.proofs.ByteLemmas.{byte_len-encoded}
+use Rattle.std.proofs.Common.{◌≡◌, ℕ, ◌+◌, ◌≤◌, ◌<◌, Bool, true, false, ◌&&◌, nat_le, nat_lt, if◌then◌else◌, zero, suc, List, [], ◌∷◌, ◌++◌}
+use Rattle.std.proofs.Common.{length, length-append, codes, decimal, Option, Some, None, IsUtf8, Bor, encode_utf8_all, append_assoc}
+use Rattle.std.proofs.Common.{append-nil, refl, sym, ap, subst, ◌∙◌, arith}
+use Rattle.conf_record.proofs.Prelude.{nat_tests, decimal_is_IsNumeral, chars-IsAscii, encodes-append, encodes-chars, encodes-IsAscii}
+use Rattle.conf_record.proofs.Prelude.{list_all, chars, digits_value, line_feed, space_char, double_quote}
+use Rattle.conf_record.proofs.Prelude.{quoted_chars, scalar_lines, value_at}
+use Rattle.conf_record.proofs.Prelude.{elements_after, members_at, members_after, IsText, byte_len, same_text, spaces, Tree, text, Members}
+use Rattle.conf_record.proofs.Prelude.{no_member, member, stands_alone, element_size, Size, byte_len-encoded}
+use Rattle.conf_record.proofs.Prelude.{every-IsAscii, same_text-true, tree_of, text_bytes, Text, tree_of-Text, config_limits, chars-IsText}
+use Rattle.conf_record.proofs.Prelude.{count_limit, Edit, import_as, set_at, delete_at, Command, single, batch, line, number_line}
+use Rattle.yaml_writer.specs.declared.scalar_style.ScalarStyle.TheVariants.{Plain, Double}
+use Rattle.yaml_writer.specs.ScalarStyles.{value_style}
+use Rattle.yaml_writer.proofs.{StyleLemmas.value_plain, StyleLemmas.value_double, SizeSums.IsLiteral, SizeSums.one_line}
 use Rattle.yaml_writer.proofs.QuotedLemmas.{stands_alone-below, quoted_chars-alone}
-use Rattle.yaml_data.proofs.CharacterLemmas.{every-IsAscii, same_text-true}
-use Rattle.yaml_data.specs.Seen.{tree_of}
-use Rattle.yaml_data.specs.TextBytes.{text_bytes}
-use Rattle.yaml_data.specs.declared.text.Text.{Text}
-use Rattle.yaml_data.specs.declared.tree.Tree as code
-use Rattle.yaml_data.proofs.SeenLemmas.{tree_of-Text}
 use Rattle.yaml_data.proofs.TextLemmas.{IsUtf8-text_bytes}
-use Rattle.yaml_config.specs.Limits.{config_limits}
-use Rattle.yaml_config.proofs.TextTreeLemmas.{chars-IsText}
-use Rattle.conf_state.specs.States.{count_limit}
-use Rattle.conf_state.specs.Commands.{Edit, import_as, set_at, delete_at, Command, single, batch}
 use Rattle.conf_state.specs.Rooms.{record_limit}
-use Rattle.conf_state.proofs.LineLemmas.{line, number_line}
-use Rattle.conf_record.specs.Documents.{IsRecord}
+use Rattle.conf_record.specs.{Documents.IsRecord, LineValues.IsValueLine, LineValues.FollowsNumber, declared.lines.LineValue.LineValue}
+use Rattle.conf_record.specs.{EditLines.member_line, EditLines.lines_of}
 use Rattle.conf_record.specs.Records.{edit_members, edit_elements, command_members, record_text, record_bytes, FitsRecord}
 use Rattle.conf_record.specs.RecordsRead.{number_from_digits, ReadsRecord, IsEdit, AreEdits, IsCommand}
 use Rattle.conf_record.specs.SmallCommands.{IsSmallEdit, AreSmallEdits, IsSmallCommand}
-use Rattle.conf_record.specs.LineValues.{IsValueLine, FollowsNumber}
-use Rattle.conf_record.specs.declared.lines.LineValue.{LineValue}
-use Rattle.conf_record.specs.EditLines.{member_line, lines_of}
 use Rattle.conf_record.specs.Written.{IsLineOf, IsConfigLine, IsNameLine, IsPathLine, IsWrittenAs, ElementsWritten, IsWritten}
+use Rattle.conf_record.proofs.{DocumentLemmas.record_is, EditLines.edit_lines}
+use Rattle.yaml_data.specs.declared.tree.Tree as code
 use Rattle.conf_record.specs.declared.edit_members.EditMembers.TheVariants as cut
-use Rattle.conf_record.proofs.DocumentLemmas.{record_is}
-use Rattle.conf_record.proofs.EditLines.{edit_lines}
 
 -- a line of the code
 abbrev pub Line : Type 0
@@ -93,41 +70,15 @@ number_spelled bs n utf8 e =
 
 -- ---- a text on one line
 
-abbrev style_by : Bool → Bool → ℕ → ScalarStyle
-style_by plain literal feeds = if plain then Plain else if literal then literal_style feeds else Double
-
-abbrev lines_by : ℕ → Bool → Bool → ℕ → List ℕ → List ℕ
-lines_by i plain literal feeds value =
-    if plain then value ++ codes "\n" else if literal then literal_mark feeds ++ codes "\n" ++ literal_lines i true value
-    else in_double_quotes value ++ codes "\n"
-
-abbrev indented_by : Bool → Bool → List ℕ → ℕ
-indented_by plain literal value = if plain then 0 else if literal then indented_literal_lines true value else 0
-
-plain_by : (i : ℕ) (value : List ℕ) (plain literal : Bool) (feeds : ℕ) → Plain ≡ style_by plain literal feeds
-    → (lines_by i plain literal feeds value ≡ value ++ codes "\n") × (indented_by plain literal value ≡ 0)
-plain_by i value true literal feeds e = (refl, refl)
-plain_by i value false true zero e = absurd (let other : Plain ≡ LiteralStrip = e in cc)
-plain_by i value false true (suc zero) e = absurd (let other : Plain ≡ LiteralClip = e in cc)
-plain_by i value false true (suc (suc n)) e = absurd (let other : Plain ≡ LiteralKeep = e in cc)
-plain_by i value false false feeds e = absurd (let other : Plain ≡ Double = e in cc)
-
-double_by : (i : ℕ) (value : List ℕ) (plain literal : Bool) (feeds : ℕ) → Double ≡ style_by plain literal feeds
-    → (lines_by i plain literal feeds value ≡ in_double_quotes value ++ codes "\n") × (indented_by plain literal value ≡ 0)
-double_by i value true literal feeds e = absurd (let other : Double ≡ Plain = e in cc)
-double_by i value false true zero e = absurd (let other : Double ≡ LiteralStrip = e in cc)
-double_by i value false true (suc zero) e = absurd (let other : Double ≡ LiteralClip = e in cc)
-double_by i value false true (suc (suc n)) e = absurd (let other : Double ≡ LiteralKeep = e in cc)
-double_by i value false false feeds e = (refl, refl)
-
 -- a plain text is its own line
 pub plain_line : (line : List ℕ) → IsUtf8 line → Plain ≡ value_style (chars line) → IsLineOf line (chars line)
 plain_line line utf8 is =
     let cs = chars line in
-    let by : (i : ℕ) → _ = λ i. plain_by i cs (plain_in_style cs) (literal_in_style cs) (feeds_at_end cs) is in
     record {
-      written = λ i. ap encode_utf8_all (by i).0 ∙ after cs (codes "\n") refl ∙ ap (λ bs. bs ++ codes "\n") (encodes-chars line utf8);
-      flat = (by 0).1;
+      written = λ i.
+          ap encode_utf8_all (sym (value_plain i cs (sym is))) ∙ after cs (codes "\n") refl
+          ∙ ap (λ bs. bs ++ codes "\n") (encodes-chars line utf8);
+      flat = one_line cs (λ literal. subst IsLiteral (sym is) literal);
     }
 
 -- so is a text in double quotes of which no character needs an escape
@@ -136,19 +87,18 @@ pub quoted_line : (quoted bytes : List ℕ) → quoted ≡ bytes ++ double_quote
     → IsLineOf (double_quote ∷ quoted) (chars bytes)
 quoted_line quoted bytes is alone double =
     let cs = chars bytes in
-    let by : (i : ℕ) → _ = λ i. double_by i cs (plain_in_style cs) (literal_in_style cs) (feeds_at_end cs) double in
     let ascii = every-IsAscii stands_alone stands_alone-below bytes alone in
     let itself : quoted_chars cs ≡ bytes = ap quoted_chars (chars-IsAscii bytes ascii) ∙ quoted_chars-alone bytes alone in
     let mark = codes "\"" in
     record {
       written = λ i.
-          ap encode_utf8_all (by i).0
+          ap encode_utf8_all (sym (value_double i cs (sym double)))
           ∙ ap (λ xs. encode_utf8_all (mark ++ xs ++ mark ++ codes "\n")) itself
           ∙ after (mark ++ bytes ++ mark) (codes "\n") refl
           ∙ ap (λ bs. bs ++ codes "\n") (after (mark ++ bytes) mark refl
           ∙ ap (λ bs. bs ++ mark) (before mark bytes refl ∙ ap (λ bs. mark ++ bs) (encodes-IsAscii bytes ascii)))
           ∙ ap (λ bs. (double_quote ∷ bs) ++ codes "\n") (sym is);
-      flat = (by 0).1;
+      flat = one_line cs (λ literal. subst IsLiteral (sym double) literal);
     }
 
 -- ---- a text on one line as a configuration
@@ -297,10 +247,6 @@ small-one : (es : List Edit) (e : Edit) → AreSmallEdits es → IsSmallEdit e �
 small-one [] e are is = (is, tt)
 small-one (d ∷ ds) e are is = (are.0, small-one ds e are.1 is)
 
--- no element yet
-pub none_written : (lines : List ℕ) → ElementsWritten lines [] lines
-none_written lines = record { written = refl; are = tt; small = tt }
-
 -- one more element
 pub one_written : (lines left after : List ℕ) (own : ℕ → List ℕ) (es : List Edit) (e : Edit) → ElementsWritten lines es left
     → left ≡ codes "  - " ++ (own 4 ++ after) → IsWrittenAs own e → ElementsWritten lines (es ++ e ∷ []) after
@@ -338,7 +284,7 @@ batch_written elements es some so =
 -- ---- the whole
 
 -- the line of a number and the lines of a command make its record
-pub whole_record : (bytes lines : List ℕ) (command : Command) (number : ℕ) → number ≤ count_limit
+whole_record : (bytes lines : List ℕ) (command : Command) (number : ℕ) → number ≤ count_limit
     → bytes ≡ codes "---\nat: \"" ++ (encode_utf8_all (decimal number) ++ (codes "\"\n" ++ lines))
     → lines ≡ encode_utf8_all (members_after (command_members command) 0 ++ codes "...\n") → bytes ≡ record_bytes command number
 unfolding record_bytes record_text
@@ -357,7 +303,7 @@ whole_record bytes lines command number small is follows =
     ∙ ap (λ xs. encode_utf8_all (codes "---\n" ++ (xs ++ ms) ++ codes "...\n")) (number_line ds all)
 
 -- a record of so many bytes fits
-pub short_fits : (bytes : List ℕ) (command : Command) (number : ℕ) → bytes ≡ record_bytes command number
+short_fits : (bytes : List ℕ) (command : Command) (number : ℕ) → bytes ≡ record_bytes command number
     → length bytes ≤ record_limit → FitsRecord command number
 unfolding record_bytes
 short_fits bytes (single edit) number is short = tt
@@ -365,13 +311,6 @@ short_fits bytes (batch edits) number is short =
     let counted = byte_len-encoded (record_text (batch edits) number) in
     let same = ap length is in
     omega (arith, counted, same)
-
--- bytes that are a record's text are that record
-pub written_is : (bytes : List ℕ) (command : Command) (number : ℕ)
-    → ReadsRecord (record_text command number) command number → bytes ≡ record_bytes command number
-    → IsRecord bytes command number
-written_is bytes command number reads same =
-    subst (λ bs. IsRecord bs command number) (sym same) (record_is command command number number reads)
 
 -- bytes with the lines of a command after the number are its record
 pub follows_is : ((command : Command) (number : ℕ) → IsCommand command → IsSmallCommand command → number ≤ count_limit
@@ -381,4 +320,5 @@ pub follows_is : ((command : Command) (number : ℕ) → IsCommand command → I
 follows_is small bytes number lines command follows written =
     let same = whole_record bytes lines command number follows.small follows.is written.written in
     let fits = short_fits bytes command number same follows.short in
-    written_is bytes command number (small command number written.is written.small follows.small fits) same
+    subst (λ bs. IsRecord bs command number) (sym same)
+    (record_is command command number number (small command number written.is written.small follows.small fits))

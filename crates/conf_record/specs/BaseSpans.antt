@@ -1,17 +1,9 @@
 -- Where the configurations of a base are in its bytes.
 use Rattle.std.specs.Prelude.{◌≡◌, ◌-◌, ℕ, true, List, [], ◌∷◌, ◌++◌, length, take, drop, String, encode_utf8_all}
-use Rattle.std.specs.declared.alloc.Global.{Global}
-use Rattle.yaml_grammar.specs.Reads.{Good}
-use Rattle.yaml_grammar.specs.Trees.{Tree}
-use Rattle.yaml_config.specs.Limits.{config_limits}
-use Rattle.yaml_styled.specs.Comparing.{GoesOn}
-use Rattle.conf_state.specs.BaseTexts.{entry_lines, entries_length, base_bytes}
-use Rattle.conf_state.specs.Commands.{text_of}
-use Rattle.conf_state.specs.Limits.{AreConfigs, IsState}
-use Rattle.conf_state.specs.Names.{good_name}
-use Rattle.conf_state.specs.States.{Entry, Contents, names_of, names_differ}
-use Rattle.conf_record.specs.Entries.{AreEntries}
-use Rattle.conf_record.specs.declared.base_spans.Span.{Span}
+use Rattle.conf_record.specs.Prelude.{Global, Good, Tree, config_limits, GoesOn, entry_lines, entries_length}
+use Rattle.conf_record.specs.Prelude.{base_bytes, text_of, AreConfigs, IsState, good_name, Entry, Contents, names_of}
+use Rattle.conf_record.specs.Prelude.{names_differ}
+use Rattle.conf_record.specs.{Entries.AreEntries, declared.base_spans.Span.Span}
 
 -- a configuration's lines as bytes
 abbrev pub entry_bytes : List ℕ → Tree → List ℕ

@@ -1,14 +1,9 @@
 -- Records and bases as bytes: which bytes are one, and what is left of written ones that a crash cuts.
 use Rattle.std.specs.Prelude.{◌≡◌, ◌≤◌, ℕ, ◌+◌, List, [], ◌∷◌, ◌++◌, length, take, replicate, Ok}
+use Rattle.conf_record.specs.Prelude.{chars, IsUtf8, Command, Contents, count_limit, base_limit, IsState, step}
+use Rattle.conf_record.specs.Prelude.{base_bytes, Room}
 use Rattle.std.specs.List.{concat}
-use Rattle.std.specs.Str.{chars, IsUtf8}
 use Rattle.yaml_grammar.specs.Closings.{ClosesOnce, Pieces}
-use Rattle.conf_state.specs.Commands.{Command}
-use Rattle.conf_state.specs.States.{Contents, count_limit, base_limit}
-use Rattle.conf_state.specs.Limits.{IsState}
-use Rattle.conf_state.specs.Steps.{step}
-use Rattle.conf_state.specs.BaseTexts.{base_bytes}
-use Rattle.conf_state.specs.declared.room.Room.{Room}
 use Rattle.conf_record.specs.Records.{FitsRecord, record_bytes}
 use Rattle.conf_record.specs.RecordsRead.{IsCommand, ReadsRecord, ReadsBase}
 

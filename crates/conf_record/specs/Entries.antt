@@ -1,14 +1,8 @@
 -- Configurations as a base has them, on lines of their own.
 use Rattle.std.specs.Prelude.{◌≡◌, ℕ, List, ◌++◌}
-use Rattle.yaml_grammar.specs.Texts.{spaces}
-use Rattle.yaml_grammar.specs.Trees.{Tree}
-use Rattle.yaml_grammar.specs.Style.{key_lines, value_at, members_after}
-use Rattle.yaml_writer.specs.Sizes.{element_size}
+use Rattle.conf_record.specs.Prelude.{spaces, Tree, key_lines, value_at, members_after, element_size, GoesOn, Sound}
+use Rattle.conf_record.specs.Prelude.{members, Entry}
 use Rattle.yaml_writer.specs.declared.size.Size.{Size}
-use Rattle.yaml_styled.specs.Comparing.{GoesOn}
-use Rattle.yaml_styled.specs.Sounds.{Sound}
-use Rattle.conf_state.specs.BaseTexts.{members}
-use Rattle.conf_state.specs.States.{Entry}
 
 -- the lines begin with a configuration under its name
 pub record IsEntry (lines name : List ℕ) (t : Tree) (size : Size) (rest : List ℕ) : Type 0 where

@@ -1,17 +1,10 @@
 -- The members of an edit as they were read of their lines: texts, each without its quotes.
 use Rattle.std.specs.Prelude.{◌≡◌, ◌<◌, ℕ, ◌+◌, List, ◌++◌, length, codes, decimal, encode_utf8_all, ◌≤◌}
-use Rattle.std.specs.Borrow.{Bor}
-use Rattle.std.specs.Str.{chars}
-use Rattle.yaml_grammar.specs.Texts.{IsText}
-use Rattle.yaml_grammar.specs.Trees.{text}
-use Rattle.yaml_config.specs.Limits.{config_limits}
-use Rattle.conf_state.specs.Commands.{Edit, import_as, set_at, delete_at}
-use Rattle.conf_state.specs.Rooms.{record_limit}
-use Rattle.conf_state.specs.States.{count_limit}
-use Rattle.conf_record.specs.declared.edit_members.EditMembers.{EditMembers}
+use Rattle.conf_record.specs.Prelude.{Bor, chars, IsText, text, config_limits, Edit, import_as, set_at, delete_at}
+use Rattle.conf_record.specs.Prelude.{record_limit, count_limit}
+use Rattle.conf_record.specs.{declared.edit_members.EditMembers.EditMembers, declared.lines.LineValue.LineValue}
+use Rattle.conf_record.specs.{Written.IsLineOf}
 use Rattle.conf_record.specs.declared.edit_members.EditMembers.TheVariants as cut
-use Rattle.conf_record.specs.declared.lines.LineValue.{LineValue}
-use Rattle.conf_record.specs.Written.{IsLineOf}
 
 -- the value is a text on this line, which is short enough for a configuration, and has so many bytes with its line feed
 pub record IsValueLine (line : List ℕ) (value : LineValue) : Type 0 where

@@ -1,8 +1,7 @@
 -- Why bytes are not the record after a count.
 use Rattle.std.specs.Prelude.{◌≢◌, ℕ, ◌+◌, List}
-use Rattle.conf_state.specs.Commands.{Command}
-use Rattle.conf_record.specs.Documents.{IsRecord, IsNoRecord}
-use Rattle.conf_record.specs.declared.next_record.NoNext.{NoNext}
+use Rattle.conf_record.specs.Prelude.{Command}
+use Rattle.conf_record.specs.{Documents.IsRecord, Documents.IsNoRecord, declared.next_record.NoNext.NoNext}
 use Rattle.conf_record.specs.declared.next_record.NoNext.TheVariants.{NotARecord, OtherNumber, OutOfMemory}
 
 -- the reason holds of the bytes; OutOfMemory says nothing of them

@@ -1,18 +1,12 @@
 -- What the parts of the reader return: values in order, and what they are in the definitions of records and bases.
 use Rattle.std.specs.Prelude.{ℕ, Bool, true, false, List, [], ◌∷◌, Vec, Option, Some, None, option_map, map}
-use Rattle.std.specs.Str.{chars}
-use Rattle.std.specs.declared.alloc.Global.{Global}
-use Rattle.yaml_grammar.specs.Trees.{Tree, Elements, no_element, element, Members, text, sequence, mapping}
-use Rattle.yaml_config.specs.Kept.{IsKept}
-use Rattle.yaml_data.specs.Seen.{Pair, tree_of, members_of}
-use Rattle.yaml_data.specs.TextBytes.{text_bytes}
+use Rattle.conf_record.specs.Prelude.{chars, Global, Tree, Elements, no_element, element, Members, text, sequence}
+use Rattle.conf_record.specs.Prelude.{mapping, IsKept, Pair, tree_of, members_of, text_bytes, Edit, import_as, set_at}
+use Rattle.conf_record.specs.Prelude.{delete_at, Command, command_of, Contents}
 use Rattle.yaml_data.specs.declared.text.Text.{Text}
+use Rattle.conf_record.specs.{declared.edit_members.EditMembers.EditMembers, RecordsRead.entries}
 use Rattle.yaml_data.specs.declared.tree.Tree as code_tree
-use Rattle.conf_state.specs.Commands.{Edit, import_as, set_at, delete_at, Command, command_of}
-use Rattle.conf_record.specs.declared.edit_members.EditMembers.{EditMembers}
 use Rattle.conf_record.specs.declared.edit_members.EditMembers.TheVariants as read
-use Rattle.conf_record.specs.RecordsRead.{entries}
-use Rattle.conf_state.specs.States.{Contents}
 use Rattle.conf_state.specs.declared.command.Command as code
 
 -- each is a tree that a `Config` keeps

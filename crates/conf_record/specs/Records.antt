@@ -1,10 +1,8 @@
 -- Records: the documents that hold commands, each with the number under which it was accepted.
 use Rattle.std.specs.Prelude.{◌≤◌, ℕ, List, [], ◌∷◌, codes, decimal, encode_utf8_all}
-use Rattle.yaml_grammar.specs.Texts.{byte_len}
-use Rattle.yaml_grammar.specs.Trees.{Tree, text, sequence, mapping, Elements, no_element, element, Members, no_member, member}
-use Rattle.conf_state.specs.Commands.{Edit, import_as, set_at, delete_at, Command, single, batch}
-use Rattle.conf_state.specs.BaseTexts.{closed_document}
-use Rattle.conf_state.specs.Rooms.{record_limit}
+use Rattle.conf_record.specs.Prelude.{byte_len, Tree, text, sequence, mapping, Elements, no_element, element, Members}
+use Rattle.conf_record.specs.Prelude.{no_member, member, Edit, import_as, set_at, delete_at, Command, single, batch}
+use Rattle.conf_record.specs.Prelude.{closed_document, record_limit}
 
 -- the members of an edit
 abbrev pub edit_members : Edit → Members

@@ -2,16 +2,11 @@
 -- in another order, or a number, a name or a path that is not good, it is neither.
 use Rattle.std.specs.Prelude.{◌≡◌, ℕ, Bool, true, false, ◌&&◌, ◌||◌, nat_le, if◌then◌else◌, List, [], ◌∷◌, codes}
 use Rattle.std.specs.Prelude.{decimal, Option, Some, None, option_map, is_ok}
+use Rattle.conf_record.specs.Prelude.{IsText, same_text, Tree, text, sequence, mapping, Elements, no_element, element}
+use Rattle.conf_record.specs.Prelude.{Members, no_member, member, Gives, IsKept, own_limits, path_of, good_name, Edit}
+use Rattle.conf_record.specs.Prelude.{import_as, set_at, delete_at, Command, single, batch, name_of, Entry, Contents}
+use Rattle.conf_record.specs.Prelude.{count_limit, IsState}
 use Rattle.std.specs.Str.Parse.{digits_value}
-use Rattle.yaml_grammar.specs.Texts.{IsText, same_text}
-use Rattle.yaml_grammar.specs.Trees.{Tree, text, sequence, mapping, Elements, no_element, element, Members, no_member, member}
-use Rattle.yaml_grammar.specs.Reads.{Gives}
-use Rattle.yaml_config.specs.Kept.{IsKept, own_limits}
-use Rattle.json_pointer.specs.Pointers.{path_of}
-use Rattle.conf_state.specs.Names.{good_name}
-use Rattle.conf_state.specs.Commands.{Edit, import_as, set_at, delete_at, Command, single, batch, name_of}
-use Rattle.conf_state.specs.States.{Entry, Contents, count_limit}
-use Rattle.conf_state.specs.Limits.{IsState}
 
 -- ---- the parts of a document
 

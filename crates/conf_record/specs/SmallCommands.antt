@@ -1,13 +1,8 @@
 -- Which commands have a record that is read back, whatever the state: what a store asks of a command beside what its
 -- configurations are.
 use Rattle.std.specs.Prelude.{◌≡◌, ◌*◌, ◌≤◌, true, List, [], ◌∷◌, ℕ, is_ok}
-use Rattle.yaml_grammar.specs.Texts.{byte_len}
-use Rattle.yaml_grammar.specs.Trees.{Tree, depth}
-use Rattle.yaml_grammar.specs.Style.{style_text}
-use Rattle.yaml_config.specs.Limits.{config_limits}
-use Rattle.json_pointer.specs.Pointers.{path_of}
-use Rattle.conf_state.specs.Names.{good_name}
-use Rattle.conf_state.specs.Commands.{Edit, import_as, set_at, delete_at, Command, single, batch}
+use Rattle.conf_record.specs.Prelude.{byte_len, Tree, depth, style_text, config_limits, path_of, good_name, Edit}
+use Rattle.conf_record.specs.Prelude.{import_as, set_at, delete_at, Command, single, batch}
 
 -- a tree within the limits of a store's configuration
 pub record IsSmallTree (t : Tree) : Type 0 where

@@ -1,10 +1,6 @@
 // The configurations and the count of a base's tree.
 ghost use Rattle.std.specs.Prelude.{◌≡◌, [], ◌∷◌, None, IfSome, MatchOption};
-ghost use Rattle.std.specs.Str.{chars};
-ghost use Rattle.yaml_config.specs.Kept.{IsKept};
-ghost use Rattle.yaml_data.specs.TextBytes.{text_bytes};
-ghost use Rattle.yaml_data.specs.Seen.{tree_of, members_of};
-ghost use Rattle.yaml_grammar.specs.Trees.{text, mapping};
+ghost use Rattle.conf_record.specs.Prelude.{chars, IsKept, text_bytes, tree_of, members_of, text, mapping};
 ghost use Rattle.conf_record.specs.RecordsRead.{values, is_format, contents_of, base_of};
 ghost use Rattle.conf_record.specs.Reading.{AreKept, state_of_parts};
 

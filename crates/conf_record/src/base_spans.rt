@@ -1,8 +1,7 @@
 // Where the configurations of a base are in its text, found line by line. None is built.
 ghost use Rattle.std.specs.Prelude.{◌≡◌, ◌≤◌, ◌-◌, List, codes, length, IfOk, IfSome};
+ghost use Rattle.conf_record.specs.Prelude.{text_of, Entry, Contents, count_limit};
 ghost use Rattle.yaml_grammar.specs.Trees.{Tree as Meant};
-ghost use Rattle.conf_state.specs.Commands.{text_of};
-ghost use Rattle.conf_state.specs.States.{Entry, Contents, count_limit};
 ghost use Rattle.conf_record.specs.BaseSpans.{IsGoodEntry, AreFound, IsFound, bytes_at};
 
 use crate::written::is_end;

@@ -1,7 +1,7 @@
 // The base text of a state: the document that holds all of it.
-ghost use Rattle.std.specs.Prelude.{◌≡◌, string_bytes, IfOk, OnOk};
-ghost use Rattle.std.specs.Str.{chars};
-ghost use Rattle.conf_state.specs.BaseTexts.{base_text, base_bytes};
+ghost use Rattle.std.specs.Prelude.{◌≡◌, string_bytes, encode_utf8_all, IfOk, OnOk};
+ghost use Rattle.conf_record.specs.Prelude.{chars, base_text, base_bytes};
+ghost use Rattle.conf_record.specs.BaseStart.{base_head, base_start};
 
 use crate::record::write_number;
 use conf_state::State;
@@ -25,10 +25,39 @@ pub fn base_text(alloc: Global, state: &State) -> Result<String, AllocError>
 pub(crate) fn write_base<S: Sink>(state: &State, sink: &mut S) -> Result<(), S::Fault>
     ensures { OnOk result (S.Takes sink.old (base_text state.now) sink.new) }
 {
-    sink.put_text("---\n")?;
-    sink.put_text("store: confstore-2\n")?;
-    write_number(state.count(), sink)?;
-    sink.put_text("configs:")?;
+    write_head(state.count(), sink)?;
     state.write_configs(sink)?;
     sink.put_text("...\n")
+}
+
+/// The base text of a state ([`base_text`](crate::base_text)) up to its configurations. After it each of them is as
+/// [`State::write_entry`] writes it, in their order, and then a line of `...`. It fails only if memory runs out.
+pub fn base_start(alloc: Global, state: &State) -> Result<String, AllocError>
+    ensures { IfOk result (λ text. string_bytes text ≡ encode_utf8_all (base_start state.now)) }
+{
+    let mut text = String::new(alloc);
+    write_start(state, &mut text)?;
+    Ok(text)
+}
+
+/// Writes the start of a base text. It fails only if the sink does.
+fn write_start<S: Sink>(state: &State, sink: &mut S) -> Result<(), S::Fault>
+    ensures { OnOk result (S.Takes sink.old (base_start state.now) sink.new) }
+{
+    write_head(state.count(), sink)?;
+    match state.names().next() {
+        Some(_) => sink.put_text("\n"),
+        None => sink.put_text(" {}\n"),
+    }
+}
+
+/// Writes what is before the configurations: the line of `---`, the format, the count, and the key of the
+/// configurations through its `:`.
+fn write_head<S: Sink>(count: u64, sink: &mut S) -> Result<(), S::Fault>
+    ensures { OnOk result (S.Takes sink.old (base_head count) sink.new) }
+{
+    sink.put_text("---\n")?;
+    sink.put_text("store: confstore-2\n")?;
+    write_number(count, sink)?;
+    sink.put_text("configs:")
 }

@@ -1,12 +1,7 @@
 // The command and the number of a record's tree.
 ghost use Rattle.std.specs.Prelude.{◌≡◌, ◌&&◌, [], ◌∷◌, Some, None, map, option_map, is_ok, IfOk, IfSome, MatchOption};
-ghost use Rattle.std.specs.Str.{chars};
-ghost use Rattle.yaml_grammar.specs.Trees.{sequence, mapping};
-ghost use Rattle.yaml_config.specs.Kept.{IsKept};
-ghost use Rattle.yaml_data.specs.Seen.{Pair, tree_of, elements_of, members_of};
-ghost use Rattle.json_pointer.specs.Pointers.{path_of};
-ghost use Rattle.conf_state.specs.Commands.{edit_of, command_of};
-ghost use Rattle.conf_state.specs.Names.{good_name};
+ghost use Rattle.conf_record.specs.Prelude.{chars, sequence, mapping, IsKept, Pair, tree_of, elements_of, members_of};
+ghost use Rattle.conf_record.specs.Prelude.{path_of, edit_of, command_of, good_name};
 ghost use Rattle.conf_record.specs.RecordsRead.{values, if_good, edit_from, edit_in, edits_of, batch_of, command_from, record_of};
 ghost use Rattle.conf_record.specs.Reading.{AreKept, AreKeptElements, KeepsTree, edit_seen, command_and_number};
 

@@ -1,7 +1,6 @@
 // The members of an edit on their lines.
 ghost use Rattle.std.specs.Prelude.{◌≡◌, ◌++◌, ◌∷◌, codes, IfSome};
-ghost use Rattle.yaml_chars.specs.Signs.{line_feed};
-ghost use Rattle.yaml_grammar.specs.Texts.{spaces};
+ghost use Rattle.conf_record.specs.Prelude.{line_feed, spaces};
 ghost use Rattle.conf_record.specs.EditLines.{indent_of, lines_of};
 
 use crate::edit_members::EditMembers;

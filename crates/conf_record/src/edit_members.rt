@@ -1,7 +1,6 @@
 // The members of an edit, as a document has them.
 ghost use Rattle.std.specs.Prelude.{◌≡◌, IfSome, option_map};
-ghost use Rattle.std.specs.Str.{chars};
-ghost use Rattle.yaml_data.specs.Seen.{members_of};
+ghost use Rattle.conf_record.specs.Prelude.{chars, members_of};
 ghost use Rattle.conf_record.specs.RecordsRead.{values, import_of, set_of, delete_of, edit_under};
 ghost use Rattle.conf_record.specs.Reading.{AreKept, KeepsTree, edit_seen};
 

@@ -1,11 +1,6 @@
 // The configurations on the lines of a base.
 ghost use Rattle.std.specs.Prelude.{◌≡◌, codes, IfOk};
-ghost use Rattle.std.specs.Str.{chars};
-ghost use Rattle.yaml_data.specs.Seen.{tree_of};
-ghost use Rattle.yaml_data.specs.TextBytes.{text_bytes};
-ghost use Rattle.yaml_writer.specs.Sizes.{element_size};
-ghost use Rattle.yaml_styled.specs.Sounds.{Sound};
-ghost use Rattle.conf_state.specs.Kept.{entries_of};
+ghost use Rattle.conf_record.specs.Prelude.{chars, tree_of, text_bytes, element_size, Sound, entries_of};
 ghost use Rattle.conf_record.specs.Entries.{IsEntry, AreEntries};
 
 use crate::written::is_end;

@@ -1,11 +1,8 @@
 // The fields of a document's mapping: its keys, its values in order, and what each value is.
-ghost use Rattle.std.specs.Prelude.{◌≡◌, false, List, [], ◌∷◌, MatchOption, IfSome, map, None, decimal, encode_utf8_all};
-ghost use Rattle.std.specs.Str.{chars};
+ghost use Rattle.std.specs.Prelude.{◌≡◌, false, List, [], ◌∷◌, MatchOption, IfSome, map, None, decimal};
+ghost use Rattle.std.specs.Prelude.{encode_utf8_all};
+ghost use Rattle.conf_record.specs.Prelude.{chars, same_text, text, mapping, tree_of, members_of, text_bytes};
 ghost use Rattle.std.specs.Vec.Iter.{into_iter_items};
-ghost use Rattle.yaml_grammar.specs.Texts.{same_text};
-ghost use Rattle.yaml_grammar.specs.Trees.{text, mapping};
-ghost use Rattle.yaml_data.specs.Seen.{tree_of, members_of};
-ghost use Rattle.yaml_data.specs.TextBytes.{text_bytes};
 ghost use Rattle.conf_record.specs.RecordsRead.{number_from_digits, keys_are, values};
 ghost use Rattle.conf_record.specs.Reading.{texts, text_first, mapping_first, is_text, is_one, is_one_text};
 
@@ -36,7 +33,7 @@ pub fn is_same(one: &str, other: &str) -> bool
 }
 
 /// Takes the next pair, and returns its value; `None` if no pair is left.
-pub fn next_value(pairs: &mut IntoIter<(Text, Tree)>) -> Option<Tree>
+pub(crate) fn next_value(pairs: &mut IntoIter<(Text, Tree)>) -> Option<Tree>
     ensures { MatchOption result
         (values (members_of (into_iter_items pairs.old)) ≡ [])
         (λ t. values (members_of (into_iter_items pairs.old))

@@ -1,13 +1,8 @@
 // The base of a store, kept as its text.
 ghost use Rattle.std.specs.Prelude.{◌≡◌, map, option_map, is_some, string_bytes, IfOk, IfErr};
-ghost use Rattle.std.specs.Str.{chars};
-ghost use Rattle.yaml_grammar.specs.Texts.{byte_len};
-ghost use Rattle.yaml_data.specs.Seen.{tree_of};
-ghost use Rattle.conf_state.specs.BaseTexts.{entries_length};
-ghost use Rattle.conf_state.specs.Commands.{text_of};
+ghost use Rattle.conf_record.specs.Prelude.{chars, byte_len, tree_of, entries_length, text_of, IsState, Contents};
+ghost use Rattle.conf_record.specs.Prelude.{names_of, config_named};
 ghost use Rattle.conf_state.specs.EntryTexts.{entry_named};
-ghost use Rattle.conf_state.specs.Limits.{IsState};
-ghost use Rattle.conf_state.specs.States.{Contents, names_of, config_named};
 ghost use Rattle.conf_record.specs.BaseSpans.{IsBuilt, bytes_at, names_under};
 ghost use Rattle.conf_record.specs.Documents.{IsBase};
 ghost use Rattle.conf_record.specs.HeldBases.{Held, Held-prop};

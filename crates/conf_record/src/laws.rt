@@ -1,11 +1,6 @@
 // What records and base texts read as.
 ghost use Rattle.std.specs.Prelude.{◌≡◌, ◌≤◌, ℕ, Ok};
-ghost use Rattle.conf_state.specs.Commands.{Command};
-ghost use Rattle.conf_state.specs.States.{Contents, count_limit};
-ghost use Rattle.conf_state.specs.Limits.{IsState};
-ghost use Rattle.conf_state.specs.Steps.{step};
-ghost use Rattle.conf_state.specs.BaseTexts.{base_text};
-ghost use Rattle.conf_state.specs.declared.room.Room.{Room};
+ghost use Rattle.conf_record.specs.Prelude.{Command, Contents, count_limit, IsState, step, base_text, Room};
 ghost use Rattle.conf_record.specs.Records.{FitsRecord, record_text};
 ghost use Rattle.conf_record.specs.RecordsRead.{IsCommand, ReadsRecord, ReadsBase};
 ghost use Rattle.conf_record.specs.SmallCommands.{IsSmallCommand};

@@ -7,13 +7,11 @@
 //!
 //! The states and commands are those of `conf_state`, which can be named from here too.
 //!
-//! [`keys_are`], [`next_text`], [`next_value`], [`last_text`], [`last_value`] and [`part`] take such a document's
-//! mapping apart, for readers of other documents. The functions of [`lines`] cut its lines without the general reader.
-//! An edit is read in one place, whatever its document: by [`members_from`] of its mapping, by [`cut_edit`] of its
-//! lines.
+//! [`keys_are`], [`next_text`], [`last_text`], [`last_value`] and [`part`] take such a document's mapping apart, for
+//! readers of other documents. The functions of [`lines`] cut its lines without the general reader. An edit is read in
+//! one place, whatever its document: by [`members_from`] of its mapping, by [`cut_edit`] of its lines.
 #![tactic(auto)]
 
-mod base_parts;
 mod base_reader;
 mod base_spans;
 mod base_writer;
@@ -34,15 +32,12 @@ mod record_sink;
 mod written;
 mod written_base;
 
-pub use base_parts::base_start;
-pub use base_writer::base_text;
+pub use base_writer::{base_start, base_text};
 pub use conf_state::{Command, Edit, Names, Room, State, StoreFault, good_name, step};
 pub use documents::{documents_are_read, documents_close};
 pub use edit_lines::{Place, cut_edit, cut_element};
 pub use edit_members::{EditMembers, members_from};
-pub use fields::{
-    is_same, keys_are, last_text, last_value, next_text, next_value, number_from, split_first,
-};
+pub use fields::{is_same, keys_are, last_text, last_value, next_text, number_from, split_first};
 pub use held_base::BaseText;
 pub use laws::records_read;
 pub use next_record::{NoNext, read_next};

@@ -3,10 +3,7 @@
 //! A line is a key with its `: `, and a value. [`cut_line`] takes the first line of a text off. Each function is exact
 //! where it answers. Where it doesn't, the general reader may still read the value.
 ghost use Rattle.std.specs.Prelude.{◌≡◌, ◌++◌, ◌∷◌, ℕ, List, IfOk, IfSome};
-ghost use Rattle.std.specs.Str.{chars};
-ghost use Rattle.yaml_chars.specs.Signs.{line_feed, double_quote};
-ghost use Rattle.yaml_grammar.specs.Trees.{text};
-ghost use Rattle.yaml_data.specs.Seen.{tree_of};
+ghost use Rattle.conf_record.specs.Prelude.{chars, line_feed, double_quote, text, tree_of};
 ghost use Rattle.conf_record.specs.LineValues.{IsValueLine};
 ghost use Rattle.conf_record.specs.Written.{IsLineOf, IsNameLine, IsPathLine};
 

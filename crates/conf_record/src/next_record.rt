@@ -1,12 +1,12 @@
 // The record after a count: of a single edit it is read as a store writes it, with no more than the command made.
 ghost use Rattle.std.specs.Prelude.{◌≡◌, ◌≢◌, ◌<◌, ◌+◌, true, false, IfOk, IfErr, IfSome, OnOk};
-ghost use Rattle.conf_state.specs.Commands.{command_of};
+ghost use Rattle.conf_record.specs.Prelude.{command_of};
 ghost use Rattle.conf_record.specs.Documents.{IsRecord};
 ghost use Rattle.conf_record.specs.LineValues.{FollowsNumber};
 ghost use Rattle.conf_record.specs.NextRecord.{IsNotNext};
 
 use crate::laws::records_read;
-use crate::read::spelled_record;
+use crate::read::read_record;
 use crate::written::{cut_many, cut_single, made_command};
 use conf_state::{Command, RECORD_LIMIT};
 use itoa::Buffer;
@@ -66,7 +66,7 @@ fn spelled_next(alloc: Global, bytes: &[u8], count: u64) -> Result<Command, NoNe
     ensures room { OnOk result (count < u64.MAX) }
     ensures refused { IfErr result (IsNotNext bytes.now count) }
 {
-    let Some((command, number)) = spelled_record(alloc, bytes)? else {
+    let Some((command, number)) = read_record(alloc, bytes)? else {
         return Err(NoNext::NotARecord);
     };
     if !is_next(count, number) {

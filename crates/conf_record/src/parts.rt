@@ -1,8 +1,6 @@
 // Parts of a configuration's tree as configurations.
 ghost use Rattle.std.specs.Prelude.{◌≡◌, IfOk};
-ghost use Rattle.yaml_config.specs.Kept.{IsKept};
-ghost use Rattle.yaml_data.specs.Seen.{tree_of, members_of};
-ghost use Rattle.conf_state.specs.Kept.{entries_of};
+ghost use Rattle.conf_record.specs.Prelude.{IsKept, tree_of, members_of, entries_of};
 ghost use Rattle.conf_record.specs.RecordsRead.{entries};
 ghost use Rattle.conf_record.specs.Reading.{AreKept, trees_of};
 

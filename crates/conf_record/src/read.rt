@@ -1,15 +1,12 @@
 // Reading records and bases from bytes.
 ghost use Rattle.std.specs.Prelude.{◌≢◌, OnOk, IfOk, IfSome, IfNone};
-ghost use Rattle.yaml_config.specs.Kept.{own_limits};
+ghost use Rattle.conf_record.specs.Prelude.{own_limits, tree_of, command_of};
 ghost use Rattle.yaml_tree.specs.Reading.{IsRead, GivesNone};
-ghost use Rattle.yaml_data.specs.Seen.{tree_of};
-ghost use Rattle.conf_state.specs.Commands.{command_of};
 ghost use Rattle.conf_record.specs.Documents.{IsRecord, IsBase, IsNoRecord, IsNoBase};
 
 use crate::base_reader::base_from;
 use crate::command_reader::record_from;
 use crate::parts::configurations;
-use crate::written::written_record;
 use crate::written_base::written_base;
 use conf_state::{Command, State};
 use std::alloc::{AllocError, Global};
@@ -28,22 +25,6 @@ use yaml_tree::{Limits, ReadFault, Tree, bytes_give_one, read_one, refused_bytes
 ///
 /// It fails only if memory runs out. It takes time linear in the bytes, and moves the texts and trees that were read.
 pub fn read_record(alloc: Global, bytes: &[u8]) -> Result<Option<(Command, u64)>, AllocError>
-    ensures some { IfOk result (λ read. IfSome read (λ r.
-        IsRecord bytes.now (command_of r.0) r.1)) }
-    ensures none { IfOk result (λ read. IfNone read (IsNoRecord bytes.now)) }
-{
-    match written_record(alloc, bytes) {
-        Ok(record) => Ok(Some(record)),
-        Err(Miss::OtherForm) => spelled_record(alloc, bytes),
-        Err(Miss::OutOfMemory) => Err(AllocError),
-    }
-}
-
-/// Reads a record in any spelling, as [`read_record`] does.
-pub(crate) fn spelled_record(
-    alloc: Global,
-    bytes: &[u8],
-) -> Result<Option<(Command, u64)>, AllocError>
     ensures some { IfOk result (λ read. IfSome read (λ r.
         IsRecord bytes.now (command_of r.0) r.1)) }
     ensures none { IfOk result (λ read. IfNone read (IsNoRecord bytes.now)) }

@@ -1,12 +1,8 @@
 // The text of a record: the document that holds a command and the number under which it was accepted.
 ghost use Rattle.std.specs.Prelude.{◌≡◌, ◌≤◌, ◌+◌, ◌++◌, min, map, codes, decimal, string_bytes, IfOk, IfSome, OnOk};
-ghost use Rattle.std.specs.Str.{chars};
-ghost use Rattle.yaml_grammar.specs.Texts.{IsText, byte_len, spaces};
-ghost use Rattle.yaml_grammar.specs.Trees.{text};
-ghost use Rattle.yaml_grammar.specs.Style.{key_lines, scalar_lines, value_at, members_at, members_after};
-ghost use Rattle.yaml_config.specs.Kept.{IsKept};
-ghost use Rattle.yaml_data.specs.Seen.{tree_of};
-ghost use Rattle.conf_state.specs.Commands.{command_of, edit_of, batch, import_as, set_at, delete_at};
+ghost use Rattle.conf_record.specs.Prelude.{chars, IsText, byte_len, spaces, text, key_lines, scalar_lines, value_at};
+ghost use Rattle.conf_record.specs.Prelude.{members_at, members_after, IsKept, tree_of, command_of, edit_of, batch};
+ghost use Rattle.conf_record.specs.Prelude.{import_as, set_at, delete_at};
 ghost use Rattle.conf_record.specs.Records.{edit_members, command_members, record_text, record_bytes};
 ghost use Rattle.conf_record.specs.RecordsRead.{IsEdit, AreEdits, IsCommand};
 

@@ -1,8 +1,6 @@
 // Where the text of a record goes: a buffer, or a count of its bytes.
 ghost use Rattle.std.specs.Prelude.{◌≡◌, ◌≤◌, OnOk};
-ghost use Rattle.yaml_config.specs.Kept.{IsKept};
-ghost use Rattle.yaml_data.specs.Seen.{tree_of};
-ghost use Rattle.yaml_grammar.specs.Style.{value_at};
+ghost use Rattle.conf_record.specs.Prelude.{IsKept, tree_of, value_at};
 
 use conf_state::value_length;
 use std::alloc::AllocError;

@@ -1,65 +1,19 @@
 // Records as a store writes them, taken apart line by line.
-ghost use Rattle.std.specs.Prelude.{◌≡◌, ◌≤◌, ◌++◌, codes, decimal, encode_utf8_all, map, IfOk, IfSome, IsTrue};
-ghost use Rattle.conf_state.specs.Commands.{edit_of, command_of, single};
-ghost use Rattle.conf_state.specs.States.{count_limit};
-ghost use Rattle.conf_record.specs.Documents.{IsRecord};
+ghost use Rattle.std.specs.Prelude.{◌≡◌, ◌++◌, codes, map, IfOk, IfSome, IsTrue};
+ghost use Rattle.conf_record.specs.Prelude.{edit_of, command_of, single};
 ghost use Rattle.conf_record.specs.EditLines.{lines_of};
 ghost use Rattle.conf_record.specs.LineValues.{HasValueLine, edit_cut};
 ghost use Rattle.conf_record.specs.Written.{IsWritten, IsWrittenAs, ElementsWritten};
 
 use crate::edit_lines::{Place, cut_edit, cut_element};
 use crate::edit_members::EditMembers;
-use crate::fields::number_from;
-use crate::laws::records_read;
-use crate::lines::{LineValue, cut_line, made_value, name_on, path_on, value_on};
-use conf_state::{Command, Edit, RECORD_LIMIT};
+use crate::lines::{LineValue, made_value, name_on, path_on, value_on};
+use conf_state::{Command, Edit};
 use std::alloc::{AllocError, Global};
-use std::str;
 use yaml_styled::Miss;
 
 /// The key of the tree of an import.
 const TREE_KEY: &str = "tree: ";
-
-/// The record that the bytes are, if they are the very text that [`record_text`](crate::record_text) writes for it, and
-/// each text in it is on one line without an escape.
-pub(crate) fn written_record(alloc: Global, bytes: &[u8]) -> Result<(Command, u64), Miss>
-    ensures { IfOk result (λ r. IsRecord bytes.now (command_of r.0) r.1) }
-{
-    records_read();
-    if bytes.len() as u64 > RECORD_LIMIT {
-        return Err(Miss::OtherForm);
-    }
-    let Ok(text) = str::from_utf8(bytes) else {
-        return Err(Miss::OtherForm);
-    };
-    let Some((number, lines)) = cut_number(text) else {
-        return Err(Miss::OtherForm);
-    };
-    let command = cut_command(alloc, lines)?;
-    Ok((command, number))
-}
-
-/// The number at the start of a record, and the lines after it.
-fn cut_number(text: &str) -> Option<(u64, &str)>
-    ensures number { IfSome result (λ cut. cut.0 ≤ count_limit) }
-    ensures lines { IfSome result (λ cut. text.now ≡ codes "---\nat: \""
-        ++ (encode_utf8_all (decimal cut.0) ++ (codes "\"\n" ++ cut.1.now))) }
-{
-    let (line, lines) = cut_line(text, "---\nat: \"")?;
-    let digits = line.strip_suffix('"')?;
-    let number = number_from(digits)?;
-    Some((number, lines))
-}
-
-/// The command on the lines after the number.
-fn cut_command(alloc: Global, lines: &str) -> Result<Command, Miss>
-    ensures { IfOk result (λ command. IsWritten lines.now (command_of command)) }
-{
-    match cut_single(lines) {
-        Some(texts) => Ok(made_command(alloc, texts)?),
-        None => cut_many(alloc, lines),
-    }
-}
 
 /// The texts of the one edit on the lines after the number, each on one line without an escape.
 pub(crate) fn cut_single(lines: &str) -> Option<EditMembers<&str, LineValue<'_>>>
@@ -144,17 +98,9 @@ fn edit_with(alloc: Global, texts: EditMembers<&str, LineValue<'_>>) -> Result<E
 pub(crate) fn cut_many(alloc: Global, lines: &str) -> Result<Command, Miss>
     ensures { IfOk result (λ command. IsWritten lines.now (command_of command)) }
 {
-    match lines.strip_prefix("batch:\n") {
-        Some(elements) => cut_batch(alloc, elements),
-        None => Err(Miss::OtherForm),
-    }
-}
-
-/// The batch whose elements these lines are.
-fn cut_batch(alloc: Global, elements: &str) -> Result<Command, Miss>
-    ensures { IfOk result (λ command.
-        IsWritten (codes "batch:\n" ++ elements.now) (command_of command)) }
-{
+    let Some(elements) = lines.strip_prefix("batch:\n") else {
+        return Err(Miss::OtherForm);
+    };
     let edits = cut_elements(alloc, elements)?;
     if edits.is_empty() {
         return Err(Miss::OtherForm);

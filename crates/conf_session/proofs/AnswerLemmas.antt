@@ -1,27 +1,15 @@
 -- The texts of answers, and what they answer.
 use Rattle.std.proofs.Common.{◌≡◌, refl, sym, ◌∙◌, ap, arith, ◌≤◌, append_assoc}
 use Rattle.std.specs.Prelude.{ℕ, suc, List, [], ◌∷◌, ◌++◌, codes, Result, Ok, Err}
-use Rattle.std.specs.Str.{chars}
+use Rattle.conf_session.proofs.Prelude.{chars, Tree, text, sequence, Elements, no_element, element, depth, elements_depth, framed_text}
+use Rattle.conf_session.proofs.Prelude.{tree_of, elements_of, text_bytes, tree_of-Text, join_elements, elements_of-append, at, at_from}
+use Rattle.conf_session.proofs.Prelude.{at_step, child, refusal, Miss, own_limits, child-within, IsState, Contents, count_line, and_then-Ok}
+use Rattle.conf_session.proofs.Prelude.{tree_named, tree_at}
 use Rattle.std.specs.Str.Parse.{AllDigits}
-use Rattle.yaml_grammar.specs.Trees.{Tree, text, sequence, Elements, no_element, element, depth, elements_depth}
-use Rattle.yaml_recognizers.specs.Closings.{framed_text}
-use Rattle.yaml_data.specs.Seen.{tree_of, elements_of}
-use Rattle.yaml_data.specs.TextBytes.{text_bytes}
 use Rattle.yaml_data.specs.declared.text.Text.{Text}
-use Rattle.yaml_data.specs.declared.tree.Tree as code
-use Rattle.yaml_data.proofs.SeenLemmas.{tree_of-Text, join_elements, elements_of-append}
-use Rattle.tree_path.specs.Paths.{at, at_from, at_step, child, refusal}
-use Rattle.tree_path.specs.declared.place.Miss.{Miss}
-use Rattle.yaml_config.specs.Kept.{own_limits}
-use Rattle.yaml_config.proofs.Located.{child-within}
-use Rattle.conf_state.specs.Limits.{IsState}
-use Rattle.conf_state.specs.States.{Contents}
-use Rattle.conf_state.proofs.BaseLemmas.{count_line}
-use Rattle.conf_state.proofs.RunLaws.{and_then-Ok}
-use Rattle.conf_store.specs.Calls.{tree_named, tree_at}
 use Rattle.conf_session.specs.Answers.{one, text_elements}
-use Rattle.conf_session.proofs.LengthLemmas.{by_path-Ok, tree_named-good}
-use Rattle.conf_session.proofs.WordLemmas.{framed-one}
+use Rattle.conf_session.proofs.{LengthLemmas.by_path-Ok, LengthLemmas.tree_named-good, WordLemmas.framed-one}
+use Rattle.yaml_data.specs.declared.tree.Tree as code
 
 -- ---- the text of an answer
 

@@ -1,42 +1,25 @@
 -- What commands that are spelled one key a line say.
 use Rattle.std.proofs.Common.{◌≡◌, refl, sym, ap, subst, ◌∙◌, inl, arith, ◌≤◌, append_assoc, append-nil}
-use Rattle.std.specs.Prelude.{ℕ, zero, suc, ◌+◌, ◌*◌, ◌==◌, Bool, true, false, nat_lt, if◌then◌else◌, List, [], ◌∷◌}
-use Rattle.std.specs.Prelude.{◌++◌, codes, length, Some}
-use Rattle.std.specs.List.{list_all}
-use Rattle.std.specs.Str.{chars, IsUtf8, IsAscii}
-use Rattle.std.proofs.lemmas.Bool.{and_parts, and_from, ltb-true}
-use Rattle.std.proofs.lemmas.Bool.Decides.{nat_tests}
-use Rattle.std.proofs.lemmas.Str.{chars-IsAscii}
-use Rattle.yaml_chars.specs.Classes.{code_point, is_in}
-use Rattle.yaml_grammar.specs.Texts.{IsText, byte_len, spaces}
-use Rattle.yaml_grammar.specs.Trees.{text, sequence, mapping, Elements, no_member, member, AreTextMembers}
-use Rattle.yaml_grammar.specs.Trees.{AreTextElements, members_depth, elements_depth, members_distinct}
-use Rattle.yaml_grammar.specs.Trees.{elements_distinct}
-use Rattle.yaml_grammar.specs.Style.{word_char, plain_in_style, literal_in_style, literal_mark, literal_lines}
-use Rattle.yaml_grammar.specs.Style.{feeds_at_end, in_double_quotes, scalar_lines, long_key, key_lines, value_at}
-use Rattle.yaml_grammar.specs.Style.{members_at, members_after, elements_after, style_text}
-use Rattle.yaml_grammar.specs.Reads.{Good, Gives}
-use Rattle.yaml_recognizers.proofs.OneStyle.Characters.{every_joined}
-use Rattle.yaml_data.proofs.CharacterLemmas.{every-IsAscii}
-use Rattle.yaml_writer.specs.BudgetLaws.{byte_len-append}
-use Rattle.yaml_writer.specs.Runs.{stands_alone}
-use Rattle.yaml_writer.proofs.ByteLemmas.{byte_len-chars}
-use Rattle.yaml_config.specs.Kept.{IsKept}
+use Rattle.std.specs.Prelude.{ℕ, zero, suc, ◌+◌, ◌*◌, ◌==◌, Bool, true, false, nat_lt, if◌then◌else◌, List, [], ◌∷◌, ◌++◌, codes, length}
+use Rattle.std.specs.Prelude.{Some}
+use Rattle.conf_session.proofs.Prelude.{list_all, chars, IsUtf8, IsAscii, and_parts, and_from, ltb-true, nat_tests, chars-IsAscii}
+use Rattle.conf_session.proofs.Prelude.{code_point, is_in, IsText, byte_len, spaces, text, sequence, mapping, Elements, no_member, member}
+use Rattle.conf_session.proofs.Prelude.{AreTextMembers, AreTextElements, members_depth, elements_depth, members_distinct, elements_distinct}
+use Rattle.conf_session.proofs.Prelude.{word_char, plain_in_style, literal_in_style, literal_mark, literal_lines, feeds_at_end}
+use Rattle.conf_session.proofs.Prelude.{in_double_quotes, scalar_lines, long_key, key_lines, value_at, members_at, members_after}
+use Rattle.conf_session.proofs.Prelude.{elements_after, style_text, Good, Gives, every_joined, every-IsAscii, byte_len-append, stands_alone}
+use Rattle.conf_session.proofs.Prelude.{byte_len-chars, IsKept, set_at, delete_at, member_line, lines_of, scalar_most}
 use Rattle.yaml_config.proofs.TextTreeLemmas.{chars-IsText}
-use Rattle.conf_state.specs.Commands.{set_at, delete_at}
 use Rattle.std.specs.Borrow.{Bor}
-use Rattle.conf_record.specs.EditLines.{member_line, lines_of}
-use Rattle.conf_record.specs.declared.edit_members.EditMembers.TheVariants as cut
-use Rattle.conf_record.proofs.SizeLemmas.{scalar_most}
-use Rattle.conf_session.specs.Said.{Part, Said, Says, command_limits, piece_limit, import_text, plain, single_part}
-use Rattle.conf_session.specs.Said.{batch_of_parts, get_at, said_by, part_from, parts_of, parts_said, first_and_rest}
-use Rattle.conf_session.specs.CommandLines.{Spelling, bare, quoted, Line, spelled, bare_char, begins_bare, stands}
-use Rattle.conf_session.specs.CommandLines.{IsField, line_text, lines_text, members_of_lines, IsSpelled, IsLine}
-use Rattle.conf_session.specs.CommandLines.{AreLines, Entry, entry_text, entry_members, elements_text}
-use Rattle.conf_session.specs.CommandLines.{elements_of_entries, AreEntries, SaysPart, SayParts, SpellsPart}
-use Rattle.conf_session.specs.CommandLines.{ArePartLines, Layout, single, batch_of, layout_text, layout_members}
-use Rattle.conf_session.specs.CommandLines.{IsLayout, IsCommandLines}
+use Rattle.conf_session.specs.Said.{Part, Said, Says, command_limits, piece_limit, import_text, plain, single_part, batch_of_parts, get_at}
+use Rattle.conf_session.specs.Said.{said_by, part_from, parts_of, parts_said}
+use Rattle.conf_session.specs.SaidConditions.{first_and_rest}
+use Rattle.conf_session.specs.CommandLines.{Spelling, bare, quoted, Line, spelled, bare_char, begins_bare, stands, IsField, line_text}
+use Rattle.conf_session.specs.CommandLines.{lines_text, members_of_lines, IsSpelled, IsLine, AreLines, Entry, entry_text, entry_members}
+use Rattle.conf_session.specs.CommandLines.{elements_text, elements_of_entries, AreEntries, SaysPart, SayParts, SpellsPart, ArePartLines}
+use Rattle.conf_session.specs.CommandLines.{Layout, single, batch_of, layout_text, layout_members, IsLayout, IsCommandLines}
 use Rattle.conf_session.proofs.LinesPresented.{Unambiguous, KeysAreText, AllKeysAreText, LayoutIsText, marker_text, document_of, lines_give}
+use Rattle.conf_record.specs.declared.edit_members.EditMembers.TheVariants as cut
 
 -- ---- all is ASCII
 

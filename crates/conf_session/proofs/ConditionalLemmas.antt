@@ -1,48 +1,28 @@
 -- A command with conditions: it is as it is without them, or it is refused and changes nothing.
 use Rattle.std.proofs.Common.{◌≡◌, ◌≢◌, inl, inr, refl, sym, ap, subst, ◌∙◌, ◌≤◌}
-use Rattle.std.proofs.lemmas.Bool.{false≢true}
-use Rattle.std.proofs.lemmas.List.{append-nil}
-use Rattle.std.specs.Prelude.{ℕ, true, false, if◌then◌else◌, List, [], ◌∷◌, ◌++◌, length, Option, Some, None, Result}
-use Rattle.std.specs.Prelude.{Ok, Err, IfOk, IfErr, is_ok}
-use Rattle.std.specs.Str.{chars, IsUtf8}
-use Rattle.yaml_events.specs.declared.read_fault.ReadFault.{ReadFault}
-use Rattle.yaml_events.specs.declared.read_fault.ReadFault.TheVariants as read_faults
-use Rattle.conf_disk.specs.Folder.{bytes_under}
-use Rattle.conf_disk.specs.Image.{Image, IsImage}
-use Rattle.conf_disk.specs.Models.{DiskModel}
-use Rattle.conf_disk.specs.Moments.{LeavesOnly}
-use Rattle.conf_disk.specs.declared.disk.Name.TheVariants.{Store}
-use Rattle.conf_state.specs.Commands.{Command, command_of}
-use Rattle.conf_state.specs.States.{Contents}
-use Rattle.conf_state.specs.declared.command.Command as code
-use Rattle.conf_state.specs.declared.fault.StoreFault.{StoreFault}
-use Rattle.conf_state.specs.declared.fault.StoreFault.TheVariants as store_faults
-use Rattle.conf_store.specs.Durable.{AfterPrefix, HasFlushed, staged_text}
-use Rattle.conf_store.specs.Imports.{IsImportOf, RefusesText}
-use Rattle.conf_store.specs.View.{StoreView}
-use Rattle.conf_conditions.specs.Conditions.{Condition, first_fault}
-use Rattle.conf_conditions.specs.declared.fault.ConditionFault.{ConditionFault}
-use Rattle.conf_conditions.specs.declared.fault.ConditionFault.TheVariants as condition
-use Rattle.conf_conditions.proofs.ConditionLemmas.{first-none, first-some, told-first}
-use Rattle.conf_session.specs.declared.fault.SessionFault.{SessionFault}
-use Rattle.conf_session.specs.declared.fault.SessionFault.TheVariants as fault
-use Rattle.conf_session.specs.declared.reply.Reply.{Reply}
-use Rattle.conf_session.specs.declared.reply.Reply.TheVariants.{Refused}
-use Rattle.conf_session.specs.declared.words.Refusal.{Refusal}
-use Rattle.conf_session.specs.Said.{import_text, single_part}
+use Rattle.std.specs.Prelude.{ℕ, true, false, if◌then◌else◌, List, [], ◌∷◌, ◌++◌, length, Option, Some, None, Result, Ok, Err, IfOk, IfErr}
+use Rattle.std.specs.Prelude.{is_ok}
+use Rattle.conf_session.proofs.Prelude.{false≢true, append-nil, chars, IsUtf8, ReadFault, bytes_under, Image, IsImage, DiskModel}
+use Rattle.conf_session.proofs.Prelude.{LeavesOnly, Store, Command, command_of, Contents, StoreFault, AfterPrefix, HasFlushed, staged_text}
+use Rattle.conf_session.proofs.Prelude.{IsImportOf, RefusesText, StoreView, Condition, first_fault, ConditionFault, first-none, first-some}
+use Rattle.conf_session.proofs.Prelude.{told-first}
+use Rattle.conf_session.specs.{declared.fault.SessionFault.SessionFault, declared.reply.Reply.Reply}
+use Rattle.conf_session.specs.{declared.reply.Reply.TheVariants.Refused, declared.words.Refusal.Refusal, Said.import_text, Said.single_part}
+use Rattle.conf_session.specs.{Conditional.RefusesFirst, Conditional.IsGuarded, Conditional.ConditionsGuard, Runs.stored_of}
 use Rattle.conf_session.specs.Requests.{Request, MeansRequest, changing, unread, if_met}
-use Rattle.conf_session.specs.Answers.{Stored, answer, answer_limit, document_bytes, answered, read_answered}
-use Rattle.conf_session.specs.Answers.{condition_answered, refused_answer, unless_failed, stored_after, file_after}
-use Rattle.conf_session.specs.Answers.{staged_after, accepted_command, refused_of, syncs, flushed_after}
-use Rattle.conf_session.specs.Answers.{waiting_after}
-use Rattle.conf_session.specs.Conditional.{RefusesFirst, IsGuarded, ConditionsGuard}
+use Rattle.conf_session.specs.Answers.{Stored, answer, answer_limit, document_bytes, answered, read_answered, condition_answered}
+use Rattle.conf_session.specs.Answers.{refused_answer, unless_failed, stored_after, file_after, staged_after, accepted_command, refused_of}
+use Rattle.conf_session.specs.Answers.{syncs, flushed_after, waiting_after}
 use Rattle.conf_session.specs.ReadChanges.{IsRequest, EndsByMemory, ReadsAsked, IfMet}
 use Rattle.conf_session.specs.Replies.{DidAsked, Handles, MeansPrefixes, Performs, Replies, refused_as, unmet_after, unmet_as}
-use Rattle.conf_session.specs.Runs.{stored_of}
-use Rattle.conf_session.proofs.AnsweredLemmas.{condition-told}
-use Rattle.conf_session.proofs.LengthLemmas.{refused-short}
+use Rattle.conf_session.proofs.{AnsweredLemmas.condition-told, LengthLemmas.refused-short}
 use Rattle.conf_session.proofs.RefusalLemmas.{OnlyMemory, path-memory, text-memory}
 use Rattle.conf_session.proofs.RequestLemmas.{unchanged, handles-none, handles-same, text-given, text-refused}
+use Rattle.yaml_events.specs.declared.read_fault.ReadFault.TheVariants as read_faults
+use Rattle.conf_state.specs.declared.command.Command as code
+use Rattle.conf_state.specs.declared.fault.StoreFault.TheVariants as store_faults
+use Rattle.conf_conditions.specs.declared.fault.ConditionFault.TheVariants as condition
+use Rattle.conf_session.specs.declared.fault.SessionFault.TheVariants as fault
 
 -- ---- where no condition fails
 
@@ -175,8 +155,8 @@ condition-memory condition.OutOfMemory = refl
 
 module _ {D : Type 0} (model : DiskModel D) where
   met-performs : (old new : StoreView D) (conditions : List Condition) (request : Request)
-      → first_fault old.state conditions ≡ None → Performs false model old new request
-      → Performs false model old new (if_met conditions request)
+      → first_fault old.state conditions ≡ None → Performs model old new request
+      → Performs model old new (if_met conditions request)
   met-performs old new conditions request none p =
       let now = stored_of old in
       let same = met-stored now conditions request none in
@@ -231,7 +211,7 @@ module _ {D : Type 0} (model : DiskModel D) where
       → IsImage (model.folder store.disk) image)
       (conditions : List Condition) where
     unmet-performs : (request : Request) (f : ConditionFault) → first_fault store.state conditions ≡ Some f
-        → store.reopen ≡ false → Performs false model store store (if_met conditions request)
+        → store.reopen ≡ false → Performs model store store (if_met conditions request)
     unmet-performs request f some off =
         let now = stored_of store in
         let same = unmet-stored now conditions request f some in

@@ -1,55 +1,27 @@
 -- The pieces of one group, one after the other, and the flush after them.
-use Rattle.std.proofs.Common.{◌≡◌, ◌⊎◌, inl, ⊎_elim, refl, sym, ◌∙◌, ap, subst, arith, ◌≤◌, ◌<◌, append_assoc, length-append}
-use Rattle.std.specs.Prelude.{ℕ, ◌+◌, ◌^◌, ◌↔◌, true, false, Bool, List, [], ◌∷◌, ◌++◌, length, take, Option, Some}
-use Rattle.std.specs.Prelude.{None, IsSome, option_map, Result, Ok, Err, OnOk, IfErr}
-use Rattle.std.specs.List.{concat}
-use Rattle.std.specs.Io.KnownBytes.{Appends}
-use Rattle.std.proofs.KnownBytes.{Keeps-refl}
-use Rattle.std.proofs.lemmas.Bool.{false≢true}
-use Rattle.std.proofs.lemmas.List.{append-nil}
-use Rattle.std.proofs.lemmas.List.Folds.{concat-append}
-use Rattle.std.proofs.lemmas.List.Elements.{All-nil}
-use Rattle.yaml_grammar.specs.Closings.{ClosesOnce}
-use Rattle.conf_disk.specs.Folder.{bytes_under}
-use Rattle.conf_disk.specs.Image.{Image, IsImage}
-use Rattle.conf_disk.specs.Models.{DiskModel}
-use Rattle.conf_disk.specs.Moments.{LeavesOnly}
-use Rattle.conf_disk.specs.declared.disk.Name.TheVariants.{Store}
-use Rattle.conf_disk.proofs.Moments.{LeavesOnly-joined}
-use Rattle.conf_state.specs.Commands.{Command}
-use Rattle.conf_state.specs.States.{Contents}
-use Rattle.conf_state.specs.declared.fault.StoreFault.{StoreFault}
-use Rattle.conf_state.specs.declared.fault.StoreFault.TheVariants as why
-use Rattle.conf_store.specs.Durable.{AfterPrefix, AllImagesMean, HasFlushed, staged_text}
-use Rattle.conf_store.specs.Slices.{StaysTheSame}
-use Rattle.conf_store.specs.Staged.{Staged}
-use Rattle.conf_store.specs.View.{StoreView}
-use Rattle.conf_session.specs.Said.{piece_limit}
-use Rattle.conf_session.specs.Input.{ahead, piece_or_rest, AdvancesAhead, AdvancesWithin}
-use Rattle.conf_session.specs.Requests.{Request, Asks}
-use Rattle.conf_session.specs.Answers.{Stored, answer_bytes, output, stored_after_all, accepted_command}
-use Rattle.conf_session.specs.Answers.{accepted_commands, refused_of, flushed_after, waiting_after}
-use Rattle.conf_session.specs.Runs.{TakesUp, stored_of}
-use Rattle.conf_session.specs.Groups.{Files, all_asked}
+use Rattle.std.proofs.Common.{◌≡◌, ◌≢◌, ◌⊎◌, inl, inr, ⊎_elim, refl, sym, ◌∙◌, ap, subst, arith, ◌≤◌, ◌<◌, append_assoc, length-append}
+use Rattle.std.specs.Prelude.{ℕ, ◌+◌, ◌^◌, ◌↔◌, true, false, Bool, List, [], ◌∷◌, ◌++◌, length, take, Option, Some, None, IsSome}
+use Rattle.std.specs.Prelude.{option_map, Result, Ok, Err}
+use Rattle.conf_session.proofs.Prelude.{concat, Appends, Keeps-refl, false≢true, append-nil, concat-append, All-nil, ClosesOnce}
+use Rattle.conf_session.proofs.Prelude.{bytes_under, Image, IsImage, DiskModel, LeavesOnly, Store, LeavesOnly-joined, Command, Contents}
+use Rattle.conf_session.proofs.Prelude.{StoreFault, AfterPrefix, AllImagesMean, HasFlushed, staged_text, StaysTheSame, Staged, StoreView}
+use Rattle.conf_session.specs.{Said.piece_limit, Input.ahead, Input.piece_or_rest, Input.AdvancesAhead, Input.AdvancesWithin}
+use Rattle.conf_session.specs.{Requests.Request, Requests.Asks, Runs.TakesUp, Runs.stored_of, Groups.all_asked}
+use Rattle.conf_session.specs.{declared.input.Input.Input, declared.reply.Reply.Reply, declared.unwritten.Unwritten.Unwritten}
+use Rattle.conf_session.specs.{declared.fault.SessionFault.SessionFault, Sinks.AreAcknowledged, Sinks.SentSoFar}
+use Rattle.conf_session.specs.Answers.{Stored, answer_bytes, output, stored_after_all, accepted_command, accepted_commands, refused_of}
+use Rattle.conf_session.specs.Answers.{flushed_after, waiting_after}
 use Rattle.conf_session.specs.Replies.{DidAsked, MeansPrefixes, Performs, PerformsAll, reply_bytes}
-use Rattle.conf_session.specs.declared.input.Input.{Input}
-use Rattle.conf_session.specs.declared.reply.Reply.{Reply}
-use Rattle.conf_session.specs.declared.unwritten.Unwritten.{Unwritten}
-use Rattle.conf_session.specs.declared.fault.SessionFault.{SessionFault}
-use Rattle.conf_session.specs.declared.fault.SessionFault.TheVariants as fault
-use Rattle.conf_session.specs.Gathering.{answers_limit, last_bytes, unwritten_bytes, CanTakeGroup, HasRoomFor}
-use Rattle.conf_session.specs.Gathering.{KeepsAnswer, KeepsAnswers, GathersPiece, LeavesPiece, GathersPieces}
-use Rattle.conf_session.specs.Gathering.{PerformsTurns, PerformsFlushed, BreaksOff, StopsShort, FlushesAll}
-use Rattle.conf_session.specs.Gathering.{SubmitsGroup, EndsGroup, WritesAnswers, CutsAnswers, CutsSending}
-use Rattle.conf_session.specs.Gathering.{FailsToWrite, SendsAnswers, PassesGroup, CutsGroup, PerformsGroup}
-use Rattle.conf_session.specs.Gathering.{PerformsPiece}
-use Rattle.conf_session.proofs.PassedLemmas.{few-accepted, few-refused, continues, prefix-whole, pieces-last}
-use Rattle.conf_session.proofs.PassedLemmas.{performs-none, performs-more, state-more, moments-more}
-use Rattle.conf_session.proofs.PassedLemmas.{accepted_commands-last, output-last, refusals-last}
-use Rattle.conf_session.specs.Sinks.{AreAcknowledged, SentSoFar}
-use Rattle.conf_session.proofs.RequestLemmas.{leaves-same}
-use Rattle.conf_session.proofs.SinkLemmas.{kept-acknowledged}
+use Rattle.conf_session.specs.Gathering.{last_bytes, unwritten_bytes, HasRoomFor, KeepsAnswer, KeepsAnswers, GathersPiece}
+use Rattle.conf_session.specs.Gathering.{LeavesPiece, GathersPieces, PerformsTurns, PerformsFlushed, BreaksOff, StopsShort, FlushesAll}
+use Rattle.conf_session.specs.Gathering.{SubmitsGroup, WritesAnswers, CutsAnswers, CutsSending, FailsToWrite, SendsAnswers}
+use Rattle.conf_session.specs.Gathering.{PassesGroup, PerformsGroup}
+use Rattle.conf_session.proofs.{SinkLemmas.kept-acknowledged}
+use Rattle.conf_session.proofs.PassedLemmas.{few-accepted, few-refused, continues, prefix-whole, pieces-last, performs-none, performs-more}
+use Rattle.conf_session.proofs.PassedLemmas.{state-more, moments-more, accepted_commands-last, output-last, refusals-last}
 use Rattle.conf_session.proofs.TurnLemmas.{asked-stored, asked-accepted, files-asked}
+use Rattle.conf_state.specs.declared.fault.StoreFault.TheVariants as why
+use Rattle.conf_session.specs.declared.fault.SessionFault.TheVariants as fault
 
 -- ---- pieces that are taken up
 
@@ -72,7 +44,7 @@ takes-more bytes piece rest rs r takes closes short asks = record {
 }
 
 -- no answers are kept for no requests
-keeps-none : (start : Stored) (answers : Unwritten) → length answers.text.items ≤ answers_limit → KeepsAnswers start [] answers answers
+keeps-none : (start : Stored) (answers : Unwritten) → length answers.text.items ≤ answers.limit → KeepsAnswers start [] answers answers
 keeps-none start answers within = record {
   bytes = sym (append-nil (unwritten_bytes answers));
   within = within;
@@ -81,12 +53,27 @@ keeps-none start answers within = record {
   accepted = omega arith;
   refused = omega arith;
   written = refl;
+  limit = refl;
 }
+
+-- a list that ends with elements is not empty
+pub joined-none : {A : Type 0} (xs ys : List A) → xs ++ ys ≡ [] → ys ≡ []
+joined-none [] ys e = e
+joined-none (x ∷ xs) ys e = absurd (cc e)
+
+no-length : {A : Type 0} (xs : List A) → length xs ≡ 0 → xs ≡ []
+no-length [] e = refl
+no-length (x ∷ xs) e = absurd (omega (arith, e))
 
 -- answers that are not full have none that is kept apart
 pub not-full : (last : Option Reply) (Long : Type 0) (full : Bool) → ((full ≡ true) ↔ (IsSome last ⊎ Long)) → full ≡ false → last ≡ None
 not-full None Long full is e = refl
 not-full (Some reply) Long full is e = absurd (false≢true (sym e ∙ is.1 (inl refl)))
+
+-- and their text has room
+pub has-room : (answers : Unwritten) (full : Bool)
+    → ((full ≡ true) ↔ (IsSome answers.last ⊎ (answers.limit ≤ length answers.text.items))) → full ≡ false → answers.limit ≡ 0 → ⊥
+has-room answers full is e zero = false≢true (sym e ∙ is.1 (inr (omega (arith, zero))))
 
 -- all answers together are no longer than a count of bytes may be
 pub room-small : (answers : Unwritten) (left total : ℕ) → HasRoomFor answers left total
@@ -188,63 +175,77 @@ module _ {D : Type 0} (model : DiskModel D) where
         refused = (let same = ap (λ t. refused_of t r) here in
             omega (arith, one.keeps.refused, one.replies.refused, kept.refused, same, refusals-last start rs r));
         written = one.keeps.written ∙ kept.written;
+        limit = one.keeps.limit ∙ kept.limit;
       }
 
   -- ---- the loop over the pieces
 
   pub submits-none : (store : StoreView D) (bytes : List ℕ) (answers : Unwritten) → store.reopen ≡ false
-      → length answers.text.items ≤ answers_limit
+      → length answers.text.items ≤ answers.limit
       → ((image : Image) → model.honest → model.left store.disk (model.moment store.disk) image → IsImage (model.folder store.disk) image)
       → MeansPrefixes model store
-      → GathersPieces (PerformsAll false model) bytes bytes store store answers answers
+      → GathersPieces model bytes bytes store store answers answers
   submits-none store bytes answers off within only means = record {
     requests = [];
     takes = takes-none bytes;
-    performs = performs-none false model store off only means;
+    performs = performs-none model store off only means;
     keeps = keeps-none (stored_of store) answers within;
+    none = λ e. refl;
+    single = λ e. omega arith;
   }
 
   module _ (bytes piece rest : List ℕ) (old now : StoreView D) (before mid : Unwritten)
-      (s : GathersPieces (PerformsAll false model) bytes (piece ++ rest) old now before mid)
+      (s : GathersPieces model bytes (piece ++ rest) old now before mid)
+      (first : before.limit ≡ 0 → mid.tally.documents ≡ before.tally.documents)
       (closes : ClosesOnce piece) (short : length piece ≤ piece_limit) (new : StoreView D) where
+    -- the next piece is the only one, where a text of answers has no room
+    alone : (r : Request) → before.limit ≡ 0 → length (s.requests ++ r ∷ []) ≡ 1
+    alone r e = (let none = first e in let count = s.keeps.documents in let sum = length-append s.requests (r ∷ []) in
+        omega (arith, none, count, sum))
+
     -- the next piece is performed
     pub submits-more : (after : Unwritten) → GathersPiece model now new piece mid after
-        → GathersPieces (PerformsAll false model) bytes rest old new before after
+        → GathersPieces model bytes rest old new before after
     submits-more after one = record {
       requests = s.requests ++ one.request ∷ [];
       takes = takes-more bytes piece rest s.requests one.request s.takes closes short one.asks;
-      performs = performs-more false model old now new s.requests one.request s.performs one.performs one.sound;
+      performs = performs-more model old now new s.requests one.request s.performs one.performs one.sound;
       keeps = keeps-more old now new piece before mid after s.requests s.performs.stored s.keeps one;
+      none = λ e. absurd (cc (joined-none s.requests (one.request ∷ []) e));
+      single = λ e. (let count = alone one.request e in omega (arith, count));
     }
 
+    -- its answer is one more
+    pub some-more : (after : Unwritten) → GathersPiece model now new piece mid after → before.tally.documents < after.tally.documents
+    some-more after one = (let more = one.keeps.documents in let count = s.keeps.documents in omega (arith, more, count))
+
     -- the device fails at the next piece
-    breaks-at : (r : Request) → Asks piece r → new.reopen ≡ true → Performs false model now new r → BreaksOff model bytes old new
+    breaks-at : (r : Request) → Asks piece r → new.reopen ≡ true → Performs model now new r → BreaksOff model bytes before.limit old new
     breaks-at r asks broken does = record {
       broken = broken;
       requests = s.requests ++ r ∷ [];
+      single = alone r;
       further = rest;
       takes = takes-more bytes piece rest s.requests r s.takes closes short asks;
-      state = state-more false model old now new s.requests r s.performs does;
-      any_moment = λ h. moments-more false model old now new s.requests r s.performs does h;
+      state = state-more model old now new s.requests r s.performs does;
+      any_moment = λ h. moments-more model old now new s.requests r s.performs does h;
     }
 
-  -- the next piece has no answer
-  pub submits-failing : (bytes piece rest : List ℕ) (old now new : StoreView D) (before mid after : Unwritten)
-      → GathersPieces (PerformsAll false model) bytes (piece ++ rest) old now before mid
-      → ClosesOnce piece → length piece ≤ piece_limit → after ≡ mid → (f : SessionFault) → LeavesPiece model now new piece f
-      → (input : Input) → SubmitsGroup model bytes input old new before after (Err f)
-  submits-failing bytes piece rest old now new before mid after s closes short same fault.OutOfMemory fails input = (
-    piece ++ rest,
-    subst (λ (a : Unwritten). GathersPieces (PerformsAll false model) bytes (piece ++ rest) old new before a) (sym same)
-        (subst (λ (t : StoreView D). GathersPieces (PerformsAll false model) bytes (piece ++ rest) old t before mid) (sym fails) s),
-  )
-  submits-failing bytes piece rest old now new before mid after s closes short same fault.Device fails input =
-      breaks-at bytes piece rest old now before mid s closes short new fails.0 fails.1 fails.2.0 fails.2.1
-  submits-failing bytes piece rest old now new before mid after s closes short same fault.Read fails input = absurd fails
-  submits-failing bytes piece rest old now new before mid after s closes short same fault.TooLong fails input = absurd fails
-  submits-failing bytes piece rest old now new before mid after s closes short same fault.SessionLong fails input = absurd fails
-  submits-failing bytes piece rest old now new before mid after s closes short same fault.Reopen fails input = absurd fails
-  submits-failing bytes piece rest old now new before mid after s closes short same (fault.Write written) fails input = absurd fails
+    -- the next piece has no answer
+    pub submits-failing : (after : Unwritten) → after ≡ mid → (f : SessionFault) → LeavesPiece model now new piece f
+        → (input : Input) → SubmitsGroup model bytes input old new before after (Err f)
+    submits-failing after same fault.OutOfMemory fails input = inl (
+      refl,
+      piece ++ rest,
+      subst (λ (a : Unwritten). GathersPieces model bytes (piece ++ rest) old new before a) (sym same)
+          (subst (λ (t : StoreView D). GathersPieces model bytes (piece ++ rest) old t before mid) (sym fails) s),
+    )
+    submits-failing after same fault.Device fails input = inr (refl, breaks-at fails.0 fails.1 fails.2.0 fails.2.1)
+    submits-failing after same fault.Read fails input = absurd fails
+    submits-failing after same fault.TooLong fails input = absurd fails
+    submits-failing after same fault.SessionLong fails input = absurd fails
+    submits-failing after same fault.Reopen fails input = absurd fails
+    submits-failing after same (fault.Write written) fails input = absurd fails
 
   -- one answer more has room
   pub room-more : (old new : StoreView D) (piece rest : List ℕ) (before after : Unwritten) (total : ℕ)
@@ -267,16 +268,10 @@ module _ {D : Type 0} (model : DiskModel D) where
 
   -- there is no memory for a further piece
   pub submits-starved : (bytes further : List ℕ) (old new : StoreView D) (before after : Unwritten)
-      → GathersPieces (PerformsAll false model) bytes further old new before after
+      → GathersPieces model bytes further old new before after
       → (was then : Input) (f : SessionFault) → AdvancesAhead was then (Err f) → (input : Input)
       → SubmitsGroup model bytes input old new before after (Err f)
-  submits-starved bytes further old new before after s was then fault.OutOfMemory fails input = (further, s)
-  submits-starved bytes further old new before after s was then fault.Device fails input = absurd fails
-  submits-starved bytes further old new before after s was then fault.Read fails input = absurd fails
-  submits-starved bytes further old new before after s was then fault.TooLong fails input = absurd fails
-  submits-starved bytes further old new before after s was then fault.SessionLong fails input = absurd fails
-  submits-starved bytes further old new before after s was then fault.Reopen fails input = absurd fails
-  submits-starved bytes further old new before after s was then (fault.Write written) fails input = absurd fails
+  submits-starved bytes further old new before after s was then f fails input = inl (fails, further, s)
 
   -- ---- the flush
 
@@ -320,7 +315,7 @@ module _ {D : Type 0} (model : DiskModel D) where
     now = means;
   }
 
-  module _ (old mid new : StoreView D) (rs : List Request) (before : PerformsAll false model old mid rs) where
+  module _ (old mid new : StoreView D) (rs : List Request) (before : PerformsAll model old mid rs) where
     -- what a crash leaves up to the flush's end
     pub flush-moments : (model.honest → (flushed : Contents) (waiting : List Command)
         → HasFlushed (model.folder mid.disk) flushed waiting mid.state
@@ -334,7 +329,7 @@ module _ {D : Type 0} (model : DiskModel D) where
         (run h f w (before.waits h flushed waiting has))
         (λ image some. some)
         (λ image. prefix-whole flushed f (waiting ++ accepted_commands (stored_of old) rs) w image.store
-        (continues false (stored_of old) flushed waiting rs has.journal.leads))
+        (continues (stored_of old) flushed waiting rs has.journal.leads))
 
     -- what was submitted is flushed
     pub all-flushed : PerformsTurns model mid new [] → PerformsTurns model old new (all_asked rs)
@@ -357,291 +352,95 @@ module _ {D : Type 0} (model : DiskModel D) where
     pub flush-state : StopsShort model mid new → new.state ≡ (stored_after_all (stored_of old) rs).state
     flush-state stops = stops.state ∙ ap (λ (t : Stored). t.state) before.stored
 
-  module _ (bytes further : List ℕ) (old mid : StoreView D) (before after : Unwritten)
-      (s : GathersPieces (PerformsAll false model) bytes further old mid before after) (new : StoreView D) where
-    -- the pieces that were submitted are flushed
-    pub answers-flushed : PerformsTurns model mid new [] → GathersPieces (PerformsFlushed model) bytes further old new before after
-    answers-flushed flush = record {
-      requests = s.requests;
-      takes = s.takes;
-      performs = all-flushed old mid new s.requests s.performs flush;
-      keeps = s.keeps;
-    }
+  -- ---- how a group ends
 
+  -- the device failed in it, or it has no answer
+  pub ends-unanswered : (held : Option (List ℕ)) (bytes : List ℕ) (input : Input) (old new : StoreView D)
+      (before after : Unwritten) (r : Result (Unit {0}) SessionFault) → SubmitsGroup model bytes input old new before after r
+      → (new.reopen ≡ true) ⊎ (after.tally.documents ≡ before.tally.documents)
+      → PerformsGroup model held held bytes input old new before after r
+  ends-unanswered held bytes input old new before after (Ok done) s (inl broken) = absurd (cc (broken, s.2.performs.sound))
+  ends-unanswered held bytes input old new before after (Ok done) s (inr none) = absurd (omega (arith, s.1, none))
+  ends-unanswered held bytes input old new before after (Err f) (inl s) (inl broken) = absurd (cc (broken, s.2.performs.sound))
+  ends-unanswered held bytes input old new before after (Err f) (inl s) (inr none) =
+      subst (λ (x : SessionFault). PerformsGroup model held held bytes input old new before after (Err x)) (sym s.0)
+      (inl (s.2.none (no-length s.2.requests (let count = s.2.keeps.documents in omega (arith, count, none))), Keeps-refl held))
+  ends-unanswered held bytes input old new before after (Err f) (inr s) why =
+      subst (λ (x : SessionFault). PerformsGroup model held held bytes input old new before after (Err x)) (sym s.0)
+      (s.1, Keeps-refl held)
+
+  -- the pieces that were gathered, unless the device failed
+  pub gathered : (bytes : List ℕ) (input : Input) (old new : StoreView D) (before after : Unwritten)
+      (r : Result (Unit {0}) SessionFault) → SubmitsGroup model bytes input old new before after r → new.reopen ≡ false
+      → (further : List ℕ) × GathersPieces model bytes further old new before after
+  gathered bytes input old new before after (Ok done) s on = (ahead input, s.2)
+  gathered bytes input old new before after (Err f) (inl s) on = (s.1, s.2)
+  gathered bytes input old new before after (Err f) (inr s) on = absurd (cc (on, s.1.broken))
+
+  module _ (held : Option (List ℕ)) (bytes : List ℕ) (input : Input) (old mid new : StoreView D) (before kept : Unwritten)
+      (further : List ℕ) (s : GathersPieces model bytes further old mid before kept)
+      (more : kept.tally.documents ≢ before.tally.documents) where
     -- the flush fails
-    pub breaks-unflushed : StopsShort model mid new → BreaksOff model bytes old new
-    breaks-unflushed stops = record {
-      broken = stops.broken;
-      requests = s.requests;
-      further = further;
-      takes = s.takes;
-      state = flush-state old mid new s.requests s.performs stops;
-      any_moment = flush-moments old mid new s.requests s.performs stops.any_moment;
-    }
+    pub ends-unflushed : (after : Unwritten) (f : SessionFault) → FlushesAll model mid new (Err f)
+        → PerformsGroup model held held bytes input old new before after (Err f)
+    ends-unflushed after f stops =
+        subst (λ (x : SessionFault). PerformsGroup model held held bytes input old new before after (Err x)) (sym stops.0) (
+          record {
+            broken = stops.1.broken;
+            requests = s.requests;
+            single = λ e. (let one = s.single e in let count = s.keeps.documents in omega (arith, one, count, more));
+            further = further;
+            takes = s.takes;
+            state = flush-state old mid new s.requests s.performs stops.1;
+            any_moment = flush-moments old mid new s.requests s.performs stops.1.any_moment;
+          },
+          Keeps-refl held,
+        )
 
-    -- the flush fails, whatever the group would have returned
-    pub ends-unflushed : (input : Input) (f : SessionFault) → FlushesAll model mid new (Err f)
-        → EndsGroup model bytes input old new before after (Err f)
-    ends-unflushed input fault.Device stops = breaks-unflushed stops
-    ends-unflushed input fault.OutOfMemory stops = absurd stops
-    ends-unflushed input fault.Read stops = absurd stops
-    ends-unflushed input fault.TooLong stops = absurd stops
-    ends-unflushed input fault.SessionLong stops = absurd stops
-    ends-unflushed input fault.Reopen stops = absurd stops
-    ends-unflushed input (fault.Write written) stops = absurd stops
+    module _ (none : unwritten_bytes before ≡ []) (flush : PerformsTurns model mid new []) where
+      abbrev flushed : PerformsFlushed model old new s.requests
+      flushed = all-flushed old mid new s.requests s.performs flush
 
-  -- a group that was submitted whole ends as its flush does
-  pub ends-flushing : (bytes : List ℕ) (input : Input) (old mid new : StoreView D) (before after : Unwritten)
-      → SubmitsGroup model bytes input old mid before after (Ok tt)
-      → (r : Result (Unit {0}) SessionFault) → FlushesAll model mid new r → EndsGroup model bytes input old new before after r
-  ends-flushing bytes input old mid new before after s (Ok done) flush =
-      (s.0, answers-flushed bytes (ahead input) old mid before after s.1 new flush)
-  ends-flushing bytes input old mid new before after s (Err f) stops =
-      ends-unflushed bytes (ahead input) old mid before after s.1 new input f stops
+      -- the answers may be handed out
+      pub group-acknowledged : SentSoFar model held old → AreAcknowledged model held new (unwritten_bytes kept)
+      group-acknowledged sent = kept-acknowledged model held old new s.requests before kept sent none s.keeps flushed
 
-  -- a group that breaks off is not flushed
-  pub ends-broken : (bytes : List ℕ) (input : Input) (old new : StoreView D) (before after : Unwritten)
-      (f : SessionFault) → (f ≡ fault.OutOfMemory → ⊥)
-      → SubmitsGroup model bytes input old new before after (Err f) → EndsGroup model bytes input old new before after (Err f)
-  ends-broken bytes input old new before after fault.OutOfMemory other s = absurd (other refl)
-  ends-broken bytes input old new before after fault.Device other s = s
-  ends-broken bytes input old new before after fault.Read other s = absurd s
-  ends-broken bytes input old new before after fault.TooLong other s = absurd s
-  ends-broken bytes input old new before after fault.SessionLong other s = absurd s
-  ends-broken bytes input old new before after fault.Reopen other s = absurd s
-  ends-broken bytes input old new before after (fault.Write written) other s = absurd s
+      -- they are written in part
+      pub ends-cut : (written : Option (List ℕ)) (after : Unwritten) (f : SessionFault) → FailsToWrite held written kept f
+          → PerformsGroup model held written bytes input old new before after (Err f)
+      ends-cut written after f fails =
+          subst (λ (x : SessionFault). PerformsGroup model held written bytes input old new before after (Err x)) (sym fails.1)
+          (record {
+            requests = s.requests;
+            single = s.single;
+            performs = flushed;
+            cuts = cuts-sending held written bytes further (stored_of old) s.requests before kept none s.takes s.keeps fails.0 fails.2;
+          })
 
-  -- unless the device failed, whatever a crash leaves means the state
-  pub ends-meaning : (bytes : List ℕ) (input : Input) (old new : StoreView D) (before after : Unwritten)
-      (r : Result (Unit {0}) SessionFault) → EndsGroup model bytes input old new before after r
-      → model.honest → new.reopen ≡ false → AllImagesMean (model.folder new.disk) new.state
-  ends-meaning bytes input old new before after (Ok done) ends h on = ends.1.performs.now h
-  ends-meaning bytes input old new before after (Err fault.OutOfMemory) ends h on = ends.1.performs.now h
-  ends-meaning bytes input old new before after (Err fault.Device) ends h on = absurd (cc (on, ends.broken))
-  ends-meaning bytes input old new before after (Err fault.Read) ends h on = absurd ends
-  ends-meaning bytes input old new before after (Err fault.TooLong) ends h on = absurd ends
-  ends-meaning bytes input old new before after (Err fault.SessionLong) ends h on = absurd ends
-  ends-meaning bytes input old new before after (Err fault.Reopen) ends h on = absurd ends
-  ends-meaning bytes input old new before after (Err (fault.Write written)) ends h on = absurd ends
+      pub passes : (written : Option (List ℕ)) (after : Unwritten) → WritesAnswers held written kept after
+          → PassesGroup model held written bytes further old new before after
+      passes written after writes = record {
+        requests = s.requests;
+        some = λ e. more (let count = s.keeps.documents in let no = ap length e in omega (arith, count, no));
+        performs = flushed;
+        sends = sends held written bytes further (stored_of old) s.requests before kept none s.takes s.keeps after writes;
+      }
 
-  -- ---- the write
-
-  -- the answers of a group that is flushed may be handed out
-  pub group-acknowledged : (held : Option (List ℕ)) (bytes further : List ℕ) (old new : StoreView D)
-      (before mid : Unwritten) → SentSoFar model held old → unwritten_bytes before ≡ []
-      → GathersPieces (PerformsFlushed model) bytes further old new before mid → AreAcknowledged model held new (unwritten_bytes mid)
-  group-acknowledged held bytes further old new before mid sent none s =
-      kept-acknowledged model held old new s.requests before mid sent none s.keeps s.performs
-
-  module _ (held written : Option (List ℕ)) (bytes further : List ℕ) (old new : StoreView D) (before mid : Unwritten)
-      (none : unwritten_bytes before ≡ [])
-      (s : GathersPieces (PerformsFlushed model) bytes further old new before mid) where
-    pub passes : (after : Unwritten) → WritesAnswers held written mid after
-        → PassesGroup model held written bytes further old new before after
-    passes after writes = record {
-      requests = s.requests;
-      performs = s.performs;
-      sends = sends held written bytes further (stored_of old) s.requests before mid none s.takes s.keeps after writes;
-    }
-
-    cuts : (total : ℕ) → CutsAnswers held written mid total → CutsGroup model held written bytes old new before.written total
-    cuts total writes = record {
-      requests = s.requests;
-      performs = s.performs;
-      cuts = cuts-sending held written bytes further (stored_of old) s.requests before mid none s.takes s.keeps total writes;
-    }
-
-    -- a write that fails
-    pub cuts-by : (input : Input) (after : Unwritten) (f : SessionFault) → FailsToWrite held written mid f
-        → PerformsGroup model held written bytes input old new before after (Err f)
-    cuts-by input after (fault.Write total) fails = cuts total fails
-    cuts-by input after fault.Read fails = absurd fails
-    cuts-by input after fault.TooLong fails = absurd fails
-    cuts-by input after fault.SessionLong fails = absurd fails
-    cuts-by input after fault.OutOfMemory fails = absurd fails
-    cuts-by input after fault.Device fails = absurd fails
-    cuts-by input after fault.Reopen fails = absurd fails
-
-  -- a group that ends well is written as its answers are
-  pub performs-writing : (held written : Option (List ℕ)) (bytes : List ℕ) (input : Input) (old new : StoreView D)
-      (before mid after : Unwritten) → unwritten_bytes before ≡ []
-      → EndsGroup model bytes input old new before mid (Ok tt)
-      → (r : Result (Unit {0}) SessionFault) → OnOk r (WritesAnswers held written mid after) → IfErr r (FailsToWrite held written mid)
+  -- they are written
+  pub ends-answered : (held written : Option (List ℕ)) (bytes : List ℕ) (input : Input) (old mid new : StoreView D)
+      (before kept after : Unwritten) (r : Result (Unit {0}) SessionFault) → SubmitsGroup model bytes input old mid before kept r
+      → mid.reopen ≡ false → kept.tally.documents ≢ before.tally.documents → unwritten_bytes before ≡ []
+      → PerformsTurns model mid new [] → WritesAnswers held written kept after
       → PerformsGroup model held written bytes input old new before after r
-  performs-writing held written bytes input old new before mid after none s (Ok done) writes fails = (
+  ends-answered held written bytes input old mid new before kept after (Ok done) s on more none flush writes = (
     s.0,
-    none-kept held written mid after writes,
+    none-kept held written kept after writes,
     writes.none,
-    passes held written bytes (ahead input) old new before mid none s.1 after writes,
+    writes.limit ∙ s.2.keeps.limit,
+    passes held bytes input old mid new before kept (ahead input) s.2 more none flush written after writes,
   )
-  performs-writing held written bytes input old new before mid after none s (Err f) writes fails =
-      cuts-by held written bytes (ahead input) old new before mid none s.1 input after f fails
-
-  -- ---- a piece that is a group by itself
-
-  -- a request that is flushed is performed with all that waits
-  performs-each : (old new : StoreView D) (r : Request) → PerformsFlushed model old new (r ∷ []) → Performs true model old new r
-  performs-each old new r p = record {
-    state = ap (λ (t : Stored). t.state) p.stored;
-    stored = λ on. p.stored;
-    reads = λ h on. ap (λ (f : Files). f.store) (p.files h);
-    stages = λ h on. ap (λ (f : Files). f.staged) (p.files h);
-    any_moment = λ h flushed waiting has.
-        subst (λ (l : List Command). LeavesOnly model old.disk new.disk
-        (λ image. AfterPrefix flushed (waiting ++ l) image.store))
-        (append-nil (accepted_command (stored_of old) r)) (p.any_moment h flushed waiting has);
-    waits = λ h on flushed waiting has. subst (λ (s : Contents). HasFlushed (model.folder new.disk) s [] new.state)
-        (ap (λ (t : Stored). t.state) p.stored) (p.flushed h);
-  }
-
-  -- the device failed in a request
-  performs-broken-off : (old new : StoreView D) (r : Request) → new.reopen ≡ true
-      → new.state ≡ (stored_after_all (stored_of old) (r ∷ [])).state
-      → (model.honest → (flushed : Contents) (waiting : List Command) → HasFlushed (model.folder old.disk) flushed waiting old.state
-      → LeavesOnly model old.disk new.disk (λ image. AfterPrefix flushed (waiting ++ accepted_command (stored_of old) r) image.store))
-      → Performs true model old new r
-  performs-broken-off old new r broken state run = record {
-    state = state;
-    stored = λ on. absurd (cc (on, broken));
-    reads = λ h on. absurd (cc (on, broken));
-    stages = λ h on. absurd (cc (on, broken));
-    any_moment = run;
-    waits = λ h on. absurd (cc (on, broken));
-  }
-
-  -- unless the device failed, nothing was changed
-  pub left-means : (old new : StoreView D) (piece : List ℕ) (f : SessionFault) → LeavesPiece model old new piece f
-      → MeansPrefixes model old → MeansPrefixes model new
-  left-means old new piece fault.OutOfMemory same means = leaves-same model old new same means
-  left-means old new piece fault.Device did means = λ h on. absurd (cc (on, did.2.0))
-  left-means old new piece fault.Read did means = absurd did
-  left-means old new piece fault.TooLong did means = absurd did
-  left-means old new piece fault.SessionLong did means = absurd did
-  left-means old new piece fault.Reopen did means = absurd did
-  left-means old new piece (fault.Write written) did means = absurd did
-
-  -- a flush that fails tells so
-  pub flush-broken : (old new : StoreView D) (f : SessionFault) → FlushesAll model old new (Err f) → new.reopen ≡ true
-  flush-broken old new fault.Device stops = stops.broken
-  flush-broken old new fault.OutOfMemory stops = absurd stops
-  flush-broken old new fault.Read stops = absurd stops
-  flush-broken old new fault.TooLong stops = absurd stops
-  flush-broken old new fault.SessionLong stops = absurd stops
-  flush-broken old new fault.Reopen stops = absurd stops
-  flush-broken old new (fault.Write written) stops = absurd stops
-
-  module _ (held : Option (List ℕ)) (input : Input) (old : StoreView D) (before : Unwritten) (can : CanTakeGroup model old input before)
-      (only : (image : Image) → model.honest → model.left old.disk (model.moment old.disk) image
-      → IsImage (model.folder old.disk) image) where
-    abbrev all : List ℕ
-    all = piece_or_rest input ++ ahead input
-
-    takes-one : (r : Request) → Asks (piece_or_rest input) r → TakesUp all (ahead input) (r ∷ [])
-    takes-one r asks = takes-more all (piece_or_rest input) (ahead input) [] r (takes-none all) can.piece.piece can.piece.short asks
-
-    -- it is performed, and its answer is kept
-    module _ (mid : Unwritten) (none : unwritten_bytes before ≡ []) (now : StoreView D)
-        (one : GathersPiece model old now (piece_or_rest input) before mid) where
-      submitted : PerformsAll false model old now (one.request ∷ [])
-      submitted = performs-more false model old old now [] one.request
-          (performs-none false model old can.sound only can.means) one.performs one.sound
-
-      keeps-one : KeepsAnswers (stored_of old) (one.request ∷ []) before mid
-      keeps-one = keeps-more old old now (piece_or_rest input) before before mid [] refl
-          (keeps-none (stored_of old) before can.room.within) one
-
-      -- but it is not flushed
-      pub piece-unflushed : (new : StoreView D) (after : Unwritten) (f : SessionFault)
-          → FlushesAll model now new (Err f) → PerformsPiece model held held input old new before after (Err f)
-      piece-unflushed new after fault.Device stops = (
-        one.request,
-        stops.broken,
-        performs-broken-off old new one.request stops.broken (flush-state old now new (one.request ∷ []) submitted stops)
-            (λ h flushed waiting has. subst (λ (l : List Command).
-            LeavesOnly model old.disk new.disk (λ image. AfterPrefix flushed (waiting ++ l) image.store))
-            (append-nil (accepted_command (stored_of old) one.request))
-            (flush-moments old now new (one.request ∷ []) submitted stops.any_moment h flushed waiting has)),
-        takes-one one.request one.asks,
-        Keeps-refl held,
-      )
-      piece-unflushed new after fault.OutOfMemory stops = absurd stops
-      piece-unflushed new after fault.Read stops = absurd stops
-      piece-unflushed new after fault.TooLong stops = absurd stops
-      piece-unflushed new after fault.SessionLong stops = absurd stops
-      piece-unflushed new after fault.Reopen stops = absurd stops
-      piece-unflushed new after (fault.Write written) stops = absurd stops
-
-      -- and it is flushed
-      module _ (new : StoreView D) (flush : PerformsTurns model now new []) where
-        flushed-one : PerformsFlushed model old new (one.request ∷ [])
-        flushed-one = all-flushed old now new (one.request ∷ []) submitted flush
-
-        pub piece-acknowledged : SentSoFar model held old → AreAcknowledged model held new (unwritten_bytes mid)
-        piece-acknowledged sent = kept-acknowledged model held old new (one.request ∷ []) before mid sent none keeps-one flushed-one
-
-        pub piece-putting : (written : Option (List ℕ)) (after : Unwritten) (r : Result (Unit {0}) SessionFault)
-            → OnOk r (WritesAnswers held written mid after) → IfErr r (FailsToWrite held written mid)
-            → PerformsPiece model held written input old new before after r
-        piece-putting written after (Ok done) writes fails = (
-          none-kept held written mid after writes,
-          writes.none,
-          one.request,
-          flush.sound,
-          performs-each old new one.request flushed-one,
-          sends held written all (ahead input) (stored_of old) (one.request ∷ []) before mid none
-              (takes-one one.request one.asks) keeps-one after writes,
-        )
-        piece-putting written after (Err (fault.Write total)) writes fails = (
-          one.request,
-          flush.sound,
-          performs-each old new one.request flushed-one,
-          cuts-sending held written all (ahead input) (stored_of old) (one.request ∷ []) before mid none
-              (takes-one one.request one.asks) keeps-one total fails,
-        )
-        piece-putting written after (Err fault.Read) writes fails = absurd fails
-        piece-putting written after (Err fault.TooLong) writes fails = absurd fails
-        piece-putting written after (Err fault.SessionLong) writes fails = absurd fails
-        piece-putting written after (Err fault.OutOfMemory) writes fails = absurd fails
-        piece-putting written after (Err fault.Device) writes fails = absurd fails
-        piece-putting written after (Err fault.Reopen) writes fails = absurd fails
-
-    -- it has no answer
-    pub piece-left : (new : StoreView D) (after : Unwritten) (f : SessionFault)
-        → LeavesPiece model old new (piece_or_rest input) f → PerformsPiece model held held input old new before after (Err f)
-    piece-left new after fault.OutOfMemory did = (did, Keeps-refl held)
-    piece-left new after fault.Device did = (
-      did.0,
-      did.2.0,
-      performs-broken-off old new did.0 did.2.0 did.2.1.state did.2.1.any_moment,
-      takes-one did.0 did.1,
-      Keeps-refl held,
-    )
-    piece-left new after fault.Read did = absurd did
-    piece-left new after fault.TooLong did = absurd did
-    piece-left new after fault.SessionLong did = absurd did
-    piece-left new after fault.Reopen did = absurd did
-    piece-left new after (fault.Write written) did = absurd did
-
-  -- nothing is written where the device failed
-  pub performs-broken : (held : Option (List ℕ)) (bytes : List ℕ) (input : Input) (old new : StoreView D)
-      (before after : Unwritten) (f : SessionFault) → (f ≡ fault.OutOfMemory → ⊥)
-      → EndsGroup model bytes input old new before after (Err f) → PerformsGroup model held held bytes input old new before after (Err f)
-  performs-broken held bytes input old new before after fault.OutOfMemory other s = absurd (other refl)
-  performs-broken held bytes input old new before after fault.Device other s = (s, Keeps-refl held)
-  performs-broken held bytes input old new before after fault.Read other s = absurd s
-  performs-broken held bytes input old new before after fault.TooLong other s = absurd s
-  performs-broken held bytes input old new before after fault.SessionLong other s = absurd s
-  performs-broken held bytes input old new before after fault.Reopen other s = absurd s
-  performs-broken held bytes input old new before after (fault.Write written) other s = absurd s
-
-  -- the store has to be opened again where the device failed, and only there
-  pub reopens-after : (held written : Option (List ℕ)) (bytes : List ℕ) (input : Input) (old new : StoreView D)
-      (before after : Unwritten) (f : SessionFault)
-      → PerformsGroup model held written bytes input old new before after (Err f) → (new.reopen ≡ true) ↔ (f ≡ fault.Device)
-  reopens-after held written bytes input old new before after fault.Device s = (λ on. refl, λ e. s.0.broken)
-  reopens-after held written bytes input old new before after fault.OutOfMemory s = (λ on. absurd (cc (on, s.1.performs.sound)), λ e. cc)
-  reopens-after held written bytes input old new before after (fault.Write total) s = (λ on. absurd (cc (on, s.performs.sound)), λ e. cc)
-  reopens-after held written bytes input old new before after fault.Read s = absurd s
-  reopens-after held written bytes input old new before after fault.TooLong s = absurd s
-  reopens-after held written bytes input old new before after fault.SessionLong s = absurd s
-  reopens-after held written bytes input old new before after fault.Reopen s = absurd s
+  ends-answered held written bytes input old mid new before kept after (Err f) (inl s) on more none flush writes =
+      subst (λ (x : SessionFault). PerformsGroup model held written bytes input old new before after (Err x)) (sym s.0)
+      (inr (s.1, passes held bytes input old mid new before kept s.1 s.2 more none flush written after writes))
+  ends-answered held written bytes input old mid new before kept after (Err f) (inr s) on more none flush writes =
+      absurd (cc (on, s.1.broken))

@@ -1,42 +1,30 @@
 -- The loop over the groups of an input, and each of its exits.
-use Rattle.std.proofs.Common.{◌≡◌, ◌⊎◌, inl, inr, refl, sym, ◌∙◌, ap, subst, arith, ◌≤◌, ◌<◌, append_assoc, length-append}
+use Rattle.std.proofs.Common.{◌≡◌, ◌⊎◌, inl, inr, ⊎_elim, refl, sym, ◌∙◌, ap, subst, arith, ◌≤◌, ◌<◌, append_assoc, length-append}
 use Rattle.std.specs.Prelude.{ℕ, ◌+◌, ◌-◌, ◌*◌, true, false, List, [], ◌∷◌, ◌++◌, length, take, Option, Result, Ok, Err}
-use Rattle.std.specs.Io.KnownBytes.{Appends, Keeps}
-use Rattle.std.proofs.KnownBytes.{Appends-trans, Appends-kept, Keeps-refl}
-use Rattle.std.proofs.lemmas.Bool.{cases_lt}
-use Rattle.std.proofs.lemmas.List.{append-nil}
-use Rattle.conf_disk.specs.Image.{Image, IsImage}
-use Rattle.conf_disk.specs.Models.{DiskModel}
-use Rattle.conf_disk.specs.Moments.{LeavesOnly}
-use Rattle.conf_state.specs.Commands.{Command}
-use Rattle.conf_state.specs.States.{Contents}
-use Rattle.conf_store.specs.Durable.{AfterPrefix, HasFlushed}
-use Rattle.conf_store.specs.View.{StoreView}
-use Rattle.conf_session.specs.Input.{ahead, bytes_read, piece_or_rest as piece_of, AdvancesToPiece, AdvancesToEnd, Advances}
-use Rattle.conf_session.specs.declared.fault.SessionFault.{SessionFault}
-use Rattle.conf_session.specs.declared.fault.SessionFault.TheVariants as fault
-use Rattle.conf_session.specs.declared.input.Input.{Input}
-use Rattle.conf_session.specs.declared.unwritten.Unwritten.{Unwritten}
-use Rattle.conf_session.specs.declared.groups.Checkpoints.{Checkpoints}
+use Rattle.conf_session.proofs.Prelude.{Appends, Keeps, Appends-trans, Appends-kept, Keeps-refl, cases_lt, append-nil, Image, IsImage}
+use Rattle.conf_session.proofs.Prelude.{DiskModel, LeavesOnly, LeavesOnly-start, Command, Contents, AfterPrefix, HasFlushed, StoreView}
+use Rattle.conf_session.specs.Input.{piece_or_rest as piece_of}
+use Rattle.conf_session.specs.{declared.fault.SessionFault.SessionFault, declared.input.Input.Input, declared.unwritten.Unwritten.Unwritten}
+use Rattle.conf_session.specs.{declared.groups.Checkpoints.Checkpoints, declared.groups.Grouping.Grouping, declared.session.Tally.Tally}
+use Rattle.conf_session.specs.{Requests.Request, Replies.MeansPrefixes, Sinks.SentSoFar, Streams.streams_of}
+use Rattle.conf_session.specs.declared.groups.Grouping.TheVariants.{Each, Read}
+use Rattle.conf_session.specs.Input.{ahead, bytes_read, AdvancesToPiece, AdvancesToEnd, Advances}
 use Rattle.conf_session.specs.declared.groups.Checkpoints.TheVariants.{Asked, After}
-use Rattle.conf_session.specs.declared.session.Tally.{Tally}
-use Rattle.conf_session.specs.Requests.{Request}
-use Rattle.conf_session.specs.Answers.{Stored, answer_bytes, answer_limit, output, stored_after, stored_after_all}
-use Rattle.conf_session.specs.Answers.{accepted_commands, refusals}
+use Rattle.conf_session.specs.Answers.{Stored, answer_bytes, answer_limit, output, stored_after, stored_after_all, accepted_commands}
+use Rattle.conf_session.specs.Answers.{refusals}
 use Rattle.conf_session.specs.Runs.{stored_of, AfterAtLeast, BeginsWith, EndsAnswered}
-use Rattle.conf_session.specs.Groups.{AreDue, Files, Turn, asked, all_asked, requests_of, files_of}
-use Rattle.conf_session.specs.Groups.{stored_after_turns, files_after_turns, turns_output, turns_accepted}
-use Rattle.conf_session.specs.Groups.{turns_refused, acknowledged_turns, GroupedEnds, RunsGrouped}
-use Rattle.conf_session.specs.Gathering.{PerformsTurns, BreaksOff, StopsShort, FlushesAll, Tends, PassesGroup, CutsGroup, PerformsGroup}
-use Rattle.conf_session.proofs.PassedLemmas.{take-beyond}
-use Rattle.conf_session.proofs.ReadLemmas.{ReadSoFar, read-none, read-as, read-more, ends-here, ends-unanswered, nothing-read}
+use Rattle.conf_session.specs.Groups.{AreDue, Files, Turn, asked, all_asked, requests_of, files_of, stored_after_turns, files_after_turns}
+use Rattle.conf_session.specs.Groups.{turns_output, turns_accepted, turns_refused, acknowledged_turns, GroupedEnds, RunsGrouped}
+use Rattle.conf_session.specs.Groups.{checkpoints_of}
+use Rattle.conf_session.specs.Gathering.{PerformsTurns, BreaksOff, StopsShort, Starts, Tends, PassesGroup, CutsGroup, PerformsGroup}
+use Rattle.conf_session.proofs.{GatherLemmas.joined-none, PassedLemmas.take-beyond, RequestLemmas.leaves-same, RequestLemmas.synced-leaves}
+use Rattle.conf_session.proofs.ReadLemmas.{ReadSoFar, read-none, read-as, read-more, ends-before, ends-here, ends-unanswered, nothing-read}
+use Rattle.conf_session.proofs.TurnLemmas.{stored-joined, output-joined, accepted-joined, refused-joined, due-joined, asked-due}
+use Rattle.conf_session.proofs.TurnLemmas.{requests-joined, asked-joined, asked-requests, asked-stored, asked-output, asked-accepted}
+use Rattle.conf_session.proofs.TurnLemmas.{asked-refused, quiet-output, quiet-accepted, quiet-refused, few-acknowledged, performs-joined}
+use Rattle.conf_session.proofs.TurnLemmas.{moments-after, kept-after, kept-during}
+use Rattle.conf_session.specs.declared.fault.SessionFault.TheVariants as fault
 use Rattle.conf_session.proofs.ReadLemmas as reading
-use Rattle.conf_session.proofs.TurnLemmas.{stored-joined, output-joined, accepted-joined, refused-joined, due-joined}
-use Rattle.conf_session.proofs.TurnLemmas.{asked-due, requests-joined, asked-joined, asked-requests, asked-stored}
-use Rattle.conf_session.proofs.TurnLemmas.{asked-output, asked-accepted, asked-refused, quiet-output, quiet-accepted}
-use Rattle.conf_session.proofs.TurnLemmas.{quiet-refused, few-acknowledged, performs-joined, moments-after}
-use Rattle.conf_session.proofs.TurnLemmas.{kept-after, kept-during}
-use Rattle.conf_session.specs.Streams.{streams_of}
 
 -- ---- an output that is cut
 
@@ -84,62 +72,263 @@ cut-at now (r ∷ rs) count short =
           beyond = omega (arith, beyond, second, above);
         }
 
+-- ---- turns that are performed, or nothing yet
+
+-- nothing was done, where each piece is a group
+pub record Untouched {D : Type 0} (model : DiskModel D) (grouping : Grouping) (old new : StoreView D) (turns : List Turn)
+    : Type 0 where
+  pub each : grouping ≡ Each
+  pub same : new ≡ old
+  pub none : turns ≡ []
+  pub means : MeansPrefixes model old
+  pub any_moment : model.honest → (flushed : Contents) (waiting : List Command)
+      → HasFlushed (model.folder old.disk) flushed waiting old.state
+      → LeavesOnly model old.disk old.disk (λ image. AfterPrefix flushed waiting image.store)
+
+-- the turns are performed and flushed, of which there is one at least where each piece is a group
+pub record AreFlushed {D : Type 0} (model : DiskModel D) (grouping : Grouping) (old new : StoreView D) (turns : List Turn)
+    : Type 0 where
+  pub some : grouping ≡ Each → turns ≡ [] → ⊥
+  pub performs : PerformsTurns model old new turns
+
+abbrev pub HasPerformed : {D : Type 0} → DiskModel D → Grouping → StoreView D → StoreView D → List Turn → Type 0
+HasPerformed model grouping old new turns = Untouched model grouping old new turns ⊎ AreFlushed model grouping old new turns
+
+-- a list that begins with elements is not empty
+begun-none : {A : Type 0} (xs ys : List A) → xs ++ ys ≡ [] → xs ≡ []
+begun-none [] ys e = refl
+begun-none (x ∷ xs) ys e = absurd (cc e)
+
+module _ {D : Type 0} (model : DiskModel D) (grouping : Grouping) (old now : StoreView D) (turns : List Turn) where
+  pub performed-stored : HasPerformed model grouping old now turns → stored_of now ≡ stored_after_turns (stored_of old) turns
+  performed-stored (inl u) = ap (λ (t : StoreView D). stored_of t) u.same ∙ ap (stored_after_turns (stored_of old)) (sym u.none)
+  performed-stored (inr f) = f.performs.stored
+
+  pub performed-files : HasPerformed model grouping old now turns → model.honest
+      → files_of model.folder now ≡ files_after_turns (files_of model.folder old) (stored_of old) turns
+  performed-files (inl u) h = ap (files_of model.folder) u.same
+      ∙ ap (files_after_turns (files_of model.folder old) (stored_of old)) (sym u.none)
+  performed-files (inr f) h = f.performs.files h
+
+  -- with the turns of a group
+  performed-more : (new : StoreView D) (us : List Turn) → HasPerformed model grouping old now turns → (us ≡ [] → ⊥)
+      → PerformsTurns model now new us → HasPerformed model grouping old new (turns ++ us)
+  performed-more new us (inl u) some next = inr (record {
+    some = λ e none. some (joined-none turns us none);
+    performs = subst (λ (l : List Turn). PerformsTurns model old new (l ++ us)) (sym u.none)
+        (subst (λ (t : StoreView D). PerformsTurns model t new us) u.same next);
+  })
+  performed-more new us (inr f) some next = inr (record {
+    some = λ e none. some (joined-none turns us none);
+    performs = performs-joined model old now new turns us f.performs next;
+  })
+
+  -- with turns that no request asked for
+  performed-tended : (new : StoreView D) (us : List Turn) → HasPerformed model grouping old now turns → (grouping ≡ Each → ⊥)
+      → PerformsTurns model now new us → HasPerformed model grouping old new (turns ++ us)
+  performed-tended new us (inl u) read next = absurd (read u.each)
+  performed-tended new us (inr f) read next =
+      inr (record { some = λ e. absurd (read e); performs = performs-joined model old now new turns us f.performs next })
+
+  pub performed-sound : old.reopen ≡ false → HasPerformed model grouping old now turns → now.reopen ≡ false
+  performed-sound off (inl u) = ap (λ (t : StoreView D). t.reopen) u.same ∙ off
+  performed-sound off (inr f) = f.performs.sound
+
+  -- what a crash means now
+  performed-means : HasPerformed model grouping old now turns → MeansPrefixes model now
+  performed-means (inl u) = leaves-same model old now u.same u.means
+  performed-means (inr f) = λ h on. synced-leaves (model.folder now.disk) now.state (f.performs.now h)
+
+  module _ (on : old.reopen ≡ false) (h : model.honest) (flushed : Contents) (waiting : List Command)
+      (has : HasFlushed (model.folder old.disk) flushed waiting old.state) where
+    abbrev from : Stored
+    from = stored_of old
+
+    -- what waited, where no turn is performed
+    none-accepted : turns ≡ [] → waiting ≡ waiting ++ turns_accepted from turns
+    none-accepted none = sym (append-nil waiting) ∙ ap (λ ts. waiting ++ turns_accepted from ts) (sym none)
+
+    -- what a crash leaves of the turns and of what comes after them
+    performed-moments : HasPerformed model grouping old now turns → (new : StoreView D) (more : List Command)
+        → ((flushed : Contents) (waiting : List Command) → HasFlushed (model.folder now.disk) flushed waiting now.state
+        → LeavesOnly model now.disk new.disk (λ image. AfterPrefix flushed (waiting ++ more) image.store))
+        → LeavesOnly model old.disk new.disk
+        (λ image. AfterPrefix flushed ((waiting ++ turns_accepted from turns) ++ more) image.store)
+    performed-moments (inl u) new more run =
+        subst (λ (l : List Command). LeavesOnly model old.disk new.disk (λ image. AfterPrefix flushed (l ++ more) image.store))
+        (none-accepted u.none)
+        (subst (λ (t : StoreView D). LeavesOnly model t.disk new.disk (λ image. AfterPrefix flushed (waiting ++ more) image.store)) u.same
+        (run flushed waiting
+        (subst (λ (t : StoreView D). HasFlushed (model.folder t.disk) flushed waiting t.state) (sym u.same) has)))
+    performed-moments (inr f) new more run =
+        moments-after model old now turns f.performs h flushed waiting has new.disk more (run now.state [] (f.performs.flushed h))
+
+    -- a crash during what comes after them
+    performed-during : (performs : HasPerformed model grouping old now turns) (new : StoreView D) (more : List Command)
+        → ((flushed : Contents) (waiting : List Command) → HasFlushed (model.folder now.disk) flushed waiting now.state
+        → LeavesOnly model now.disk new.disk (λ image. AfterPrefix flushed (waiting ++ more) image.store))
+        → ((t : ℕ) (image : Image) → t ≤ model.moment new.disk → IsImage (model.folder new.disk) image → model.left new.disk t image)
+        → (image : Image) → IsImage (model.folder new.disk) image
+        → AfterAtLeast flushed (acknowledged_turns from waiting turns)
+        ((waiting ++ turns_accepted from turns) ++ more) image.store
+    performed-during (inl u) new more run counts_now image is =
+        let all = performed-moments (inl u) new more run in
+        let some = all.each image (counts_now (model.moment old.disk) image all.later is) in
+        let least = ap (acknowledged_turns from waiting) u.none in
+        record { count = some.count; enough = omega (arith, least); state = some.state; leads = some.leads; means = some.means }
+    performed-during (inr f) new more run counts_now image is =
+        kept-during model old now turns f.performs h flushed waiting has new.disk more (run now.state [] (f.performs.flushed h))
+        counts_now (acknowledged_turns from waiting turns)
+        (subst (λ l. acknowledged_turns from waiting turns ≤ length (waiting ++ turns_accepted from l))
+        (append-nil turns) (few-acknowledged from waiting turns [])) image is
+
+    -- what a crash leaves of the turns
+    performed-all : HasPerformed model grouping old now turns
+        → LeavesOnly model old.disk now.disk (λ image. AfterPrefix flushed (waiting ++ turns_accepted from turns) image.store)
+    performed-all (inl u) =
+        subst (λ (t : StoreView D). LeavesOnly model old.disk t.disk
+        (λ image. AfterPrefix flushed (waiting ++ turns_accepted from turns) image.store)) (sym u.same)
+        (subst (λ (l : List Command). LeavesOnly model old.disk old.disk (λ image. AfterPrefix flushed l image.store))
+        (none-accepted u.none) (u.any_moment h flushed waiting has))
+    performed-all (inr f) = f.performs.any_moment h flushed waiting has
+
+    -- a crash after them, of which some are answered
+    performed-kept : HasPerformed model grouping old now turns → (answered more : List Turn) → turns ≡ answered ++ more
+        → (image : Image) → IsImage (model.folder now.disk) image
+        → AfterAtLeast flushed (acknowledged_turns from waiting answered) (waiting ++ turns_accepted from turns) image.store
+    performed-kept (inl u) answered more all image is =
+        let some = u.means h on flushed waiting has image
+        (subst (λ (t : StoreView D). IsImage (model.folder t.disk) image) u.same is) in
+        let least = ap (acknowledged_turns from waiting) (begun-none answered more (sym all ∙ u.none)) in
+        subst (λ (l : List Command). AfterAtLeast flushed (acknowledged_turns from waiting answered) l image.store)
+        (none-accepted u.none)
+        (record { count = some.count; enough = omega (arith, least); state = some.state; leads = some.leads; means = some.means })
+    performed-kept (inr f) answered more all image is =
+        kept-after model old now turns f.performs h flushed waiting has (acknowledged_turns from waiting answered)
+        (subst (λ (l : List Turn). acknowledged_turns from waiting answered ≤ length (waiting ++ turns_accepted from l)) (sym all)
+        (few-acknowledged from waiting answered more)) image is
+
 -- ---- so far
 
 -- the pieces that were read are performed, flushed and answered
-pub record GroupsSoFar {D : Type 0} (model : DiskModel D) (given left held written : Option (List ℕ)) (checkpoints : Checkpoints)
+pub record GroupsSoFar {D : Type 0} (model : DiskModel D) (given left held written : Option (List ℕ)) (grouping : Grouping)
     (old new : StoreView D) (further : List ℕ) (answers : Unwritten) (total : ℕ) : Type 0 where
   pub turns : List Turn
   pub read : ReadSoFar given left held written (requests_of turns) (turns_output (stored_of old) turns)
       (length (turns_accepted (stored_of old) turns)) (turns_refused (stored_of old) turns) further answers total
-  pub only_asked : checkpoints ≡ Asked → turns ≡ all_asked (requests_of turns)
-  pub due : model.honest → (bytes : ℕ) → checkpoints ≡ After bytes → AreDue bytes (files_of model.folder old) (stored_of old) turns
-  pub performs : PerformsTurns model old new turns
+  pub only_asked : checkpoints_of grouping ≡ Asked → turns ≡ all_asked (requests_of turns)
+  pub due : model.honest → (bytes : ℕ) → checkpoints_of grouping ≡ After bytes
+      → AreDue bytes (files_of model.folder old) (stored_of old) turns
+  pub performs : HasPerformed model grouping old new turns
 
-module _ {D : Type 0} (model : DiskModel D) (checkpoints : Checkpoints) where
+-- one request has no answer that was written whole
+abbrev pub IsOne : List Request → Type 0
+IsOne rs = (r : Request) × (rs ≡ r ∷ [])
+
+is-one : (rs : List Request) → length rs ≡ 1 → IsOne rs
+is-one [] e = absurd (omega (arith, e))
+is-one (r ∷ []) e = (r, refl)
+is-one (r ∷ (x ∷ rs)) e = absurd (omega (arith, e))
+
+-- how many requests have no answer, where each piece is a group
+abbrev pub AreSingle : Result Tally SessionFault → List Request → Type 0
+AreSingle (Err fault.Device) rs = IsOne rs
+AreSingle (Err (fault.Write count)) rs = IsOne rs
+AreSingle result rs = Unit {0}
+
+-- A session, whatever its groups are.
+pub record Session {D : Type 0} (model : DiskModel D) (grouping : Grouping) (given left held written : Option (List ℕ))
+    (old new : StoreView D) (result : Result Tally SessionFault) : Type 0 where
+  pub answered : List Turn
+  pub unanswered : List Request
+  pub ends : GroupedEnds (streams_of given left held written) (stored_of old) answered unanswered result
+  pub single : grouping ≡ Each → AreSingle result unanswered
+  pub only_asked : checkpoints_of grouping ≡ Asked → answered ≡ all_asked (requests_of answered)
+  pub due : model.honest → (bytes : ℕ) → checkpoints_of grouping ≡ After bytes
+      → AreDue bytes (files_of model.folder old) (stored_of old) answered
+  pub state : new.state ≡ (stored_after_turns (stored_of old) (answered ++ all_asked unanswered)).state
+  pub performs : new.reopen ≡ false → HasPerformed model grouping old new (answered ++ all_asked unanswered)
+  pub any_moment : model.honest → old.reopen ≡ false → (flushed : Contents) (waiting : List Command)
+      → HasFlushed (model.folder old.disk) flushed waiting old.state
+      → LeavesOnly model old.disk new.disk (λ image. AfterPrefix flushed
+      (waiting ++ turns_accepted (stored_of old) (answered ++ all_asked unanswered)) image.store)
+  pub kept : model.honest → old.reopen ≡ false → (flushed : Contents) (waiting : List Command)
+      → HasFlushed (model.folder old.disk) flushed waiting old.state
+      → (image : Image) → IsImage (model.folder new.disk) image
+      → AfterAtLeast flushed (acknowledged_turns (stored_of old) waiting answered)
+      (waiting ++ turns_accepted (stored_of old) (answered ++ all_asked unanswered)) image.store
+
+-- a session that flushes what one read brought
+pub session-grouped : {D : Type 0} (model : DiskModel D) (checkpoints : Checkpoints) (given left held written : Option (List ℕ))
+    (old new : StoreView D) (result : Result Tally SessionFault)
+    → Session model (Read checkpoints) given left held written old new result
+    → RunsGrouped model (streams_of given left held written) checkpoints old new result
+session-grouped model checkpoints given left held written old new result s =
+    let performs : (on : new.reopen ≡ false) → PerformsTurns model old new (s.answered ++ all_asked s.unanswered) =
+    λ on. ⊎_elim (λ u. absurd (cc u.each)) (λ f. f.performs) (s.performs on) in
+    record {
+      answered = s.answered;
+      unanswered = s.unanswered;
+      ends = s.ends;
+      only_asked = s.only_asked;
+      due = s.due;
+      state = s.state;
+      stored = λ on. (performs on).stored;
+      files = λ h on. (performs on).files h;
+      any_moment = s.any_moment;
+      kept = s.kept;
+      flushed = λ h on. (performs on).flushed h;
+      now = λ h on. (performs on).now h;
+    }
+
+module _ {D : Type 0} (model : DiskModel D) (grouping : Grouping) where
   -- ---- a session that ends
 
-  -- all turns are performed and flushed
+  -- all turns are performed
   runs-flushed : (given left held written : Option (List ℕ)) (old new : StoreView D)
       (result : Result Tally SessionFault) (answered : List Turn) (unanswered : List Request)
-      → PerformsTurns model old new (answered ++ all_asked unanswered)
-      → (checkpoints ≡ Asked → answered ≡ all_asked (requests_of answered))
-      → (model.honest → (bytes : ℕ) → checkpoints ≡ After bytes
+      → HasPerformed model grouping old new (answered ++ all_asked unanswered)
+      → (checkpoints_of grouping ≡ Asked → answered ≡ all_asked (requests_of answered))
+      → (model.honest → (bytes : ℕ) → checkpoints_of grouping ≡ After bytes
       → AreDue bytes (files_of model.folder old) (stored_of old) answered)
+      → (grouping ≡ Each → AreSingle result unanswered)
       → GroupedEnds (streams_of given left held written) (stored_of old) answered unanswered result
-      → RunsGrouped model (streams_of given left held written) checkpoints old new result
-  runs-flushed given left held written old new result answered unanswered performs only due ends = record {
-    answered = answered;
-    unanswered = unanswered;
-    ends = ends;
-    only_asked = only;
-    due = due;
-    state = ap (λ (t : Stored). t.state) performs.stored;
-    stored = λ on. performs.stored;
-    files = λ h on. performs.files h;
-    any_moment = λ h on. performs.any_moment h;
-    kept = λ h on flushed waiting has. kept-after model old new (answered ++ all_asked unanswered) performs h flushed waiting has
-        (acknowledged_turns (stored_of old) waiting answered) (few-acknowledged (stored_of old) waiting answered (all_asked unanswered));
-    flushed = λ h on. performs.flushed h;
-    now = λ h on. performs.now h;
-  }
+      → Session model grouping given left held written old new result
+  runs-flushed given left held written old new result answered unanswered performs only due single ends =
+      let turns = answered ++ all_asked unanswered in
+      record {
+        answered = answered;
+        unanswered = unanswered;
+        ends = ends;
+        single = single;
+        only_asked = only;
+        due = due;
+        state = ap (λ (t : Stored). t.state) (performed-stored model grouping old new turns performs);
+        performs = λ on. performs;
+        any_moment = λ h on flushed waiting has. performed-all model grouping old new turns on h flushed waiting has performs;
+        kept = λ h on flushed waiting has.
+            performed-kept model grouping old new turns on h flushed waiting has performs answered (all_asked unanswered) refl;
+      }
 
   -- and none is unanswered
   runs-answered : (given left held written : Option (List ℕ)) (old new : StoreView D)
       (result : Result Tally SessionFault) (answered : List Turn)
-      → PerformsTurns model old new answered → (checkpoints ≡ Asked → answered ≡ all_asked (requests_of answered))
-      → (model.honest → (bytes : ℕ) → checkpoints ≡ After bytes
+      → HasPerformed model grouping old new answered
+      → (checkpoints_of grouping ≡ Asked → answered ≡ all_asked (requests_of answered))
+      → (model.honest → (bytes : ℕ) → checkpoints_of grouping ≡ After bytes
       → AreDue bytes (files_of model.folder old) (stored_of old) answered)
+      → (grouping ≡ Each → AreSingle result [])
       → GroupedEnds (streams_of given left held written) (stored_of old) answered [] result
-      → RunsGrouped model (streams_of given left held written) checkpoints old new result
-  runs-answered given left held written old new result answered performs only due ends =
+      → Session model grouping given left held written old new result
+  runs-answered given left held written old new result answered performs only due single ends =
       runs-flushed given left held written old new result answered []
-      (subst (PerformsTurns model old new) (sym (append-nil answered)) performs) only due ends
+      (subst (HasPerformed model grouping old new) (sym (append-nil answered)) performs) only due single ends
 
   -- the device failed at these requests
   runs-broken : (given left held written : Option (List ℕ)) (old mid new : StoreView D) (answered : List Turn) (unanswered : List Request)
-      → PerformsTurns model old mid answered → (checkpoints ≡ Asked → answered ≡ all_asked (requests_of answered))
-      → (model.honest → (bytes : ℕ) → checkpoints ≡ After bytes
+      → HasPerformed model grouping old mid answered
+      → (checkpoints_of grouping ≡ Asked → answered ≡ all_asked (requests_of answered))
+      → (model.honest → (bytes : ℕ) → checkpoints_of grouping ≡ After bytes
       → AreDue bytes (files_of model.folder old) (stored_of old) answered)
       → new.reopen ≡ true → new.state ≡ (stored_after_all (stored_of mid) unanswered).state
       → (model.honest → (flushed : Contents) (waiting : List Command) → HasFlushed (model.folder mid.disk) flushed waiting mid.state
@@ -147,15 +336,17 @@ module _ {D : Type 0} (model : DiskModel D) (checkpoints : Checkpoints) where
       AfterPrefix flushed (waiting ++ accepted_commands (stored_of mid) unanswered) image.store))
       → ((t : ℕ) (image : Image) → model.honest → t ≤ model.moment new.disk → IsImage (model.folder new.disk) image
       → model.left new.disk t image)
+      → (grouping ≡ Each → IsOne unanswered)
       → GroupedEnds (streams_of given left held written) (stored_of old) answered unanswered (Err fault.Device)
-      → RunsGrouped model (streams_of given left held written) checkpoints old new (Err fault.Device)
-  runs-broken given left held written old mid new answered unanswered performs only due broken state run counts_now ends =
+      → Session model grouping given left held written old new (Err fault.Device)
+  runs-broken given left held written old mid new answered unanswered performs only due broken state run counts_now single ends =
       let start = stored_of old in
+      let here = performed-stored model grouping old mid answered performs in
       let more = accepted_commands (stored_of mid) unanswered in
       let all : turns_accepted start (answered ++ all_asked unanswered) ≡ turns_accepted start answered ++ more =
       accepted-joined start answered (all_asked unanswered)
       ∙ ap (λ l. turns_accepted start answered ++ l)
-      (ap (λ t. turns_accepted t (all_asked unanswered)) (sym performs.stored) ∙ asked-accepted (stored_of mid) unanswered) in
+      (ap (λ t. turns_accepted t (all_asked unanswered)) (sym here) ∙ asked-accepted (stored_of mid) unanswered) in
       let grouped : (waiting : List Command) → (waiting ++ turns_accepted start answered) ++ more
       ≡ waiting ++ turns_accepted start (answered ++ all_asked unanswered) =
       λ waiting. append_assoc waiting (turns_accepted start answered) more ∙ ap (λ l. waiting ++ l) (sym all) in
@@ -163,62 +354,55 @@ module _ {D : Type 0} (model : DiskModel D) (checkpoints : Checkpoints) where
         answered = answered;
         unanswered = unanswered;
         ends = ends;
+        single = single;
         only_asked = only;
         due = due;
         state = state ∙ ap (λ (t : Stored). t.state)
             (sym (asked-stored (stored_of mid) unanswered)
-            ∙ ap (λ t. stored_after_turns t (all_asked unanswered)) performs.stored
+            ∙ ap (λ t. stored_after_turns t (all_asked unanswered)) here
             ∙ sym (stored-joined start answered (all_asked unanswered)));
-        stored = λ on. absurd (cc (on, broken));
-        files = λ h on. absurd (cc (on, broken));
+        performs = λ on. absurd (cc (on, broken));
         any_moment = λ h on flushed waiting has.
             subst (λ (l : List Command). LeavesOnly model old.disk new.disk (λ image. AfterPrefix flushed l image.store)) (grouped waiting)
-            (moments-after model old mid answered performs h flushed waiting has new.disk more (run h mid.state [] (performs.flushed h)));
+            (performed-moments model grouping old mid answered on h flushed waiting has performs new more (run h));
         kept = λ h on flushed waiting has image is.
             subst (λ (l : List Command). AfterAtLeast flushed (acknowledged_turns start waiting answered) l image.store) (grouped waiting)
-            (kept-during model old mid answered performs h flushed waiting has new.disk more
-            (run h mid.state [] (performs.flushed h)) (λ t image. counts_now t image h)
-            (acknowledged_turns start waiting answered)
-            (subst (λ l. acknowledged_turns start waiting answered ≤ length (waiting ++ turns_accepted start l))
-            (append-nil answered) (few-acknowledged start waiting answered [])) image is);
-        flushed = λ h on. absurd (cc (on, broken));
-        now = λ h on. absurd (cc (on, broken));
+            (performed-during model grouping old mid answered on h flushed waiting has performs new more (run h)
+            (λ t image. counts_now t image h) image is);
       }
 
   -- ---- the start
 
   -- nothing is done
   pub reopens : (given held : Option (List ℕ)) (store : StoreView D) → (store.reopen ≡ false → ⊥)
-      → RunsGrouped model (streams_of given given held held) checkpoints store store (Err fault.Reopen)
+      → Session model grouping given given held held store store (Err fault.Reopen)
   reopens given held store broken = record {
     answered = [];
     unanswered = [];
     ends = (Keeps-refl given, Keeps-refl held, refl, refl);
+    single = λ e. tt;
     only_asked = λ e. refl;
     due = λ h bytes e. tt;
     state = refl;
-    stored = λ on. refl;
-    files = λ h on. refl;
+    performs = λ on. absurd (broken on);
     any_moment = λ h on. absurd (broken on);
     kept = λ h on. absurd (broken on);
-    flushed = λ h on. absurd (broken on);
-    now = λ h on. absurd (broken on);
   }
 
   -- the first flush fails
-  starts-broken : (given held : Option (List ℕ)) (old new : StoreView D) → StopsShort model old new
+  starts-broken : (given held : Option (List ℕ)) (old new : StoreView D) → (grouping ≡ Each → ⊥) → StopsShort model old new
       → ((t : ℕ) (image : Image) → model.honest → t ≤ model.moment new.disk → IsImage (model.folder new.disk) image
       → model.left new.disk t image)
-      → RunsGrouped model (streams_of given given held held) checkpoints old new (Err fault.Device)
-  starts-broken given held old new stops counts_now = record {
+      → Session model grouping given given held held old new (Err fault.Device)
+  starts-broken given held old new read stops counts_now = record {
     answered = [];
     unanswered = [];
     ends = nothing-read given held;
+    single = λ e. absurd (read e);
     only_asked = λ e. refl;
     due = λ h bytes e. tt;
     state = stops.state;
-    stored = λ on. absurd (cc (on, stops.broken));
-    files = λ h on. absurd (cc (on, stops.broken));
+    performs = λ on. absurd (cc (on, stops.broken));
     any_moment = λ h on flushed waiting has.
         subst (λ (l : List Command). LeavesOnly model old.disk new.disk (λ image. AfterPrefix flushed l image.store))
         (sym (append-nil waiting)) (stops.any_moment h flushed waiting has);
@@ -227,34 +411,50 @@ module _ {D : Type 0} (model : DiskModel D) (checkpoints : Checkpoints) where
         let some = run.each image (counts_now (model.moment old.disk) image h run.later is) in
         subst (λ (l : List Command). AfterAtLeast flushed 0 l image.store) (sym (append-nil waiting))
         (record { count = some.count; enough = omega arith; state = some.state; leads = some.leads; means = some.means }));
-    flushed = λ h on. absurd (cc (on, stops.broken));
-    now = λ h on. absurd (cc (on, stops.broken));
   }
 
-  pub starts-failing : (given held : Option (List ℕ)) (old new : StoreView D) (f : SessionFault) → FlushesAll model old new (Err f)
+  pub starts-failing : (given held : Option (List ℕ)) (old new : StoreView D) (f : SessionFault)
+      → Starts model grouping old new (Err f)
       → ((t : ℕ) (image : Image) → model.honest → t ≤ model.moment new.disk → IsImage (model.folder new.disk) image
       → model.left new.disk t image)
-      → RunsGrouped model (streams_of given given held held) checkpoints old new (Err f)
-  starts-failing given held old new fault.Device stops counts_now = starts-broken given held old new stops counts_now
-  starts-failing given held old new fault.OutOfMemory stops counts_now = absurd stops
-  starts-failing given held old new fault.Read stops counts_now = absurd stops
-  starts-failing given held old new fault.TooLong stops counts_now = absurd stops
-  starts-failing given held old new fault.SessionLong stops counts_now = absurd stops
-  starts-failing given held old new fault.Reopen stops counts_now = absurd stops
-  starts-failing given held old new (fault.Write written) stops counts_now = absurd stops
-
-  -- there is no memory for the input
-  pub starts-without-memory : (given held : Option (List ℕ)) (old new : StoreView D) → PerformsTurns model old new []
-      → RunsGrouped model (streams_of given given held held) checkpoints old new (Err fault.OutOfMemory)
-  starts-without-memory given held old new performs =
-      runs-answered given given held held old new (Err fault.OutOfMemory) [] performs (λ e. refl) (λ h bytes e. tt)
-      (refl, nothing-read given held)
+      → Session model grouping given given held held old new (Err f)
+  starts-failing given held old new f starts counts_now = by grouping refl starts
+    where
+      by : (k : Grouping) → k ≡ grouping → Starts model k old new (Err f)
+          → Session model grouping given given held held old new (Err f)
+      by Each is starts = absurd (cc starts.0)
+      by (Read checkpoints) is starts =
+          subst (λ (x : SessionFault). Session model grouping given given held held old new (Err x)) (sym starts.0)
+          (starts-broken given held old new (λ e. absurd (cc (is ∙ e))) starts.1 counts_now)
 
   -- before the first group
+  pub started : (old now : StoreView D) → Starts model grouping old now (Ok tt) → old.reopen ≡ false
+      → ((image : Image) → model.honest → model.left old.disk (model.moment old.disk) image → IsImage (model.folder old.disk) image)
+      → MeansPrefixes model old → HasPerformed model grouping old now []
+  started old now starts on only means = by grouping refl starts
+    where
+      by : (k : Grouping) → k ≡ grouping → Starts model k old now (Ok tt) → HasPerformed model grouping old now []
+      by Each is starts = inl (record {
+        each = sym is;
+        same = starts.1;
+        none = refl;
+        means = means;
+        any_moment = λ h flushed waiting has. LeavesOnly-start model old.disk _ (λ image left.
+            means h on flushed waiting has image (only image h left));
+      })
+      by (Read checkpoints) is starts = inr (record { some = λ e. absurd (cc (is ∙ e)); performs = starts })
+
+  -- there is no memory for the input
+  pub starts-without-memory : (given held : Option (List ℕ)) (old new : StoreView D) → HasPerformed model grouping old new []
+      → Session model grouping given given held held old new (Err fault.OutOfMemory)
+  starts-without-memory given held old new performs =
+      runs-answered given given held held old new (Err fault.OutOfMemory) [] performs (λ e. refl) (λ h bytes e. tt) (λ e. tt)
+      (refl, nothing-read given held)
+
   pub groups-none : (given held : Option (List ℕ)) (old now : StoreView D) (further : List ℕ) (answers : Unwritten)
-      (total : ℕ) → PerformsTurns model old now [] → further ≡ []
+      (total : ℕ) → HasPerformed model grouping old now [] → further ≡ []
       → answers.tally.documents ≡ 0 → answers.tally.accepted ≡ 0 → answers.tally.refused ≡ 0 → answers.written ≡ 0 → total ≡ 0
-      → GroupsSoFar model given given held held checkpoints old now further answers total
+      → GroupsSoFar model given given held held grouping old now further answers total
   groups-none given held old now further answers total performs none d a r w t = record {
     turns = [];
     read = read-none given held further answers total none d a r w t;
@@ -264,7 +464,7 @@ module _ {D : Type 0} (model : DiskModel D) (checkpoints : Checkpoints) where
   }
 
   module _ (given mid left held between : Option (List ℕ)) (old now : StoreView D) (was then : Input) (answers : Unwritten)
-      (s : GroupsSoFar model given mid held between checkpoints old now (ahead was) answers (bytes_read was)) where
+      (s : GroupsSoFar model given mid held between grouping old now (ahead was) answers (bytes_read was)) where
     abbrev start : Stored
     start = stored_of old
 
@@ -277,14 +477,24 @@ module _ {D : Type 0} (model : DiskModel D) (checkpoints : Checkpoints) where
     abbrev refused : ℕ
     refused = turns_refused (stored_of old) s.turns
 
+    here : stored_of now ≡ stored_after_turns (stored_of old) s.turns
+    here = performed-stored model grouping old now s.turns s.performs
+
+    pub means-prefixes : MeansPrefixes model now
+    means-prefixes = performed-means model grouping old now s.turns s.performs
+
+    -- what was handed out so far
+    pub sent-so-far : SentSoFar model between now
+    sent-so-far = record { held = held; start = stored_of old; turns = s.turns; out = s.read.out; stored = here }
+
     -- ---- the exits that the input makes
 
     pub ends-well : (tally : Tally) → AdvancesToEnd mid left was then
         → tally.documents ≡ answers.tally.documents → tally.accepted ≡ answers.tally.accepted
         → tally.refused ≡ answers.tally.refused → tally.rest ≡ length (piece_of then)
-        → RunsGrouped model (streams_of given left held between) checkpoints old now (Ok tally)
+        → Session model grouping given left held between old now (Ok tally)
     ends-well tally end d a r rest =
-        runs-answered given left held between old now (Ok tally) s.turns s.performs s.only_asked s.due (
+        runs-answered given left held between old now (Ok tally) s.turns s.performs s.only_asked s.due (λ e. tt) (
           refl,
           reading.ends-well given mid left held between (requests_of s.turns) sent accepted refused was
               then answers s.read tally end d a r rest,
@@ -292,19 +502,20 @@ module _ {D : Type 0} (model : DiskModel D) (checkpoints : Checkpoints) where
 
     -- the input has no further piece for a reason
     pub ends-in_input : (f : SessionFault) → Advances mid left was then (Err f)
-        → RunsGrouped model (streams_of given left held between) checkpoints old now (Err f)
-    ends-in_input f fails = runs-answered given left held between old now (Err f) s.turns s.performs s.only_asked s.due (by f fails)
+        → Session model grouping given left held between old now (Err f)
+    ends-in_input f fails =
+        runs-answered given left held between old now (Err f) s.turns s.performs s.only_asked s.due (λ e. (by f fails).1) (by f fails).0
       where
         ends : (f : SessionFault) → Advances mid left was then (Err f)
             → EndsAnswered (streams_of given left held between) (requests_of s.turns) sent accepted refused (Err f)
         ends = reading.ends-in_input given mid left held between (requests_of s.turns) sent accepted refused was then answers s.read
 
         by : (f : SessionFault) → Advances mid left was then (Err f)
-            → GroupedEnds (streams_of given left held between) start s.turns [] (Err f)
-        by fault.Read fails = (refl, ends fault.Read fails)
-        by fault.TooLong fails = (refl, ends fault.TooLong fails)
-        by fault.SessionLong fails = (refl, ends fault.SessionLong fails)
-        by fault.OutOfMemory fails = (refl, ends fault.OutOfMemory fails)
+            → GroupedEnds (streams_of given left held between) start s.turns [] (Err f) × AreSingle (Err f) []
+        by fault.Read fails = ((refl, ends fault.Read fails), tt)
+        by fault.TooLong fails = ((refl, ends fault.TooLong fails), tt)
+        by fault.SessionLong fails = ((refl, ends fault.SessionLong fails), tt)
+        by fault.OutOfMemory fails = ((refl, ends fault.OutOfMemory fails), tt)
         by fault.Device fails = absurd fails
         by fault.Reopen fails = absurd fails
         by (fault.Write written) fails = absurd fails
@@ -325,24 +536,24 @@ module _ {D : Type 0} (model : DiskModel D) (checkpoints : Checkpoints) where
       output-more rs =
           output-joined (stored_of old) s.turns (all_asked rs)
           ∙ ap (λ l. turns_output (stored_of old) s.turns ++ l)
-          (ap (λ t. turns_output t (all_asked rs)) (sym s.performs.stored) ∙ asked-output (stored_of now) rs)
+          (ap (λ t. turns_output t (all_asked rs)) (sym here) ∙ asked-output (stored_of now) rs)
 
       accepted-more : (rs : List Request) → turns_accepted (stored_of old) (s.turns ++ all_asked rs)
           ≡ turns_accepted (stored_of old) s.turns ++ accepted_commands (stored_of now) rs
       accepted-more rs =
           accepted-joined (stored_of old) s.turns (all_asked rs)
           ∙ ap (λ l. turns_accepted (stored_of old) s.turns ++ l)
-          (ap (λ t. turns_accepted t (all_asked rs)) (sym s.performs.stored) ∙ asked-accepted (stored_of now) rs)
+          (ap (λ t. turns_accepted t (all_asked rs)) (sym here) ∙ asked-accepted (stored_of now) rs)
 
       refused-more : (rs : List Request) → turns_refused (stored_of old) (s.turns ++ all_asked rs)
           ≡ turns_refused (stored_of old) s.turns + refusals (stored_of now) rs
       refused-more rs =
           refused-joined (stored_of old) s.turns (all_asked rs)
           ∙ ap (λ n. turns_refused (stored_of old) s.turns + n)
-          (ap (λ t. turns_refused t (all_asked rs)) (sym s.performs.stored) ∙ asked-refused (stored_of now) rs)
+          (ap (λ t. turns_refused t (all_asked rs)) (sym here) ∙ asked-refused (stored_of now) rs)
 
       -- and is due
-      due-more : (rs : List Request) → model.honest → (bytes : ℕ) → checkpoints ≡ After bytes
+      due-more : (rs : List Request) → model.honest → (bytes : ℕ) → checkpoints_of grouping ≡ After bytes
           → AreDue bytes (files_of model.folder old) (stored_of old) (s.turns ++ all_asked rs)
       due-more rs h bytes e =
           due-joined bytes (files_of model.folder old) (stored_of old) s.turns (all_asked rs) (s.due h bytes e)
@@ -350,17 +561,18 @@ module _ {D : Type 0} (model : DiskModel D) (checkpoints : Checkpoints) where
           (stored_after_turns (stored_of old) s.turns) rs)
 
       -- a group of requests brings no checkpoint that none asked for
-      asked-more : (rs : List Request) → checkpoints ≡ Asked → s.turns ++ all_asked rs ≡ all_asked (requests_of (s.turns ++ all_asked rs))
+      asked-more : (rs : List Request) → checkpoints_of grouping ≡ Asked
+          → s.turns ++ all_asked rs ≡ all_asked (requests_of (s.turns ++ all_asked rs))
       asked-more rs e = ap (λ l. l ++ all_asked rs) (s.only_asked e) ∙ sym (asked-joined (requests_of s.turns) rs)
           ∙ ap all_asked (sym (requests-more rs))
 
-      pub groups-more : (written : Option (List ℕ)) (new : StoreView D) (after : Unwritten) (further : List ℕ)
-          → PassesGroup model between written group further now new answers after
-          → GroupsSoFar model given left held written checkpoints old new further after (bytes_read then)
-      groups-more written new after further one =
+      pub groups-more : (written : Option (List ℕ)) (new : StoreView D) (after : Unwritten) (further : List ℕ) (total : ℕ)
+          → total ≡ bytes_read then → PassesGroup model between written group further now new answers after
+          → GroupsSoFar model given left held written grouping old new further after total
+      groups-more written new after further total same one =
           let rs = one.requests in
           let turns = s.turns ++ all_asked rs in
-          record {
+          subst (GroupsSoFar model given left held written grouping old new further after) (sym same) (record {
             turns = turns;
             read = read-as given left held written (requests_of s.turns ++ rs) (requests_of turns)
                 (sent ++ output (stored_of now) rs) (turns_output start turns)
@@ -375,37 +587,57 @@ module _ {D : Type 0} (model : DiskModel D) (checkpoints : Checkpoints) where
                 then answers s.read advances written further (stored_of now) rs after one.sends);
             only_asked = asked-more rs;
             due = due-more rs;
-            performs = performs-joined model old now new s.turns (all_asked rs) s.performs one.performs;
-          }
+            performs = performed-more model grouping old now s.turns new (all_asked rs) s.performs
+                (λ e. one.some (sym (asked-requests rs) ∙ ap requests_of e)) one.performs;
+          })
 
       -- ---- its exits
 
       ends-memory : (written : Option (List ℕ)) (new : StoreView D) (after : Unwritten) (further : List ℕ)
           → PassesGroup model between written group further now new answers after
-          → RunsGrouped model (streams_of given left held written) checkpoints old new (Err fault.OutOfMemory)
+          → Session model grouping given left held written old new (Err fault.OutOfMemory)
       ends-memory written new after further one =
-          let all = groups-more written new after further one in
+          let all = groups-more written new after further (bytes_read then) refl one in
           let early = ends-here given left held written (requests_of all.turns) (turns_output start all.turns)
           (length (turns_accepted start all.turns)) (turns_refused start all.turns) further after
           (bytes_read then) all.read in
-          runs-answered given left held written old new (Err fault.OutOfMemory) all.turns all.performs all.only_asked all.due (refl, early)
+          runs-answered given left held written old new (Err fault.OutOfMemory) all.turns all.performs all.only_asked all.due
+          (λ e. tt) (refl, early)
 
-      ends-device : (written : Option (List ℕ)) (new : StoreView D) → BreaksOff model group now new → Keeps between written
+      -- where nothing was done of the group
+      ends-starved : (written : Option (List ℕ)) (new : StoreView D) → new ≡ now → Keeps between written
+          → Session model grouping given left held written old new (Err fault.OutOfMemory)
+      ends-starved written new same keeps =
+          let early = ends-before given mid left held between (requests_of s.turns) sent accepted refused
+          was then answers s.read advances in
+          subst (λ (t : StoreView D). Session model grouping given left held written old t (Err fault.OutOfMemory)) (sym same)
+          (runs-answered given left held written old now (Err fault.OutOfMemory) s.turns s.performs s.only_asked s.due (λ e. tt) (
+            refl,
+            record {
+              bytes = early.bytes;
+              taken = early.taken;
+              begins = early.begins;
+              out = Appends-kept held between written sent early.out keeps;
+            },
+          ))
+
+      ends-device : (written : Option (List ℕ)) (new : StoreView D)
+          → BreaksOff model group answers.limit now new → (grouping ≡ Each → answers.limit ≡ 0) → Keeps between written
           → ((t : ℕ) (image : Image) → model.honest → t ≤ model.moment new.disk
           → IsImage (model.folder new.disk) image → model.left new.disk t image)
-          → RunsGrouped model (streams_of given left held written) checkpoints old new (Err fault.Device)
-      ends-device written new breaks keeps counts_now =
+          → Session model grouping given left held written old new (Err fault.Device)
+      ends-device written new breaks none keeps counts_now =
           runs-broken given left held written old now new s.turns breaks.requests s.performs s.only_asked s.due
-          breaks.broken breaks.state breaks.any_moment counts_now
+          breaks.broken breaks.state breaks.any_moment counts_now (λ e. is-one breaks.requests (breaks.single (none e)))
           (ends-unanswered given mid left held between (requests_of s.turns) sent accepted refused was
           then answers s.read advances breaks.further breaks.requests breaks.takes
           written (Appends-kept held between written sent s.read.out keeps))
 
       ends-write : (written : Option (List ℕ)) (new : StoreView D) (total : ℕ)
-          → CutsGroup model between written group now new answers.written total
-          → answers.written ≤ answers.tally.documents * answer_limit
-          → RunsGrouped model (streams_of given left held written) checkpoints old new (Err (fault.Write total))
-      ends-write written new total cuts room =
+          → CutsGroup model between written group answers.limit now new answers.written total
+          → (grouping ≡ Each → answers.limit ≡ 0) → answers.written ≤ answers.tally.documents * answer_limit
+          → Session model grouping given left held written old new (Err (fault.Write total))
+      ends-write written new total cuts none room =
           let rs = cuts.requests in
           let c = cuts.cuts in
           let at = cut-at (stored_of now) rs c.count c.cut in
@@ -429,10 +661,13 @@ module _ {D : Type 0} (model : DiskModel D) (checkpoints : Checkpoints) where
           ∙ ap (λ n. take n (sent ++ output (stored_of now) rs)) (c.is ∙ ap (λ n. n + c.count) sum)
           ∙ take-beyond c.count sent (output (stored_of now) rs) in
           runs-flushed given left held written old new (Err (fault.Write total)) answered unanswered
-          (subst (PerformsTurns model old new) (sym these)
-          (performs-joined model old now new s.turns (all_asked rs) s.performs cuts.performs))
+          (subst (HasPerformed model grouping old new) (sym these)
+          (performed-more model grouping old now s.turns new (all_asked rs) s.performs
+          (λ e. absurd (cc (joined-none at.whole unanswered (sym at.is ∙ sym (asked-requests rs) ∙ ap requests_of e)))) cuts.performs))
           (asked-more at.whole)
           (due-more at.whole)
+          (λ e. is-one unanswered (let one = cuts.single (none e) in let count = ap length at.is in
+          let sum = length-append at.whole unanswered in omega (arith, one, count, sum)))
           (record {
             bytes = early.bytes;
             taken = early.taken;
@@ -454,63 +689,77 @@ module _ {D : Type 0} (model : DiskModel D) (checkpoints : Checkpoints) where
       -- a group that isn't answered whole
       pub ends-failing : (written : Option (List ℕ)) (new : StoreView D) (input : Input) (after : Unwritten) (f : SessionFault)
           → PerformsGroup model between written group input now new answers after (Err f)
-          → answers.written ≤ answers.tally.documents * answer_limit
+          → (grouping ≡ Each → answers.limit ≡ 0) → answers.written ≤ answers.tally.documents * answer_limit
           → ((t : ℕ) (image : Image) → model.honest → t ≤ model.moment new.disk
           → IsImage (model.folder new.disk) image → model.left new.disk t image)
-          → RunsGrouped model (streams_of given left held written) checkpoints old new (Err f)
-      ends-failing written new input after fault.OutOfMemory fails room counts_now = ends-memory written new after fails.0 fails.1
-      ends-failing written new input after fault.Device fails room counts_now = ends-device written new fails.0 fails.1 counts_now
-      ends-failing written new input after (fault.Write total) fails room counts_now = ends-write written new total fails room
-      ends-failing written new input after fault.Read fails room counts_now = absurd fails
-      ends-failing written new input after fault.TooLong fails room counts_now = absurd fails
-      ends-failing written new input after fault.SessionLong fails room counts_now = absurd fails
-      ends-failing written new input after fault.Reopen fails room counts_now = absurd fails
+          → Session model grouping given left held written old new (Err f)
+      ends-failing written new input after fault.OutOfMemory (inl fails) none room counts_now = ends-starved written new fails.0 fails.1
+      ends-failing written new input after fault.OutOfMemory (inr fails) none room counts_now =
+          ends-memory written new after fails.0 fails.1
+      ends-failing written new input after fault.Device fails none room counts_now =
+          ends-device written new fails.0 none fails.1 counts_now
+      ends-failing written new input after (fault.Write total) fails none room counts_now = ends-write written new total fails none room
+      ends-failing written new input after fault.Read fails none room counts_now = absurd fails
+      ends-failing written new input after fault.TooLong fails none room counts_now = absurd fails
+      ends-failing written new input after fault.SessionLong fails none room counts_now = absurd fails
+      ends-failing written new input after fault.Reopen fails none room counts_now = absurd fails
 
     -- ---- a turn that no request asked for
 
-    pub groups-tended : (new : StoreView D) (us : List Turn) → requests_of us ≡ [] → (checkpoints ≡ Asked → us ≡ [])
-        → (model.honest → (bytes : ℕ) → checkpoints ≡ After bytes → AreDue bytes (files_of model.folder now) (stored_of now) us)
-        → PerformsTurns model now new us
-        → GroupsSoFar model given mid held between checkpoints old new (ahead was) answers (bytes_read was)
-    groups-tended new us quiet only due next =
-        let turns = s.turns ++ us in
-        let requests : requests_of s.turns ≡ requests_of turns =
-        sym (requests-joined s.turns us ∙ ap (λ l. requests_of s.turns ++ l) quiet ∙ append-nil (requests_of s.turns)) in
-        let out : sent ≡ turns_output start turns =
-        sym (output-joined start s.turns us ∙ ap (λ l. sent ++ l)
-        (quiet-output (stored_after_turns start s.turns) us quiet) ∙ append-nil sent) in
-        let accepts : turns_accepted start s.turns ≡ turns_accepted start turns =
-        sym (accepted-joined start s.turns us ∙ ap (λ l. turns_accepted start s.turns ++ l)
-        (quiet-accepted (stored_after_turns start s.turns) us quiet) ∙ append-nil (turns_accepted start s.turns)) in
-        record {
+    pub groups-tended : (new : StoreView D) → Tends model (checkpoints_of grouping) now new (Ok tt)
+        → GroupsSoFar model given mid held between grouping old new (ahead was) answers (bytes_read was)
+    groups-tended new tends = by (checkpoints_of grouping) refl
+      where
+        us : List Turn
+        us = tends.1.0
+
+        turns : List Turn
+        turns = s.turns ++ us
+
+        requests : requests_of s.turns ≡ requests_of turns
+        requests = sym (requests-joined s.turns us ∙ ap (λ l. requests_of s.turns ++ l) tends.1.1 ∙ append-nil (requests_of s.turns))
+
+        out : sent ≡ turns_output start turns
+        out = sym (output-joined start s.turns us ∙ ap (λ l. sent ++ l)
+            (quiet-output (stored_after_turns start s.turns) us tends.1.1) ∙ append-nil sent)
+
+        accepts : turns_accepted start s.turns ≡ turns_accepted start turns
+        accepts = sym (accepted-joined start s.turns us ∙ ap (λ l. turns_accepted start s.turns ++ l)
+            (quiet-accepted (stored_after_turns start s.turns) us tends.1.1) ∙ append-nil (turns_accepted start s.turns))
+
+        by : (c : Checkpoints) → checkpoints_of grouping ≡ c
+            → GroupsSoFar model given mid held between grouping old new (ahead was) answers (bytes_read was)
+        by Asked e =
+            subst (λ (t : StoreView D). GroupsSoFar model given mid held between grouping old t (ahead was) answers (bytes_read was))
+            (sym (tends.0 e).1) s
+        by (After wanted) e = record {
           turns = turns;
           read = read-as given mid held between (requests_of s.turns) (requests_of turns) sent
               (turns_output start turns) accepted (length (turns_accepted start turns)) refused (turns_refused start turns)
               (ahead was) answers (bytes_read was) requests out (ap length accepts)
               (let count = refused-joined start s.turns us in
-              let none = quiet-refused (stored_after_turns start s.turns) us quiet in omega (arith, count, none)) s.read;
+              let none = quiet-refused (stored_after_turns start s.turns) us tends.1.1 in omega (arith, count, none)) s.read;
           due = λ h bytes e. due-joined bytes (files_of model.folder old) start s.turns us (s.due h bytes e)
-              (subst (λ (t : Stored). AreDue bytes (files_after_turns (files_of model.folder old) start s.turns) t us) s.performs.stored
-              (subst (λ (f : Files). AreDue bytes f (stored_of now) us) (s.performs.files h) (due h bytes e)));
-          only_asked = λ e. (ap (λ l. s.turns ++ l) (only e) ∙ append-nil s.turns) ∙ s.only_asked e ∙ ap all_asked requests;
-          performs = performs-joined model old now new s.turns us s.performs next;
+              (subst (λ (t : Stored). AreDue bytes (files_after_turns (files_of model.folder old) start s.turns) t us) here
+              (subst (λ (f : Files). AreDue bytes f (stored_of now) us) (performed-files model grouping old now s.turns s.performs h)
+              (tends.1.2 h bytes e)));
+          only_asked = λ asked. absurd (cc (asked, e));
+          performs = performed-tended model grouping old now s.turns new us s.performs
+              (λ each. absurd (cc (ap checkpoints_of each, e))) tends.1.3;
         }
 
     -- the device fails in it
-    pub ends-tending : (new : StoreView D) (f : SessionFault) → Tends model checkpoints now new (Err f)
+    pub ends-tending : (new : StoreView D) (f : SessionFault) → Tends model (checkpoints_of grouping) now new (Err f)
         → ((t : ℕ) (image : Image) → model.honest → t ≤ model.moment new.disk → IsImage (model.folder new.disk) image
         → model.left new.disk t image)
-        → RunsGrouped model (streams_of given mid held between) checkpoints old new (Err f)
-    ends-tending new fault.Device stops counts_now =
-        runs-broken given mid held between old now new s.turns [] s.performs s.only_asked s.due stops.broken stops.state
+        → Session model grouping given mid held between old new (Err f)
+    ends-tending new f tends counts_now =
+        let stops = tends.1.1 in
+        subst (λ (x : SessionFault). Session model grouping given mid held between old new (Err x)) (sym tends.1.0)
+        (runs-broken given mid held between old now new s.turns [] s.performs s.only_asked s.due stops.broken stops.state
         (λ h flushed waiting has. subst (λ (l : List Command).
         LeavesOnly model now.disk new.disk (λ image. AfterPrefix flushed l image.store))
         (sym (append-nil waiting)) (stops.any_moment h flushed waiting has))
-        counts_now (ends-here given mid held between (requests_of s.turns) sent accepted refused (ahead was) answers
-        (bytes_read was) s.read)
-    ends-tending new fault.OutOfMemory stops counts_now = absurd stops
-    ends-tending new fault.Read stops counts_now = absurd stops
-    ends-tending new fault.TooLong stops counts_now = absurd stops
-    ends-tending new fault.SessionLong stops counts_now = absurd stops
-    ends-tending new fault.Reopen stops counts_now = absurd stops
-    ends-tending new (fault.Write written) stops counts_now = absurd stops
+        counts_now (λ e. absurd (cc ((tends.0 (ap checkpoints_of e)).0)))
+        (ends-here given mid held between (requests_of s.turns) sent accepted refused (ahead was) answers
+        (bytes_read was) s.read))

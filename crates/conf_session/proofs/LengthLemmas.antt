@@ -1,51 +1,26 @@
 -- How many bytes answers have: no more than a base.
 use Rattle.std.proofs.Common.{◌≡◌, refl, ◌∙◌, ap, subst, arith, ◌≤◌, ◌<◌}
-use Rattle.std.specs.Prelude.{ℕ, suc, ◌+◌, ◌==◌, Bool, true, false, ◌&&◌, nat_le, nat_lt, if◌then◌else◌, List, []}
-use Rattle.std.specs.Prelude.{◌∷◌, ◌++◌, length, codes, decimal, Option, Some, None, Result, Ok, Err}
-use Rattle.std.proofs.lemmas.Bool.{and_parts}
-use Rattle.std.proofs.lemmas.Bool.Decides.{nat_tests}
-use Rattle.std.proofs.lemmas.Fmt.{decimal_is_IsNumeral, length-decimal-le}
-use Rattle.yaml_chars.specs.Classes.{is_in}
-use Rattle.std.specs.List.{list_all}
-use Rattle.yaml_grammar.specs.Reads.{Good}
-use Rattle.yaml_grammar.specs.Texts.{byte_len, spaces, first, same_text}
-use Rattle.yaml_grammar.specs.Trees.{Tree, text, sequence, mapping, no_element, element, no_member, member}
-use Rattle.yaml_grammar.specs.Style.{plain_in_style, literal_in_style, literal_mark, literal_lines, feeds_at_end}
-use Rattle.yaml_grammar.specs.Style.{in_double_quotes, scalar_lines, key_text, long_key, key_lines, elements_after}
-use Rattle.yaml_grammar.specs.Style.{value_at, style_text}
-use Rattle.yaml_recognizers.specs.Closings.{framed_text_bytes, framed_text}
-use Rattle.yaml_writer.specs.BudgetLaws.{byte_len-append}
-use Rattle.yaml_config.specs.Limits.{config_limits}
-use Rattle.json_pointer.specs.declared.fault.PathFault.{PathFault}
-use Rattle.tree_path.specs.declared.place.Miss.{Miss}
-use Rattle.tree_path.specs.Paths.{at, at_from, at_step, child, refusal as step_refusal}
-use Rattle.json_pointer.specs.Pointers.{path_of}
-use Rattle.yaml_config.proofs.Located.{child-within}
-use Rattle.conf_state.specs.Commands.{Command}
-use Rattle.conf_state.specs.Names.{small_letter, name_char, good_name}
-use Rattle.conf_state.specs.States.{Entry, Contents, names_of, config_named, base_limit, count_limit}
-use Rattle.conf_state.specs.Limits.{AreConfigs, IsState}
-use Rattle.conf_state.specs.Steps.{step, next_state, performed, with_room, found, by_path}
-use Rattle.conf_state.specs.declared.room.Room.{Room}
-use Rattle.conf_state.specs.declared.room.Room.TheVariants.{Enough, LongRecord, Missing}
-use Rattle.conf_state.specs.BaseTexts.{base_length, entry_length, entries_length}
-use Rattle.conf_state.specs.declared.fault.StoreFault.{StoreFault}
-use Rattle.conf_state.specs.declared.fault.StoreFault.TheVariants as store
-use Rattle.conf_state.proofs.BaseLemmas.{count_bytes, base_length-framed}
-use Rattle.conf_state.proofs.RunLaws.{and_then-Ok, step-one}
-use Rattle.conf_record.proofs.SizeLemmas.{size, scalar_most, value_size}
-use Rattle.yaml_writer.proofs.ByteLemmas.{byte_len-encoded}
-use Rattle.conf_store.specs.Calls.{outcome, room_for, tree_named}
-use Rattle.conf_conditions.specs.Conditions.{first_fault}
-use Rattle.conf_conditions.specs.declared.fault.ConditionFault.{ConditionFault}
+use Rattle.std.specs.Prelude.{ℕ, suc, ◌+◌, ◌==◌, Bool, true, false, ◌&&◌, nat_le, nat_lt, if◌then◌else◌, List, [], ◌∷◌, ◌++◌, length, codes}
+use Rattle.std.specs.Prelude.{decimal, Option, Some, None, Result, Ok, Err}
+use Rattle.conf_session.proofs.Prelude.{and_parts, nat_tests, decimal_is_IsNumeral, length-decimal-le, is_in, list_all, Good, byte_len}
+use Rattle.conf_session.proofs.Prelude.{spaces, first, same_text, Tree, text, sequence, mapping, no_element, element, no_member, member}
+use Rattle.conf_session.proofs.Prelude.{plain_in_style, literal_in_style, literal_mark, literal_lines, feeds_at_end, in_double_quotes}
+use Rattle.conf_session.proofs.Prelude.{scalar_lines, key_text, long_key, key_lines, elements_after, value_at, style_text}
+use Rattle.conf_session.proofs.Prelude.{framed_text_bytes, framed_text, byte_len-append, config_limits, PathFault, Miss, at, at_from}
+use Rattle.conf_session.proofs.Prelude.{at_step, child, path_of, child-within, Command, small_letter, name_char, good_name, Entry, Contents}
+use Rattle.conf_session.proofs.Prelude.{names_of, config_named, base_limit, count_limit, AreConfigs, IsState, step, next_state, performed}
+use Rattle.conf_session.proofs.Prelude.{with_room, found, by_path, Room, Enough, LongRecord, Missing, base_length, entry_length}
+use Rattle.conf_session.proofs.Prelude.{entries_length, StoreFault, count_bytes, base_length-framed, and_then-Ok, step-one, size}
+use Rattle.conf_session.proofs.Prelude.{scalar_most, value_size, byte_len-encoded, outcome, room_for, tree_named, first_fault}
+use Rattle.conf_session.proofs.Prelude.{ConditionFault}
+use Rattle.tree_path.specs.Paths.{refusal as step_refusal}
+use Rattle.conf_session.specs.{declared.fault.SessionFault.SessionFault, declared.words.Refusal.Refusal}
 use Rattle.conf_session.specs.Requests.{Request, changing, unread, getting, exporting, naming, checkpointing, if_met, bad}
-use Rattle.conf_session.specs.Answers.{Stored, longest, one, text_elements, answered, refused_answer}
-use Rattle.conf_session.specs.Answers.{answer_or_refusal, value_at_path, change_answer, document_bytes, answer}
-use Rattle.conf_session.specs.Answers.{answer_bytes, answer_limit, condition_answered, unless_failed}
-use Rattle.conf_session.specs.declared.fault.SessionFault.{SessionFault}
-use Rattle.conf_session.specs.declared.words.Refusal.{Refusal}
-use Rattle.conf_session.specs.declared.words.Refusal.TheVariants as why
+use Rattle.conf_session.specs.Answers.{Stored, longest, one, text_elements, answered, refused_answer, answer_or_refusal, value_at_path}
+use Rattle.conf_session.specs.Answers.{change_answer, document_bytes, answer, answer_bytes, answer_limit, condition_answered, unless_failed}
 use Rattle.conf_session.proofs.WordLemmas.{refusal-short}
+use Rattle.conf_state.specs.declared.fault.StoreFault.TheVariants as store
+use Rattle.conf_session.specs.declared.words.Refusal.TheVariants as why
 
 -- ---- a document of one key
 

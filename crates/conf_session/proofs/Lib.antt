@@ -1,3 +1,4 @@
+pub mod Prelude
 pub mod WordLemmas
 pub mod LengthLemmas
 pub mod RefusalLemmas
@@ -7,7 +8,6 @@ pub mod ConditionalLemmas
 pub mod SaidConditionLemmas
 pub mod PassedLemmas
 pub mod ReadLemmas
-pub mod SessionLemmas
 pub mod AnswerLemmas
 pub mod ReplyLemmas
 pub mod SaidLemmas
@@ -20,3 +20,4 @@ pub mod TendLemmas
 pub mod GatherLemmas
 pub mod RoundLemmas
 pub mod GroupLemmas
+pub mod SessionLemmas

@@ -1,13 +1,13 @@
 -- Lines of keys and texts, and batches of such lines, are a document that reads as their mapping: a presentation of it,
 -- which fits and means it.
 use Rattle.std.proofs.Common.{◌≡◌, refl, sym, ◌∙◌, ap, arith, ◌<◌, ◌≤◌, append_assoc, append-nil, subst}
-use Rattle.std.specs.Prelude.{ℕ, suc, ◌+◌, ◌==◌, Bool, true, false, not, ◌&&◌, ◌||◌, List, [], ◌∷◌, ◌++◌, codes, map}
-use Rattle.std.specs.Prelude.{flat_map, length, Some, None}
-use Rattle.std.specs.List.{list_all}
-use Rattle.std.proofs.lemmas.Bool.{and_parts, and_from, or_left, or_right, not-true, not_from_false, le-leb}
-use Rattle.std.proofs.lemmas.Bool.{ltb-false, leb-true, agree_below_at, false≢true}
-use Rattle.yaml_chars.specs.Classes.{is_in, ns, white, indicator, line_break}
-use Rattle.yaml_grammar.specs.Texts.{IsText, spaces, starts_line, byte_len}
+use Rattle.std.specs.Prelude.{ℕ, suc, ◌+◌, ◌==◌, Bool, true, false, not, ◌&&◌, ◌||◌, List, [], ◌∷◌, ◌++◌, codes, map, flat_map, length}
+use Rattle.std.specs.Prelude.{Some, None}
+use Rattle.conf_session.proofs.Prelude.{list_all, and_parts, and_from, or_left, or_right, not-true, not_from_false, le-leb, ltb-false}
+use Rattle.conf_session.proofs.Prelude.{leb-true, agree_below_at, false≢true, is_in, ns, white, indicator, line_break, IsText, spaces}
+use Rattle.conf_session.proofs.Prelude.{starts_line, byte_len, sequence, mapping, Members, scalar_of, seq_from, seq_to, map_from, map_to}
+use Rattle.conf_session.proofs.Prelude.{document_from, document_to, shape, shapes, tree_shapes, elements_shapes, members_shapes, IsTreeOf}
+use Rattle.conf_session.proofs.Prelude.{plain_in_style, key_text, Presents, CanRead, Limits, Good, Gives, stands_alone}
 use Rattle.yaml_grammar.specs.Separation.{comments_text}
 use Rattle.yaml_grammar.specs.FlowScalars.{raw, quoted_char_text, quoted_char_fits, quoted_char_value, char_value}
 use Rattle.yaml_grammar.specs.FlowScalars.{plain_text, values, Scalar, plain, double, scalar_text, scalar_value}
@@ -20,19 +20,13 @@ use Rattle.yaml_grammar.specs.BlockNodes.{pairs_events}
 use Rattle.yaml_grammar.specs.Streams.{Stream, Document, bare as bare_document, explicit, content, suffixes}
 use Rattle.yaml_grammar.specs.Streams.{stream_text, stream_events, fits}
 use Rattle.yaml_grammar.specs.Events.{Event, as_document, as_seq, as_map, seq_end, map_start, map_end, document_end}
-use Rattle.yaml_grammar.specs.Trees.{sequence, mapping, Members, scalar_of, seq_from, seq_to, map_from, map_to}
-use Rattle.yaml_grammar.specs.Trees.{document_from, document_to, shape, shapes, tree_shapes, elements_shapes}
-use Rattle.yaml_grammar.specs.Trees.{members_shapes, IsTreeOf}
-use Rattle.yaml_grammar.specs.Style.{plain_in_style, key_text}
-use Rattle.yaml_grammar.specs.Reads.{Presents, CanRead, Limits, Good, Gives}
 use Rattle.yaml_recognizers.proofs.OneStyle.Presented.{feed, one_space, word_flow}
 use Rattle.yaml_recognizers.proofs.OneStyle.ScalarsFit.{word_flow_fits}
 use Rattle.yaml_recognizers.proofs.OneStyle.Spelled.{word_flow_spelled}
-use Rattle.yaml_writer.specs.Runs.{stands_alone}
-use Rattle.conf_session.specs.CommandLines.{Spelling, bare, quoted, Line, spelled, bare_char, begins_bare, stands}
-use Rattle.conf_session.specs.CommandLines.{line_text, lines_text, members_of_lines, IsLine, AreLines, Entry}
-use Rattle.conf_session.specs.CommandLines.{entry_text, entry_members, elements_text, elements_of_entries, AreEntries}
-use Rattle.conf_session.specs.CommandLines.{Layout, single, batch_of, layout_text, layout_members, IsLayout}
+use Rattle.conf_session.specs.CommandLines.{Spelling, bare, quoted, Line, spelled, bare_char, begins_bare, stands, line_text, lines_text}
+use Rattle.conf_session.specs.CommandLines.{members_of_lines, IsLine, AreLines, Entry, entry_text, entry_members, elements_text}
+use Rattle.conf_session.specs.CommandLines.{elements_of_entries, AreEntries, Layout, single, batch_of, layout_text, layout_members}
+use Rattle.conf_session.specs.CommandLines.{IsLayout}
 
 -- ---- presentations
 
@@ -193,9 +187,6 @@ scalar_as_fits n quoted value after h = and_from _ _ (and_from _ _ (raws_fit val
 -- a word is its own key
 key_flow : (key : List ℕ) → plain_in_style key ≡ true → word_flow key ≡ scalar (plain key [])
 key_flow key e = rw e refl
-
-key_itself : (key : List ℕ) → plain_in_style key ≡ true → key_text key ≡ key
-key_itself key e = rw e refl
 
 -- a key before its `:`
 key_on_fits : (key : List ℕ) (bol : Bool) (after : List ℕ) → plain_in_style key ≡ true → IsText key

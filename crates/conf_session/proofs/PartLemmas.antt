@@ -1,67 +1,51 @@
 -- The parts of a batch: how they are found in a sequence, and how their texts are read, in order.
 use Rattle.std.proofs.Common.{◌≡◌, refl, sym, ap, subst, ◌∙◌, append_assoc, append-nil, arith}
-use Rattle.std.proofs.lemmas.List.{map-append}
 use Rattle.std.specs.Prelude.{List, [], ◌∷◌, ◌++◌, length, map, Option, Some, None, option_map}
-use Rattle.yaml_events.specs.declared.read_fault.ReadFault.{ReadFault}
-use Rattle.yaml_data.specs.Seen.{tree_of, elements_of}
-use Rattle.yaml_data.specs.declared.tree.Tree as code_tree
-use Rattle.conf_state.specs.Commands.{Edit, edit_of}
-use Rattle.conf_state.specs.declared.command.Edit as code_edit
-use Rattle.conf_record.specs.Reading.{AreKeptElements}
-use Rattle.conf_session.specs.Said.{Part, part_of, parts_of, first_and_rest, part_seen, parts_seen}
-use Rattle.conf_session.specs.declared.parts.Part as code_part
+use Rattle.conf_session.proofs.Prelude.{map-append, ReadFault, Tree, tree_of, elements_of, Edit, edit_of, AreKeptElements}
+use Rattle.conf_session.specs.{Said.Part, Said.part_seen, Said.parts_seen, SaidConditions.all_in, SaidConditions.first_and_rest}
 use Rattle.conf_session.specs.Requests.{IsReadAs, AreReadAs, RefusesPart, IsFirstRefused}
+use Rattle.yaml_data.specs.declared.tree.Tree as code_tree
+use Rattle.conf_state.specs.declared.command.Edit as code_edit
+use Rattle.conf_session.specs.declared.parts.Part as code_part
 
--- ---- the parts that elements are
+-- ---- what elements are read as, one after the other
 
--- parts before those of the elements that are left
-abbrev pub behind : List Part → Option (List Part) → Option (List Part)
-behind parts rest = option_map (λ (more : List Part). parts ++ more) rest
+-- what was read before, and what the elements that are left are read as
+abbrev pub behind : {A : Type 0} → List A → Option (List A) → Option (List A)
+behind {A} done rest = option_map (λ (more : List A). done ++ more) rest
 
-pub record FoundSoFar (all : List code_tree.Tree) (done : List code_part.Part) (left : List code_tree.Tree) : Type 0 where
-  pub whole : behind (parts_seen done) (parts_of (elements_of left)) ≡ parts_of (elements_of all)
+behind-one : {A : Type 0} (done : List A) (x : A) (rest : Option (List A))
+    → behind (done ++ x ∷ []) rest ≡ behind done (first_and_rest (Some x) rest)
+behind-one done x None = refl
+behind-one done x (Some more) = ap Some (append_assoc done (x ∷ []) more)
+
+-- the elements before those that are left were read, and `seen` says what as
+pub record FoundSoFar {A B : Type 0} (seen : A → B) (read : Tree → Option B) (all : List code_tree.Tree) (done : List A)
+    (left : List code_tree.Tree) : Type 0 where
+  pub whole : behind (map seen done) (all_in read (elements_of left)) ≡ all_in read (elements_of all)
   pub kept : AreKeptElements (elements_of left)
 
-behind-none : (rest : Option (List Part)) → behind [] rest ≡ rest
-behind-none None = refl
-behind-none (Some parts) = refl
+module _ {A B : Type 0} (seen : A → B) (read : Tree → Option B) (all : List code_tree.Tree) where
+  -- one more element is read
+  pub one-found : (done : List A) (t : code_tree.Tree) (left : List code_tree.Tree) (x : A) → Some (seen x) ≡ read (tree_of t)
+      → FoundSoFar seen read all done (t ∷ left) → (new : List A) → new ≡ done ++ x ∷ [] → FoundSoFar seen read all new left
+  one-found done t left x is so new more =
+      let rest = all_in read (elements_of left) in
+      record {
+        whole =
+            ap (λ xs. behind (map seen xs) rest) more
+            ∙ ap (λ xs. behind xs rest) (map-append seen done (x ∷ []))
+            ∙ behind-one (map seen done) (seen x) rest
+            ∙ ap (λ o. behind (map seen done) (first_and_rest o rest)) is
+            ∙ so.whole;
+        kept = so.kept.1;
+      }
 
--- at first no part was found
-pub none-found : (all : List code_tree.Tree) → AreKeptElements (elements_of all) → FoundSoFar all [] all
-none-found all kept = record { whole = behind-none (parts_of (elements_of all)); kept = kept }
-
-behind-one : (parts : List Part) (part : Part) (rest : Option (List Part))
-    → behind (parts ++ part ∷ []) rest ≡ behind parts (first_and_rest (Some part) rest)
-behind-one parts part None = refl
-behind-one parts part (Some more) = ap Some (append_assoc parts (part ∷ []) more)
-
--- one more element is a part
-pub one-found : (all : List code_tree.Tree) (done : List code_part.Part) (t : code_tree.Tree)
-    (left : List code_tree.Tree) (p : code_part.Part) → Some (part_seen p) ≡ part_of (tree_of t)
-    → FoundSoFar all done (t ∷ left) → (new : List code_part.Part) → new ≡ done ++ p ∷ [] → FoundSoFar all new left
-one-found all done t left p is so new more =
-    let rest = parts_of (elements_of left) in
-    record {
-      whole =
-          ap (λ ps. behind (parts_seen ps) rest) more
-          ∙ ap (λ ps. behind ps rest) (map-append part_seen done (p ∷ []))
-          ∙ behind-one (parts_seen done) (part_seen p) rest
-          ∙ ap (λ o. behind (parts_seen done) (first_and_rest o rest)) is
-          ∙ so.whole;
-      kept = so.kept.1;
-    }
-
--- an element is none, and so the sequence holds no parts
-pub not-found : (all : List code_tree.Tree) (done : List code_part.Part) (t : code_tree.Tree)
-    (left : List code_tree.Tree) → None ≡ part_of (tree_of t) → FoundSoFar all done (t ∷ left)
-    → None ≡ parts_of (elements_of all)
-not-found all done t left none so = ap (λ o. behind (parts_seen done) (first_and_rest o (parts_of (elements_of left)))) none ∙ so.whole
-
--- no element is left
-pub all-found : (all : List code_tree.Tree) (done : List code_part.Part) (left : List code_tree.Tree)
-    → length left ≡ 0 → FoundSoFar all done left → Some (parts_seen done) ≡ parts_of (elements_of all)
-all-found all done [] none so = ap Some (sym (append-nil (parts_seen done))) ∙ so.whole
-all-found all done (t ∷ ts) none so = absurd (omega arith)
+  -- no element is left
+  pub all-found : (done : List A) (left : List code_tree.Tree) → length left ≡ 0 → FoundSoFar seen read all done left
+      → Some (map seen done) ≡ all_in read (elements_of all)
+  all-found done [] none so = ap Some (sym (append-nil (map seen done))) ∙ so.whole
+  all-found done (t ∷ ts) none so = absurd (omega arith)
 
 -- ---- the texts that are read
 
@@ -69,10 +53,6 @@ pub record ReadSoFar (all : List code_part.Part) (done : List code_edit.Edit) (l
   pub before : List Part
   pub whole : parts_seen all ≡ before ++ parts_seen left
   pub read : AreReadAs before (map edit_of done)
-
--- at first nothing was read
-pub none-read : (all : List code_part.Part) → ReadSoFar all [] all
-none-read all = record { before = []; whole = refl; read = tt }
 
 read-one : (parts : List Part) (edits : List Edit) (part : Part) (edit : Edit) → AreReadAs parts edits
     → IsReadAs part edit → AreReadAs (parts ++ part ∷ []) (edits ++ edit ∷ [])

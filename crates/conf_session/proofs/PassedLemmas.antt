@@ -1,38 +1,18 @@
 -- One request after others.
 use Rattle.std.proofs.Common.{◌≡◌, refl, sym, ◌∙◌, ap, subst, arith, ◌≤◌, append_assoc, length-append}
-use Rattle.std.specs.Prelude.{ℕ, ◌+◌, ◌-◌, suc, Bool, true, false, if◌then◌else◌, List, [], ◌∷◌, ◌++◌, length, take}
-use Rattle.std.specs.Prelude.{Option, Some, None, Result, Ok, Err}
-use Rattle.std.proofs.lemmas.List.{append-nil}
-use Rattle.std.proofs.lemmas.List.Elements.{All-push}
-use Rattle.yaml_grammar.specs.Closings.{ClosesOnce}
-use Rattle.conf_disk.specs.Image.{Image, IsImage}
-use Rattle.conf_disk.specs.Folder.{bytes_under}
-use Rattle.conf_disk.specs.Models.{DiskModel}
-use Rattle.conf_disk.specs.Moments.{LeavesOnly}
-use Rattle.conf_disk.specs.declared.disk.Name.TheVariants.{Store}
-use Rattle.conf_disk.proofs.Moments.{LeavesOnly-start, LeavesOnly-joined}
-use Rattle.conf_state.specs.Commands.{Command}
-use Rattle.conf_state.specs.States.{Contents}
-use Rattle.conf_state.specs.Steps.{after}
-use Rattle.conf_state.specs.declared.fault.StoreFault.{StoreFault}
-use Rattle.conf_store.specs.Calls.{outcome, room_for, tree_named}
-use Rattle.conf_store.specs.Durable.{AfterPrefix, HasFlushed, staged_text}
-use Rattle.conf_store.specs.View.{StoreView}
-use Rattle.conf_state.proofs.RefusalLemmas.{accepted-room}
-use Rattle.conf_store.proofs.StepLemmas.{accepted-anyway}
-use Rattle.conf_store.proofs.MeaningLemmas.{after-done, after-joined}
-use Rattle.conf_store.proofs.HeldLemmas.{prefix-longer}
-use Rattle.conf_conditions.specs.Conditions.{first_fault}
-use Rattle.conf_conditions.specs.declared.fault.ConditionFault.{ConditionFault}
-use Rattle.conf_session.specs.Said.{piece_limit}
+use Rattle.std.specs.Prelude.{ℕ, ◌+◌, ◌-◌, suc, Bool, true, false, if◌then◌else◌, List, [], ◌∷◌, ◌++◌, length, take, Option, Some, None}
+use Rattle.std.specs.Prelude.{Result, Ok, Err}
+use Rattle.conf_session.proofs.Prelude.{append-nil, All-push, ClosesOnce, Image, IsImage, bytes_under, DiskModel, LeavesOnly, Store}
+use Rattle.conf_session.proofs.Prelude.{LeavesOnly-start, LeavesOnly-joined, Command, Contents, after, StoreFault, outcome, room_for}
+use Rattle.conf_session.proofs.Prelude.{tree_named, AfterPrefix, HasFlushed, staged_text, StoreView, accepted-room, accepted-anyway}
+use Rattle.conf_session.proofs.Prelude.{after-done, after-joined, prefix-longer, first_fault, ConditionFault}
+use Rattle.conf_session.specs.{Said.piece_limit, Runs.stored_of, Runs.ArePieces, Runs.AfterAtLeast, Replies.LeavesPrefixes}
+use Rattle.conf_session.specs.{Replies.Performs, Replies.PerformsAll}
 use Rattle.conf_session.specs.Requests.{Request, Asks, AllAsk, changing, unread, getting, exporting, naming, checkpointing, if_met, bad}
-use Rattle.conf_session.specs.Answers.{Stored, longest, syncs, flushed_after, waiting_after, acknowledged}
-use Rattle.conf_session.specs.Answers.{AllAreAcknowledged, answer_bytes, output, stored_after, stored_after_all}
-use Rattle.conf_session.specs.Answers.{file_after, file_after_all, staged_after, staged_after_all, accepted_commands}
-use Rattle.conf_session.specs.Answers.{accepted_command, accepted_by, stored_after_change, refused_of, refusals}
+use Rattle.conf_session.specs.Answers.{Stored, longest, syncs, flushed_after, waiting_after, AllAreAcknowledged, answer_bytes}
+use Rattle.conf_session.specs.Answers.{output, stored_after, stored_after_all, file_after, file_after_all, staged_after, staged_after_all}
+use Rattle.conf_session.specs.Answers.{accepted_commands, accepted_command, accepted_by, stored_after_change, refused_of, refusals}
 use Rattle.conf_session.specs.Answers.{is_refused, value_at_path, unless_failed}
-use Rattle.conf_session.specs.Runs.{stored_of, ArePieces, AfterAtLeast}
-use Rattle.conf_session.specs.Replies.{LeavesPrefixes, Performs, PerformsAll}
 
 -- ---- what the definitions give for one request more
 
@@ -158,32 +138,25 @@ leads-one now (if_met conditions r) = by (first_fault now.state conditions) (lea
     by (Some fault) leads = refl
 leads-one now bad = refl
 
--- the accepted commands lead to the state that is stored after the requests
-pub leads-all : (now : Stored) (rs : List Request) → after now.state (accepted_commands now rs) ≡ Ok (stored_after_all now rs).state
-leads-all now [] = refl
-leads-all now (x ∷ rs) =
-    after-joined now.state (stored_after now x).state (stored_after_all now (x ∷ rs)).state (accepted_command now x)
-    (accepted_commands (stored_after now x) rs) (leads-one now x) (leads-all (stored_after now x) rs)
-
 -- ---- what is flushed, and what waits
 
 -- with one request more
-flushed-last : (each : Bool) (now : Stored) (flushed : Contents) (rs : List Request) (r : Request)
-    → flushed_after each now flushed (rs ++ r ∷ [])
-    ≡ flushed_after each (stored_after_all now rs) (flushed_after each now flushed rs) (r ∷ [])
-flushed-last each now flushed [] r = refl
-flushed-last each now flushed (x ∷ rs) r =
-    flushed-last each (stored_after now x) (if syncs each now x then (stored_after now x).state else flushed) rs r
+flushed-last : (now : Stored) (flushed : Contents) (rs : List Request) (r : Request)
+    → flushed_after false now flushed (rs ++ r ∷ [])
+    ≡ flushed_after false (stored_after_all now rs) (flushed_after false now flushed rs) (r ∷ [])
+flushed-last now flushed [] r = refl
+flushed-last now flushed (x ∷ rs) r =
+    flushed-last (stored_after now x) (if syncs false now x then (stored_after now x).state else flushed) rs r
 
-waiting-last : (each : Bool) (now : Stored) (waiting : List Command) (rs : List Request) (r : Request)
-    → waiting_after each now waiting (rs ++ r ∷ [])
-    ≡ waiting_after each (stored_after_all now rs) (waiting_after each now waiting rs) (r ∷ [])
-waiting-last each now waiting [] r = refl
-waiting-last each now waiting (x ∷ rs) r =
-    waiting-last each (stored_after now x) (if syncs each now x then [] else waiting ++ accepted_command now x) rs r
+waiting-last : (now : Stored) (waiting : List Command) (rs : List Request) (r : Request)
+    → waiting_after false now waiting (rs ++ r ∷ [])
+    ≡ waiting_after false (stored_after_all now rs) (waiting_after false now waiting rs) (r ∷ [])
+waiting-last now waiting [] r = refl
+waiting-last now waiting (x ∷ rs) r =
+    waiting-last (stored_after now x) (if syncs false now x then [] else waiting ++ accepted_command now x) rs r
 
 -- where each request is flushed and none waits, none ever does
-none-waits : (now : Stored) (rs : List Request) → waiting_after true now [] rs ≡ []
+pub none-waits : (now : Stored) (rs : List Request) → waiting_after true now [] rs ≡ []
 none-waits now [] = refl
 none-waits now (x ∷ rs) = none-waits (stored_after now x) rs
 
@@ -195,27 +168,6 @@ acknowledged-all = record {
       (let none : length (waiting_after true now waiting (request ∷ requests)) ≡ 0 =
       ap length (none-waits (stored_after now request) requests) in omega (arith, none));
 }
-
--- one request more acknowledges no fewer commands
-pub acknowledged-more : (now : Stored) (waiting : List Command) (rs : List Request) (r : Request)
-    → acknowledged now waiting rs ≤ acknowledged now waiting (rs ++ r ∷ [])
-acknowledged-more now waiting rs r =
-    subst (λ (l : List Command). acknowledged now waiting rs
-    ≤ length (waiting ++ accepted_commands now (rs ++ r ∷ [])) - length l) (sym (waiting-last true now waiting rs r))
-    none-left
-  where
-    grown : length (waiting ++ accepted_commands now (rs ++ r ∷ []))
-        ≡ length (waiting ++ accepted_commands now rs) + length (accepted_command (stored_after_all now rs) r)
-    grown =
-        let last = ap length (accepted_commands-last now rs r) in
-        let sum = length-append (accepted_commands now rs) (accepted_command (stored_after_all now rs) r) in
-        let one = length-append waiting (accepted_commands now (rs ++ r ∷ [])) in
-        let two = length-append waiting (accepted_commands now rs) in
-        omega (arith, last, sum, one, two)
-
-    none-left : length (waiting ++ accepted_commands now rs) - length (waiting_after true now waiting rs)
-        ≤ length (waiting ++ accepted_commands now (rs ++ r ∷ [])) - 0
-    none-left = omega (arith, grown)
 
 -- ---- prefixes of commands, with more after them
 
@@ -235,13 +187,13 @@ pub record Continues (start : Contents) (commands : List Command) (flushed : Con
   pub leads : after start first ≡ Ok flushed
 
 -- so it is of what waited and what the requests accept
-pub continues : (each : Bool) (now : Stored) (flushed : Contents) (waiting : List Command) (rs : List Request)
+pub continues : (now : Stored) (flushed : Contents) (waiting : List Command) (rs : List Request)
     → after flushed waiting ≡ Ok now.state
-    → Continues flushed (waiting ++ accepted_commands now rs) (flushed_after each now flushed rs) (waiting_after each now waiting rs)
-continues each now flushed waiting [] leads = record { first = []; is = append-nil waiting; leads = refl }
-continues each now flushed waiting (x ∷ rs) leads =
-    by (syncs each now x) (continues each (stored_after now x) (stored_after now x).state [] rs refl)
-    (continues each (stored_after now x) flushed (waiting ++ accepted_command now x) rs there)
+    → Continues flushed (waiting ++ accepted_commands now rs) (flushed_after false now flushed rs) (waiting_after false now waiting rs)
+continues now flushed waiting [] leads = record { first = []; is = append-nil waiting; leads = refl }
+continues now flushed waiting (x ∷ rs) leads =
+    by (syncs false now x) (continues (stored_after now x) (stored_after now x).state [] rs refl)
+    (continues (stored_after now x) flushed (waiting ++ accepted_command now x) rs there)
   where
     there : after flushed (waiting ++ accepted_command now x) ≡ Ok (stored_after now x).state
     there = after-joined flushed now.state (stored_after now x).state waiting (accepted_command now x) leads (leads-one now x)
@@ -252,20 +204,20 @@ continues each now flushed waiting (x ∷ rs) leads =
 
     by : (b : Bool)
         → Continues (stored_after now x).state (accepted_commands (stored_after now x) rs)
-        (flushed_after each (stored_after now x) (stored_after now x).state rs)
-        (waiting_after each (stored_after now x) [] rs)
+        (flushed_after false (stored_after now x) (stored_after now x).state rs)
+        (waiting_after false (stored_after now x) [] rs)
         → Continues flushed ((waiting ++ accepted_command now x) ++ accepted_commands (stored_after now x) rs)
-        (flushed_after each (stored_after now x) flushed rs)
-        (waiting_after each (stored_after now x) (waiting ++ accepted_command now x) rs)
+        (flushed_after false (stored_after now x) flushed rs)
+        (waiting_after false (stored_after now x) (waiting ++ accepted_command now x) rs)
         → Continues flushed (waiting ++ (accepted_command now x ++ accepted_commands (stored_after now x) rs))
-        (flushed_after each (stored_after now x) (if b then (stored_after now x).state else flushed) rs)
-        (waiting_after each (stored_after now x) (if b then [] else waiting ++ accepted_command now x) rs)
+        (flushed_after false (stored_after now x) (if b then (stored_after now x).state else flushed) rs)
+        (waiting_after false (stored_after now x) (if b then [] else waiting ++ accepted_command now x) rs)
     by true synced waits = record {
       first = (waiting ++ accepted_command now x) ++ synced.first;
       is = grouped ∙ ap (λ l. (waiting ++ accepted_command now x) ++ l) synced.is
-          ∙ sym (append_assoc (waiting ++ accepted_command now x) synced.first (waiting_after each (stored_after now x) [] rs));
+          ∙ sym (append_assoc (waiting ++ accepted_command now x) synced.first (waiting_after false (stored_after now x) [] rs));
       leads = after-joined flushed (stored_after now x).state
-          (flushed_after each (stored_after now x) (stored_after now x).state rs)
+          (flushed_after false (stored_after now x) (stored_after now x).state rs)
           (waiting ++ accepted_command now x) synced.first there synced.leads;
     }
     by false synced waits = record { first = waits.first; is = grouped ∙ waits.is; leads = waits.leads }
@@ -305,12 +257,12 @@ prefix-whole start flushed commands waiting file c some =
 
 -- ---- requests that were performed
 
-module _ (each : Bool) {D : Type 0} (model : DiskModel D) where
+module _ {D : Type 0} (model : DiskModel D) where
   -- before the first request, nothing was performed
   pub performs-none : (store : StoreView D) → store.reopen ≡ false
       → ((image : Image) → model.honest → model.left store.disk (model.moment store.disk) image → IsImage (model.folder store.disk) image)
       → (model.honest → store.reopen ≡ false → LeavesPrefixes (model.folder store.disk) store.state)
-      → PerformsAll each model store store []
+      → PerformsAll model store store []
   performs-none store off only means = record {
     sound = off;
     stored = refl;
@@ -321,8 +273,8 @@ module _ (each : Bool) {D : Type 0} (model : DiskModel D) where
     waits = λ h flushed waiting has. has;
   }
 
-  module _ (old mid new : StoreView D) (rs : List Request) (r : Request) (before : PerformsAll each model old mid rs)
-      (does : Performs each model mid new r) where
+  module _ (old mid new : StoreView D) (rs : List Request) (r : Request) (before : PerformsAll model old mid rs)
+      (does : Performs model mid new r) where
     pub state-more : new.state ≡ (stored_after_all (stored_of old) (rs ++ r ∷ [])).state
     state-more = does.state ∙ ap (λ t. (stored_after t r).state) before.stored
         ∙ ap (λ (t : Stored). t.state) (sym (stored-last (stored_of old) rs r))
@@ -354,8 +306,8 @@ module _ (each : Bool) {D : Type 0} (model : DiskModel D) where
         (has : HasFlushed (model.folder old.disk) flushed waiting old.state) where
       -- what is flushed before the last request, and what waits
       continued : Continues flushed (waiting ++ accepted_commands (stored_of old) rs)
-          (flushed_after each (stored_of old) flushed rs) (waiting_after each (stored_of old) waiting rs)
-      continued = continues each (stored_of old) flushed waiting rs has.journal.leads
+          (flushed_after false (stored_of old) flushed rs) (waiting_after false (stored_of old) waiting rs)
+      continued = continues (stored_of old) flushed waiting rs has.journal.leads
 
       -- all commands, with that of the last request
       joined : (waiting ++ accepted_commands (stored_of old) rs) ++ accepted_command (stored_of mid) r
@@ -367,10 +319,10 @@ module _ (each : Bool) {D : Type 0} (model : DiskModel D) where
 
       -- what a crash leaves during the last request
       last-moments : LeavesOnly model mid.disk new.disk
-          (λ image. AfterPrefix (flushed_after each (stored_of old) flushed rs)
-          (waiting_after each (stored_of old) waiting rs ++ accepted_command (stored_of mid) r) image.store)
-      last-moments = does.any_moment h (flushed_after each (stored_of old) flushed rs)
-          (waiting_after each (stored_of old) waiting rs) (before.waits h flushed waiting has)
+          (λ image. AfterPrefix (flushed_after false (stored_of old) flushed rs)
+          (waiting_after false (stored_of old) waiting rs ++ accepted_command (stored_of mid) r) image.store)
+      last-moments = does.any_moment h (flushed_after false (stored_of old) flushed rs)
+          (waiting_after false (stored_of old) waiting rs) (before.waits h flushed waiting has)
 
       -- and during all
       pub moments-more : LeavesOnly model old.disk new.disk
@@ -381,25 +333,25 @@ module _ (each : Bool) {D : Type 0} (model : DiskModel D) where
           subst (λ (l : List Command). LeavesOnly model old.disk new.disk (λ image. AfterPrefix flushed l image.store)) joined
           (LeavesOnly-joined model old.disk mid.disk new.disk _ _ _ (before.any_moment h flushed waiting has) last-moments
           (λ image. prefix-longer flushed first second image.store)
-          (λ image. prefix-continued flushed (flushed_after each (stored_of old) flushed rs) first
-          (waiting_after each (stored_of old) waiting rs) second image.store continued))
+          (λ image. prefix-continued flushed (flushed_after false (stored_of old) flushed rs) first
+          (waiting_after false (stored_of old) waiting rs) second image.store continued))
 
       -- what waits after one request more
       pub waits-more : new.reopen ≡ false → HasFlushed (model.folder new.disk)
-          (flushed_after each (stored_of old) flushed (rs ++ r ∷ []))
-          (waiting_after each (stored_of old) waiting (rs ++ r ∷ [])) new.state
+          (flushed_after false (stored_of old) flushed (rs ++ r ∷ []))
+          (waiting_after false (stored_of old) waiting (rs ++ r ∷ [])) new.state
       waits-more off =
-          let f = flushed_after each (stored_of old) flushed rs in
-          let w = waiting_after each (stored_of old) waiting rs in
-          let flushes = ap (λ t. flushed_after each t f (r ∷ [])) before.stored ∙ sym (flushed-last each (stored_of old) flushed rs r) in
-          let waits = ap (λ t. waiting_after each t w (r ∷ [])) before.stored ∙ sym (waiting-last each (stored_of old) waiting rs r) in
+          let f = flushed_after false (stored_of old) flushed rs in
+          let w = waiting_after false (stored_of old) waiting rs in
+          let flushes = ap (λ t. flushed_after false t f (r ∷ [])) before.stored ∙ sym (flushed-last (stored_of old) flushed rs r) in
+          let waits = ap (λ t. waiting_after false t w (r ∷ [])) before.stored ∙ sym (waiting-last (stored_of old) waiting rs r) in
           subst (λ (l : List Command). HasFlushed (model.folder new.disk)
-          (flushed_after each (stored_of old) flushed (rs ++ r ∷ [])) l new.state) waits
+          (flushed_after false (stored_of old) flushed (rs ++ r ∷ [])) l new.state) waits
           (subst (λ (s : Contents). HasFlushed (model.folder new.disk) s
-          (waiting_after each (stored_of mid) w (r ∷ [])) new.state) flushes
+          (waiting_after false (stored_of mid) w (r ∷ [])) new.state) flushes
           (does.waits h off f w (before.waits h flushed waiting has)))
 
-    pub performs-more : new.reopen ≡ false → PerformsAll each model old new (rs ++ r ∷ [])
+    pub performs-more : new.reopen ≡ false → PerformsAll model old new (rs ++ r ∷ [])
     performs-more off = record {
       sound = off;
       stored = stored-more off;
@@ -408,44 +360,3 @@ module _ (each : Bool) {D : Type 0} (model : DiskModel D) where
       any_moment = moments-more;
       waits = λ h flushed waiting has. waits-more h flushed waiting has off;
     }
-
--- ---- what a session keeps, which flushes with each request
-
-module _ {D : Type 0} (model : DiskModel D) where
-  -- a crash after the last request, of which it isn't known how far it came
-  pub kept-most : (old mid new : StoreView D) (rs : List Request) (r : Request) → PerformsAll true model old mid rs
-      → Performs true model mid new r
-      → (h : model.honest) (flushed : Contents) (waiting : List Command) → HasFlushed (model.folder old.disk) flushed waiting old.state
-      → ((t : ℕ) (image : Image) → model.honest → t ≤ model.moment new.disk → IsImage (model.folder new.disk) image
-      → model.left new.disk t image)
-      → (image : Image) → IsImage (model.folder new.disk) image
-      → AfterAtLeast flushed (acknowledged (stored_of old) waiting rs)
-      (waiting ++ accepted_commands (stored_of old) (rs ++ r ∷ [])) image.store
-  kept-most old mid new rs r before does h flushed waiting has counts_now image is =
-      let run = last-moments true model old mid new rs r before does h flushed waiting has in
-      let some = run.each image (counts_now (model.moment mid.disk) image h run.later is) in
-      subst (λ (l : List Command). AfterAtLeast flushed (acknowledged (stored_of old) waiting rs) l image.store)
-      (joined true model old mid new rs r before does h flushed waiting has)
-      (at-least flushed (flushed_after true (stored_of old) flushed rs)
-      (waiting ++ accepted_commands (stored_of old) rs) (waiting_after true (stored_of old) waiting rs)
-      (accepted_command (stored_of mid) r) image.store
-      (continues true (stored_of old) flushed waiting rs has.journal.leads) some)
-
-  -- a crash after requests that are all performed
-  pub kept-all : (old new : StoreView D) (rs : List Request) (least : ℕ) → new.reopen ≡ false
-      → (model.honest → new.reopen ≡ false → LeavesPrefixes (model.folder new.disk) new.state)
-      → (h : model.honest) (flushed : Contents) (waiting : List Command) → HasFlushed (model.folder old.disk) flushed waiting old.state
-      → HasFlushed (model.folder new.disk) (flushed_after true (stored_of old) flushed rs)
-      (waiting_after true (stored_of old) waiting rs) new.state
-      → least ≤ acknowledged (stored_of old) waiting rs → (image : Image) → IsImage (model.folder new.disk) image
-      → AfterAtLeast flushed least (waiting ++ accepted_commands (stored_of old) rs) image.store
-  kept-all old new rs least off means h flushed waiting has waits few image is =
-      let f = flushed_after true (stored_of old) flushed rs in
-      let w = waiting_after true (stored_of old) waiting rs in
-      let commands = waiting ++ accepted_commands (stored_of old) rs in
-      let some : AfterPrefix f (w ++ []) image.store = prefix-longer f w [] image.store (means h off f w waits image is) in
-      let all : AfterAtLeast flushed (length commands - length w) commands image.store =
-      subst (λ (l : List Command). AfterAtLeast flushed (length commands - length w) l image.store) (append-nil commands)
-      (at-least flushed f commands w [] image.store (continues true (stored_of old) flushed waiting rs has.journal.leads) some) in
-      let enough = all.enough in
-      record { count = all.count; enough = omega (arith, few, enough); state = all.state; leads = all.leads; means = all.means }

@@ -1,26 +1,15 @@
 -- The faults that are answered, and those that end a session.
-use Rattle.std.proofs.Common.{◌≡◌, ◌≢◌, ◌⊎◌, inl, inr, ⊎_elim, refl, sym, ap, ◌∙◌, subst}
+use Rattle.std.proofs.Common.{◌≡◌, ◌≢◌, ◌⊎◌, inl, inr, ⊎_elim, refl, subst}
 use Rattle.std.specs.Prelude.{List, ℕ, Bool, true, false, Option, Some, None, Result, Ok, Err, IfOk, IfErr, if◌then◌else◌}
-use Rattle.yaml_grammar.specs.Trees.{Tree}
-use Rattle.yaml_events.specs.declared.read_fault.ReadFault.{ReadFault}
-use Rattle.yaml_events.specs.declared.read_fault.ReadFault.TheVariants as read
-use Rattle.json_pointer.specs.declared.fault.PathFault.{PathFault}
-use Rattle.json_pointer.specs.declared.fault.PathFault.TheVariants as path
-use Rattle.tree_path.specs.Paths.{at}
-use Rattle.conf_state.specs.Names.{good_name}
-use Rattle.conf_state.specs.States.{Contents, config_named}
-use Rattle.conf_state.specs.Steps.{and_then, found, by_path}
-use Rattle.conf_state.specs.declared.fault.StoreFault.{StoreFault}
-use Rattle.conf_state.specs.declared.fault.StoreFault.TheVariants as store
-use Rattle.conf_store.specs.Calls.{tree_named, tree_at}
-use Rattle.conf_store.specs.Imports.{RefusesText}
-use Rattle.conf_session.specs.declared.fault.SessionFault.{SessionFault}
+use Rattle.conf_session.proofs.Prelude.{Tree, ReadFault, PathFault, at, good_name, Contents, config_named, and_then, found, by_path}
+use Rattle.conf_session.proofs.Prelude.{StoreFault, tree_named, tree_at, RefusesText}
+use Rattle.conf_session.specs.{declared.fault.SessionFault.SessionFault, declared.words.Refusal.Refusal, declared.reply.Reply.Reply}
+use Rattle.conf_session.specs.{declared.reply.Reply.TheVariants.Refused, Replies.refused_as}
 use Rattle.conf_session.specs.declared.fault.SessionFault.TheVariants.{OutOfMemory, Device, Reopen}
-use Rattle.conf_session.specs.declared.words.Refusal.{Refusal}
-use Rattle.conf_session.specs.declared.reply.Reply.{Reply}
-use Rattle.conf_session.specs.declared.reply.Reply.TheVariants.{Refused}
 use Rattle.conf_session.specs.Answers.{answered, path_answered, read_answered}
-use Rattle.conf_session.specs.Replies.{refused_as}
+use Rattle.yaml_events.specs.declared.read_fault.ReadFault.TheVariants as read
+use Rattle.json_pointer.specs.declared.fault.PathFault.TheVariants as path
+use Rattle.conf_state.specs.declared.fault.StoreFault.TheVariants as store
 
 -- it is answered, unless memory ran out
 abbrev pub OnlyMemory : {A : Type 0} → Result A SessionFault → Type 0
@@ -59,15 +48,6 @@ answered-memory store.CountFull shut device = tt
 answered-memory store.Reopen shut device = absurd (shut refl)
 answered-memory store.Device shut device = absurd (device refl)
 answered-memory store.OutOfMemory shut device = refl
-
--- what is answered did not run out of memory
-pub answered-some : (why : StoreFault) (reason : Refusal) → answered why ≡ Ok reason → why ≢ store.OutOfMemory
-answered-some why reason is e = let never : (◌≡◌ {A = Result Refusal SessionFault} (Err OutOfMemory) (Ok reason)) =
-    sym (ap answered e) ∙ is in cc never
-
-pub read-some : (why : ReadFault) (reason : Refusal) → read_answered why ≡ Ok reason → why ≢ read.OutOfMemory
-read-some why reason is e = let never : (◌≡◌ {A = Result Refusal SessionFault} (Err OutOfMemory) (Ok reason)) =
-    sym (ap read_answered e) ∙ is in cc never
 
 -- a text that is refused is answered
 pub text-memory : (name source : List ℕ) (why : StoreFault) → RefusesText name source why → OnlyMemory (answered why)

@@ -1,28 +1,14 @@
 -- What is answered to requests that change nothing.
 use Rattle.std.proofs.Common.{◌≡◌, refl, sym, ◌∙◌, ap, subst, ◌≤◌}
 use Rattle.std.specs.Prelude.{ℕ, List, [], codes, length, String, string_bytes, Result, Ok, Err, IfOk}
-use Rattle.std.specs.declared.alloc.Global.{Global}
-use Rattle.yaml_grammar.specs.Trees.{Tree, text, sequence}
-use Rattle.yaml_grammar.specs.Style.{style_text}
-use Rattle.yaml_recognizers.specs.Closings.{framed_text_bytes}
-use Rattle.tree_path.specs.Paths.{at}
-use Rattle.json_pointer.specs.Pointers.{path_of}
-use Rattle.json_pointer.specs.declared.fault.PathFault.{PathFault}
-use Rattle.conf_state.specs.Limits.{IsState}
-use Rattle.conf_state.specs.States.{names_of}
-use Rattle.conf_state.specs.Steps.{and_then, by_path}
-use Rattle.conf_state.specs.declared.fault.StoreFault.{StoreFault}
-use Rattle.conf_state.specs.declared.fault.StoreFault.TheVariants.{Path}
-use Rattle.conf_store.specs.Calls.{tree_named, tree_at}
+use Rattle.conf_session.proofs.Prelude.{Global, Tree, text, sequence, style_text, framed_text_bytes, at, path_of, PathFault, IsState}
+use Rattle.conf_session.proofs.Prelude.{names_of, and_then, by_path, StoreFault, Path, tree_named, tree_at}
+use Rattle.conf_session.specs.{Replies.Replies, Replies.refused_as, declared.words.Refusal.Refusal, declared.reply.Reply.TheVariants.Done}
+use Rattle.conf_session.specs.{declared.reply.Reply.TheVariants.Refused}
 use Rattle.conf_session.specs.Requests.{Request, getting, exporting, naming}
-use Rattle.conf_session.specs.Answers.{Stored, answer, accepted_command, refused_of, one, text_elements, answered}
-use Rattle.conf_session.specs.Answers.{path_answered, refused_answer, answer_or_refusal, document_bytes, answer_limit}
-use Rattle.conf_session.specs.Answers.{value_at_path, is_refused}
-use Rattle.conf_session.specs.Replies.{Replies, refused_as}
-use Rattle.conf_session.specs.declared.words.Refusal.{Refusal}
-use Rattle.conf_session.proofs.LengthLemmas.{refused-short, answer-short}
-use Rattle.conf_session.proofs.RefusalLemmas.{refused-ok}
-use Rattle.conf_session.specs.declared.reply.Reply.TheVariants.{Done, Refused}
+use Rattle.conf_session.specs.Answers.{Stored, answer, accepted_command, refused_of, one, text_elements, answered, path_answered}
+use Rattle.conf_session.specs.Answers.{refused_answer, answer_or_refusal, document_bytes, answer_limit, value_at_path, is_refused}
+use Rattle.conf_session.proofs.{LengthLemmas.refused-short, LengthLemmas.answer-short, RefusalLemmas.refused-ok}
 
 -- ---- a request that changes nothing, and is answered by a result
 

@@ -1,55 +1,29 @@
 -- What one request does.
 use Rattle.std.proofs.Common.{◌≡◌, ◌≢◌, ◌≤◌, ◌⊎◌, inl, inr, ⊎_elim, refl, sym, ◌∙◌, ap, subst, arith, length-append}
-use Rattle.std.specs.Prelude.{ℕ, ◌+◌, min, max, false, List, [], ◌∷◌, ◌++◌, length, decimal, codes, Option, Some}
-use Rattle.std.specs.Prelude.{None, option_map, unwrap_or, Result, Ok, Err, IfOk, String, string_bytes}
-use Rattle.std.specs.Str.{chars, IsUtf8}
-use Rattle.std.specs.declared.alloc.Global.{Global}
-use Rattle.std.proofs.lemmas.Bool.{cases_lt}
-use Rattle.std.proofs.lemmas.Str.{encodes-chars}
-use Rattle.std.proofs.lemmas.List.{append-nil, take_all}
-use Rattle.yaml_grammar.specs.Trees.{text}
-use Rattle.yaml_recognizers.specs.Closings.{framed_text_bytes}
-use Rattle.conf_disk.specs.Folder.{Folder, bytes_under}
-use Rattle.conf_disk.specs.Image.{Image, IsImage}
-use Rattle.conf_disk.specs.Models.{DiskModel}
-use Rattle.conf_disk.specs.Moments.{LeavesOnly, greatest}
-use Rattle.conf_disk.specs.declared.disk.Name.TheVariants.{Store}
+use Rattle.std.specs.Prelude.{ℕ, ◌+◌, min, max, false, List, [], ◌∷◌, ◌++◌, length, decimal, codes, Option, Some, None, option_map}
+use Rattle.std.specs.Prelude.{unwrap_or, Result, Ok, Err, IfOk, String, string_bytes}
+use Rattle.conf_session.proofs.Prelude.{chars, IsUtf8, Global, cases_lt, encodes-chars, append-nil, take_all, text, framed_text_bytes}
+use Rattle.conf_session.proofs.Prelude.{Folder, bytes_under, Image, IsImage, DiskModel, LeavesOnly, greatest, Store, LeavesOnly-start}
+use Rattle.conf_session.proofs.Prelude.{LeavesOnly-weaker, base_bytes, Command, Edit, single, IsState, Contents, count_limit, step, after}
+use Rattle.conf_session.proofs.Prelude.{StoreFault, Room, HasFailed, outcome, room_for, next_record, journal_length, Accepts}
+use Rattle.conf_session.proofs.Prelude.{RefusesCommand, IsImportOf, RefusesText, Staged, staged_length, with_more, FileMeans, AfterPrefix}
+use Rattle.conf_session.proofs.Prelude.{AllImagesMean, HasFlushed, staged_text, StoreView, accepted-room, accepted-anyway, after-done}
+use Rattle.conf_session.proofs.Prelude.{after-joined, prefix-longer}
 use Rattle.conf_journal.specs.Store.{file_with_bytes}
-use Rattle.conf_disk.proofs.Moments.{LeavesOnly-start, LeavesOnly-weaker}
-use Rattle.conf_state.specs.BaseTexts.{base_bytes}
-use Rattle.conf_state.specs.Commands.{Command, Edit, single}
-use Rattle.conf_state.specs.Limits.{IsState}
-use Rattle.conf_state.specs.States.{Contents, count_limit}
-use Rattle.conf_state.specs.Steps.{step, after}
-use Rattle.conf_state.specs.declared.fault.StoreFault.{StoreFault}
-use Rattle.conf_state.specs.declared.room.Room.{Room}
-use Rattle.conf_state.specs.declared.fault.StoreFault.TheVariants as state
-use Rattle.conf_store.specs.Calls.{HasFailed, outcome, room_for, next_record, journal_length, Accepts, RefusesCommand}
-use Rattle.conf_store.specs.Imports.{IsImportOf, RefusesText}
-use Rattle.conf_store.specs.Staged.{Staged, staged_length, with_more}
-use Rattle.conf_store.specs.Meaning.{FileMeans}
-use Rattle.conf_store.specs.Durable.{AfterPrefix, AllImagesMean, HasFlushed, staged_text}
-use Rattle.conf_store.specs.View.{StoreView}
-use Rattle.conf_state.proofs.RefusalLemmas.{accepted-room}
-use Rattle.conf_store.proofs.StepLemmas.{accepted-anyway}
-use Rattle.conf_store.proofs.MeaningLemmas.{after-done, after-joined}
-use Rattle.conf_store.proofs.HeldLemmas.{prefix-longer}
+use Rattle.conf_session.specs.{declared.fault.SessionFault.SessionFault, Runs.stored_of, declared.words.Refusal.Refusal}
+use Rattle.conf_session.specs.{declared.reply.Reply.Reply}
 use Rattle.conf_session.specs.Said.{Part, Says, import_text, plain, single_part}
-use Rattle.conf_session.specs.declared.fault.SessionFault.{SessionFault}
-use Rattle.conf_session.specs.declared.fault.SessionFault.TheVariants as fault
-use Rattle.conf_session.specs.Requests.{Asks, MeansRequest, Request, changing, unread, getting, exporting, naming}
-use Rattle.conf_session.specs.Requests.{checkpointing, if_met, bad}
-use Rattle.conf_session.specs.Answers.{Stored, longest, one, change_answer, stored_after_change, stored_after}
-use Rattle.conf_session.specs.Answers.{file_after_change, accepted_by, accepted_command, is_refused, answered}
-use Rattle.conf_session.specs.Answers.{refused_answer, document_bytes}
-use Rattle.conf_session.specs.Runs.{stored_of}
-use Rattle.conf_session.specs.Replies.{OnlyReads, LeavesPrefixes, MeansPrefixes, Performs, Replies, Did, DidAsked}
-use Rattle.conf_session.specs.Replies.{CountsFailures, Handles, refused_as}
-use Rattle.conf_session.specs.declared.words.Refusal.{Refusal}
+use Rattle.conf_session.specs.Requests.{Asks, MeansRequest, Request, changing, unread, getting, exporting, naming, checkpointing, if_met}
+use Rattle.conf_session.specs.Requests.{bad}
+use Rattle.conf_session.specs.Answers.{Stored, longest, one, change_answer, stored_after_change, stored_after, file_after_change}
+use Rattle.conf_session.specs.Answers.{accepted_by, accepted_command, is_refused, answered, refused_answer, document_bytes}
+use Rattle.conf_session.specs.Replies.{OnlyReads, LeavesPrefixes, MeansPrefixes, Performs, Replies, Did, DidAsked, CountsFailures, Handles}
+use Rattle.conf_session.specs.Replies.{refused_as}
+use Rattle.conf_session.specs.declared.reply.Reply.TheVariants.{Accepted, Refused}
 use Rattle.conf_session.proofs.LengthLemmas.{step-few, answer-short, refused-short}
 use Rattle.conf_session.proofs.RefusalLemmas.{OnlyMemory, answered-memory, is-device, no-device}
-use Rattle.conf_session.specs.declared.reply.Reply.{Reply}
-use Rattle.conf_session.specs.declared.reply.Reply.TheVariants.{Accepted, Refused}
+use Rattle.conf_state.specs.declared.fault.StoreFault.TheVariants as state
+use Rattle.conf_session.specs.declared.fault.SessionFault.TheVariants as fault
 
 -- ---- the lengths of the two files
 
@@ -124,6 +98,11 @@ failed-before old mid new rose risen (inl less) = inl (omega (arith, rose, less)
 failed-before old mid new rose risen (inr most) =
     ⊎_elim (λ below. inl (omega (arith, below, most, risen))) (λ above. inr (omega (arith, above, most, rose))) (cases_lt old greatest)
 
+-- they did not become fewer after it
+failed-later : (old mid new : ℕ) → mid ≤ new → HasFailed old mid → HasFailed old new
+failed-later old mid new risen (inl less) = inl (omega (arith, less, risen))
+failed-later old mid new risen (inr most) = inr (omega (arith, most, risen))
+
 module _ {D : Type 0} (model : DiskModel D) where
   -- a call that is handed on
   pub failures-told : {A B : Type 0} (old new : StoreView D) (r : Result A SessionFault) (q : Result B SessionFault)
@@ -138,6 +117,14 @@ module _ {D : Type 0} (model : DiskModel D) where
   failures-after old mid new r rose h = record {
     cause = λ e. failed-before (model.failure_count old.disk) (model.failure_count mid.disk)
         (model.failure_count new.disk) rose h.risen (h.cause e);
+    risen = (let risen = h.risen in omega (arith, rose, risen));
+  }
+
+  -- a call that may have failed by the device, and further ones that did not
+  pub failures-later : {A : Type 0} (old mid new : StoreView D) (r : Result A SessionFault) → CountsFailures model old mid r
+      → model.failure_count mid.disk ≤ model.failure_count new.disk → CountsFailures model old new r
+  failures-later old mid new r h rose = record {
+    cause = λ e. failed-later (model.failure_count old.disk) (model.failure_count mid.disk) (model.failure_count new.disk) rose (h.cause e);
     risen = (let risen = h.risen in omega (arith, rose, risen));
   }
 
@@ -163,53 +150,33 @@ module _ {D : Type 0} (model : DiskModel D) where
   pub only-read : (store : StoreView D) → store.reopen ≡ false → (request : Request) → OnlyReads request
       → ((image : Image) → model.honest → model.left store.disk (model.moment store.disk) image → IsImage (model.folder store.disk) image)
       → (model.honest → store.reopen ≡ false → LeavesPrefixes (model.folder store.disk) store.state)
-      → Performs false model store store request
-  only-read store off (changing command) is only means = absurd is
-  only-read store off checkpointing is only means = absurd is
-  only-read store off (if_met conditions request) is only means = absurd is
-  only-read store off (unread f) is only means =
-      record {
-        state = refl;
-        stored = λ on. refl;
-        reads = λ h on. refl;
-        stages = λ h on. refl;
-        any_moment = unchanged store off [] only means;
-        waits = λ h on flushed waiting. still (model.folder store.disk) flushed store.state waiting;
-      }
-  only-read store off (getting name path) is only means =
-      record {
-        state = refl;
-        stored = λ on. refl;
-        reads = λ h on. refl;
-        stages = λ h on. refl;
-        any_moment = unchanged store off [] only means;
-        waits = λ h on flushed waiting. still (model.folder store.disk) flushed store.state waiting;
-      }
-  only-read store off (exporting name) is only means =
-      record {
-        state = refl;
-        stored = λ on. refl;
-        reads = λ h on. refl;
-        stages = λ h on. refl;
-        any_moment = unchanged store off [] only means;
-        waits = λ h on flushed waiting. still (model.folder store.disk) flushed store.state waiting;
-      }
-  only-read store off naming is only means = record {
-    state = refl;
-    stored = λ on. refl;
-    reads = λ h on. refl;
-    stages = λ h on. refl;
-    any_moment = unchanged store off [] only means;
-    waits = λ h on flushed waiting. still (model.folder store.disk) flushed store.state waiting;
-  }
-  only-read store off bad is only means = record {
-    state = refl;
-    stored = λ on. refl;
-    reads = λ h on. refl;
-    stages = λ h on. refl;
-    any_moment = unchanged store off [] only means;
-    waits = λ h on flushed waiting. still (model.folder store.disk) flushed store.state waiting;
-  }
+      → Performs model store store request
+  only-read store off request is only means = by request is
+    where
+      any_moment : model.honest → (flushed : Contents) (waiting : List Command)
+          → HasFlushed (model.folder store.disk) flushed waiting store.state
+          → LeavesOnly model store.disk store.disk (λ image. AfterPrefix flushed (waiting ++ []) image.store)
+      any_moment = unchanged store off [] only means
+
+      waits : model.honest → store.reopen ≡ false → (flushed : Contents) (waiting : List Command)
+          → HasFlushed (model.folder store.disk) flushed waiting store.state
+          → HasFlushed (model.folder store.disk) flushed (waiting ++ []) store.state
+      waits h on flushed waiting = still (model.folder store.disk) flushed store.state waiting
+
+      by : (r : Request) → OnlyReads r → Performs model store store r
+      by (changing command) is = absurd is
+      by checkpointing is = absurd is
+      by (if_met conditions request) is = absurd is
+      by (unread f) is = record
+          { state = refl; stored = λ on. refl; reads = λ h on. refl; stages = λ h on. refl; any_moment = any_moment; waits = waits }
+      by (getting name path) is = record
+          { state = refl; stored = λ on. refl; reads = λ h on. refl; stages = λ h on. refl; any_moment = any_moment; waits = waits }
+      by (exporting name) is = record
+          { state = refl; stored = λ on. refl; reads = λ h on. refl; stages = λ h on. refl; any_moment = any_moment; waits = waits }
+      by naming is = record
+          { state = refl; stored = λ on. refl; reads = λ h on. refl; stages = λ h on. refl; any_moment = any_moment; waits = waits }
+      by bad is = record
+          { state = refl; stored = λ on. refl; reads = λ h on. refl; stages = λ h on. refl; any_moment = any_moment; waits = waits }
 
   -- ---- a command
 
@@ -225,7 +192,7 @@ module _ {D : Type 0} (model : DiskModel D) where
       → (model.honest → new.reopen ≡ false → (flushed : Contents) (waiting : List Command)
       → HasFlushed (model.folder old.disk) flushed waiting old.state
       → HasFlushed (model.folder new.disk) flushed (waiting ++ command ∷ []) new.state)
-      → Performs false model old new (changing command)
+      → Performs model old new (changing command)
   command-performed old new command done accepts grown staged moments flushes =
       let now = stored_of old in
       let here : outcome (longest now) now.state command ≡ Ok new.state = ap (λ n. outcome n old.state command) (longest-of old) ∙ done in
@@ -253,7 +220,7 @@ module _ {D : Type 0} (model : DiskModel D) where
       → outcome (journal_length store) store.state command ≡ Err f
       → ((image : Image) → model.honest → model.left store.disk (model.moment store.disk) image → IsImage (model.folder store.disk) image)
       → (model.honest → store.reopen ≡ false → LeavesPrefixes (model.folder store.disk) store.state)
-      → Performs false model store store (changing command)
+      → Performs model store store (changing command)
   command-refused store off command f refused only means =
       let now = stored_of store in
       let here : outcome (longest now) now.state command ≡ Err f = ap (λ n. outcome n store.state command) (longest-of store) ∙ refused in
@@ -277,7 +244,7 @@ module _ {D : Type 0} (model : DiskModel D) where
       → (model.honest → (flushed : Contents) (waiting : List Command) → HasFlushed (model.folder old.disk) flushed waiting old.state
       → LeavesOnly model old.disk new.disk (λ image. AfterPrefix flushed waiting image.store))
       → (model.honest → new.reopen ≡ false → HasFlushed (model.folder new.disk) new.state [] new.state)
-      → Performs false model old new checkpointing
+      → Performs model old new checkpointing
   checkpointed old new same long base moments flushes = record {
     state = same;
     stored = λ on. (λ i. record {

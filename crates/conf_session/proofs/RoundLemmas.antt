@@ -1,32 +1,21 @@
 -- Pieces of a round, one after the other.
 use Rattle.std.proofs.Common.{◌≡◌, inl, inr, refl, sym, ◌∙◌, ap, subst, arith, ◌≤◌, ◌<◌, get_or, length-append}
 use Rattle.std.specs.Prelude.{ℕ, ◌+◌, false, List, [], ◌∷◌, ◌++◌, length, codes, take, Ok, Err}
+use Rattle.conf_session.proofs.Prelude.{Global, length-take-le, length-map, take_more, get_or-map, ClosesAt, ClosesOnce, Image, IsImage}
+use Rattle.conf_session.proofs.Prelude.{DiskModel, LeavesOnly, Command, AfterPrefix, StoreView}
 use Rattle.std.specs.declared.vec.Vec.{Vec}
-use Rattle.std.specs.declared.alloc.Global.{Global}
-use Rattle.std.proofs.lemmas.List.{length-take-le, length-map, take_more, get_or-map}
-use Rattle.yaml_grammar.specs.Closings.{ClosesAt, ClosesOnce}
 use Rattle.yaml_docs.specs.NextClosing.{IsNextClosing, NoClosingAfter}
-use Rattle.conf_disk.specs.Image.{Image, IsImage}
-use Rattle.conf_disk.specs.Models.{DiskModel}
-use Rattle.conf_disk.specs.Moments.{LeavesOnly}
-use Rattle.conf_state.specs.Commands.{Command}
-use Rattle.conf_store.specs.Durable.{AfterPrefix}
-use Rattle.conf_store.specs.View.{StoreView}
-use Rattle.conf_session.specs.Requests.{Request}
-use Rattle.conf_session.specs.Answers.{Stored, answer_bytes as answer_to, answers, stored_after, stored_after_all}
-use Rattle.conf_session.specs.Runs.{stored_of}
+use Rattle.conf_session.specs.Answers.{answer_bytes as answer_to}
+use Rattle.conf_session.specs.{Requests.Request, Runs.stored_of, declared.reply.Reply.Reply}
+use Rattle.conf_session.specs.{declared.rounds.Piece.Piece, declared.rounds.RoundFault.RoundFault}
+use Rattle.conf_session.specs.Answers.{Stored, answers, stored_after, stored_after_all}
 use Rattle.conf_session.specs.Replies.{DidAsked, MeansPrefixes, Performs, PerformsAll, reply_bytes}
-use Rattle.conf_session.specs.declared.reply.Reply.{Reply}
-use Rattle.conf_session.specs.declared.fault.SessionFault.{SessionFault}
-use Rattle.conf_session.specs.declared.fault.SessionFault.TheVariants as session
-use Rattle.conf_session.specs.declared.rounds.Piece.{Piece}
-use Rattle.conf_session.specs.declared.rounds.RoundFault.{RoundFault}
-use Rattle.conf_session.specs.declared.rounds.RoundFault.TheVariants as fault
-use Rattle.conf_session.specs.Gathering.{FlushesAll, PerformsTurns, StopsShort}
-use Rattle.conf_session.specs.Rounds.{RoundAsks, AllRoundAsk, Rounds, AnswersPiece, FailsPiece, round_fault, answer_bytes, piece_bytes}
+use Rattle.conf_session.specs.Gathering.{PerformsTurns, StopsShort}
+use Rattle.conf_session.specs.Rounds.{RoundAsks, AllRoundAsk, Rounds, AnswersPiece, FailsPiece, answer_bytes, piece_bytes}
 use Rattle.conf_session.proofs.PassedLemmas.{performs-none, performs-more, state-more, moments-more}
 use Rattle.conf_session.proofs.TurnLemmas.{asked-accepted, asked-stored}
 use Rattle.conf_session.proofs.GatherLemmas.{all-flushed, flush-moments, flush-state}
+use Rattle.conf_session.specs.declared.rounds.RoundFault.TheVariants as fault
 
 -- ---- pieces that are closed once
 
@@ -84,18 +73,6 @@ one-more old new bytes e =
 -- ---- what became of one piece
 
 module _ {D : Type 0} (model : DiskModel D) (old new : StoreView D) where
-  -- a piece that was not performed, or whose command met the device's failure
-  pub fails-by : (piece : List ℕ) (f : SessionFault) (count performed : ℕ) → performed ≡ count
-      → DidAsked model old new (RoundAsks piece) (Err f)
-      → FailsPiece model old new piece count (round_fault f performed)
-  fails-by piece session.OutOfMemory count performed is did = inl (is, did)
-  fails-by piece session.Device count performed is did = (did.2.0, record { request = did.0; asks = did.1; performs = did.2.1 })
-  fails-by piece session.Read count performed is did = absurd did
-  fails-by piece session.TooLong count performed is did = absurd did
-  fails-by piece session.SessionLong count performed is did = absurd did
-  fails-by piece session.Reopen count performed is did = absurd did
-  fails-by piece (session.Write written) count performed is did = absurd did
-
   -- a piece that was performed and answered
   pub answered : (piece : List ℕ) (reply : Reply) (before after : List (List ℕ))
       → DidAsked model old new (RoundAsks piece) (Ok reply) → after ≡ before ++ reply_bytes reply ∷ []
@@ -134,7 +111,7 @@ pub record RoundSoFar {D : Type 0} (model : DiskModel D)
   pub requests : List Request
   pub ask : AllRoundAsk pieces requests
   pub answers : written ≡ answers (stored_of old) requests
-  pub performs : PerformsAll false model old now requests
+  pub performs : PerformsAll model old now requests
 
 module _ {D : Type 0} (model : DiskModel D) where
   pub round-none : (store : StoreView D) → store.reopen ≡ false
@@ -144,13 +121,13 @@ module _ {D : Type 0} (model : DiskModel D) where
     requests = [];
     ask = tt;
     answers = refl;
-    performs = performs-none false model store off only means;
+    performs = performs-none model store off only means;
   }
 
   module _ (old now : StoreView D) (pieces written : List (List ℕ)) (s : RoundSoFar model old now pieces written) where
     -- ---- one piece more
 
-    module _ (new : StoreView D) (piece : List ℕ) (r : Request) (asks : RoundAsks piece r) (does : Performs false model now new r) where
+    module _ (new : StoreView D) (piece : List ℕ) (r : Request) (asks : RoundAsks piece r) (does : Performs model now new r) where
       pub round-more : new.reopen ≡ false → RoundSoFar model old new (pieces ++ piece ∷ []) (written ++ answer_to (stored_of now) r ∷ [])
       round-more off = record {
         requests = s.requests ++ r ∷ [];
@@ -158,7 +135,7 @@ module _ {D : Type 0} (model : DiskModel D) where
         answers = ap (λ l. l ++ answer_to (stored_of now) r ∷ []) s.answers
             ∙ ap (λ t. answers (stored_of old) s.requests ++ answer_to t r ∷ []) s.performs.stored
             ∙ sym (answers-last (stored_of old) s.requests r);
-        performs = performs-more false model old now new s.requests r s.performs does off;
+        performs = performs-more model old now new s.requests r s.performs does off;
       }
 
     -- ---- how a round ends, where these are the first pieces of all
@@ -186,23 +163,13 @@ module _ {D : Type 0} (model : DiskModel D) where
       }
 
       -- the last flush failed
-      ends-unflushed : (new : StoreView D) → StopsShort model now new → Rounds model old new all (Err fault.Device)
+      pub ends-unflushed : (new : StoreView D) → StopsShort model now new → Rounds model old new all (Err fault.Device)
       ends-unflushed new stops = record {
         requests = s.requests;
         ask = first-ask s.requests s.ask;
         ends = flush-state model old now new s.requests s.performs stops;
         any_moment = λ h on. flush-moments model old now new s.requests s.performs stops.any_moment h;
       }
-
-      pub ends-failed : (new : StoreView D) (f : SessionFault) → FlushesAll model now new (Err f)
-          → Rounds model old new all (Err fault.Device)
-      ends-failed new session.Device stops = ends-unflushed new stops
-      ends-failed new session.OutOfMemory stops = absurd stops
-      ends-failed new session.Read stops = absurd stops
-      ends-failed new session.TooLong stops = absurd stops
-      ends-failed new session.SessionLong stops = absurd stops
-      ends-failed new session.Reopen stops = absurd stops
-      ends-failed new (session.Write count) stops = absurd stops
 
       -- all is flushed
       pub ends-flushed : i ≡ length all → (new : StoreView D) (given : Vec (Vec ℕ Global) Global)
@@ -232,7 +199,7 @@ module _ {D : Type 0} (model : DiskModel D) where
 
       -- the device failed at the next piece
       pub ends-device : (new : StoreView D) (piece : List ℕ) (r : Request) → RoundAsks piece r
-          → Performs false model now new r → i + 1 ≤ length all → take (i + 1) all ≡ take i all ++ piece ∷ []
+          → Performs model now new r → i + 1 ≤ length all → take (i + 1) all ≡ take i all ++ piece ∷ []
           → Rounds model old new all (Err fault.Device)
       ends-device new piece r asks does more next =
           let ask : AllRoundAsk (take (i + 1) all) (s.requests ++ r ∷ []) =
@@ -243,8 +210,8 @@ module _ {D : Type 0} (model : DiskModel D) where
           record {
             requests = s.requests ++ r ∷ [];
             ask = subst (λ n. AllRoundAsk (take n all) (s.requests ++ r ∷ [])) (sym count) ask;
-            ends = state-more false model old now new s.requests r s.performs does;
-            any_moment = λ h on. moments-more false model old now new s.requests r s.performs does h;
+            ends = state-more model old now new s.requests r s.performs does;
+            any_moment = λ h on. moments-more model old now new s.requests r s.performs does h;
           }
 
   -- a round that ends at the next piece
@@ -268,8 +235,3 @@ module _ {D : Type 0} (model : DiskModel D) where
       ends-device old now (take i all) written s all i
       (omega (arith, more)) refl new piece fails.1.request fails.1.asks fails.1.performs more next
   ends-failing old now new written all i piece fault.Reopen s more next count is fails = absurd fails
-
-  -- a store that has to be opened again
-  pub round-reopens : (store : StoreView D) (all : List (List ℕ)) → (store.reopen ≡ false → ⊥)
-      → Rounds model store store all (Err fault.Reopen)
-  round-reopens store all broken = record { requests = []; ask = tt; ends = refl; any_moment = λ h on. absurd (broken on) }

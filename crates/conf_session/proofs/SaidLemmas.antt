@@ -1,18 +1,11 @@
 -- What a command document says, case by case.
 use Rattle.std.proofs.Common.{◌≡◌, false, true, length, get_or, refl, ap}
-use Rattle.std.specs.Prelude.{ℕ, List, [], ◌∷◌, codes, Option, option_and_then}
-use Rattle.std.specs.Str.{chars}
-use Rattle.yaml_grammar.specs.Texts.{same_text}
-use Rattle.yaml_data.specs.Seen.{Pair, members_of}
-use Rattle.yaml_data.specs.TextBytes.{text_bytes}
-use Rattle.yaml_grammar.specs.Trees.{Elements, Members, text, sequence, mapping}
-use Rattle.conf_state.specs.Commands.{Edit}
-use Rattle.conf_record.specs.RecordsRead.{keys_are, values, edit_under}
-use Rattle.conf_state.proofs.LineLemmas.{ascii}
-use Rattle.conf_record.specs.Reading.{texts}
-use Rattle.conf_session.specs.Said.{as_part, nothing, said_by, part_from, part_said, batch_keys, get_keys}
-use Rattle.conf_session.specs.Said.{export_keys, names_keys, checkpoint_keys, batch_said, get_said, export_said}
-use Rattle.conf_session.specs.Said.{names_said, checkpoint_said, begins_with_if, conditional_said, change_said}
+use Rattle.std.specs.Prelude.{ℕ, Bool, if◌then◌else◌, List, [], ◌∷◌, codes, Option, option_and_then}
+use Rattle.conf_session.proofs.Prelude.{chars, same_text, Pair, members_of, text_bytes, Elements, Members, text, sequence, mapping, Edit}
+use Rattle.conf_session.proofs.Prelude.{keys_are, values, edit_under, ascii, texts}
+use Rattle.conf_session.specs.Said.{as_part, nothing, said_by, part_from, part_said, batch_keys, get_keys, export_keys, names_keys}
+use Rattle.conf_session.specs.Said.{checkpoint_keys, batch_said, get_said, export_said, names_said, checkpoint_said, begins_with_if}
+use Rattle.conf_session.specs.Said.{conditional_said, change_said}
 
 -- a text says nothing
 pub said-text : (value : List ℕ) → said_by (text value) ≡ nothing
@@ -24,51 +17,15 @@ pub said-sequence : (ts : Elements) → said_by (sequence ts) ≡ nothing
 unfolding said_by
 said-sequence ts = refl
 
--- a mapping with the key of a `batch` says a batch
-pub said-batch : (ms : Members) → keys_are batch_keys ms ≡ true
-    → said_by (mapping ms) ≡ batch_said (values ms)
+-- a mapping says what its keys are those of
+pub said-mapping : (ms : Members) {b0 b1 b2 b3 b4 b5 : Bool} → keys_are batch_keys ms ≡ b0 → keys_are get_keys ms ≡ b1
+    → keys_are export_keys ms ≡ b2 → keys_are names_keys ms ≡ b3 → keys_are checkpoint_keys ms ≡ b4 → begins_with_if ms ≡ b5
+    → said_by (mapping ms)
+    ≡ (if b0 then batch_said (values ms) else if b1 then get_said (values ms) else if b2 then export_said (values ms)
+    else if b3 then names_said (values ms) else if b4 then checkpoint_said (values ms) else if b5 then conditional_said ms
+    else part_said (part_from ms))
 unfolding said_by
-said-batch ms e0 = rw (e0) refl
-
--- a mapping with the keys of a `get` says a get
-pub said-get : (ms : Members) → keys_are batch_keys ms ≡ false → keys_are get_keys ms ≡ true
-    → said_by (mapping ms) ≡ get_said (values ms)
-unfolding said_by
-said-get ms e0 e1 = rw (e0, e1) refl
-
--- a mapping with the keys of an `export` says an export
-pub said-export : (ms : Members) → keys_are batch_keys ms ≡ false → keys_are get_keys ms ≡ false → keys_are export_keys ms ≡ true
-    → said_by (mapping ms) ≡ export_said (values ms)
-unfolding said_by
-said-export ms e0 e1 e2 = rw (e0, e1, e2) refl
-
--- a mapping with the key of `names` asks for the names
-pub said-names : (ms : Members) → keys_are batch_keys ms ≡ false → keys_are get_keys ms ≡ false
-    → keys_are export_keys ms ≡ false → keys_are names_keys ms ≡ true
-    → said_by (mapping ms) ≡ names_said (values ms)
-unfolding said_by
-said-names ms e0 e1 e2 e3 = rw (e0, e1, e2, e3) refl
-
--- a mapping with the key of a `checkpoint` asks for one
-pub said-checkpoint : (ms : Members) → keys_are batch_keys ms ≡ false → keys_are get_keys ms ≡ false
-    → keys_are export_keys ms ≡ false → keys_are names_keys ms ≡ false → keys_are checkpoint_keys ms ≡ true
-    → said_by (mapping ms) ≡ checkpoint_said (values ms)
-unfolding said_by
-said-checkpoint ms e0 e1 e2 e3 e4 = rw (e0, e1, e2, e3, e4) refl
-
--- a mapping that begins with `if` says a command with conditions
-pub said-conditional : (ms : Members) → keys_are batch_keys ms ≡ false → keys_are get_keys ms ≡ false
-    → keys_are export_keys ms ≡ false → keys_are names_keys ms ≡ false → keys_are checkpoint_keys ms ≡ false
-    → begins_with_if ms ≡ true → said_by (mapping ms) ≡ conditional_said ms
-unfolding said_by
-said-conditional ms e0 e1 e2 e3 e4 e5 = rw (e0, e1, e2, e3, e4, e5) refl
-
--- a mapping with other keys says what it is as a part
-pub said-part : (ms : Members) → keys_are batch_keys ms ≡ false → keys_are get_keys ms ≡ false
-    → keys_are export_keys ms ≡ false → keys_are names_keys ms ≡ false → keys_are checkpoint_keys ms ≡ false
-    → begins_with_if ms ≡ false → said_by (mapping ms) ≡ part_said (part_from ms)
-unfolding said_by
-said-part ms e0 e1 e2 e3 e4 e5 = rw (e0, e1, e2, e3, e4, e5) refl
+said-mapping ms e0 e1 e2 e3 e4 e5 = rw (e0, e1, e2, e3, e4, e5) refl
 
 -- ---- a command with conditions
 

@@ -1,24 +1,12 @@
 -- Answers that are handed out once their commands are flushed.
 use Rattle.std.proofs.Common.{◌≡◌, refl, sym, ◌∙◌, ap, arith, append_assoc}
 use Rattle.std.specs.Prelude.{ℕ, ◌+◌, List, [], ◌++◌, length, take, Option, Ok}
-use Rattle.std.specs.Io.KnownBytes.{Appends}
-use Rattle.std.proofs.KnownBytes.{Appends-trans}
-use Rattle.std.proofs.lemmas.List.{append-nil}
-use Rattle.conf_disk.specs.Models.{DiskModel}
-use Rattle.conf_disk.proofs.Moments.{LeavesOnly-weaker}
-use Rattle.conf_state.specs.Commands.{Command}
-use Rattle.conf_state.specs.States.{Contents}
-use Rattle.conf_state.specs.Steps.{after}
-use Rattle.conf_store.specs.Durable.{AfterPrefix}
-use Rattle.conf_store.specs.View.{StoreView}
-use Rattle.conf_store.proofs.MeaningLemmas.{after-joined}
-use Rattle.conf_session.specs.Requests.{Request}
-use Rattle.conf_session.specs.Answers.{Stored, output}
+use Rattle.conf_session.proofs.Prelude.{Appends, Appends-trans, append-nil, DiskModel, LeavesOnly-weaker, Command, Contents, after}
+use Rattle.conf_session.proofs.Prelude.{AfterPrefix, StoreView, after-joined}
+use Rattle.conf_session.specs.{Requests.Request, Answers.Stored, Answers.output, Runs.AfterAtLeast, Runs.stored_of, Gathering.KeepsAnswers}
+use Rattle.conf_session.specs.{Gathering.PerformsFlushed, Gathering.unwritten_bytes, Sinks.AreAcknowledged, Sinks.NoneIsTakenBack}
+use Rattle.conf_session.specs.{Sinks.SentSoFar, declared.unwritten.Unwritten.Unwritten}
 use Rattle.conf_session.specs.Groups.{all_asked, stored_after_turns, turns_accepted, turns_output}
-use Rattle.conf_session.specs.Runs.{AfterAtLeast, stored_of}
-use Rattle.conf_session.specs.Gathering.{KeepsAnswers, PerformsFlushed, unwritten_bytes}
-use Rattle.conf_session.specs.Sinks.{AreAcknowledged, NoneIsTakenBack, SentSoFar}
-use Rattle.conf_session.specs.declared.unwritten.Unwritten.{Unwritten}
 use Rattle.conf_session.proofs.PassedLemmas.{take-beyond}
 use Rattle.conf_session.proofs.TurnLemmas.{asked-output, leads-turns, output-joined, stored-joined}
 

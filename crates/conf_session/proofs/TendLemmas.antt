@@ -1,30 +1,16 @@
 -- Turns that no request asked for.
 use Rattle.std.proofs.Common.{◌≡◌, refl, sym, ◌∙◌, ap, subst, arith, ◌≤◌, length-drop}
 use Rattle.std.specs.Prelude.{ℕ, ◌+◌, min, false, List, [], ◌∷◌, ◌++◌, length, Option, Some, None, option_map, unwrap_or, Result, Ok, Err}
-use Rattle.std.proofs.lemmas.List.{append-nil, take_all}
-use Rattle.conf_disk.specs.Folder.{bytes_under}
-use Rattle.conf_disk.specs.Image.{Image, IsImage}
-use Rattle.conf_disk.specs.Models.{DiskModel}
-use Rattle.conf_disk.specs.Moments.{LeavesOnly}
-use Rattle.conf_disk.specs.declared.disk.Name.TheVariants.{Store}
-use Rattle.conf_disk.proofs.Moments.{LeavesOnly-start}
-use Rattle.conf_state.specs.BaseTexts.{base_bytes}
-use Rattle.conf_state.specs.Commands.{Command}
-use Rattle.conf_state.specs.States.{Contents}
-use Rattle.conf_state.specs.Steps.{after}
-use Rattle.conf_store.specs.Meaning.{FileMeans}
-use Rattle.conf_store.specs.Durable.{AfterPrefix, AllImagesMean, HasFlushed, staged_text}
-use Rattle.conf_store.specs.Slices.{Begins, SlicesPart, SlicesLast, Slices, SliceReads, SliceFlushes}
-use Rattle.conf_store.specs.Staged.{Staged, staged_length, slice_limit, after_slice}
+use Rattle.conf_session.proofs.Prelude.{append-nil, take_all, bytes_under, Image, IsImage, DiskModel, LeavesOnly, Store, LeavesOnly-start}
+use Rattle.conf_session.proofs.Prelude.{base_bytes, Command, Contents, after, FileMeans, AfterPrefix, AllImagesMean, HasFlushed}
+use Rattle.conf_session.proofs.Prelude.{staged_text, Begins, SlicesPart, SlicesLast, Slices, SliceReads, SliceFlushes, Staged}
+use Rattle.conf_session.proofs.Prelude.{staged_length, slice_limit, after_slice, StoreView}
 use Rattle.conf_store.specs.Grown.{HasGrown}
-use Rattle.conf_store.specs.View.{StoreView}
 use Rattle.conf_store.specs.declared.slicing.Progress.{Progress}
 use Rattle.conf_store.specs.declared.slicing.Progress.TheVariants.{Left, Done}
-use Rattle.conf_session.specs.declared.fault.SessionFault.{SessionFault}
-use Rattle.conf_session.specs.declared.fault.SessionFault.TheVariants as fault
-use Rattle.conf_session.specs.declared.groups.Checkpoints.{Checkpoints}
+use Rattle.conf_session.specs.{declared.fault.SessionFault.SessionFault, declared.groups.Checkpoints.Checkpoints}
 use Rattle.conf_session.specs.declared.groups.Checkpoints.TheVariants.{Asked, After}
-use Rattle.conf_session.specs.Groups.{Turn, begun, finished, files_of}
+use Rattle.conf_session.specs.Groups.{begun, finished, files_of}
 use Rattle.conf_session.specs.Gathering.{PerformsTurns, Tends, TendsByBeginning, TendsBySlice}
 use Rattle.conf_session.proofs.TurnLemmas.{quiet-now}
 
@@ -167,33 +153,20 @@ module _ {D : Type 0} (model : DiskModel D) where
   -- ---- what is wanted
 
   module _ (old new : StoreView D) (checkpoints : Checkpoints) (bytes : ℕ) (wanted : checkpoints ≡ After bytes) where
-    not-asked : (turns : List Turn) → checkpoints ≡ Asked → turns ≡ []
-    not-asked turns e = absurd (cc (e, wanted))
-
     pub tends-slice : (r : Result (Unit {0}) SessionFault) → TendsBySlice model old new r → Tends model checkpoints old new r
-    tends-slice (Ok done) t = (t.0, t.1, not-asked t.0, λ h other e. t.2 other, t.3)
-    tends-slice (Err fault.Device) stops = stops
-    tends-slice (Err fault.OutOfMemory) stops = absurd stops
-    tends-slice (Err fault.Read) stops = absurd stops
-    tends-slice (Err fault.TooLong) stops = absurd stops
-    tends-slice (Err fault.SessionLong) stops = absurd stops
-    tends-slice (Err fault.Reopen) stops = absurd stops
-    tends-slice (Err (fault.Write written)) stops = absurd stops
+    tends-slice (Ok done) t = (λ e. absurd (cc (e, wanted)), (t.0, t.1, λ h other e. t.2 other, t.3))
+    tends-slice (Err f) stops = (λ e. absurd (cc (e, wanted)), stops)
 
     pub tends-beginning : (grown : ℕ) → (model.honest → HasGrown (files_of model.folder old).store grown) → bytes ≤ grown
         → (r : Result (Unit {0}) SessionFault) → TendsByBeginning model old new r → Tends model checkpoints old new r
     tends-beginning grown has le (Ok done) t = (
-      t.0,
-      t.1,
-      not-asked t.0,
-      λ h other e. (let same : other ≡ bytes = ap due_bytes (sym e ∙ wanted) in
-          t.2 other grown (has h) (omega (arith, same, le))),
-      t.3,
+      λ e. absurd (cc (e, wanted)),
+      (
+        t.0,
+        t.1,
+        λ h other e. (let same : other ≡ bytes = ap due_bytes (sym e ∙ wanted) in
+            t.2 other grown (has h) (omega (arith, same, le))),
+        t.3,
+      ),
     )
-    tends-beginning grown has le (Err fault.Device) stops = stops
-    tends-beginning grown has le (Err fault.OutOfMemory) stops = absurd stops
-    tends-beginning grown has le (Err fault.Read) stops = absurd stops
-    tends-beginning grown has le (Err fault.TooLong) stops = absurd stops
-    tends-beginning grown has le (Err fault.SessionLong) stops = absurd stops
-    tends-beginning grown has le (Err fault.Reopen) stops = absurd stops
-    tends-beginning grown has le (Err (fault.Write written)) stops = absurd stops
+    tends-beginning grown has le (Err f) stops = (λ e. absurd (cc (e, wanted)), stops)

@@ -1,29 +1,15 @@
 -- Turns of a grouped session, one after the other.
 use Rattle.std.proofs.Common.{◌≡◌, refl, sym, ◌∙◌, ap, subst, arith, ◌≤◌, append_assoc, length-append}
 use Rattle.std.specs.Prelude.{ℕ, ◌+◌, List, [], ◌∷◌, ◌++◌, length, Option, Ok}
-use Rattle.std.proofs.lemmas.List.{append-nil, take_all}
-use Rattle.conf_disk.specs.Folder.{Folder}
-use Rattle.conf_disk.specs.Image.{Image, IsImage}
-use Rattle.conf_disk.specs.Models.{DiskModel}
-use Rattle.conf_disk.specs.Moments.{LeavesOnly}
-use Rattle.conf_disk.proofs.Moments.{LeavesOnly-joined}
-use Rattle.conf_state.specs.Commands.{Command}
-use Rattle.conf_state.specs.States.{Contents}
-use Rattle.conf_state.specs.Steps.{after}
-use Rattle.conf_store.specs.Durable.{AfterPrefix, AllImagesMean, HasFlushed}
-use Rattle.conf_store.specs.View.{StoreView}
-use Rattle.conf_store.proofs.MeaningLemmas.{after-joined}
-use Rattle.conf_store.proofs.HeldLemmas.{after-nothing, prefix-longer}
-use Rattle.conf_session.specs.Requests.{Request}
-use Rattle.conf_session.specs.Answers.{Stored, answer_bytes, output, stored_after, stored_after_all, file_after}
-use Rattle.conf_session.specs.Answers.{file_after_all, staged_after, staged_after_all, accepted_command}
-use Rattle.conf_session.specs.Answers.{accepted_commands, refusals}
-use Rattle.conf_session.specs.Runs.{AfterAtLeast, stored_of}
-use Rattle.conf_session.specs.Groups.{AreDue, Turn, asked, begun, finished, Files, all_asked, requests_of, files_of}
-use Rattle.conf_session.specs.Groups.{stored_after_turn, stored_after_turns, files_after_turn, files_after_turns}
-use Rattle.conf_session.specs.Groups.{turn_output, turns_output, turn_accepted, turns_accepted, turns_refused}
-use Rattle.conf_session.specs.Groups.{acknowledged_turns}
-use Rattle.conf_session.specs.Gathering.{PerformsTurns}
+use Rattle.conf_session.proofs.Prelude.{append-nil, take_all, Folder, Image, IsImage, DiskModel, LeavesOnly, LeavesOnly-joined, Command}
+use Rattle.conf_session.proofs.Prelude.{Contents, after, AfterPrefix, AllImagesMean, HasFlushed, StoreView, after-joined, after-nothing}
+use Rattle.conf_session.proofs.Prelude.{prefix-longer}
+use Rattle.conf_session.specs.{Requests.Request, Runs.AfterAtLeast, Runs.stored_of, Gathering.PerformsTurns}
+use Rattle.conf_session.specs.Answers.{Stored, answer_bytes, output, stored_after, stored_after_all, file_after, file_after_all}
+use Rattle.conf_session.specs.Answers.{staged_after, staged_after_all, accepted_command, accepted_commands, refusals}
+use Rattle.conf_session.specs.Groups.{AreDue, Turn, asked, begun, finished, Files, all_asked, requests_of, files_of, stored_after_turn}
+use Rattle.conf_session.specs.Groups.{stored_after_turns, files_after_turn, files_after_turns, turn_output, turns_output, turn_accepted}
+use Rattle.conf_session.specs.Groups.{turns_accepted, turns_refused, acknowledged_turns}
 use Rattle.conf_session.proofs.PassedLemmas.{Continues, at-least, prefix-continued, leads-one}
 
 -- ---- two lists of turns
@@ -78,7 +64,7 @@ pub asked-stored : (now : Stored) (rs : List Request) → stored_after_turns now
 asked-stored now [] = refl
 asked-stored now (r ∷ rs) = asked-stored (stored_after now r) rs
 
-asked-files : (store staged : Option (List ℕ)) (now : Stored) (rs : List Request)
+pub asked-files : (store staged : Option (List ℕ)) (now : Stored) (rs : List Request)
     → files_after_turns (record { store = store; staged = staged }) now (all_asked rs)
     ≡ record { store = file_after_all store now rs; staged = staged_after_all staged now rs }
 asked-files store staged now [] = refl

@@ -1,34 +1,23 @@
 -- What a session answers, and what is stored then. All of it is computed from the requests.
-use Rattle.std.specs.Prelude.{◌≡◌, ◌≤◌, ℕ, ◌+◌, ◌-◌, max, Bool, true, false, if◌then◌else◌, List, [], ◌∷◌, ◌++◌}
-use Rattle.std.specs.Prelude.{length, codes, decimal, Option, Some, None, option_map, unwrap_or, Result, Ok, Err}
-use Rattle.std.specs.Prelude.{is_some}
-use Rattle.std.specs.List.{concat}
-use Rattle.yaml_grammar.specs.Trees.{Tree, text, sequence, mapping, Elements, no_element, element, no_member, member}
-use Rattle.yaml_grammar.specs.Style.{style_text}
-use Rattle.yaml_recognizers.specs.Closings.{framed_text_bytes}
-use Rattle.yaml_events.specs.declared.read_fault.ReadFault.{ReadFault}
-use Rattle.yaml_events.specs.declared.read_fault.ReadFault.TheVariants as read
+use Rattle.std.specs.Prelude.{◌≡◌, ◌≤◌, ℕ, ◌+◌, ◌-◌, max, Bool, true, false, if◌then◌else◌, List, [], ◌∷◌, ◌++◌, length}
+use Rattle.std.specs.Prelude.{codes, decimal, Option, Some, None, option_map, unwrap_or, Result, Ok, Err, is_some}
+use Rattle.conf_session.specs.Prelude.{concat, Tree, text, sequence, mapping, Elements, no_element, element, no_member}
+use Rattle.conf_session.specs.Prelude.{member, style_text, framed_text_bytes, ReadFault, Command, IsState, Contents}
+use Rattle.conf_session.specs.Prelude.{names_of, base_limit, and_then, by_path, StoreFault, base_bytes, outcome}
+use Rattle.conf_session.specs.Prelude.{next_record, tree_named, first_fault, ConditionFault}
 use Rattle.json_pointer.specs.declared.fault.PathFault.{PathFault}
-use Rattle.json_pointer.specs.declared.fault.PathFault.TheVariants as path
 use Rattle.tree_path.specs.Paths.{at}
 use Rattle.json_pointer.specs.Pointers.{path_of}
 use Rattle.conf_journal.specs.Store.{file_with_bytes}
-use Rattle.conf_state.specs.Commands.{Command}
-use Rattle.conf_state.specs.Limits.{IsState}
-use Rattle.conf_state.specs.States.{Contents, names_of, base_limit}
-use Rattle.conf_state.specs.Steps.{and_then, by_path}
-use Rattle.conf_state.specs.declared.fault.StoreFault.{StoreFault}
+use Rattle.conf_session.specs.{declared.fault.SessionFault.SessionFault, declared.words.Refusal.Refusal}
+use Rattle.conf_session.specs.Requests.{Request, changing, unread, getting, exporting, naming, checkpointing, if_met}
+use Rattle.conf_session.specs.Requests.{bad, Asks}
+use Rattle.yaml_events.specs.declared.read_fault.ReadFault.TheVariants as read
+use Rattle.json_pointer.specs.declared.fault.PathFault.TheVariants as path
 use Rattle.conf_state.specs.declared.fault.StoreFault.TheVariants as store
-use Rattle.conf_state.specs.BaseTexts.{base_bytes}
-use Rattle.conf_store.specs.Calls.{outcome, next_record, tree_named}
-use Rattle.conf_session.specs.declared.fault.SessionFault.{SessionFault}
 use Rattle.conf_session.specs.declared.fault.SessionFault.TheVariants as fault
-use Rattle.conf_session.specs.declared.words.Refusal.{Refusal}
 use Rattle.conf_session.specs.declared.words.Refusal.TheVariants as refused
-use Rattle.conf_conditions.specs.Conditions.{first_fault}
-use Rattle.conf_conditions.specs.declared.fault.ConditionFault.{ConditionFault}
 use Rattle.conf_conditions.specs.declared.fault.ConditionFault.TheVariants as condition
-use Rattle.conf_session.specs.Requests.{Request, changing, unread, getting, exporting, naming, checkpointing, if_met, bad, Asks}
 
 -- ---- refusals: which one answers a fault, and its word, which is the innermost fault's own name, or `BadCommand`
 

@@ -1,11 +1,9 @@
 -- Commands that are spelled one key a line. Each text is ASCII, and so its bytes are its characters.
 use Rattle.std.specs.Prelude.{◌≡◌, ℕ, Bool, true, false, not, ◌&&◌, List, [], ◌∷◌, ◌++◌, codes, Some}
-use Rattle.std.specs.List.{list_all}
-use Rattle.yaml_chars.specs.Signs.{double_quote, line_feed}
+use Rattle.conf_session.specs.Prelude.{list_all, double_quote, line_feed, first, spaces, plain_in_style, long_key, text}
+use Rattle.conf_session.specs.Prelude.{sequence, mapping, Elements, no_element, element, Members, no_member, member}
+use Rattle.conf_session.specs.Prelude.{members_distinct}
 use Rattle.yaml_chars.specs.Classes.{in_range, is_in, indicator}
-use Rattle.yaml_grammar.specs.Texts.{first, spaces}
-use Rattle.yaml_grammar.specs.Style.{plain_in_style, long_key}
-use Rattle.yaml_grammar.specs.Trees.{text, sequence, mapping, Elements, no_element, element, Members, no_member, member, members_distinct}
 use Rattle.yaml_writer.specs.Runs.{stands_alone}
 use Rattle.conf_session.specs.Said.{Part, part_from, Said, single_part, said_by}
 

@@ -1,9 +1,7 @@
 -- What conditions make of a request: it is as it is without them, or it is refused and changes nothing.
 use Rattle.std.specs.Prelude.{◌≡◌, ◌⊎◌, ℕ, List, [], Option, Some, Ok}
-use Rattle.conf_conditions.specs.Conditions.{Condition, AllHold, FailsFirst}
-use Rattle.conf_conditions.specs.declared.fault.ConditionFault.{ConditionFault}
-use Rattle.conf_session.specs.declared.words.Refusal.{Refusal}
-use Rattle.conf_session.specs.Requests.{Request, if_met}
+use Rattle.conf_session.specs.Prelude.{Condition, AllHold, FailsFirst, ConditionFault}
+use Rattle.conf_session.specs.{declared.words.Refusal.Refusal, Requests.Request, Requests.if_met}
 use Rattle.conf_session.specs.Answers.{Stored, answer, stored_after, file_after, staged_after, accepted_command}
 use Rattle.conf_session.specs.Answers.{condition_answered, refusal, word}
 

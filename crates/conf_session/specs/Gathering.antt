@@ -1,35 +1,24 @@
 -- One group of a grouped session: the pieces that one read brought are performed, flushed and then answered.
-use Rattle.std.specs.Prelude.{◌≡◌, ℕ, ◌+◌, ◌*◌, ◌<◌, ◌≤◌, true, false, List, [], ◌∷◌, ◌++◌, length, take, Option}
+use Rattle.std.specs.Prelude.{◌≡◌, ◌⊎◌, ℕ, ◌+◌, ◌*◌, ◌<◌, ◌≤◌, true, false, List, [], ◌++◌, length, take, Option}
 use Rattle.std.specs.Prelude.{Some, None, Result, Ok, Err}
-use Rattle.std.specs.Io.KnownBytes.{Appends, Keeps}
-use Rattle.yaml_grammar.specs.Closings.{ClosesOnce}
-use Rattle.conf_disk.specs.Models.{DiskModel}
-use Rattle.conf_disk.specs.Moments.{LeavesOnly}
-use Rattle.conf_state.specs.Commands.{Command}
-use Rattle.conf_state.specs.States.{Contents}
-use Rattle.conf_store.specs.Durable.{AfterPrefix, AllImagesMean, HasFlushed}
-use Rattle.conf_store.specs.Grown.{HasGrown}
-use Rattle.conf_store.specs.View.{StoreView}
-use Rattle.conf_session.specs.Said.{piece_limit}
+use Rattle.conf_session.specs.Prelude.{Appends, Keeps, ClosesOnce, DiskModel, LeavesOnly, Command, Contents}
+use Rattle.conf_session.specs.Prelude.{AfterPrefix, AllImagesMean, HasFlushed, HasGrown, StoreView}
+use Rattle.conf_session.specs.{Said.piece_limit, declared.input.Input.Input, Requests.Request, Requests.Asks}
+use Rattle.conf_session.specs.{Runs.TakesUp, Runs.stored_of, declared.groups.Checkpoints.Checkpoints}
+use Rattle.conf_session.specs.{declared.groups.Checkpoints.TheVariants.Asked}
+use Rattle.conf_session.specs.{declared.groups.Checkpoints.TheVariants.After, declared.groups.Grouping.Grouping}
+use Rattle.conf_session.specs.{declared.reply.Reply.Reply}
+use Rattle.conf_session.specs.declared.groups.Grouping.TheVariants.{Each, Read}
+use Rattle.conf_session.specs.{declared.unwritten.Unwritten.Unwritten, declared.fault.SessionFault.SessionFault}
 use Rattle.conf_session.specs.Input.{IsSound, ahead, bytes_read, piece_or_rest, session_limit}
-use Rattle.conf_session.specs.declared.input.Input.{Input}
-use Rattle.conf_session.specs.Requests.{Request, Asks}
 use Rattle.conf_session.specs.Answers.{Stored, answer_limit, output, stored_after_all, accepted_commands, refusals}
-use Rattle.conf_session.specs.Runs.{TakesUp, stored_of}
-use Rattle.conf_session.specs.Replies.{DidAsked, MeansPrefixes, Performs, PerformsAll, Replies, accepts, refuses, reply_bytes}
-use Rattle.conf_session.specs.Groups.{AreDue, Turn, all_asked, files_after_turns, files_of, requests_of, stored_after_turns, turns_accepted}
-use Rattle.conf_session.specs.declared.groups.Checkpoints.{Checkpoints}
-use Rattle.conf_session.specs.declared.groups.Checkpoints.TheVariants.{Asked, After}
-use Rattle.conf_session.specs.declared.reply.Reply.{Reply}
-use Rattle.conf_session.specs.declared.unwritten.Unwritten.{Unwritten}
-use Rattle.conf_session.specs.declared.fault.SessionFault.{SessionFault}
+use Rattle.conf_session.specs.Replies.{DidAsked, MeansPrefixes, Performs, PerformsAll, Replies, accepts, refuses}
+use Rattle.conf_session.specs.Replies.{reply_bytes}
+use Rattle.conf_session.specs.Groups.{AreDue, Turn, all_asked, files_after_turns, files_of, requests_of}
+use Rattle.conf_session.specs.Groups.{stored_after_turns, turns_accepted}
 use Rattle.conf_session.specs.declared.fault.SessionFault.TheVariants as fault
 
 -- ---- answers that are not written yet
-
--- the most bytes of answers that are kept, but for the last answer
-abbrev pub answers_limit : ℕ
-answers_limit = 65536
 
 -- the bytes of the last answer, where it is kept apart
 abbrev pub last_bytes : Option Reply → List ℕ
@@ -43,7 +32,7 @@ unwritten_bytes answers = answers.text.items ++ last_bytes answers.last
 -- What keeps the counts within their types: there are no more pieces than bytes of the input, and no answer is longer
 -- than the limit.
 pub record HasRoomFor (answers : Unwritten) (left total : ℕ) : Type 0 where
-  pub within : length answers.text.items ≤ answers_limit
+  pub within : length answers.text.items ≤ answers.limit
   pub few : answers.tally.documents + left ≤ total
   pub limit : total ≤ session_limit
   pub accepted : answers.tally.accepted ≤ answers.tally.documents
@@ -53,11 +42,12 @@ pub record HasRoomFor (answers : Unwritten) (left total : ℕ) : Type 0 where
 -- one answer more is kept, and counted
 pub record KeepsAnswer (before after : Unwritten) (reply : Reply) : Type 0 where
   pub bytes : unwritten_bytes after ≡ unwritten_bytes before ++ reply_bytes reply
-  pub within : length after.text.items ≤ answers_limit
+  pub within : length after.text.items ≤ after.limit
   pub documents : after.tally.documents ≡ before.tally.documents + 1
   pub accepted : after.tally.accepted ≡ before.tally.accepted + accepts reply
   pub refused : after.tally.refused ≡ before.tally.refused + refuses reply
   pub written : after.written ≡ before.written
+  pub limit : after.limit ≡ before.limit
 
 -- all answers are written, and none is kept
 pub record WritesAnswers (held written : Option (List ℕ)) (before after : Unwritten) : Type 0 where
@@ -66,6 +56,7 @@ pub record WritesAnswers (held written : Option (List ℕ)) (before after : Unwr
   pub empty : after.text.items ≡ []
   pub tally : after.tally ≡ before.tally
   pub sent : after.written ≡ before.written + length (unwritten_bytes before)
+  pub limit : after.limit ≡ before.limit
 
 -- so many bytes were written, with those of the answers before
 pub record CutsAnswers (held written : Option (List ℕ)) (answers : Unwritten) (total : ℕ) : Type 0 where
@@ -76,8 +67,7 @@ pub record CutsAnswers (held written : Option (List ℕ)) (answers : Unwritten) 
 
 -- what a write that fails says
 abbrev pub FailsToWrite : Option (List ℕ) → Option (List ℕ) → Unwritten → SessionFault → Type 0
-FailsToWrite held written answers (fault.Write total) = CutsAnswers held written answers total
-FailsToWrite held written answers fault = ⊥
+FailsToWrite held written answers f = (total : ℕ) × (f ≡ fault.Write total) × CutsAnswers held written answers total
 
 -- ---- turns
 
@@ -106,45 +96,49 @@ pub record StopsShort {D : Type 0} (model : DiskModel D) (old new : StoreView D)
       → HasFlushed (model.folder old.disk) flushed waiting old.state
       → LeavesOnly model old.disk new.disk (λ image. AfterPrefix flushed waiting image.store)
 
+-- how a call ends that only the device can make fail
+abbrev pub OrStops : {D : Type 0} → DiskModel D → StoreView D → StoreView D → Type 0
+    → Result (Unit {0}) SessionFault → Type 0
+OrStops model old new Done (Ok done) = Done
+OrStops model old new Done (Err f) = (f ≡ fault.Device) × StopsShort model old new
+
 -- all that waited is flushed
 abbrev pub FlushesAll : {D : Type 0} → DiskModel D → StoreView D
     → StoreView D → Result (Unit {0}) SessionFault → Type 0
-FlushesAll model old new (Ok done) = PerformsTurns model old new []
-FlushesAll model old new (Err fault.Device) = StopsShort model old new
-FlushesAll model old new (Err fault) = ⊥
+FlushesAll model old new result = OrStops model old new (PerformsTurns model old new []) result
+
+-- what is done before the first group: where each piece is one, nothing, and else all that waits is flushed
+abbrev pub Starts : {D : Type 0} → DiskModel D → Grouping → StoreView D
+    → StoreView D → Result (Unit {0}) SessionFault → Type 0
+Starts model Each old new result = (result ≡ Ok tt) × (new ≡ old)
+Starts model (Read checkpoints) old new result = FlushesAll model old new result
+
+-- turns that no request asked for, and that are due
+abbrev pub MakesTurns : {D : Type 0} → DiskModel D → StoreView D → StoreView D → (List Turn → Type 0) → Type 0
+MakesTurns model old new Due =
+    (turns : List Turn) × (requests_of turns ≡ []) × Due turns × PerformsTurns model old new turns
 
 -- a slice is written: that is a turn if it is the last one
 abbrev pub TendsBySlice : {D : Type 0} → DiskModel D → StoreView D
     → StoreView D → Result (Unit {0}) SessionFault → Type 0
-TendsBySlice model old new (Ok done) =
-    (turns : List Turn) × (requests_of turns ≡ [])
-    × ((bytes : ℕ) → AreDue bytes (files_of model.folder old) (stored_of old) turns)
-    × PerformsTurns model old new turns
-TendsBySlice model old new (Err fault.Device) = StopsShort model old new
-TendsBySlice model old new (Err fault) = ⊥
+TendsBySlice model old new result = OrStops model old new (MakesTurns model old new
+    (λ turns. (bytes : ℕ) → AreDue bytes (files_of model.folder old) (stored_of old) turns)) result
 
 -- a checkpoint is begun, if there is memory for it
 abbrev pub TendsByBeginning : {D : Type 0} → DiskModel D → StoreView D
     → StoreView D → Result (Unit {0}) SessionFault → Type 0
-TendsByBeginning model old new (Ok done) =
-    (turns : List Turn) × (requests_of turns ≡ [])
-    × ((bytes grown : ℕ) → HasGrown (files_of model.folder old).store grown → bytes ≤ grown
-    → AreDue bytes (files_of model.folder old) (stored_of old) turns)
-    × PerformsTurns model old new turns
-TendsByBeginning model old new (Err fault.Device) = StopsShort model old new
-TendsByBeginning model old new (Err fault) = ⊥
+TendsByBeginning model old new result = OrStops model old new (MakesTurns model old new
+    (λ turns. (bytes grown : ℕ) → HasGrown (files_of model.folder old).store grown → bytes ≤ grown
+    → AreDue bytes (files_of model.folder old) (stored_of old) turns)) result
 
--- A turn that no request asked for, or none. None is made if only those are wanted that requests ask for, and a
+-- A turn that no request asked for, or none. Nothing is done if only those are wanted that requests ask for, and a
 -- checkpoint is begun only when it is due.
 abbrev pub Tends : {D : Type 0} → DiskModel D → Checkpoints
     → StoreView D → StoreView D → Result (Unit {0}) SessionFault → Type 0
-Tends model checkpoints old new (Ok done) =
-    (turns : List Turn) × (requests_of turns ≡ []) × (checkpoints ≡ Asked → turns ≡ [])
-    × (model.honest → (bytes : ℕ) → checkpoints ≡ After bytes
-    → AreDue bytes (files_of model.folder old) (stored_of old) turns)
-    × PerformsTurns model old new turns
-Tends model checkpoints old new (Err fault.Device) = StopsShort model old new
-Tends model checkpoints old new (Err fault) = ⊥
+Tends model checkpoints old new result =
+    (checkpoints ≡ Asked → (result ≡ Ok tt) × (new ≡ old))
+    × OrStops model old new (MakesTurns model old new (λ turns. model.honest → (bytes : ℕ) → checkpoints ≡ After bytes
+    → AreDue bytes (files_of model.folder old) (stored_of old) turns)) result
 
 -- ---- one piece
 
@@ -154,7 +148,7 @@ pub record GathersPiece {D : Type 0} (model : DiskModel D) (old new : StoreView 
   pub request : Request
   pub asks : Asks piece request
   pub sound : new.reopen ≡ false
-  pub performs : Performs false model old new request
+  pub performs : Performs model old new request
   pub reply : Reply
   pub replies : Replies (stored_of old) request reply
   pub keeps : KeepsAnswer before after reply
@@ -174,25 +168,32 @@ pub record IsAtPiece (input : Input) : Type 0 where
 -- the answers to these requests are kept, and counted
 pub record KeepsAnswers (start : Stored) (requests : List Request) (before after : Unwritten) : Type 0 where
   pub bytes : unwritten_bytes after ≡ unwritten_bytes before ++ output start requests
-  pub within : length after.text.items ≤ answers_limit
+  pub within : length after.text.items ≤ after.limit
   pub short : length (output start requests) ≤ length requests * answer_limit
   pub documents : after.tally.documents ≡ before.tally.documents + length requests
   pub accepted : after.tally.accepted ≡ before.tally.accepted + length (accepted_commands start requests)
   pub refused : after.tally.refused ≡ before.tally.refused + refusals start requests
   pub written : after.written ≡ before.written
+  pub limit : after.limit ≡ before.limit
 
--- pieces are performed, as `Performed` says, and their answers are kept
-pub record GathersPieces {D : Type 0} (Performed : StoreView D → StoreView D → List Request → Type 0)
-    (bytes further : List ℕ) (old new : StoreView D) (before after : Unwritten) : Type 0 where
+-- The pieces are performed, and their answers are kept. Without a piece nothing was done. Where a text of answers has
+-- no room, there is one piece at most.
+pub record GathersPieces {D : Type 0} (model : DiskModel D) (bytes further : List ℕ) (old new : StoreView D)
+    (before after : Unwritten) : Type 0 where
   pub requests : List Request
   pub takes : TakesUp bytes further requests
-  pub performs : Performed old new requests
+  pub performs : PerformsAll model old new requests
   pub keeps : KeepsAnswers (stored_of old) requests before after
+  pub none : requests ≡ [] → new ≡ old
+  pub single : before.limit ≡ 0 → length requests ≤ 1
 
--- The device failed. The pieces are performed, maybe but for the last, and none is answered.
-pub record BreaksOff {D : Type 0} (model : DiskModel D) (bytes : List ℕ) (old new : StoreView D) : Type 0 where
+-- The device failed. The pieces are performed, maybe but for the last, and none is answered. Where a text of answers has
+-- no room, there is one piece.
+pub record BreaksOff {D : Type 0} (model : DiskModel D) (bytes : List ℕ) (limit : ℕ) (old new : StoreView D)
+    : Type 0 where
   pub broken : new.reopen ≡ true
   pub requests : List Request
+  pub single : limit ≡ 0 → length requests ≡ 1
   pub further : List ℕ
   pub takes : TakesUp bytes further requests
   pub state : new.state ≡ (stored_after_all (stored_of old) requests).state
@@ -201,28 +202,16 @@ pub record BreaksOff {D : Type 0} (model : DiskModel D) (bytes : List ℕ) (old 
       → LeavesOnly model old.disk new.disk
       (λ image. AfterPrefix flushed (waiting ++ accepted_commands (stored_of old) requests) image.store)
 
--- What became of a group whose bytes are the piece in hand and those after it, and that is performed as `Performed`
--- says. If memory ran out, the pieces before are performed.
-abbrev pub EndsGathering : {D : Type 0} → DiskModel D → (StoreView D → StoreView D → List Request → Type 0)
-    → List ℕ → Input → StoreView D → StoreView D → Unwritten → Unwritten → Result (Unit {0}) SessionFault → Type 0
-EndsGathering model Performed bytes input old new before after (Ok done) =
-    IsSound input × GathersPieces Performed bytes (ahead input) old new before after
-EndsGathering model Performed bytes input old new before after (Err fault.OutOfMemory) =
-    (further : List ℕ) × GathersPieces Performed bytes further old new before after
-EndsGathering model Performed bytes input old new before after (Err fault.Device) = BreaksOff model bytes old new
-EndsGathering model Performed bytes input old new before after (Err fault) = ⊥
-
--- what became of a group before it is flushed: only a checkpoint flushed something
+-- What became of a group before it is flushed, whose bytes are the piece in hand and those after it. Only a checkpoint
+-- flushed something. If memory ran out, the pieces before are performed.
 abbrev pub SubmitsGroup : {D : Type 0} → DiskModel D → List ℕ → Input
     → StoreView D → StoreView D → Unwritten → Unwritten → Result (Unit {0}) SessionFault → Type 0
-SubmitsGroup model bytes input old new before after result =
-    EndsGathering model (PerformsAll false model) bytes input old new before after result
-
--- the same once it is flushed
-abbrev pub EndsGroup : {D : Type 0} → DiskModel D → List ℕ → Input
-    → StoreView D → StoreView D → Unwritten → Unwritten → Result (Unit {0}) SessionFault → Type 0
-EndsGroup model bytes input old new before after result =
-    EndsGathering model (PerformsFlushed model) bytes input old new before after result
+SubmitsGroup model bytes input old new before after (Ok done) =
+    IsSound input × (before.tally.documents < after.tally.documents)
+    × GathersPieces model bytes (ahead input) old new before after
+SubmitsGroup model bytes input old new before after (Err f) =
+    ((f ≡ fault.OutOfMemory) × (further : List ℕ) × GathersPieces model bytes further old new before after)
+    ⊎ ((f ≡ fault.Device) × BreaksOff model bytes before.limit old new)
 
 -- ---- what holds before a group, and after it
 
@@ -265,49 +254,34 @@ pub record CutsSending (held written : Option (List ℕ)) (bytes : List ℕ) (st
   pub cut : count < length (output start requests)
   pub out : Appends held written (take count (output start requests))
 
--- What became of a piece that is a group by itself: all that waits is flushed with it, and then it is answered.
-abbrev pub PerformsPiece : {D : Type 0} → DiskModel D → Option (List ℕ) → Option (List ℕ) → Input → StoreView D
-    → StoreView D → Unwritten → Unwritten → Result (Unit {0}) SessionFault → Type 0
-PerformsPiece model held written input old new before after (Ok done) =
-    (unwritten_bytes after ≡ []) × (after.last ≡ None)
-    × (request : Request) × (new.reopen ≡ false) × Performs true model old new request
-    × SendsAnswers held written (piece_or_rest input ++ ahead input) (ahead input) (stored_of old) (request ∷ [])
-    before after
-PerformsPiece model held written input old new before after (Err fault.OutOfMemory) =
-    (new ≡ old) × Keeps held written
-PerformsPiece model held written input old new before after (Err fault.Device) =
-    (request : Request) × (new.reopen ≡ true) × Performs true model old new request
-    × TakesUp (piece_or_rest input ++ ahead input) (ahead input) (request ∷ []) × Keeps held written
-PerformsPiece model held written input old new before after (Err (fault.Write total)) =
-    (request : Request) × (new.reopen ≡ false) × Performs true model old new request
-    × CutsSending held written (piece_or_rest input ++ ahead input) (stored_of old) (request ∷ [])
-    before.written total
-PerformsPiece model held written input old new before after (Err fault) = ⊥
-
 -- the pieces are performed, flushed and answered
 pub record PassesGroup {D : Type 0} (model : DiskModel D) (held written : Option (List ℕ)) (bytes further : List ℕ)
     (old new : StoreView D) (before after : Unwritten) : Type 0 where
   pub requests : List Request
+  pub some : requests ≡ [] → ⊥
   pub performs : PerformsFlushed model old new requests
   pub sends : SendsAnswers held written bytes further (stored_of old) requests before after
 
 -- the pieces are performed and flushed, and so many bytes were written, with those of the answers before
-pub record CutsGroup {D : Type 0} (model : DiskModel D) (held written : Option (List ℕ)) (bytes : List ℕ)
+pub record CutsGroup {D : Type 0} (model : DiskModel D) (held written : Option (List ℕ)) (bytes : List ℕ) (limit : ℕ)
     (old new : StoreView D) (sent total : ℕ) : Type 0 where
   pub requests : List Request
+  pub single : limit ≡ 0 → length requests ≤ 1
   pub performs : PerformsFlushed model old new requests
   pub cuts : CutsSending held written bytes (stored_of old) requests sent total
 
+-- what became of a group: if memory ran out, nothing was done, or the pieces before are performed, flushed and answered
 abbrev pub PerformsGroup : {D : Type 0} → DiskModel D → Option (List ℕ)
     → Option (List ℕ) → List ℕ → Input → StoreView D → StoreView D → Unwritten → Unwritten
     → Result (Unit {0}) SessionFault → Type 0
 PerformsGroup model held written bytes input old new before after (Ok done) =
-    IsSound input × (unwritten_bytes after ≡ []) × (after.last ≡ None)
+    IsSound input × (unwritten_bytes after ≡ []) × (after.last ≡ None) × (after.limit ≡ before.limit)
     × PassesGroup model held written bytes (ahead input) old new before after
 PerformsGroup model held written bytes input old new before after (Err fault.OutOfMemory) =
-    (further : List ℕ) × PassesGroup model held written bytes further old new before after
+    ((new ≡ old) × Keeps held written)
+    ⊎ ((further : List ℕ) × PassesGroup model held written bytes further old new before after)
 PerformsGroup model held written bytes input old new before after (Err fault.Device) =
-    BreaksOff model bytes old new × Keeps held written
+    BreaksOff model bytes before.limit old new × Keeps held written
 PerformsGroup model held written bytes input old new before after (Err (fault.Write total)) =
-    CutsGroup model held written bytes old new before.written total
+    CutsGroup model held written bytes before.limit old new before.written total
 PerformsGroup model held written bytes input old new before after (Err fault) = ⊥

@@ -1,28 +1,18 @@
 -- What a grouped session has read, answered and stored, for each of its results.
 use Rattle.std.specs.Prelude.{◌≡◌, ℕ, ◌+◌, ◌*◌, ◌<◌, ◌≤◌, false, List, [], ◌∷◌, ◌++◌, length, take, map, Option, Some}
 use Rattle.std.specs.Prelude.{None, unwrap_or, Result, Err}
-use Rattle.std.specs.Io.KnownBytes.{Consumes, Keeps, Appends}
-use Rattle.conf_disk.specs.Folder.{Folder, bytes_under}
-use Rattle.conf_disk.specs.Image.{Image, IsImage}
-use Rattle.conf_disk.specs.Models.{DiskModel}
-use Rattle.conf_disk.specs.Moments.{LeavesOnly}
-use Rattle.conf_disk.specs.declared.disk.Name.TheVariants.{Store}
-use Rattle.conf_state.specs.BaseTexts.{base_bytes}
-use Rattle.conf_state.specs.Commands.{Command}
-use Rattle.conf_state.specs.States.{Contents}
-use Rattle.conf_store.specs.Durable.{AfterPrefix, AllImagesMean, HasFlushed, staged_text}
-use Rattle.conf_store.specs.Grown.{HasGrown}
-use Rattle.conf_store.specs.View.{StoreView}
-use Rattle.conf_session.specs.Requests.{Request}
+use Rattle.conf_session.specs.Prelude.{Consumes, Keeps, Appends, Folder, bytes_under, Image, IsImage, DiskModel}
+use Rattle.conf_session.specs.Prelude.{LeavesOnly, Store, base_bytes, Command, Contents, AfterPrefix, AllImagesMean}
+use Rattle.conf_session.specs.Prelude.{HasFlushed, staged_text, HasGrown, StoreView}
+use Rattle.conf_session.specs.{Requests.Request, declared.fault.SessionFault.SessionFault}
+use Rattle.conf_session.specs.{declared.groups.Checkpoints.Checkpoints, declared.session.Tally.Tally, Streams.Streams}
+use Rattle.conf_session.specs.{declared.groups.Grouping.Grouping}
+use Rattle.conf_session.specs.declared.groups.Grouping.TheVariants.{Each, Read}
 use Rattle.conf_session.specs.Answers.{Stored, answer_bytes, answer_limit, stored_after, file_after, staged_after}
 use Rattle.conf_session.specs.Answers.{accepted_command, refused_of}
-use Rattle.conf_session.specs.Runs.{AfterAtLeast, BeginsWith, EndsAnswered, EndsEarly, stored_of}
-use Rattle.conf_session.specs.declared.fault.SessionFault.{SessionFault}
-use Rattle.conf_session.specs.declared.fault.SessionFault.TheVariants as fault
-use Rattle.conf_session.specs.declared.groups.Checkpoints.{Checkpoints}
+use Rattle.conf_session.specs.Runs.{AfterAtLeast, BeginsWith, EndsAnswered, EndsEarly, Runs, stored_of}
 use Rattle.conf_session.specs.declared.groups.Checkpoints.TheVariants.{Asked, After}
-use Rattle.conf_session.specs.declared.session.Tally.{Tally}
-use Rattle.conf_session.specs.Streams.{Streams}
+use Rattle.conf_session.specs.declared.fault.SessionFault.TheVariants as fault
 
 -- ---- turns
 
@@ -190,3 +180,21 @@ pub record RunsGrouped {D : Type 0} (model : DiskModel D) (io : Streams)
   -- after the session nothing waits
   pub flushed : model.honest → new.reopen ≡ false → HasFlushed (model.folder new.disk) new.state [] new.state
   pub now : model.honest → new.reopen ≡ false → AllImagesMean (model.folder new.disk) new.state
+
+-- ---- a session by its groups
+
+-- which checkpoints it makes
+abbrev pub checkpoints_of : Grouping → Checkpoints
+checkpoints_of Each = Asked
+checkpoints_of (Read checkpoints) = checkpoints
+
+-- the most bytes of answers that are kept, but for the last answer: where each piece is a group, none
+abbrev pub answers_limit : Grouping → ℕ
+answers_limit Each = 0
+answers_limit (Read checkpoints) = 65536
+
+-- what it has read, answered and stored
+abbrev pub RunsBy : {D : Type 0} → DiskModel D → Streams → Grouping → StoreView D → StoreView D
+    → Result Tally SessionFault → Type 0
+RunsBy model io Each old new result = Runs model io old new result
+RunsBy model io (Read checkpoints) old new result = RunsGrouped model io checkpoints old new result

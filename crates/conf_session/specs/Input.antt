@@ -1,9 +1,7 @@
 -- The input of a session, cut into pieces as it is read, within the limits of a session.
-use Rattle.std.specs.Prelude.{ℕ, Bool, true, false, List, Option, Result, Ok, Err}
+use Rattle.std.specs.Prelude.{◌≡◌, ℕ, Bool, true, false, List, Option, Result, Ok, Err}
+use Rattle.conf_session.specs.{Said.piece_limit, declared.input.Input.Input, declared.fault.SessionFault.SessionFault}
 use Rattle.yaml_docs.specs.PieceReading as reading
-use Rattle.conf_session.specs.Said.{piece_limit}
-use Rattle.conf_session.specs.declared.input.Input.{Input}
-use Rattle.conf_session.specs.declared.fault.SessionFault.{SessionFault}
 use Rattle.conf_session.specs.declared.fault.SessionFault.TheVariants as fault
 
 -- the most bytes of an input
@@ -77,5 +75,4 @@ AdvancesWithin old new = reading.AdvancesWithin piece_limit session_limit old.pi
 
 abbrev pub AdvancesAhead : Input → Input → Result (Unit {0}) SessionFault → Type 0
 AdvancesAhead old new (Ok done) = AdvancesWithin old new
-AdvancesAhead old new (Err fault.OutOfMemory) = Unit {0}
-AdvancesAhead old new (Err fault) = ⊥
+AdvancesAhead old new (Err f) = f ≡ fault.OutOfMemory

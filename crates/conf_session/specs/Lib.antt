@@ -1,3 +1,4 @@
+pub mod Prelude
 pub mod Requests
 pub mod Answers
 pub mod Runs

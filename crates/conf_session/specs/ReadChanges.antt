@@ -1,12 +1,9 @@
 -- A command that changes configurations, once its texts are read.
 use Rattle.std.specs.Prelude.{◌≡◌, true, List, Result, Ok, Err, IfErr, is_ok}
-use Rattle.conf_state.specs.Commands.{command_of}
-use Rattle.conf_state.specs.declared.command.Command as code
-use Rattle.conf_state.specs.declared.fault.StoreFault.{StoreFault}
-use Rattle.conf_conditions.specs.Conditions.{Condition}
-use Rattle.conf_session.specs.declared.fault.SessionFault.TheVariants.{OutOfMemory}
+use Rattle.conf_session.specs.Prelude.{command_of, StoreFault, Condition}
+use Rattle.conf_session.specs.{declared.fault.SessionFault.TheVariants.OutOfMemory, Answers.answered}
 use Rattle.conf_session.specs.Requests.{Request, changing, unread, if_met}
-use Rattle.conf_session.specs.Answers.{answered}
+use Rattle.conf_state.specs.declared.command.Command as code
 
 -- this is the request: the command, or the answered reason why there is none
 abbrev pub IsRequest : Result code.Command StoreFault → Request → Type 0

@@ -1,29 +1,19 @@
 -- What the code's requests and replies are, and what one request does.
-use Rattle.std.specs.Prelude.{◌≡◌, ◌≤◌, ℕ, Bool, true, false, List, [], ◌∷◌, ◌++◌, length, string_bytes, Result, Ok, Err, IsErrOf}
-use Rattle.yaml_recognizers.specs.Closings.{framed_text_bytes}
-use Rattle.conf_disk.specs.Folder.{Folder, bytes_under}
-use Rattle.conf_disk.specs.Models.{DiskModel}
-use Rattle.conf_disk.specs.Moments.{LeavesOnly}
-use Rattle.conf_disk.specs.declared.disk.Name.TheVariants.{Store}
-use Rattle.conf_state.specs.Commands.{Command}
-use Rattle.conf_state.specs.States.{Contents}
-use Rattle.conf_store.specs.Calls.{HasFailed}
-use Rattle.conf_store.specs.Durable.{AfterPrefix, HasFlushed, AllImagesAfterPrefix, staged_text}
-use Rattle.conf_store.specs.View.{StoreView}
-use Rattle.conf_session.specs.declared.fault.SessionFault.{SessionFault}
+use Rattle.std.specs.Prelude.{◌≡◌, ◌≤◌, ℕ, true, false, List, [], ◌∷◌, ◌++◌, length, string_bytes, Result, Ok}
+use Rattle.std.specs.Prelude.{Err, IsErrOf}
+use Rattle.conf_session.specs.Prelude.{framed_text_bytes, Folder, bytes_under, DiskModel, LeavesOnly, Store, Command}
+use Rattle.conf_session.specs.Prelude.{Contents, HasFailed, AfterPrefix, HasFlushed, AllImagesAfterPrefix, staged_text}
+use Rattle.conf_session.specs.Prelude.{StoreView, StoreFault, ConditionFault}
+use Rattle.conf_session.specs.{declared.fault.SessionFault.SessionFault, Runs.stored_of, declared.words.Refusal.Refusal}
+use Rattle.conf_session.specs.{declared.reply.Reply.Reply}
 use Rattle.conf_session.specs.declared.fault.SessionFault.TheVariants.{OutOfMemory, Device}
-use Rattle.conf_state.specs.declared.command.Command as code_command
-use Rattle.conf_state.specs.declared.fault.StoreFault.{StoreFault}
-use Rattle.conf_conditions.specs.declared.fault.ConditionFault.{ConditionFault}
 use Rattle.conf_session.specs.Requests.{Request, changing, checkpointing, if_met}
-use Rattle.conf_session.specs.Answers.{Stored, answered, condition_answered, answer_bytes, answer_limit, refusal}
-use Rattle.conf_session.specs.Answers.{word, stored_after, file_after, staged_after, accepted_command, refused_of}
-use Rattle.conf_session.specs.Answers.{flushed_after, waiting_after, stored_after_all, file_after_all}
-use Rattle.conf_session.specs.Answers.{staged_after_all, accepted_commands}
-use Rattle.conf_session.specs.Runs.{stored_of}
-use Rattle.conf_session.specs.declared.words.Refusal.{Refusal}
-use Rattle.conf_session.specs.declared.reply.Reply.{Reply}
+use Rattle.conf_session.specs.Answers.{Stored, answered, condition_answered, answer_bytes, answer_limit, refusal, word}
+use Rattle.conf_session.specs.Answers.{stored_after, file_after, staged_after, accepted_command, refused_of}
+use Rattle.conf_session.specs.Answers.{flushed_after, waiting_after, stored_after_all, file_after_all, staged_after_all}
+use Rattle.conf_session.specs.Answers.{accepted_commands}
 use Rattle.conf_session.specs.declared.reply.Reply.TheVariants.{Accepted, Done, Refused}
+use Rattle.conf_state.specs.declared.command.Command as code_command
 
 -- a request that changes nothing
 abbrev pub OnlyReads : Request → Type 0
@@ -70,8 +60,8 @@ LeavesPrefixes folder s =
     → AllImagesAfterPrefix folder flushed waiting
 
 -- A request is performed: the state, the lengths and the files are those after it. A crash leaves the state after a
--- prefix of the commands that waited and of this one. `each` says whether all that waits is flushed with it.
-pub record Performs (each : Bool) {D : Type 0} (model : DiskModel D) (old new : StoreView D)
+-- prefix of the commands that waited and of this one. Nothing is flushed, but by a checkpoint.
+pub record Performs {D : Type 0} (model : DiskModel D) (old new : StoreView D)
     (request : Request) : Type 0 where
   pub state : new.state ≡ (stored_after (stored_of old) request).state
   pub stored : new.reopen ≡ false → stored_of new ≡ stored_after (stored_of old) request
@@ -87,11 +77,11 @@ pub record Performs (each : Bool) {D : Type 0} (model : DiskModel D) (old new : 
       (λ image. AfterPrefix flushed (waiting ++ accepted_command (stored_of old) request) image.store)
   pub waits : model.honest → new.reopen ≡ false → (flushed : Contents) (waiting : List Command)
       → HasFlushed (model.folder old.disk) flushed waiting old.state
-      → HasFlushed (model.folder new.disk) (flushed_after each (stored_of old) flushed (request ∷ []))
-      (waiting_after each (stored_of old) waiting (request ∷ [])) new.state
+      → HasFlushed (model.folder new.disk) (flushed_after false (stored_of old) flushed (request ∷ []))
+      (waiting_after false (stored_of old) waiting (request ∷ [])) new.state
 
 -- The requests are performed, one after the other.
-pub record PerformsAll (each : Bool) {D : Type 0} (model : DiskModel D) (old new : StoreView D)
+pub record PerformsAll {D : Type 0} (model : DiskModel D) (old new : StoreView D)
     (requests : List Request) : Type 0 where
   pub sound : new.reopen ≡ false
   pub stored : stored_of new ≡ stored_after_all (stored_of old) requests
@@ -105,8 +95,8 @@ pub record PerformsAll (each : Bool) {D : Type 0} (model : DiskModel D) (old new
       (λ image. AfterPrefix flushed (waiting ++ accepted_commands (stored_of old) requests) image.store)
   pub waits : model.honest → (flushed : Contents) (waiting : List Command)
       → HasFlushed (model.folder old.disk) flushed waiting old.state
-      → HasFlushed (model.folder new.disk) (flushed_after each (stored_of old) flushed requests)
-      (waiting_after each (stored_of old) waiting requests) new.state
+      → HasFlushed (model.folder new.disk) (flushed_after false (stored_of old) flushed requests)
+      (waiting_after false (stored_of old) waiting requests) new.state
 
 -- the answer to the request
 pub record Replies (now : Stored) (request : Request) (reply : Reply) : Type 0 where
@@ -118,8 +108,8 @@ pub record Replies (now : Stored) (request : Request) (reply : Reply) : Type 0 w
 -- What became of a request. Nothing is flushed, but by a checkpoint. If memory ran out, nothing was changed.
 abbrev pub Did : {D : Type 0} → DiskModel D → StoreView D → StoreView D → Request → Result Reply SessionFault → Type 0
 Did model old new request (Ok reply) =
-    Replies (stored_of old) request reply × (new.reopen ≡ false) × Performs false model old new request
-Did model old new request (Err Device) = (new.reopen ≡ true) × Performs false model old new request
+    Replies (stored_of old) request reply × (new.reopen ≡ false) × Performs model old new request
+Did model old new request (Err Device) = (new.reopen ≡ true) × Performs model old new request
 Did model old new request (Err OutOfMemory) = new ≡ old
 Did model old new request (Err fault) = ⊥
 

@@ -1,18 +1,13 @@
 -- What the pieces of a session ask for. Each piece is one request; a piece that is no command is a bad one.
 use Rattle.std.specs.Prelude.{◌≡◌, ◌≢◌, ◌⊎◌, List, [], ◌∷◌, ◌++◌, ℕ, encode_utf8_all}
-use Rattle.yaml_grammar.specs.Reads.{Gives}
-use Rattle.yaml_grammar.specs.Trees.{Tree}
+use Rattle.conf_session.specs.Prelude.{Gives, Tree, Refuses, ReadFault, Edit, Command, import_as, single, batch}
+use Rattle.conf_session.specs.Prelude.{StoreFault, Condition}
 use Rattle.yaml_config.specs.Limits.{config_limits}
-use Rattle.yaml_tree.specs.Reading.{Refuses}
-use Rattle.yaml_events.specs.declared.read_fault.ReadFault.{ReadFault}
-use Rattle.yaml_events.specs.declared.read_fault.ReadFault.TheVariants as read
-use Rattle.conf_state.specs.Commands.{Edit, Command, import_as, single, batch}
-use Rattle.conf_state.specs.declared.fault.StoreFault.{StoreFault}
 use Rattle.conf_state.specs.declared.fault.StoreFault.TheVariants.{Read, OutOfMemory}
 use Rattle.conf_store.specs.Imports.{IsImportOf, RefusesText}
-use Rattle.conf_conditions.specs.Conditions.{Condition}
 use Rattle.conf_session.specs.Said.{Part, import_text, plain, Said, Says, single_part, batch_of_parts, get_at}
 use Rattle.conf_session.specs.Said.{export_of, all_names, checkpoint_now, conditional, nothing}
+use Rattle.yaml_events.specs.declared.read_fault.ReadFault.TheVariants as read
 
 -- What a document says, with the texts of imports read, or with the reason why there is no command to perform. With
 -- conditions it asks for a request only if they are met.

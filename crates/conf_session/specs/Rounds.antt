@@ -1,25 +1,16 @@
 -- What a round has answered and stored, for each of its results.
 use Rattle.std.specs.Prelude.{◌≡◌, ◌⊎◌, ℕ, ◌+◌, false, true, List, [], ◌∷◌, ◌++◌, length, take, map, Result, Ok, Err}
+use Rattle.conf_session.specs.Prelude.{ClosesOnce, bytes_under, DiskModel, LeavesOnly, Store, Command, Contents}
+use Rattle.conf_session.specs.Prelude.{AfterPrefix, AllImagesMean, HasFlushed, staged_text, StoreView}
 use Rattle.std.specs.declared.vec.Vec.{Vec}
 use Rattle.std.specs.declared.alloc.Global.{Global}
-use Rattle.yaml_grammar.specs.Closings.{ClosesOnce}
-use Rattle.conf_disk.specs.Folder.{bytes_under}
-use Rattle.conf_disk.specs.Models.{DiskModel}
-use Rattle.conf_disk.specs.Moments.{LeavesOnly}
-use Rattle.conf_disk.specs.declared.disk.Name.TheVariants.{Store}
-use Rattle.conf_state.specs.Commands.{Command}
-use Rattle.conf_state.specs.States.{Contents}
-use Rattle.conf_store.specs.Durable.{AfterPrefix, AllImagesMean, HasFlushed, staged_text}
-use Rattle.conf_store.specs.View.{StoreView}
+use Rattle.conf_session.specs.Answers.{answer_bytes as answer_to}
+use Rattle.conf_session.specs.{Runs.stored_of, Replies.Performs, declared.fault.SessionFault.SessionFault}
+use Rattle.conf_session.specs.{declared.rounds.Piece.Piece, declared.rounds.RoundFault.RoundFault}
 use Rattle.conf_session.specs.Requests.{Request, bad, Asks}
-use Rattle.conf_session.specs.Answers.{answer_bytes as answer_to, answers, stored_after_all, file_after_all}
-use Rattle.conf_session.specs.Answers.{staged_after_all, accepted_commands, flushed_after, waiting_after}
-use Rattle.conf_session.specs.Runs.{stored_of}
-use Rattle.conf_session.specs.Replies.{Performs}
-use Rattle.conf_session.specs.declared.fault.SessionFault.{SessionFault}
+use Rattle.conf_session.specs.Answers.{answers, stored_after_all, file_after_all, staged_after_all, accepted_commands}
+use Rattle.conf_session.specs.Answers.{flushed_after, waiting_after}
 use Rattle.conf_session.specs.declared.fault.SessionFault.TheVariants as session
-use Rattle.conf_session.specs.declared.rounds.Piece.{Piece}
-use Rattle.conf_session.specs.declared.rounds.RoundFault.{RoundFault}
 use Rattle.conf_session.specs.declared.rounds.RoundFault.TheVariants as fault
 
 -- the bytes of each piece
@@ -106,7 +97,7 @@ round_fault other performed = fault.Reopen
 pub record TakesPiece {D : Type 0} (model : DiskModel D) (old new : StoreView D) (piece : List ℕ) : Type 0 where
   pub request : Request
   pub asks : RoundAsks piece request
-  pub performs : Performs false model old new request
+  pub performs : Performs model old new request
 
 -- a piece is performed, and its answer is appended to the others
 pub record AnswersPiece {D : Type 0} (model : DiskModel D) (old new : StoreView D) (piece : List ℕ)

@@ -1,31 +1,17 @@
 -- What a run of a session has read, answered and stored, for each of its results.
 use Rattle.std.specs.Prelude.{◌≡◌, ℕ, ◌+◌, ◌*◌, ◌<◌, ◌≤◌, true, false, List, [], ◌∷◌, ◌++◌, length, take, Option}
 use Rattle.std.specs.Prelude.{option_map, Result, Ok, Err, All}
-use Rattle.std.specs.List.{concat}
-use Rattle.std.specs.Io.KnownBytes.{Consumes, IsAtEnd, Keeps, Appends}
-use Rattle.yaml_grammar.specs.Closings.{ClosesOnce, Pieces}
-use Rattle.conf_disk.specs.Folder.{bytes_under}
-use Rattle.conf_disk.specs.Image.{Image, IsImage}
-use Rattle.conf_disk.specs.Models.{DiskModel}
-use Rattle.conf_disk.specs.Moments.{LeavesOnly}
-use Rattle.conf_disk.specs.declared.disk.Name.TheVariants.{Store}
-use Rattle.conf_state.specs.Commands.{Command}
-use Rattle.conf_state.specs.States.{Contents}
-use Rattle.conf_state.specs.Steps.{after}
+use Rattle.conf_session.specs.Prelude.{concat, Consumes, IsAtEnd, Keeps, Appends, ClosesOnce, Pieces, bytes_under}
+use Rattle.conf_session.specs.Prelude.{Image, IsImage, DiskModel, LeavesOnly, Store, Command, Contents, after}
+use Rattle.conf_session.specs.Prelude.{AfterPrefix, HasFlushed, staged_text, StoreView}
 use Rattle.conf_store.specs.Meaning.{FileMeans}
-use Rattle.conf_store.specs.Durable.{AfterPrefix, HasFlushed, staged_text}
 use Rattle.conf_store.specs.Staged.{Staged}
-use Rattle.conf_store.specs.View.{StoreView}
-use Rattle.conf_session.specs.Said.{piece_limit}
-use Rattle.conf_session.specs.Input.{session_limit, IsOverlong}
-use Rattle.conf_session.specs.declared.fault.SessionFault.{SessionFault}
+use Rattle.conf_session.specs.{Said.piece_limit, Input.session_limit, Input.IsOverlong}
+use Rattle.conf_session.specs.{declared.fault.SessionFault.SessionFault, Requests.Request, Requests.AllAsk}
+use Rattle.conf_session.specs.{declared.session.Tally.Tally, Streams.Streams}
+use Rattle.conf_session.specs.Answers.{Stored, answer_limit, output, stored_after_all, file_after_all, staged_after_all}
+use Rattle.conf_session.specs.Answers.{accepted_commands, refusals, flushed_after, waiting_after, acknowledged}
 use Rattle.conf_session.specs.declared.fault.SessionFault.TheVariants as fault
-use Rattle.conf_session.specs.Requests.{Request, AllAsk}
-use Rattle.conf_session.specs.Answers.{Stored, answer_limit, output, stored_after_all, file_after_all}
-use Rattle.conf_session.specs.Answers.{staged_after_all, accepted_commands, refusals, flushed_after, waiting_after}
-use Rattle.conf_session.specs.Answers.{acknowledged}
-use Rattle.conf_session.specs.declared.session.Tally.{Tally}
-use Rattle.conf_session.specs.Streams.{Streams}
 
 -- the state of a store, the length of its file, and that of the new file of a running checkpoint
 abbrev pub stored_of : {D : Type 0} → StoreView D → Stored

@@ -1,19 +1,12 @@
 -- What the pieces of a session say. Each piece is one command document; a piece that is none says nothing.
 use Rattle.std.specs.Prelude.{◌≡◌, ◌≢◌, ◌⊎◌, ℕ, Bool, true, false, List, [], ◌∷◌, codes, map, Option, Some, None}
 use Rattle.std.specs.Prelude.{option_and_then, if◌then◌else◌}
-use Rattle.std.specs.Str.{chars}
-use Rattle.yaml_grammar.specs.Texts.{same_text}
-use Rattle.yaml_grammar.specs.Trees.{Tree, text, sequence, mapping, Elements, no_element, element, Members, no_member, member}
-use Rattle.yaml_grammar.specs.Reads.{Limits}
-use Rattle.yaml_data.specs.TextBytes.{text_bytes}
-use Rattle.yaml_config.specs.Kept.{own_limits}
-use Rattle.yaml_tree.specs.Reading.{IsRead, Refuses}
-use Rattle.yaml_events.specs.declared.read_fault.ReadFault.{ReadFault}
+use Rattle.conf_session.specs.Prelude.{chars, same_text, Tree, text, sequence, mapping, Elements}
+use Rattle.conf_session.specs.Prelude.{Members, no_member, member, Limits, text_bytes, own_limits, IsRead, Refuses}
+use Rattle.conf_session.specs.Prelude.{ReadFault, Edit, import_as, edit_of, keys_are, values, edit_under, Condition}
+use Rattle.conf_session.specs.Prelude.{conditions_of}
 use Rattle.yaml_events.specs.declared.read_fault.ReadFault.TheVariants.{OutOfMemory}
-use Rattle.conf_state.specs.Commands.{Edit, import_as, edit_of}
-use Rattle.conf_record.specs.RecordsRead.{keys_are, values, edit_under}
-use Rattle.conf_conditions.specs.Conditions.{Condition, conditions_of}
-use Rattle.conf_session.specs.SaidConditions.{conditions_in}
+use Rattle.conf_session.specs.SaidConditions.{all_in, conditions_in}
 use Rattle.conf_session.specs.declared.parts.Part as code_part
 use Rattle.conf_session.specs.declared.parts.Part.TheVariants as code_parts
 use Rattle.conf_session.specs.declared.said.Change as code_change
@@ -51,15 +44,9 @@ part_of (text value) = None
 part_of (sequence ts) = None
 part_of (mapping ms) = part_from ms
 
-abbrev pub first_and_rest : Option Part → Option (List Part) → Option (List Part)
-first_and_rest (Some part) (Some parts) = Some (part ∷ parts)
-first_and_rest (Some part) None = None
-first_and_rest None parts = None
-
 -- the parts that the elements of a sequence are, if each of them is one
 abbrev pub parts_of : Elements → Option (List Part)
-parts_of no_element = Some []
-parts_of (element t ts) = first_and_rest (part_of t) (parts_of ts)
+parts_of ts = all_in part_of ts
 
 -- ---- what a document says
 

@@ -1,12 +1,8 @@
 -- The conditions of a command, as its document has them under `if`.
 use Rattle.std.specs.Prelude.{ℕ, List, [], ◌∷◌, codes, Option, Some, None, option_map, if◌then◌else◌}
-use Rattle.std.specs.Str.{chars}
-use Rattle.yaml_grammar.specs.Trees.{Tree, text, sequence, mapping, Elements, no_element, element, Members}
-use Rattle.yaml_config.specs.Kept.{IsKept}
-use Rattle.yaml_data.specs.Seen.{tree_of}
-use Rattle.yaml_data.specs.TextBytes.{text_bytes}
-use Rattle.conf_record.specs.RecordsRead.{keys_are, values, number_from_digits}
-use Rattle.conf_conditions.specs.Conditions.{Condition, test_at, absent_at, count_is}
+use Rattle.conf_session.specs.Prelude.{chars, Tree, text, sequence, mapping, Elements, no_element, element, Members}
+use Rattle.conf_session.specs.Prelude.{IsKept, tree_of, text_bytes, keys_are, values, number_from_digits, Condition}
+use Rattle.conf_session.specs.Prelude.{test_at, absent_at, count_is}
 use Rattle.conf_session.specs.declared.conditions.Members as code
 use Rattle.conf_session.specs.declared.conditions.Members.TheVariants as read
 
@@ -53,15 +49,19 @@ condition_in (text value) = None
 condition_in (sequence ts) = None
 condition_in (mapping ms) = condition_from ms
 
-abbrev pub first_and_rest : Option Condition → Option (List Condition) → Option (List Condition)
-first_and_rest (Some condition) (Some conditions) = Some (condition ∷ conditions)
-first_and_rest (Some condition) None = None
-first_and_rest None conditions = None
+abbrev pub first_and_rest : {A : Type 0} → Option A → Option (List A) → Option (List A)
+first_and_rest (Some x) (Some xs) = Some (x ∷ xs)
+first_and_rest (Some x) None = None
+first_and_rest None xs = None
+
+-- what the elements of a sequence are read as, if each of them can be read
+abbrev pub all_in : {A : Type 0} → (Tree → Option A) → Elements → Option (List A)
+all_in read no_element = Some []
+all_in read (element t ts) = first_and_rest (read t) (all_in read ts)
 
 -- the conditions that the elements of a sequence are, if each of them is one
 abbrev pub all_conditions_in : Elements → Option (List Condition)
-all_conditions_in no_element = Some []
-all_conditions_in (element t ts) = first_and_rest (condition_in t) (all_conditions_in ts)
+all_conditions_in ts = all_in condition_in ts
 
 -- the conditions under `if`: a sequence of at least one
 abbrev pub conditions_in : Tree → Option (List Condition)

@@ -1,15 +1,9 @@
 -- What holds of answers when they are handed out.
 use Rattle.std.specs.Prelude.{◌≡◌, ℕ, false, List, [], ◌++◌, length, Option}
-use Rattle.std.specs.Io.KnownBytes.{Appends}
-use Rattle.conf_disk.specs.Image.{Image, IsImage}
-use Rattle.conf_disk.specs.Models.{DiskModel}
-use Rattle.conf_disk.specs.Moments.{LeavesOnly}
-use Rattle.conf_state.specs.Commands.{Command}
-use Rattle.conf_store.specs.Durable.{AfterPrefix, AllImagesMean, HasFlushed}
-use Rattle.conf_store.specs.View.{StoreView}
-use Rattle.conf_session.specs.Answers.{Stored}
+use Rattle.conf_session.specs.Prelude.{Appends, Image, IsImage, DiskModel, LeavesOnly, Command, AfterPrefix}
+use Rattle.conf_session.specs.Prelude.{AllImagesMean, HasFlushed, StoreView}
+use Rattle.conf_session.specs.{Answers.Stored, Runs.AfterAtLeast, Runs.stored_of}
 use Rattle.conf_session.specs.Groups.{Turn, stored_after_turns, turns_accepted, turns_output}
-use Rattle.conf_session.specs.Runs.{AfterAtLeast, stored_of}
 
 -- A sink has taken the answers to some turns, from `start` on, after what it held before. The store holds what is
 -- stored after them.

@@ -1,14 +1,8 @@
 // The texts of answers.
 ghost use Rattle.std.specs.Prelude.{◌≡◌, ◌≤◌, ◌++◌, [], ◌∷◌, IfOk, IfErr, OnOk, string_bytes, decimal, codes};
-ghost use Rattle.std.specs.Str.{chars};
-ghost use Rattle.yaml_grammar.specs.Trees.{depth, text};
-ghost use Rattle.yaml_recognizers.specs.Closings.{framed_text_bytes, framed_text};
-ghost use Rattle.yaml_config.specs.Kept.{own_limits};
-ghost use Rattle.yaml_data.specs.Seen.{tree_of, elements_of};
-ghost use Rattle.yaml_data.specs.TextBytes.{text_bytes};
+ghost use Rattle.conf_session.specs.Prelude.{chars, depth, text, framed_text_bytes, framed_text, own_limits, tree_of};
+ghost use Rattle.conf_session.specs.Prelude.{elements_of, text_bytes, IsState, names_of};
 ghost use Rattle.yaml_data.specs.declared.text.Text.{Text as Name};
-ghost use Rattle.conf_state.specs.Limits.{IsState};
-ghost use Rattle.conf_state.specs.States.{names_of};
 ghost use Rattle.conf_session.specs.Requests.{getting, exporting, naming};
 ghost use Rattle.conf_session.specs.Answers.{one, text_elements};
 ghost use Rattle.conf_session.specs.Runs.{stored_of};

@@ -1,13 +1,13 @@
 // Commands that are spelled one key a line, read without the general reader.
 ghost use Rattle.std.specs.Prelude.{◌++◌, codes, IfOk, IfSome};
-ghost use Rattle.conf_state.specs.Commands.{command_of};
+ghost use Rattle.conf_session.specs.Prelude.{command_of};
 ghost use Rattle.conf_session.specs.CommandLines.{ArePartLines, IsCommandLines};
 ghost use Rattle.conf_session.specs.PartLines.{part_cut};
 ghost use Rattle.conf_session.specs.Requests.{Asks, changing};
 ghost use Rattle.conf_session.specs.Said.{Says, parts_seen, said_of, single_part};
 
 use crate::field_lines::{cut_field, is_end};
-use crate::part_lines::{TEXT_KEY, made_command, made_part, part_on_lines, texts_on_lines};
+use crate::part_lines::{TEXT_KEY, made_part, part_on_lines, texts_on_lines};
 use crate::parts::Part;
 use crate::said::{PIECE_LIMIT, Said};
 use conf_record::{EditMembers, Place, cut_edit, cut_element};
@@ -43,9 +43,12 @@ pub(crate) fn edit_in_lines(alloc: Global, piece: &[u8]) -> Result<Option<Comman
     ensures { IfOk result (λ found. IfSome found
         (λ command. Asks piece.now (changing (command_of command)))) }
 {
-    match texts_in(piece) {
-        Some(texts) => made_command(alloc, texts),
-        None => Ok(None),
+    let Some(texts) = texts_in(piece) else {
+        return Ok(None);
+    };
+    match made_part(alloc, texts)? {
+        Some(Part::Plain(edit)) => Ok(Some(Command::from(edit))),
+        _ => Ok(None),
     }
 }
 

@@ -1,11 +1,7 @@
 // The conditions of a command: what stands under `if`.
 ghost use Rattle.std.specs.Prelude.{◌≡◌, IfOk, IfSome, Some, option_map};
-ghost use Rattle.yaml_grammar.specs.Trees.{sequence};
-ghost use Rattle.yaml_config.specs.Kept.{IsKept};
-ghost use Rattle.yaml_data.specs.Seen.{tree_of, members_of, elements_of};
-ghost use Rattle.conf_record.specs.RecordsRead.{values};
-ghost use Rattle.conf_record.specs.Reading.{AreKept, AreKeptElements};
-ghost use Rattle.conf_conditions.specs.Conditions.{condition_of, conditions_of};
+ghost use Rattle.conf_session.specs.Prelude.{sequence, IsKept, tree_of, members_of, elements_of, values, AreKept};
+ghost use Rattle.conf_session.specs.Prelude.{AreKeptElements, condition_of, conditions_of};
 ghost use Rattle.conf_session.specs.SaidConditions.{all_conditions_in, absent_in, condition_from, condition_in, conditions_in, count_in, members_seen, missing_in, test_in};
 ghost use Rattle.conf_session.specs.SaidConditions.{KeepsValue};
 

@@ -1,7 +1,6 @@
 // Lines of one key and its text each, as commands are spelled that need no general reader.
 ghost use Rattle.std.specs.Prelude.{◌≡◌, ◌∷◌, codes, IfSome, IsTrue};
-ghost use Rattle.std.specs.List.{list_all};
-ghost use Rattle.yaml_chars.specs.Signs.{double_quote};
+ghost use Rattle.conf_session.specs.Prelude.{list_all, double_quote};
 ghost use Rattle.conf_session.specs.CommandLines.{IsField, IsSpelled, bare_char, begins_bare};
 
 use conf_record::lines::cut_line;

@@ -1,11 +1,11 @@
 // A session in groups: all commands that one read brought are performed, flushed by one sync, and then answered.
-ghost use Rattle.std.specs.Prelude.{◌≡◌, ◌+◌, ◌^◌, ◌<◌, ◌≤◌, ◌⊎◌, ◌↔◌, ◌++◌, [], true, false, None, OnOk, IsErrOf, IsSome, length};
-ghost use Rattle.conf_store.specs.Calls.{HasFailed};
-ghost use Rattle.conf_store.specs.Durable.{AllImagesMean, HasFlushed};
+ghost use Rattle.std.specs.Prelude.{◌≡◌, ◌+◌, ◌^◌, ◌<◌, ◌≤◌, ◌⊎◌, ◌↔◌, ◌++◌, [], true, false, None, OnOk, IsErrOf};
+ghost use Rattle.std.specs.Prelude.{IsSome, length};
+ghost use Rattle.conf_session.specs.Prelude.{HasFailed, AllImagesMean, HasFlushed};
 ghost use Rattle.conf_session.specs.Input.{ahead, piece_or_rest};
 ghost use Rattle.conf_session.specs.Replies.{CountsFailures};
-ghost use Rattle.conf_session.specs.Gathering.{CanGoOn, CanTakeGroup, EndsGroup, FlushesAll, PerformsGroup, SubmitsGroup, Tends, TendsByBeginning, TendsBySlice, unwritten_bytes};
-ghost use Rattle.conf_session.specs.Groups.{RunsGrouped};
+ghost use Rattle.conf_session.specs.Gathering.{CanGoOn, CanTakeGroup, FlushesAll, PerformsGroup, Starts, SubmitsGroup, Tends, TendsByBeginning, TendsBySlice, unwritten_bytes};
+ghost use Rattle.conf_session.specs.Groups.{RunsBy, RunsGrouped, answers_limit, checkpoints_of};
 ghost use Rattle.conf_session.specs.Sinks.{SentSoFar};
 ghost use Rattle.conf_session.specs.Streams.{streams_of};
 
@@ -30,6 +30,40 @@ pub enum Checkpoints {
     /// written. That one is written in slices, one after each group.
     After { bytes: u64 },
 }
+
+/// Which pieces of a session are flushed together.
+#[derive(Clone, Copy)]
+pub(crate) enum Grouping {
+    /// Each piece is a group by itself. What waits is flushed with the first one.
+    Each,
+    /// Those that one read brought are a group. What waits is flushed before the first one.
+    Read(Checkpoints),
+}
+
+impl Grouping {
+    /// Which checkpoints the session makes.
+    fn checkpoints(self) -> Checkpoints
+        ensures { result ≡ checkpoints_of self }
+    {
+        match self {
+            Grouping::Each => Checkpoints::Asked,
+            Grouping::Read(checkpoints) => checkpoints,
+        }
+    }
+
+    /// The most bytes of answers that are kept, but for the last answer.
+    fn answers_limit(self) -> usize
+        ensures { result ≡ answers_limit self }
+    {
+        match self {
+            Grouping::Each => 0,
+            Grouping::Read(_) => ANSWERS_LIMIT,
+        }
+    }
+}
+
+/// The most bytes of a group's answers, but for the last one.
+const ANSWERS_LIMIT: usize = 65_536;
 
 /// Flushes all commands that wait. Does nothing if none does.
 ///
@@ -75,45 +109,14 @@ fn submit_group<D: Disk>(
     }
 }
 
-/// Performs a group and flushes it: the piece in hand, and each further one that was read, until the answers are full.
-/// From then on no crash takes away a command whose answer is kept, so the answers may be written.
-///
-/// # Errors
-/// `OutOfMemory`: the pieces before the current one are performed and flushed, and that one changed nothing. `Device`:
-/// the pieces before the current one are performed, and that one is or isn't; a crash may still take back all of them,
-/// and the store has to be opened again.
-fn answer_group<D: Disk>(
-    alloc: Global,
-    store: &mut Store<D>,
-    input: &mut Input,
-    answers: &mut Unwritten,
-) -> Result<(), SessionFault>
-    requires can { CanTakeGroup D.model store.old input.old answers.old }
-    ensures ends { EndsGroup D.model
-        (piece_or_rest input.old ++ ahead input.old) input.new store.old store.new
-        answers.old answers.new result }
-    ensures now { D.model.honest → store.new.reopen ≡ false →
-        AllImagesMean (D.model.folder store.new.disk) store.new.state }
-    ensures small { answers.new.written + length (unwritten_bytes answers.new) < 2 ^ 64 }
-    ensures goes_on { OnOk result (CanGoOn input.old input.new answers.new) }
-    ensures failures { CountsFailures D.model store.old store.new result }
-{
-    match submit_group(alloc, store, input, answers) {
-        Ok(()) => flush_all(store),
-        Err(SessionFault::OutOfMemory) => {
-            flush_all(store)?;
-            Err(SessionFault::OutOfMemory)
-        }
-        Err(fault) => Err(fault),
-    }
-}
-
-/// Performs a group, flushes it, and then hands out its answers.
+/// Performs a group, flushes it, and then hands out its answers: the piece in hand, and each further one that was read,
+/// until the answers are full.
 ///
 /// # Errors
 /// `Write`: all pieces of the group are performed and flushed, and so many bytes of answers were written, with those of
 /// the groups before. `OutOfMemory`: the pieces before the current one are performed, flushed and answered, and that
-/// one changed nothing. `Device`: as [`answer_group`], and nothing is written.
+/// one changed nothing. `Device`: the pieces before the current one are performed, and that one is or isn't. A crash
+/// may still take back all of them, nothing is written, and the store has to be opened again.
 fn perform_group<D: Disk, S: AnswerSink<D>>(
     alloc: Global,
     store: &mut Store<D>,
@@ -131,14 +134,17 @@ fn perform_group<D: Disk, S: AnswerSink<D>>(
     ensures goes_on { OnOk result (CanGoOn input.old input.new answers.new) }
     ensures failures { CountsFailures D.model store.old store.new result }
 {
-    match answer_group(alloc, store, input, answers) {
-        Ok(()) => answers.put(store, sink),
-        Err(SessionFault::OutOfMemory) => {
-            answers.put(store, sink)?;
-            Err(SessionFault::OutOfMemory)
-        }
-        Err(fault) => Err(fault),
+    let before = answers.tally.documents;
+    let ended = submit_group(alloc, store, input, answers);
+    if store.needs_reopen() {
+        return ended;
     }
+    if answers.tally.documents == before {
+        return ended;
+    }
+    flush_all(store)?;
+    answers.put(store, sink)?;
+    ended
 }
 
 /// Begins a checkpoint. Does nothing if there is no memory for it.
@@ -263,15 +269,56 @@ pub fn run_grouped<D: Disk, R: Read, S: AnswerSink<D>>(
         HasFailed (D.model.failure_count store.old.disk) (D.model.failure_count store.new.disk) }
     ensures risen { D.model.failure_count store.old.disk ≤ D.model.failure_count store.new.disk }
 {
+    run_groups(alloc, store, reader, sink, Grouping::Read(checkpoints))
+}
+
+/// Flushes all commands that wait, where what one read brought is a group.
+///
+/// # Errors
+/// `Device`: a crash may still take back commands that waited, and the store has to be opened again.
+fn start<D: Disk>(store: &mut Store<D>, grouping: Grouping) -> Result<(), SessionFault>
+    requires { store.old.reopen ≡ false }
+    ensures starts { Starts D.model grouping store.old store.new result }
+    ensures failures { CountsFailures D.model store.old store.new result }
+{
+    match grouping {
+        Grouping::Each => Ok(()),
+        Grouping::Read(_) => flush_all(store),
+    }
+}
+
+/// Performs the commands of a stream by their groups, and answers each by one document. Returns what was done.
+///
+/// # Errors
+/// As [`run`](crate::run) and [`run_grouped`].
+pub(crate) fn run_groups<D: Disk, R: Read, S: AnswerSink<D>>(
+    alloc: Global,
+    store: &mut Store<D>,
+    reader: &mut R,
+    sink: &mut S,
+    grouping: Grouping,
+) -> Result<Tally, SessionFault>
+    ensures runs { RunsBy D.model
+        (streams_of (R.remaining reader.old) (R.remaining reader.new) (S.taken sink.old)
+        (S.taken sink.new))
+        grouping store.old store.new result }
+    ensures reopen { IsErrOf result SessionFault.Reopen ↔ (store.old.reopen ≡ true) }
+    ensures unchanged { IsErrOf result SessionFault.Reopen → store.new ≡ store.old }
+    ensures device { (store.new.reopen ≡ true)
+        ↔ ((store.old.reopen ≡ true) ⊎ IsErrOf result SessionFault.Device) }
+    ensures cause { IsErrOf result SessionFault.Device →
+        HasFailed (D.model.failure_count store.old.disk) (D.model.failure_count store.new.disk) }
+    ensures risen { D.model.failure_count store.old.disk ≤ D.model.failure_count store.new.disk }
+{
     if store.needs_reopen() {
         return Err(SessionFault::Reopen);
     }
-    flush_all(store)?;
+    start(store, grouping)?;
     let mut input = Input::new(alloc)?;
-    let mut answers = Unwritten::new(alloc);
+    let mut answers = Unwritten::new(alloc, grouping.answers_limit());
     'groups: while input.advance(reader)? {
         perform_group(alloc, store, &mut input, sink, &mut answers)?;
-        tend_checkpoint(store, checkpoints)?;
+        tend_checkpoint(store, grouping.checkpoints())?;
     }
     let mut tally = answers.tally;
     tally.rest = input.piece().len() as u64;

@@ -1,9 +1,6 @@
 // The parts of commands on their lines: the single edits, and the elements of a batch.
 ghost use Rattle.std.specs.Prelude.{◌≡◌, codes, IfOk, IfSome};
-ghost use Rattle.std.specs.Str.{chars};
-ghost use Rattle.yaml_grammar.specs.Trees.{text};
-ghost use Rattle.yaml_data.specs.Seen.{tree_of};
-ghost use Rattle.conf_state.specs.Commands.{Edit as GivenEdit, command_of, single, set_at, delete_at};
+ghost use Rattle.conf_session.specs.Prelude.{chars, text, tree_of, set_at, delete_at};
 ghost use Rattle.conf_record.specs.EditLines.{lines_of};
 ghost use Rattle.conf_session.specs.CommandLines.{SpellsPart};
 ghost use Rattle.conf_session.specs.PartLines.{part_cut};
@@ -12,7 +9,7 @@ ghost use Rattle.conf_session.specs.Said.{import_text, plain, part_seen};
 use crate::field_lines::line_value;
 use crate::parts::Part;
 use conf_record::{EditMembers, part};
-use conf_state::{Command, Edit};
+use conf_state::Edit;
 use std::alloc::{AllocError, Global};
 use yaml_tree::{Config, Limits, Text, Tree};
 
@@ -118,31 +115,4 @@ fn made_delete(alloc: Global, name: &str, path: &str) -> Result<Option<Part>, Al
     let name = String::from_str(alloc, name)?;
     let path = String::from_str(alloc, path)?;
     Ok(Some(Part::Plain(Edit::Delete { name, path })))
-}
-
-/// The command that is a `set` or a `delete` with these texts. `None` if they are those of an import, or of a `set` of
-/// a value longer than a configuration may be. It fails only if memory runs out.
-pub(crate) fn made_command(
-    alloc: Global,
-    texts: EditMembers<&str, &str>,
-) -> Result<Option<Command>, AllocError>
-    ensures { IfOk result (λ made. IfSome made (λ command. (edit : GivenEdit)
-        × (command_of command ≡ single edit) × (part_cut texts.entry ≡ plain edit))) }
-{
-    match texts {
-        EditMembers::Import { .. } => Ok(None),
-        EditMembers::Set { name, path, value } => {
-            let Some(value) = made_value(alloc, value)? else {
-                return Ok(None);
-            };
-            let name = String::from_str(alloc, name)?;
-            let path = String::from_str(alloc, path)?;
-            Ok(Some(Command::Set { name, path, value }))
-        }
-        EditMembers::Delete { name, path } => {
-            let name = String::from_str(alloc, name)?;
-            let path = String::from_str(alloc, path)?;
-            Ok(Some(Command::Delete { name, path }))
-        }
-    }
 }

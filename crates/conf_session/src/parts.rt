@@ -1,12 +1,7 @@
 // The parts of commands that change configurations: single edits, and the elements of a batch.
 ghost use Rattle.std.specs.Prelude.{◌≡◌, ◌≢◌, IfOk, IfErr, map, option_map};
-ghost use Rattle.std.specs.Str.{chars};
-ghost use Rattle.yaml_config.specs.Kept.{IsKept};
-ghost use Rattle.yaml_data.specs.Seen.{tree_of, members_of, elements_of};
-ghost use Rattle.yaml_data.specs.TextBytes.{text_bytes};
-ghost use Rattle.conf_state.specs.Commands.{import_as, edit_of};
-ghost use Rattle.conf_record.specs.RecordsRead.{values};
-ghost use Rattle.conf_record.specs.Reading.{AreKept, AreKeptElements, KeepsTree, edit_seen};
+ghost use Rattle.conf_session.specs.Prelude.{chars, IsKept, tree_of, members_of, elements_of, text_bytes, import_as};
+ghost use Rattle.conf_session.specs.Prelude.{edit_of, values, AreKept, AreKeptElements, KeepsTree, edit_seen};
 ghost use Rattle.conf_session.specs.Said.{as_part, part_from, part_of, parts_of, import_text, part_seen, parts_seen};
 ghost use Rattle.conf_session.specs.Requests.{IsReadAs, AreReadAs, RefusesPart, IsFirstRefused};
 

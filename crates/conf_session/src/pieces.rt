@@ -1,15 +1,12 @@
-// One piece: its command is performed, and its answer is kept or handed out.
-ghost use Rattle.std.specs.Prelude.{◌≡◌, ◌+◌, ◌^◌, ◌<◌, ◌++◌, [], true, false, None, OnOk, IfErr, length};
-ghost use Rattle.conf_session.specs.Gathering.{CanGoOn, CanTakeGroup, GathersPiece, HasRoomFor, IsAtPiece, LeavesPiece, PerformsPiece, unwritten_bytes};
+// One piece: its command is performed, and its answer is kept.
+ghost use Rattle.std.specs.Prelude.{◌≡◌, ◌+◌, ◌^◌, ◌<◌, ◌++◌, true, false, None, OnOk, IfErr, length};
+ghost use Rattle.conf_session.specs.Gathering.{GathersPiece, HasRoomFor, IsAtPiece, LeavesPiece, unwritten_bytes};
 ghost use Rattle.conf_session.specs.Input.{ahead, bytes_read, piece_or_rest};
-ghost use Rattle.conf_session.specs.Sinks.{SentSoFar};
-ghost use Rattle.conf_session.specs.Replies.{accepts, refuses, reply_bytes, CountsFailures, MeansPrefixes};
+ghost use Rattle.conf_session.specs.Replies.{accepts, refuses, reply_bytes, CountsFailures};
 
 use crate::fault::SessionFault;
-use crate::groups::flush_all;
 use crate::input::Input;
 use crate::reply::{Reply, answer_piece};
-use crate::sink::AnswerSink;
 use crate::unwritten::Unwritten;
 use conf_disk::Disk;
 use conf_store::Store;
@@ -79,31 +76,4 @@ pub(crate) fn submit_piece<D: Disk>(
     let reply = answer_piece(alloc, store, input.piece())?;
     answers.keep(reply);
     Ok(())
-}
-
-/// Performs the piece in hand as a group by itself: all that waits is flushed with it, and then its answer is handed
-/// out.
-///
-/// # Errors
-/// `Write`: the piece is performed, and `written` counts the bytes of all answers. `OutOfMemory`: the piece changed
-/// nothing. `Device`: its command is performed or not, and the store has to be opened again.
-pub(crate) fn perform_piece<D: Disk, S: AnswerSink<D>>(
-    alloc: Global,
-    store: &mut Store<D>,
-    input: &Input,
-    sink: &mut S,
-    answers: &mut Unwritten,
-) -> Result<(), SessionFault>
-    requires can { CanTakeGroup D.model store.old input.now answers.old }
-    requires none { unwritten_bytes answers.old ≡ [] }
-    requires sent { SentSoFar D.model (S.taken sink.old) store.old }
-    ensures performs { PerformsPiece D.model (S.taken sink.old) (S.taken sink.new)
-        input.now store.old store.new answers.old answers.new result }
-    ensures goes_on { OnOk result (CanGoOn input.now input.now answers.new) }
-    ensures means { MeansPrefixes D.model store.new }
-    ensures failures { CountsFailures D.model store.old store.new result }
-{
-    submit_piece(alloc, store, input, answers)?;
-    flush_all(store)?;
-    answers.put(store, sink)
 }

@@ -1,7 +1,6 @@
 // What is answered to one piece, and what is done for it.
 ghost use Rattle.std.specs.Prelude.{◌≡◌};
-ghost use Rattle.conf_state.specs.Commands.{command_of};
-ghost use Rattle.conf_conditions.specs.Conditions.{conditions_of};
+ghost use Rattle.conf_session.specs.Prelude.{command_of, conditions_of};
 ghost use Rattle.conf_session.specs.ReadChanges.{EndsByMemory, IfMet, IsRequest};
 ghost use Rattle.conf_session.specs.Requests.{Asks, MeansRequest, changing, checkpointing};
 ghost use Rattle.conf_session.specs.Said.{said_of};

@@ -1,7 +1,7 @@
 // A round: the commands of many clients, with one sync.
-ghost use Rattle.std.specs.Prelude.{◌≡◌, ◌<◌, ◌≤◌, ◌⊎◌, ◌↔◌, ◌++◌, ◌∷◌, [], true, false, length, IfOk, IfErr, OnOk, IsErrOf};
-ghost use Rattle.yaml_grammar.specs.Closings.{ClosesOnce};
-ghost use Rattle.conf_store.specs.Calls.{HasFailed};
+ghost use Rattle.std.specs.Prelude.{◌≡◌, ◌<◌, ◌≤◌, ◌⊎◌, ◌↔◌, ◌++◌, ◌∷◌, [], true, false, length, IfOk, IfErr, OnOk};
+ghost use Rattle.std.specs.Prelude.{IsErrOf};
+ghost use Rattle.conf_session.specs.Prelude.{ClosesOnce, HasFailed};
 ghost use Rattle.conf_session.specs.Replies.{Handles, MeansPrefixes, reply_bytes};
 ghost use Rattle.conf_session.specs.Rounds.{AnswersPiece, FailsPiece, RoundAsks, Rounds, answer_bytes, piece_bytes, round_fault};
 

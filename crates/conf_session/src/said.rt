@@ -1,14 +1,8 @@
 // What command documents say.
 ghost use Rattle.std.specs.Prelude.{◌≡◌, [], ◌∷◌, false, Some, IfOk, MatchOption};
-ghost use Rattle.std.specs.Str.{chars};
-ghost use Rattle.yaml_grammar.specs.Trees.{sequence, text};
-ghost use Rattle.yaml_config.specs.Kept.{IsKept};
-ghost use Rattle.yaml_data.specs.Seen.{tree_of, elements_of, members_of};
-ghost use Rattle.yaml_data.specs.TextBytes.{text_bytes};
-ghost use Rattle.conf_record.specs.RecordsRead.{values};
-ghost use Rattle.conf_record.specs.Reading.{AreKept, AreKeptElements};
+ghost use Rattle.conf_session.specs.Prelude.{chars, sequence, text, IsKept, tree_of, elements_of, members_of};
+ghost use Rattle.conf_session.specs.Prelude.{text_bytes, values, AreKept, AreKeptElements, conditions_of};
 ghost use Rattle.conf_session.specs.Said.{Says, said_by, part_from, part_said, parts_of, parts_said, batch_said};
-ghost use Rattle.conf_conditions.specs.Conditions.{conditions_of};
 ghost use Rattle.conf_session.specs.Said.{begins_with_if, change_said, conditional_said, with_conditions};
 ghost use Rattle.conf_session.specs.Said.{are_two_texts, get_said, export_said, names_said, checkpoint_said, is_empty_text, nothing};
 ghost use Rattle.conf_session.specs.Said.{said_of};

@@ -1,14 +1,12 @@
 // A session: commands in, answers out.
 ghost use Rattle.std.specs.Prelude.{◌≡◌, ◌≤◌, ◌⊎◌, ◌↔◌, true, IsErrOf};
-ghost use Rattle.conf_store.specs.Calls.{HasFailed};
+ghost use Rattle.conf_session.specs.Prelude.{HasFailed};
 ghost use Rattle.conf_session.specs.Runs.{Runs};
 ghost use Rattle.conf_session.specs.Streams.{streams_of};
 
 use crate::fault::SessionFault;
-use crate::input::Input;
-use crate::pieces::perform_piece;
+use crate::groups::{Grouping, run_groups};
 use crate::sink::AnswerSink;
-use crate::unwritten::Unwritten;
 use conf_disk::Disk;
 use conf_store::Store;
 use std::alloc::Global;
@@ -69,15 +67,5 @@ pub fn run<D: Disk, R: Read, S: AnswerSink<D>>(
         HasFailed (D.model.failure_count store.old.disk) (D.model.failure_count store.new.disk) }
     ensures risen { D.model.failure_count store.old.disk ≤ D.model.failure_count store.new.disk }
 {
-    if store.needs_reopen() {
-        return Err(SessionFault::Reopen);
-    }
-    let mut input = Input::new(alloc)?;
-    let mut answers = Unwritten::new(alloc);
-    'pieces: while input.advance(reader)? {
-        perform_piece(alloc, store, &input, sink, &mut answers)?;
-    }
-    let mut tally = answers.tally;
-    tally.rest = input.piece().len() as u64;
-    Ok(tally)
+    run_groups(alloc, store, reader, sink, Grouping::Each)
 }

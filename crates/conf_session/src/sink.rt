@@ -1,6 +1,6 @@
 // Where the answers of a session go.
 ghost use Rattle.std.specs.Prelude.{◌<◌, ℕ, List, Option, OnOk, IfErr, length, take};
-ghost use Rattle.std.specs.Io.KnownBytes.{Appends};
+ghost use Rattle.conf_session.specs.Prelude.{Appends};
 ghost use Rattle.conf_session.specs.Sinks.{AreAcknowledged};
 
 use conf_disk::Disk;

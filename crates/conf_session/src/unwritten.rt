@@ -1,7 +1,8 @@
 // The answers of a group, until they are written.
-ghost use Rattle.std.specs.Prelude.{◌≡◌, ◌+◌, ◌^◌, ◌<◌, ◌≤◌, ◌⊎◌, ◌↔◌, ◌++◌, true, [], None, if◌then◌else◌, OnOk, IfErr, IsSome, length, take};
-ghost use Rattle.std.specs.Io.KnownBytes.{Appends};
-ghost use Rattle.conf_session.specs.Gathering.{FailsToWrite, KeepsAnswer, WritesAnswers, answers_limit, last_bytes, unwritten_bytes};
+ghost use Rattle.std.specs.Prelude.{◌≡◌, ◌+◌, ◌^◌, ◌<◌, ◌≤◌, ◌⊎◌, ◌↔◌, ◌++◌, true, [], None, if◌then◌else◌, OnOk};
+ghost use Rattle.std.specs.Prelude.{IfErr, IsSome, length, take};
+ghost use Rattle.conf_session.specs.Prelude.{Appends};
+ghost use Rattle.conf_session.specs.Gathering.{FailsToWrite, KeepsAnswer, WritesAnswers, last_bytes, unwritten_bytes};
 ghost use Rattle.conf_session.specs.Sinks.{AreAcknowledged};
 
 use crate::fault::SessionFault;
@@ -13,18 +14,15 @@ use conf_disk::Disk;
 use conf_store::Store;
 use std::alloc::Global;
 
-/// The most bytes of answers that are kept, but for the last answer.
-const ANSWERS_LIMIT: usize = 65_536;
-
 /// Appends bytes to a text that keeps its limit. Returns whether it did: the text stays as it was if they would pass
 /// the limit, or if there is no memory.
-fn extend_within(text: &mut Vec<u8>, bytes: &[u8]) -> bool
-    requires { length text.old.items ≤ answers_limit }
+fn extend_within(limit: usize, text: &mut Vec<u8>, bytes: &[u8]) -> bool
+    requires { length text.old.items ≤ limit }
     ensures bytes { text.new.items
         ≡ (if result then text.old.items ++ bytes.now else text.old.items) }
-    ensures within { length text.new.items ≤ answers_limit }
+    ensures within { length text.new.items ≤ limit }
 {
-    if bytes.len() > ANSWERS_LIMIT - text.len() {
+    if bytes.len() > limit - text.len() {
         return false;
     }
     text.extend_from_slice(bytes).is_ok()
@@ -38,6 +36,27 @@ fn bytes_of_last(last: &Option<Reply>) -> &[u8]
         None => b"",
         Some(reply) => bytes_of(reply),
     }
+}
+
+/// Puts bytes, if there are any.
+///
+/// # Errors
+/// If not all bytes are taken: the number of those that are. These are the first ones.
+fn put_some<D: Disk, S: AnswerSink<D>>(
+    store: &Store<D>,
+    sink: &mut S,
+    bytes: &[u8],
+) -> Result<(), usize>
+    requires { AreAcknowledged D.model (S.taken sink.old) store.now bytes.now }
+    ensures whole { OnOk result (Appends (S.taken sink.old) (S.taken sink.new) bytes.now) }
+    ensures cut { IfErr result (λ count. count < length bytes.now) }
+    ensures prefix { IfErr result (λ count.
+        Appends (S.taken sink.old) (S.taken sink.new) (take count bytes.now)) }
+{
+    if bytes.is_empty() {
+        return Ok(());
+    }
+    sink.put(store, bytes)
 }
 
 /// Puts a text, and then further bytes.
@@ -59,13 +78,10 @@ fn put_both<D: Disk, S: AnswerSink<D>>(
     ensures prefix { IfErr result (λ count.
         Appends (S.taken sink.old) (S.taken sink.new) (take count (text.now ++ last.now))) }
 {
-    if let Err(count) = sink.put(store, text) {
+    if let Err(count) = put_some(store, sink, text) {
         return Err(count as u64);
     }
-    if last.is_empty() {
-        return Ok(());
-    }
-    match sink.put(store, last) {
+    match put_some(store, sink, last) {
         Ok(()) => Ok(()),
         Err(count) => Err(text.len() as u64 + count as u64),
     }
@@ -77,6 +93,8 @@ fn put_both<D: Disk, S: AnswerSink<D>>(
 /// one. After that none may follow before all are written.
 #[derive(Drop)]
 pub(crate) struct Unwritten {
+    /// The most bytes of the text.
+    pub limit: usize,
     pub text: Vec<u8>,
     pub last: Option<Reply>,
     pub tally: Tally,
@@ -84,8 +102,9 @@ pub(crate) struct Unwritten {
 }
 
 impl Unwritten {
-    /// No answers: nothing was done yet.
-    pub fn new(alloc: Global) -> Unwritten
+    /// No answers: nothing was done yet. The text will have at most so many bytes.
+    pub fn new(alloc: Global, limit: usize) -> Unwritten
+        ensures limit { result.limit ≡ limit }
         ensures text { result.text.items ≡ [] }
         ensures last { result.last ≡ None }
         ensures documents { result.tally.documents ≡ 0 }
@@ -100,6 +119,7 @@ impl Unwritten {
             rest: 0,
         };
         Unwritten {
+            limit,
             text: Vec::new(alloc),
             last: None,
             tally,
@@ -110,7 +130,7 @@ impl Unwritten {
     /// Keeps one answer more, and counts it. None may be kept apart.
     pub fn keep(&mut self, reply: Reply)
         requires no_last { self.old.last ≡ None }
-        requires within { length self.old.text.items ≤ answers_limit }
+        requires within { length self.old.text.items ≤ self.old.limit }
         requires room { self.old.tally.documents + 1 < 2 ^ 64 }
         requires accepted { self.old.tally.accepted ≤ self.old.tally.documents }
         requires refused { self.old.tally.refused ≤ self.old.tally.documents }
@@ -119,16 +139,16 @@ impl Unwritten {
         self.tally.documents += 1;
         self.tally.accepted += count_accepted(&reply);
         self.tally.refused += count_refused(&reply);
-        if !extend_within(&mut self.text, bytes_of(&reply)) {
+        if !extend_within(self.limit, &mut self.text, bytes_of(&reply)) {
             self.last = Some(reply);
         }
     }
 
-    /// Whether a group has to end: an answer is kept apart, or the text has 65,536 bytes.
+    /// Whether a group has to end: an answer is kept apart, or the text has as many bytes as it may.
     pub fn is_full(&self) -> bool
-        ensures { (result ≡ true) ↔ (IsSome self.now.last ⊎ (answers_limit ≤ length self.now.text.items)) }
+        ensures { (result ≡ true) ↔ (IsSome self.now.last ⊎ (self.now.limit ≤ length self.now.text.items)) }
     {
-        self.last.is_some() || self.text.len() >= ANSWERS_LIMIT
+        self.last.is_some() || self.text.len() >= self.limit
     }
 
     /// Hands all answers to a sink, and then keeps none. Their commands have to be flushed before.

@@ -1,6 +1,6 @@
 // The answers to refused requests. They are constants, and take no memory.
 ghost use Rattle.std.specs.Prelude.{◌≡◌};
-ghost use Rattle.yaml_recognizers.specs.Closings.{framed_text_bytes};
+ghost use Rattle.conf_session.specs.Prelude.{framed_text_bytes};
 ghost use Rattle.conf_session.specs.Answers.{answered, condition_answered, path_answered, read_answered, refusal, refusal_lines, word};
 
 use crate::fault::SessionFault;

@@ -1,32 +1,18 @@
 -- An edit inside a configuration on a draft: of one that the draft holds, or of a copy of the origin's.
-use Rattle.std.proofs.Common.{◌≡◌, ℕ, true, List, String, Global, Option, Some, None, option_map, is_some, string_bytes, MutBor, OnSome}
-use Rattle.std.proofs.Common.{Ok, sym, ap, subst, ◌∙◌}
-use Rattle.std.proofs.lemmas.Str.{IsUtf8-string_bytes}
-use Rattle.std.specs.Map.{lookup, set_value}
-use Rattle.std.specs.Option.{option_copied_mut}
-use Rattle.std.specs.Str.{chars}
-use Rattle.yaml_grammar.specs.Reads.{Good}
-use Rattle.yaml_grammar.specs.Trees as grammar
-use Rattle.yaml_data.specs.Seen.{tree_of}
+use Rattle.std.proofs.Common.{◌≡◌, ℕ, true, List, String, Global, Option, Some, None, option_map, is_some, string_bytes, MutBor, OnSome, Ok}
+use Rattle.std.proofs.Common.{sym, ap, subst, ◌∙◌}
+use Rattle.conf_state.proofs.Prelude.{IsUtf8-string_bytes, lookup, set_value, option_copied_mut, chars, Good, tree_of, Changes}
+use Rattle.conf_state.proofs.Prelude.{config_limits, Change}
 use Rattle.yaml_data.specs.declared.tree.Tree.{Tree}
-use Rattle.yaml_config.specs.Changes.{Changes}
-use Rattle.yaml_config.specs.Limits.{config_limits}
-use Rattle.yaml_config.specs.declared.change.Change.{Change}
 use Rattle.yaml_config.specs.declared.edit.Edit.{Edit as PathEdit}
-use Rattle.conf_state.specs.Commands.{text_of}
-use Rattle.conf_state.specs.Configs.{is_name, put_under}
+use Rattle.conf_state.specs.{Commands.text_of, Configs.is_name, Configs.put_under, Edits.configs_edited, Edits.edited_at, Kept.entries_of}
+use Rattle.conf_state.specs.{Kept.ArePlain, Names.good_name, declared.draft.Draft.Draft}
 use Rattle.conf_state.specs.Drafts.{cut_all, texts_of, drafted, ChangesOne, IsDraft, IsDraftOf}
-use Rattle.conf_state.specs.Edits.{configs_edited, edited_at}
-use Rattle.conf_state.specs.Kept.{entries_of, ArePlain}
-use Rattle.conf_state.specs.Names.{good_name}
 use Rattle.conf_state.specs.States.{Entry, config_named, put_config}
-use Rattle.conf_state.specs.declared.draft.Draft.{Draft}
-use Rattle.conf_state.proofs.DraftSteps.{put-made, put-kept}
-use Rattle.conf_state.proofs.EditLemmas.{found-good}
+use Rattle.conf_state.proofs.{DraftSteps.put-made, DraftSteps.put-kept, EditLemmas.found-good, NameLemmas.good_name-ascii}
+use Rattle.conf_state.proofs.{OriginLemmas.held-there, OriginLemmas.not-held, OriginLemmas.drafted-within, PlanningLemmas.edit-made}
 use Rattle.conf_state.proofs.EntryLemmas.{set_value-named, plain_set_value, put_under-named, plain_put_under}
-use Rattle.conf_state.proofs.NameLemmas.{good_name-ascii}
-use Rattle.conf_state.proofs.OriginLemmas.{held-there, not-held, drafted-within}
-use Rattle.conf_state.proofs.PlanningLemmas.{edit-made}
+use Rattle.yaml_grammar.specs.Trees as grammar
 
 -- what a draft holds once a tree is under a name
 pub record IsPutIn (draft : Draft) (touched : List (String Global × Tree)) (name : String Global) (t : Tree) : Type 0 where

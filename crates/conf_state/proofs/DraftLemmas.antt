@@ -1,14 +1,10 @@
 -- Configurations that are removed and put in one after the other.
-use Rattle.std.proofs.Common.{◌≡◌, ℕ, Bool, true, false, not, ◌||◌, if◌then◌else◌, List, [], ◌∷◌, ◌++◌, Some, None}
-use Rattle.std.proofs.Common.{is_some, refl, sym, ap, ◌∙◌}
-use Rattle.std.proofs.lemmas.Bool.{and_parts, and_from}
-use Rattle.yaml_grammar.specs.Texts.{same_text}
-use Rattle.yaml_grammar.specs.Trees.{Tree}
-use Rattle.yaml_data.proofs.CharacterLemmas.{same_text-true, same_text-self}
+use Rattle.std.proofs.Common.{◌≡◌, ℕ, Bool, true, false, not, ◌||◌, if◌then◌else◌, List, [], ◌∷◌, ◌++◌, Some, None, is_some, refl, sym, ap}
+use Rattle.std.proofs.Common.{◌∙◌}
+use Rattle.conf_state.proofs.Prelude.{and_parts, and_from, same_text, Tree, same_text-true, same_text-self}
 use Rattle.conf_state.specs.Drafts.{cut_all, put_all}
 use Rattle.conf_state.specs.States.{Entry, names_of, config_named, put_config, cut_config, has_name, names_differ}
-use Rattle.conf_state.proofs.LimitLemmas.{names_differ-cut, other_way}
-use Rattle.conf_state.proofs.PlaceLemmas.{is_none}
+use Rattle.conf_state.proofs.{LimitLemmas.names_differ-cut, LimitLemmas.other_way, PlaceLemmas.is_none}
 
 -- ---- names
 

@@ -1,29 +1,17 @@
 -- What a put and a removal make of a draft.
-use Rattle.std.proofs.Common.{◌≡◌, ℕ, Bool, true, false, ◌||◌, if◌then◌else◌, List, [], ◌∷◌, ◌++◌, String, Global}
-use Rattle.std.proofs.Common.{Option, Some, None, option_map, IfSome, Bor, string_bytes, IsUtf8, refl, sym, ap, subst}
-use Rattle.std.proofs.Common.{◌∙◌}
-use Rattle.std.proofs.lemmas.Str.{IsUtf8-string_bytes}
-use Rattle.std.specs.List.{list_any}
-use Rattle.std.specs.Str.{chars}
-use Rattle.std.specs.String.{string_eq}
+use Rattle.std.proofs.Common.{◌≡◌, ℕ, Bool, true, false, ◌||◌, if◌then◌else◌, List, [], ◌∷◌, ◌++◌, String, Global, string_bytes, IsUtf8}
+use Rattle.std.proofs.Common.{refl, sym, ap, subst, ◌∙◌}
+use Rattle.conf_state.proofs.Prelude.{IsUtf8-string_bytes, list_any, chars, string_eq, Good, same_text, config_limits}
 use Rattle.indexmap.specs.IndexSet.{insert_key}
-use Rattle.yaml_grammar.specs.Reads.{Good}
-use Rattle.yaml_grammar.specs.Texts.{same_text}
-use Rattle.yaml_grammar.specs.Trees as grammar
-use Rattle.yaml_data.specs.Seen.{tree_of}
 use Rattle.yaml_data.specs.declared.tree.Tree.{Tree}
-use Rattle.yaml_config.specs.Limits.{config_limits}
-use Rattle.conf_state.specs.Commands.{text_of}
-use Rattle.conf_state.specs.Configs.{is_name, cut_from}
+use Rattle.conf_state.specs.{Commands.text_of, Configs.is_name, Configs.cut_from, Kept.entries_of, Kept.ArePlain, Limits.AreConfigs}
+use Rattle.conf_state.specs.{Names.good_name, declared.draft.Draft.Draft}
 use Rattle.conf_state.specs.Drafts.{cut_all, put_all, texts_of, drafted, IsDraft}
-use Rattle.conf_state.specs.Kept.{entries_of, ArePlain}
-use Rattle.conf_state.specs.Limits.{AreConfigs}
-use Rattle.conf_state.specs.Names.{good_name}
 use Rattle.conf_state.specs.States.{Entry, names_of, put_config, cut_config, has_name, names_differ}
-use Rattle.conf_state.specs.declared.draft.Draft.{Draft}
 use Rattle.conf_state.proofs.DraftLemmas.{put_all-put, cut-put_all, cut-none, cut_all-append, named-cut_all-gone, names_differ-push}
 use Rattle.conf_state.proofs.EntryLemmas.{same_key, cut_from-named, plain_cut_from}
 use Rattle.conf_state.proofs.LimitLemmas.{names_differ-put, names_differ-cut, AreConfigs-put, AreConfigs-cut}
+use Rattle.yaml_grammar.specs.Trees as grammar
 
 -- ---- removed names
 
@@ -108,10 +96,3 @@ is_cut old new name kept cut keys =
     }
 
 -- ---- options
-
--- what holds of a tree that is found holds of the configuration that has it
-pub found-holds : (P : grammar.Tree → Type 0) (result : Option (Bor Tree)) (o : Option grammar.Tree)
-    → option_map (λ config. tree_of config.now) result ≡ o
-    → ((t : grammar.Tree) → o ≡ Some t → P t) → IfSome result (λ config. P (tree_of config.now))
-found-holds P None o is so = tt
-found-holds P (Some config) o is so = so (tree_of config.now) (sym is)

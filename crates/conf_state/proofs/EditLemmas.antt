@@ -1,46 +1,24 @@
 -- What an edit inside a configuration makes of a state's configurations and of their length.
-use Rattle.std.proofs.Common.{inl, inr, ◌⊎◌, ◌==◌, length, ◌≡◌, ℕ, ◌+◌, ◌*◌, ◌<◌, ◌≤◌, nat_le, Bool, true, false}
-use Rattle.std.proofs.Common.{if◌then◌else◌, List, [], ◌∷◌, ◌++◌, Option, Some, None, is_some, option_map, Result, Ok, Err}
-use Rattle.std.proofs.Common.{String, Global, IsUtf8, refl, sym, ap, subst, ◌∙◌, arith}
-use Rattle.std.proofs.lemmas.Bool.Decides.{nat_tests}
-use Rattle.std.specs.Map.{lookup}
-use Rattle.std.specs.Str.{chars}
-use Rattle.yaml_grammar.specs.Reads.{Good}
-use Rattle.yaml_grammar.specs.Texts.{byte_len, spaces, same_text}
-use Rattle.yaml_grammar.specs.Trees as grammar
-use Rattle.yaml_grammar.specs.Trees.{depth}
-use Rattle.yaml_grammar.specs.Style.{style_text, key_lines, value_at}
-use Rattle.yaml_writer.specs.BudgetLaws.{byte_len-append}
-use Rattle.yaml_data.proofs.CharacterLemmas.{same_text-true}
-use Rattle.yaml_data.specs.Seen.{tree_of}
-use Rattle.yaml_writer.specs.Sizes.{length_at}
+use Rattle.std.proofs.Common.{inl, inr, ◌⊎◌, ◌==◌, length, ◌≡◌, ℕ, ◌+◌, ◌*◌, ◌<◌, ◌≤◌, nat_le, Bool, true, false, if◌then◌else◌, List, []}
+use Rattle.std.proofs.Common.{◌∷◌, ◌++◌, Option, Some, None, is_some, option_map, Result, Ok, Err, String, Global, IsUtf8, refl, sym, ap}
+use Rattle.std.proofs.Common.{subst, ◌∙◌, arith}
+use Rattle.conf_state.proofs.Prelude.{nat_tests, lookup, chars, Good, byte_len, spaces, same_text, depth, style_text, key_lines, value_at}
+use Rattle.conf_state.proofs.Prelude.{byte_len-append, same_text-true, tree_of, length_at, Changes, path_of, pointer_text, slash}
+use Rattle.conf_state.proofs.Prelude.{first_stray, tokens_or_place, chars-nil, encodes-chars, Change, PathFault, config_limits, Edit}
 use Rattle.yaml_data.specs.declared.tree.Tree.{Tree}
 use Rattle.yaml_writer.proofs.SizeLaws.{value_law}
 use Rattle.yaml_writer.proofs.SizeBounds.{value_bound, value_small}
-use Rattle.yaml_config.specs.Changes.{Changes}
-use Rattle.json_pointer.specs.Pointers.{path_of, pointer_text, slash, first_stray, tokens_or_place}
-use Rattle.json_pointer.specs.declared.fault.PathFault.TheVariants as path_faults
-use Rattle.std.proofs.lemmas.Str.{chars-nil, encodes-chars}
 use lib.Utf8.{encodes}
-use Rattle.yaml_config.specs.declared.change.Change.{Change}
-use Rattle.json_pointer.specs.declared.fault.PathFault.{PathFault}
-use Rattle.conf_state.specs.Configs.{is_name}
-use Rattle.conf_state.specs.BaseTexts.{entry_length, entries_length}
-use Rattle.conf_state.specs.Edits.{configs_with_edit, configs_after_edit, configs_edited, absence}
-use Rattle.conf_state.specs.Kept.{entries_of, ArePlain}
-use Rattle.conf_state.specs.Names.{good_name}
-use Rattle.conf_state.specs.Limits.{AreConfigs}
-use Rattle.conf_state.specs.PathFaults.{store_fault_of}
-use Rattle.conf_state.specs.States.{Entry, base_limit, config_named, put_config, cut_config}
-use Rattle.yaml_config.specs.Limits.{config_limits}
-use Rattle.yaml_config.specs.declared.edit.Edit.{Edit}
 use Rattle.yaml_config.specs.declared.edit.Edit.TheVariants.{Delete}
-use Rattle.conf_state.specs.Steps.{and_then, by_path, found, configs_after, configs_after_delete}
-use Rattle.conf_state.specs.Commands.{delete_at}
-use Rattle.conf_state.specs.declared.fault.StoreFault.TheVariants.{OutOfMemory}
-use Rattle.conf_state.proofs.EntryLemmas.{lookup-named}
+use Rattle.conf_state.specs.{Configs.is_name, BaseTexts.entry_length, BaseTexts.entries_length, Edits.configs_with_edit}
+use Rattle.conf_state.specs.{Edits.configs_after_edit, Edits.configs_edited, Edits.absence, Kept.entries_of, Kept.ArePlain, Names.good_name}
+use Rattle.conf_state.specs.{Limits.AreConfigs, PathFaults.store_fault_of, States.Entry, States.base_limit, States.config_named}
+use Rattle.conf_state.specs.{States.put_config, States.cut_config, Steps.and_then, Steps.by_path, Steps.found, Steps.configs_after}
+use Rattle.conf_state.specs.{Steps.configs_after_delete, Commands.delete_at, declared.fault.StoreFault.TheVariants.OutOfMemory}
+use Rattle.conf_state.proofs.{EntryLemmas.lookup-named, StepLemmas.by_absence}
 use Rattle.conf_state.proofs.LimitLemmas.{entries_length-found, entries_length-put}
-use Rattle.conf_state.proofs.StepLemmas.{by_absence}
+use Rattle.yaml_grammar.specs.Trees as grammar
+use Rattle.json_pointer.specs.declared.fault.PathFault.TheVariants as path_faults
 
 -- a configuration under a name keeps the limits
 pub named-good : (es : List Entry) (name : List ℕ) (t : grammar.Tree) → AreConfigs es → config_named es name ≡ Some t → Good t config_limits

@@ -1,21 +1,13 @@
 -- What the map's calls do to a state's configurations.
-use Rattle.std.proofs.Common.{◌≡◌, ℕ, Bool, true, false, cond, if◌then◌else◌, List, [], ◌∷◌, String, Global, Option}
-use Rattle.std.proofs.Common.{Some, option_map, string_bytes, bytes_eq, IsUtf8, IsAscii, encode_utf8_all, refl, sym}
-use Rattle.std.proofs.Common.{ap, ◌∙◌}
-use Rattle.std.proofs.lemmas.Bool.Decides.{same_from_decides}
-use Rattle.std.proofs.lemmas.Slice.Eq.{bytes_eq-Decides}
-use Rattle.std.proofs.lemmas.Str.{encodes-chars, IsUtf8-string_bytes}
+use Rattle.std.proofs.Common.{◌≡◌, ℕ, Bool, true, false, cond, if◌then◌else◌, List, [], ◌∷◌, String, Global, Option, Some, option_map}
+use Rattle.std.proofs.Common.{string_bytes, bytes_eq, IsUtf8, IsAscii, encode_utf8_all, refl, sym, ap, ◌∙◌}
+use Rattle.conf_state.proofs.Prelude.{same_from_decides, bytes_eq-Decides, encodes-chars, IsUtf8-string_bytes, lookup, set_value, chars}
+use Rattle.conf_state.proofs.Prelude.{same_text, tree_of, same_text-Decides}
 use Rattle.std.specs.Bool.{Decides}
-use Rattle.std.specs.Map.{lookup, set_value}
-use Rattle.std.specs.Str.{chars}
-use Rattle.yaml_grammar.specs.Texts.{same_text}
-use Rattle.yaml_grammar.specs.Trees as grammar
-use Rattle.yaml_data.specs.Seen.{tree_of}
 use Rattle.yaml_data.specs.declared.tree.Tree.{Tree}
-use Rattle.yaml_data.proofs.CharacterLemmas.{same_text-Decides}
-use Rattle.conf_state.specs.Configs.{is_name, put_under, cut_from}
+use Rattle.conf_state.specs.{Configs.is_name, Configs.put_under, Configs.cut_from, Kept.entries_of, Kept.ArePlain}
 use Rattle.conf_state.specs.States.{Entry, config_named, put_config, cut_config}
-use Rattle.conf_state.specs.Kept.{entries_of, ArePlain}
+use Rattle.yaml_grammar.specs.Trees as grammar
 
 -- texts that differ differ in a character
 same_chars : (q k : List ℕ) → IsUtf8 q → IsUtf8 k → Decides (same_text (chars q) (chars k)) (q ≡ k)

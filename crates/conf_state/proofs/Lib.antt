@@ -1,3 +1,4 @@
+pub mod Prelude
 pub mod BaseLemmas
 pub mod CopyLemmas
 pub mod CountLemmas

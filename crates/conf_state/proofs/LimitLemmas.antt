@@ -1,15 +1,8 @@
 -- What putting in and taking out a configuration does to lengths and names, and that the limits of a state stay kept.
 use Rattle.std.proofs.Common.{◌≡◌, ℕ, ◌+◌, Bool, true, false, not, if◌then◌else◌, List, [], ◌∷◌, Some, None, refl, ap, ◌∙◌, arith}
-use Rattle.std.proofs.lemmas.Bool.{and_parts, false_from_ne_true}
-use Rattle.yaml_grammar.specs.Texts.{same_text}
-use Rattle.yaml_grammar.specs.Trees.{Tree}
-use Rattle.yaml_grammar.specs.Reads.{Good}
-use Rattle.yaml_data.proofs.CharacterLemmas.{same_text-true, same_text-self}
-use Rattle.conf_state.specs.Names.{good_name}
+use Rattle.conf_state.proofs.Prelude.{and_parts, false_from_ne_true, same_text, Tree, Good, same_text-true, same_text-self, config_limits}
+use Rattle.conf_state.specs.{Names.good_name, BaseTexts.entry_length, BaseTexts.entries_length, Limits.AreConfigs}
 use Rattle.conf_state.specs.States.{Entry, names_of, config_named, put_config, cut_config, has_name, names_differ}
-use Rattle.yaml_config.specs.Limits.{config_limits}
-use Rattle.conf_state.specs.BaseTexts.{entry_length, entries_length}
-use Rattle.conf_state.specs.Limits.{AreConfigs}
 
 -- ---- lengths
 

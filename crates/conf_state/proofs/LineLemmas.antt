@@ -1,13 +1,7 @@
 -- The lines of a document, as they are written one after another.
 use Rattle.std.proofs.Common.{◌≡◌, ℕ, ◌<◌, true, nat_lt, List, [], ◌++◌, codes, append-nil, append_assoc, ap, sym, ◌∙◌, arith}
-use Rattle.std.proofs.lemmas.Bool.Decides.{nat_tests}
-use Rattle.std.proofs.lemmas.Str.{chars-IsAscii}
-use Rattle.std.specs.Str.{chars}
-use Rattle.std.specs.Str.Parse.{AllDigits}
-use Rattle.std.specs.List.{list_all}
-use Rattle.yaml_grammar.specs.Trees.{Tree, text, no_member, member}
-use Rattle.yaml_grammar.specs.Style.{key_lines, value_at, members_after}
-use Rattle.yaml_data.proofs.CharacterLemmas.{every-IsAscii}
+use Rattle.conf_state.proofs.Prelude.{nat_tests, chars-IsAscii, chars, AllDigits, list_all, Tree, text, no_member, member, key_lines}
+use Rattle.conf_state.proofs.Prelude.{value_at, members_after, every-IsAscii}
 use Rattle.conf_state.proofs.BaseLemmas.{count_line}
 
 -- ASCII, by a test that computes
@@ -24,12 +18,6 @@ line key t = key_lines 0 key ++ value_at t 0
 -- the lines of two members
 pub two_lines : (k l : List ℕ) (t u : Tree) → line k t ++ line l u ≡ members_after (member k t (member l u no_member)) 0
 two_lines k l t u = ap (λ xs. line k t ++ xs) (sym (append-nil (line l u)))
-
--- the lines of three members
-pub three_lines : (k l m : List ℕ) (t u v : Tree)
-    → line k t ++ line l u ++ line m v ≡ members_after (member k t (member l u (member m v no_member))) 0
-three_lines k l m t u v =
-    append_assoc (line k t) (line l u) (line m v) ∙ ap (λ xs. line k t ++ xs) (two_lines l m u v)
 
 -- the line of a number, with its digits in quotes
 pub number_line : (ds : List ℕ) → AllDigits 10 ds → codes "at: \"" ++ ds ++ codes "\"\n" ≡ line (codes "at") (text ds)

@@ -1,12 +1,8 @@
 -- The names of what a draft makes of configurations.
-use Rattle.std.proofs.Common.{◌≡◌, ℕ, Bool, true, false, not, ◌||◌, if◌then◌else◌, List, [], ◌∷◌, ◌++◌, append-nil, append_assoc}
-use Rattle.std.proofs.Common.{String, Global, map, length, refl, sym, ap, ◌∙◌, arith}
-use Rattle.std.proofs.lemmas.Bool.{and_parts}
-use Rattle.yaml_grammar.specs.Texts.{same_text}
-use Rattle.yaml_grammar.specs.Trees.{Tree}
-use Rattle.yaml_data.proofs.CharacterLemmas.{same_text-true, same_text-self}
-use Rattle.conf_state.specs.Commands.{text_of}
-use Rattle.conf_state.specs.Drafts.{cut_all, put_all}
+use Rattle.std.proofs.Common.{◌≡◌, ℕ, Bool, true, false, not, ◌||◌, if◌then◌else◌, List, [], ◌∷◌, ◌++◌, append-nil, append_assoc, String}
+use Rattle.std.proofs.Common.{Global, map, length, refl, sym, ap, ◌∙◌, arith}
+use Rattle.conf_state.proofs.Prelude.{and_parts, same_text, Tree, same_text-true, same_text-self}
+use Rattle.conf_state.specs.{Commands.text_of, Drafts.cut_all, Drafts.put_all}
 use Rattle.conf_state.specs.States.{Entry, names_of, put_config, cut_config, has_name, names_differ}
 use Rattle.conf_state.proofs.LimitLemmas.{names_differ-cut, other_way}
 

@@ -1,11 +1,6 @@
 -- A name's characters are ASCII, and so they are its bytes.
 use Rattle.std.proofs.Common.{◌≡◌, ℕ, ◌<◌, true, ◌&&◌, nat_le, List, length, IsAscii, IsUtf8, subst, arith}
-use Rattle.std.proofs.lemmas.Bool.{and_parts}
-use Rattle.std.proofs.lemmas.Bool.Decides.{nat_tests}
-use Rattle.std.specs.Str.{chars}
-use Rattle.std.specs.List.{list_all}
-use Rattle.yaml_grammar.specs.Texts.{first}
-use Rattle.yaml_data.proofs.CharacterLemmas.{every-IsAscii, chars-same}
+use Rattle.conf_state.proofs.Prelude.{and_parts, nat_tests, chars, list_all, first, every-IsAscii, chars-same}
 use Rattle.conf_state.specs.Names.{small_letter, name_char, good_name}
 
 -- a character of a name is ASCII

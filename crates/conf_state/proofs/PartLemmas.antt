@@ -1,28 +1,18 @@
 -- A state from its parts: what holds of the configurations so far, and why there is no state with one that is unfit.
-use Rattle.std.proofs.Common.{length, ◌≡◌, ◌≤◌, inl, inr, ℕ, ◌+◌, min, Bool, true, false, not, ◌||◌, if◌then◌else◌}
-use Rattle.std.proofs.Common.{List, [], ◌∷◌, ◌++◌, String, Global, Option, Some, None, is_some, nat_lt, Result, Ok}
-use Rattle.std.proofs.Common.{Err, OnOk, IfErr, is_err, ◌<◌, ◌^◌, append-nil, refl, sym, ap, subst, ◌∙◌, append_assoc}
-use Rattle.std.proofs.Common.{arith}
-use Rattle.std.proofs.lemmas.Bool.{and_parts}
-use Rattle.yaml_grammar.specs.Trees as grammar
-use Rattle.yaml_grammar.specs.Reads.{Good}
-use Rattle.yaml_grammar.specs.Texts.{byte_len, same_text}
-use Rattle.yaml_grammar.specs.Trees.{depth}
-use Rattle.yaml_grammar.specs.Style.{style_text}
+use Rattle.std.proofs.Common.{length, ◌≡◌, ◌≤◌, inl, inr, ℕ, ◌+◌, min, Bool, true, false, not, ◌||◌, if◌then◌else◌, List, [], ◌∷◌, ◌++◌}
+use Rattle.std.proofs.Common.{String, Global, Option, Some, None, is_some, nat_lt, Result, Ok, Err, OnOk, IfErr, is_err, ◌<◌, ◌^◌}
+use Rattle.std.proofs.Common.{append-nil, refl, sym, ap, subst, ◌∙◌, append_assoc, arith}
+use Rattle.conf_state.proofs.Prelude.{and_parts, Good, byte_len, same_text, depth, style_text, same_text-true, same_text-self}
+use Rattle.conf_state.proofs.Prelude.{config_limits, nat_tests}
 use Rattle.yaml_data.specs.declared.tree.Tree.{Tree}
-use Rattle.yaml_data.proofs.CharacterLemmas.{same_text-true, same_text-self}
-use Rattle.conf_state.specs.Names.{good_name}
+use Rattle.conf_state.specs.{Names.good_name, Limits.AreConfigs, Limits.IsState, Steps.checked_tree, declared.fault.StoreFault.StoreFault}
+use Rattle.conf_state.specs.{declared.fault.StoreFault.TheVariants.TooDeep, declared.fault.StoreFault.TheVariants.ConfigLarge}
 use Rattle.conf_state.specs.States.{Entry, Contents, base_limit, names_of, config_named, put_config, has_name, names_differ}
-use Rattle.yaml_config.specs.Limits.{config_limits}
 use Rattle.conf_state.specs.BaseTexts.{base_length, entries_length, framed_length}
-use Rattle.conf_state.proofs.BaseLemmas.{base_length-framed, entries_length-short}
-use Rattle.std.proofs.lemmas.Bool.Decides.{nat_tests}
-use Rattle.conf_state.specs.Limits.{AreConfigs, IsState}
-use Rattle.conf_state.specs.Steps.{checked_tree}
-use Rattle.conf_state.specs.declared.fault.StoreFault.{StoreFault}
-use Rattle.conf_state.specs.declared.fault.StoreFault.TheVariants.{TooDeep, ConfigLarge}
 use Rattle.conf_state.specs.Kept.{entries_of, ArePlain, IsKept, Appended, IsUnfit}
+use Rattle.conf_state.proofs.BaseLemmas.{base_length-framed, entries_length-short}
 use Rattle.conf_state.proofs.LimitLemmas.{entries_length-put, entries_length-absent, names_differ-put, AreConfigs-put}
+use Rattle.yaml_grammar.specs.Trees as grammar
 
 -- a new name goes last
 pub put_absent : (es : List Entry) (name : List ℕ) (t : grammar.Tree) → config_named es name ≡ None

@@ -1,16 +1,10 @@
 -- What changes of the places make of the configurations.
-use Rattle.std.proofs.Common.{◌≡◌, ℕ, Bool, true, false, cond, List, [], ◌∷◌, filter, String, Global, Option, Some}
-use Rattle.std.proofs.Common.{None, is_some, string_bytes, MutBor, OnSome, OnErr, Result, Ok, Err, refl, sym, ap, ◌∙◌}
-use Rattle.std.proofs.lemmas.Map.Steps.{set_value_same}
+use Rattle.std.proofs.Common.{◌≡◌, ℕ, Bool, true, false, cond, List, [], ◌∷◌, filter, String, Global, Option, Some, None, is_some}
+use Rattle.std.proofs.Common.{string_bytes, MutBor, OnSome, OnErr, Result, Ok, Err, refl, sym, ap, ◌∙◌}
+use Rattle.conf_state.proofs.Prelude.{set_value_same, bytes_eq-Decides, AllByRecursion, IsDistinct, keys_of, lookup, set_value}
+use Rattle.conf_state.proofs.Prelude.{option_copied_mut, string_eq, insert_entry}
 use Rattle.std.proofs.lemmas.Map.Keys.{IsDistinct-head, IsDistinct-tail}
-use Rattle.std.proofs.lemmas.Slice.Eq.{bytes_eq-Decides}
-use Rattle.std.specs.List.{AllByRecursion, IsDistinct}
-use Rattle.std.specs.Map.{keys_of, lookup, set_value}
-use Rattle.std.specs.Option.{option_copied_mut}
-use Rattle.std.specs.String.{string_eq}
-use Rattle.indexmap.specs.IndexMap.{insert_entry}
-use Rattle.conf_state.specs.Configs.{is_name, put_under, cut_from}
-use Rattle.conf_state.specs.Places.{with_place, present}
+use Rattle.conf_state.specs.{Configs.is_name, Configs.put_under, Configs.cut_from, Places.with_place, Places.present}
 
 -- what is found in a place
 abbrev pub in_place : {X : Type 0} → Option (Option X) → Option X
@@ -168,8 +162,3 @@ some_value (Some a) is = (a, refl)
 pub on_err : {A E P : Type 0} (r : Result A E) → P → OnErr r P
 on_err (Ok a) p = tt
 on_err (Err e) p = p
-
--- a reference is there exactly if its value is
-pub is_some-copied : {A : Type 0} (o : Option (MutBor A)) → is_some o ≡ is_some (option_copied_mut o)
-is_some-copied None = refl
-is_some-copied (Some r) = refl

@@ -1,13 +1,10 @@
 -- Runs of commands: what they count, and that one run is two in a row.
-use Rattle.std.proofs.Common.{◌≡◌, ◌+◌, Bool, true, false, nat_le, nat_lt, if◌then◌else◌, List, [], ◌∷◌, ◌++◌, length}
-use Rattle.std.proofs.Common.{Result, Ok, Err, refl, sym, ap, arith}
-use Rattle.conf_state.specs.Commands.{Command}
+use Rattle.std.proofs.Common.{◌≡◌, ◌+◌, Bool, true, false, nat_le, nat_lt, if◌then◌else◌, List, [], ◌∷◌, ◌++◌, length, Result, Ok, Err}
+use Rattle.std.proofs.Common.{refl, sym, ap, arith}
+use Rattle.conf_state.specs.{Commands.Command, BaseTexts.base_length, declared.fault.StoreFault.StoreFault, declared.room.Room.Room}
 use Rattle.conf_state.specs.States.{Entry, Contents, base_limit, count_limit}
-use Rattle.conf_state.specs.BaseTexts.{base_length}
 use Rattle.conf_state.specs.Steps.{and_then, performed, with_room, next_state, step, after}
-use Rattle.conf_state.specs.declared.fault.StoreFault.{StoreFault}
 use Rattle.conf_state.specs.declared.fault.StoreFault.TheVariants.{StoreFull, CountFull}
-use Rattle.conf_state.specs.declared.room.Room.{Room}
 use Rattle.conf_state.specs.declared.room.Room.TheVariants.{Enough, LongRecord, Missing}
 
 -- a state that is the answer of a call and of another after it

@@ -1,22 +1,13 @@
 -- What edits make that put in or take out a whole configuration, or are refused before any change; and batches.
-use Rattle.std.proofs.Common.{◌≡◌, ℕ, ◌<◌, ◌≤◌, ◌==◌, Bool, true, false, List, [], ◌∷◌, ◌++◌, length, Option, Some}
-use Rattle.std.proofs.Common.{if◌then◌else◌, None, option_map, option_to_list, is_some, Result, Ok, Err, length-append, refl, ap}
-use Rattle.std.proofs.Common.{◌∙◌, arith}
-use Rattle.std.proofs.lemmas.Bool.Decides.{nat_tests}
-use Rattle.yaml_grammar.specs.Style.{style_text}
-use Rattle.yaml_grammar.specs.Texts.{byte_len}
-use Rattle.yaml_grammar.specs.Trees.{Tree, depth}
-use Rattle.yaml_config.specs.Limits.{config_limits}
+use Rattle.std.proofs.Common.{◌≡◌, ℕ, ◌<◌, ◌≤◌, ◌==◌, Bool, true, false, List, [], ◌∷◌, ◌++◌, length, Option, Some, if◌then◌else◌, None}
+use Rattle.std.proofs.Common.{option_map, option_to_list, is_some, Result, Ok, Err, length-append, refl, ap, ◌∙◌, arith}
+use Rattle.conf_state.proofs.Prelude.{nat_tests, style_text, byte_len, Tree, depth, config_limits}
+use Rattle.conf_state.specs.{Edits.absence, Names.good_name, declared.fault.StoreFault.StoreFault, declared.room.Room.Room}
 use Rattle.conf_state.specs.Commands.{Edit, import_as, set_at, delete_at, single, batch, name_of}
-use Rattle.conf_state.specs.Edits.{absence}
-use Rattle.conf_state.specs.Names.{good_name}
 use Rattle.conf_state.specs.States.{Entry, Contents, config_named, put_config, cut_config}
 use Rattle.conf_state.specs.Steps.{and_then, found, checked_tree, with_checked_config, configs_after, edited, all_edited, next_state, step}
-use Rattle.conf_state.specs.declared.fault.StoreFault.{StoreFault}
-use Rattle.conf_state.specs.declared.room.Room.{Room}
 use Rattle.conf_state.specs.declared.fault.StoreFault.TheVariants.{BadName, NoConfig, TooDeep, ConfigLarge}
-use Rattle.conf_state.proofs.CountLemmas.{lt-true, lt-false}
-use Rattle.conf_state.proofs.PlaceLemmas.{is_none}
+use Rattle.conf_state.proofs.{CountLemmas.lt-true, CountLemmas.lt-false, PlaceLemmas.is_none}
 
 -- ---- the limits of a configuration, in their order
 

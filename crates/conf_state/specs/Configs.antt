@@ -1,7 +1,6 @@
 -- Configurations with their names, in order.
 use Rattle.std.specs.Prelude.{ℕ, Bool, cond, List, [], ◌∷◌, String, string_bytes}
-use Rattle.std.specs.declared.alloc.Global.{Global}
-use Rattle.std.specs.Str.{bytes_eq}
+use Rattle.conf_state.specs.Prelude.{Global, bytes_eq}
 
 -- the name is this text
 abbrev pub is_name : List ℕ → String Global → Bool

@@ -1,8 +1,7 @@
 -- A configuration of a state by itself, as a base text has it.
 use Rattle.std.specs.Prelude.{ℕ, List, [], Option, Some, None}
-use Rattle.yaml_grammar.specs.Trees.{Tree}
-use Rattle.conf_state.specs.States.{Entry, config_named}
-use Rattle.conf_state.specs.BaseTexts.{entry_lines}
+use Rattle.conf_state.specs.Prelude.{Tree}
+use Rattle.conf_state.specs.{States.Entry, States.config_named, BaseTexts.entry_lines}
 
 -- the lines of a configuration, if there is one
 abbrev pub lines_if_there : List ℕ → Option Tree → List ℕ

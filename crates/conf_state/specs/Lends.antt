@@ -1,12 +1,9 @@
 -- What the configurations end as, once a `&mut` into them has ended.
 use Rattle.std.specs.Prelude.{◌≡◌, ℕ, List, Option, String, OnSome}
-use Rattle.std.specs.Borrow.{MutBor, Fml, LendsSo}
-use Rattle.std.specs.declared.alloc.Global.{Global}
-use Rattle.std.specs.Map.{set_value}
+use Rattle.conf_state.specs.Prelude.{MutBor, Fml, LendsSo, Global, set_value}
 use Rattle.yaml_data.specs.declared.tree.Tree.{Tree}
+use Rattle.conf_state.specs.{Configs.is_name, contracts.configs.Configs.the_row}
 use Rattle.yaml_config.specs.contracts.config.Config as config
-use Rattle.conf_state.specs.Configs.{is_name}
-use Rattle.conf_state.specs.contracts.configs.Configs.{the_row}
 
 -- the name has the last configuration written through r, and at `None` all stay as they are
 abbrev pub lends_config : MutBor (List (String Global × Tree)) → List ℕ → Option (MutBor Tree) → Fml

@@ -1,3 +1,4 @@
+pub mod Prelude
 pub mod BaseTexts
 pub mod Edits
 pub mod Kept

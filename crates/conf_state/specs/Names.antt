@@ -1,8 +1,7 @@
 -- Names of configurations.
 use Rattle.std.specs.Prelude.{ℕ, Bool, ◌&&◌, ◌||◌, nat_le, List, length, codes}
+use Rattle.conf_state.specs.Prelude.{list_all, first}
 use Rattle.yaml_chars.specs.Classes.{in_range, is_in}
-use Rattle.std.specs.List.{list_all}
-use Rattle.yaml_grammar.specs.Texts.{first}
 
 -- a lowercase ASCII letter
 abbrev pub small_letter : ℕ → Bool

@@ -1,6 +1,6 @@
 -- Places of configurations, of which some are empty.
 use Rattle.std.specs.Prelude.{List, [], ◌∷◌, Option, Some, None, String}
-use Rattle.std.specs.declared.alloc.Global.{Global}
+use Rattle.conf_state.specs.Prelude.{Global}
 
 module _ {X : Type 0} where
   -- with the configuration of a place before the others, if the place has one

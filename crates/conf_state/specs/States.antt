@@ -1,7 +1,6 @@
 -- States: what a store holds between two commands.
 use Rattle.std.specs.Prelude.{ℕ, Bool, false, true, not, ◌&&◌, ◌||◌, if◌then◌else◌, List, [], ◌∷◌, Option, Some, None}
-use Rattle.yaml_grammar.specs.Texts.{same_text}
-use Rattle.yaml_grammar.specs.Trees.{Tree}
+use Rattle.conf_state.specs.Prelude.{same_text, Tree}
 
 -- a configuration: its name, and its tree
 abbrev pub Entry : Type 0

@@ -1,9 +1,6 @@
 // Lengths of base texts, counted and not written.
 ghost use Rattle.std.specs.Prelude.{◌≡◌, ◌^◌, ◌<◌, ◌≤◌, min, OnOk};
-ghost use Rattle.std.specs.Str.{chars};
-ghost use Rattle.yaml_grammar.specs.Style.{value_at};
-ghost use Rattle.yaml_grammar.specs.Texts.{byte_len};
-ghost use Rattle.yaml_data.specs.Seen.{tree_of};
+ghost use Rattle.conf_state.specs.Prelude.{chars, value_at, byte_len, tree_of};
 ghost use Rattle.yaml_config.specs.Kept.{IsKept};
 ghost use Rattle.yaml_writer.specs.Sizes.{length_at};
 ghost use Rattle.conf_state.specs.BaseTexts.{entry_lines, entry_length, framed_length};

@@ -1,6 +1,6 @@
 // Commands: what a user asks a store to change.
 ghost use Rattle.std.specs.Prelude.{◌≡◌};
-ghost use Rattle.std.specs.Str.{chars};
+ghost use Rattle.conf_state.specs.Prelude.{chars};
 
 use yaml_config::Config;
 

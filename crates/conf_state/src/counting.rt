@@ -1,10 +1,6 @@
 // How many bytes a store's configurations have after an edit, and whether it has room for one command more.
 ghost use Rattle.std.specs.Prelude.{◌≡◌, ◌+◌, ◌<◌, ◌≤◌, ℕ, List, min, Some, Ok, Err, OnOk, IfErr};
-ghost use Rattle.yaml_grammar.specs.Style.{style_text};
-ghost use Rattle.yaml_grammar.specs.Texts.{byte_len};
-ghost use Rattle.yaml_grammar.specs.Trees.{Tree};
-ghost use Rattle.yaml_config.specs.Changes.{Changes};
-ghost use Rattle.yaml_config.specs.Limits.{config_limits};
+ghost use Rattle.conf_state.specs.Prelude.{style_text, byte_len, Tree, Changes, config_limits};
 ghost use Rattle.conf_state.specs.BaseTexts.{entries_length};
 ghost use Rattle.conf_state.specs.States.{Contents, Entry, config_named, put_config};
 ghost use Rattle.conf_state.specs.Steps.{next_state};

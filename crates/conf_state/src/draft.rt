@@ -1,7 +1,6 @@
 // What the edits of a batch make of a state, before the state is changed.
 ghost use Rattle.std.specs.Prelude.{◌≡◌, ◌⊎◌, ◌<◌, Ok, Err, OnOk, IfOk, IfErr, is_some, length, option_map};
-ghost use Rattle.std.specs.Str.{chars};
-ghost use Rattle.yaml_data.specs.Seen.{tree_of};
+ghost use Rattle.conf_state.specs.Prelude.{chars, tree_of};
 ghost use Rattle.conf_state.specs.Commands.{text_of};
 ghost use Rattle.conf_state.specs.Drafts.{cut_all, drafted, texts_of, ChangesOne, IsDraft, IsDraftOf};
 ghost use Rattle.conf_state.specs.Edits.{configs_edited};

@@ -1,8 +1,6 @@
 // How many bytes the configurations that a draft makes of an origin's have in the base text.
 ghost use Rattle.std.specs.Prelude.{◌≡◌, ℕ, List, min, IfOk};
-ghost use Rattle.std.specs.Str.{chars};
-ghost use Rattle.yaml_grammar.specs.Texts.{byte_len};
-ghost use Rattle.yaml_data.specs.Seen.{tree_of};
+ghost use Rattle.conf_state.specs.Prelude.{chars, byte_len, tree_of};
 ghost use Rattle.conf_state.specs.BaseTexts.{entries_length};
 ghost use Rattle.conf_state.specs.Drafts.{drafted, ChangesOne, IsDraftOf};
 ghost use Rattle.conf_state.specs.EntryTexts.{entry_named};

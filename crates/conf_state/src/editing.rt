@@ -1,9 +1,6 @@
 // The rules of an edit, for a state in place and for a draft of one.
 ghost use Rattle.std.specs.Prelude.{◌≡◌, ◌<◌, IsTrue, true, List, Result, Ok, Err, OnOk, IfErr, is_some, length};
-ghost use Rattle.std.specs.Str.{chars};
-ghost use Rattle.yaml_grammar.specs.Reads.{Good};
-ghost use Rattle.yaml_data.specs.Seen.{tree_of};
-ghost use Rattle.yaml_config.specs.Limits.{config_limits};
+ghost use Rattle.conf_state.specs.Prelude.{chars, Good, tree_of, config_limits};
 ghost use Rattle.conf_state.specs.Commands.{edit_of, text_of, import_as, set_at, delete_at};
 ghost use Rattle.conf_state.specs.Edits.{configs_edited};
 ghost use Rattle.conf_state.specs.Names.{good_name};

@@ -1,7 +1,6 @@
 // A configuration of a state by itself, as a base text has it.
 ghost use Rattle.std.specs.Prelude.{◌≡◌, OnOk};
-ghost use Rattle.std.specs.Str.{chars};
-ghost use Rattle.yaml_grammar.specs.Texts.{byte_len};
+ghost use Rattle.conf_state.specs.Prelude.{chars, byte_len};
 ghost use Rattle.conf_state.specs.EntryTexts.{entry_named};
 
 use crate::base::{entry_length, write_entry};

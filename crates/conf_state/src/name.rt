@@ -1,8 +1,6 @@
 // Names of configurations.
 ghost use Rattle.std.specs.Prelude.{◌≡◌, ◌&&◌, IsTrue};
-ghost use Rattle.std.specs.Str.{chars};
-ghost use Rattle.std.specs.List.{list_all};
-ghost use Rattle.yaml_grammar.specs.Texts.{first};
+ghost use Rattle.conf_state.specs.Prelude.{chars, list_all, first};
 ghost use Rattle.conf_state.specs.Names.{small_letter, name_char, good_name};
 ghost use Rattle.conf_state.specs.Edits.{absence};
 

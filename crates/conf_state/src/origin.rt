@@ -1,8 +1,6 @@
 // Configurations that a draft or a part begins with.
 ghost use Rattle.std.specs.Prelude.{◌≡◌, List, map, is_some, option_map, IfOk};
-ghost use Rattle.std.specs.Str.{chars};
-ghost use Rattle.yaml_grammar.specs.Texts.{byte_len};
-ghost use Rattle.yaml_data.specs.Seen.{tree_of};
+ghost use Rattle.conf_state.specs.Prelude.{chars, byte_len, tree_of};
 ghost use Rattle.conf_state.specs.BaseTexts.{entries_length};
 ghost use Rattle.conf_state.specs.Commands.{text_of};
 ghost use Rattle.conf_state.specs.EntryTexts.{entry_named};

@@ -1,7 +1,6 @@
 // A state of which only some configurations are built.
 ghost use Rattle.std.specs.Prelude.{◌≡◌, ◌⊎◌, ◌+◌, Ok, Err, OnOk, IfOk, IfErr, IfSome, IfNone, map, option_map};
-ghost use Rattle.std.specs.Str.{chars};
-ghost use Rattle.yaml_data.specs.Seen.{tree_of};
+ghost use Rattle.conf_state.specs.Prelude.{chars, tree_of};
 ghost use Rattle.conf_state.specs.Commands.{command_of, text_of};
 ghost use Rattle.conf_state.specs.Drafts.{drafted, IsDraftOf};
 ghost use Rattle.conf_state.specs.Limits.{IsState};

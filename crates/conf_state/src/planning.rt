@@ -1,12 +1,6 @@
 // Edits inside one configuration, within its limits.
 ghost use Rattle.std.specs.Prelude.{◌≡◌, ◌⊎◌, ◌<◌, Ok, Err, OnOk, OnErr, IfOk, IfErr, length};
-ghost use Rattle.std.specs.Str.{chars};
-ghost use Rattle.json_pointer.specs.Pointers.{path_of};
-ghost use Rattle.yaml_grammar.specs.Reads.{Good};
-ghost use Rattle.yaml_data.specs.Seen.{tree_of};
-ghost use Rattle.yaml_config.specs.Changes.{Changes};
-ghost use Rattle.yaml_config.specs.Edits.{tree_after_edit};
-ghost use Rattle.yaml_config.specs.Limits.{config_limits};
+ghost use Rattle.conf_state.specs.Prelude.{chars, path_of, Good, tree_of, Changes, tree_after_edit, config_limits};
 ghost use Rattle.conf_state.specs.Edits.{edited_at, IsPlan};
 
 use crate::fault::StoreFault;

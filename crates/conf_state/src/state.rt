@@ -1,17 +1,13 @@
 // The state of a store.
-ghost use Rattle.std.specs.Prelude.{◌≡◌, ◌+◌, ◌<◌, ◌≤◌, ◌⊎◌, ℕ, List, [], min, true, false, option_map, length, Some, Ok, Err, OnOk, IfOk, IfSome, IfNone, MatchOption, is_some, IfErr, OnErr};
-ghost use Rattle.std.specs.Str.{chars};
-ghost use Rattle.std.specs.Iterator.{YieldsFirstBy, item_count};
-ghost use Rattle.yaml_grammar.specs.Reads.{Good};
-ghost use Rattle.yaml_data.specs.Seen.{tree_of};
+ghost use Rattle.std.specs.Prelude.{◌≡◌, ◌+◌, ◌<◌, ◌≤◌, ◌⊎◌, ℕ, List, [], min, true, false, option_map, length, Some};
+ghost use Rattle.std.specs.Prelude.{Ok, Err, OnOk, IfOk, IfSome, IfNone, MatchOption, is_some, IfErr, OnErr};
+ghost use Rattle.conf_state.specs.Prelude.{chars, YieldsFirstBy, item_count, Good, tree_of, config_limits, mapping};
+ghost use Rattle.conf_state.specs.Prelude.{value_at};
 ghost use Rattle.conf_state.specs.Commands.{text_of};
 ghost use Rattle.conf_state.specs.Names.{good_name};
 ghost use Rattle.conf_state.specs.Kept.{entries_of, ArePlain, Appended, IsFit, IsUnfit};
 ghost use Rattle.conf_state.specs.Limits.{IsState};
 ghost use Rattle.conf_state.specs.States.{Entry, names_of, config_named, put_config, cut_config};
-ghost use Rattle.yaml_config.specs.Limits.{config_limits};
-ghost use Rattle.yaml_grammar.specs.Trees.{mapping};
-ghost use Rattle.yaml_grammar.specs.Style.{value_at};
 ghost use Rattle.conf_state.specs.BaseTexts.{members, base_length, entry_length, entries_length};
 ghost use Rattle.conf_state.specs.Steps.{and_then, next_state};
 ghost use Rattle.conf_state.specs.Drafts.{drafted, IsDraftOf};

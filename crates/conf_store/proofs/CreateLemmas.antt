@@ -1,15 +1,8 @@
 -- What a crash leaves, and what reads, after a store was made where there is none.
 use Rattle.std.proofs.Common.{◌≡◌, ◌⊎◌, inl, inr, ⊎_elim, refl, sym, ◌∙◌, subst, ◌≤◌}
 use Rattle.std.specs.Prelude.{ℕ, List, Some, None, option_map}
-use Rattle.conf_disk.specs.Folder.{bytes_under}
-use Rattle.conf_disk.specs.Image.{Image, IsImage, image_now, synced_file}
-use Rattle.conf_disk.specs.Laws.{ReadingIsAnImage}
-use Rattle.conf_disk.specs.Models.{DiskModel}
-use Rattle.conf_disk.specs.Moments.{LeavesOnly}
-use Rattle.conf_disk.specs.declared.disk.Name.TheVariants.{Store}
-use Rattle.conf_disk.proofs.Moments.{LeavesOnly-joined, LeavesOnly-now}
-use Rattle.conf_journal.specs.Held.{HoldsStore, OnlyHeldIsLeft}
-use Rattle.conf_journal.specs.Store.{IsStoreOf, LeavesStoreOr}
+use Rattle.conf_store.proofs.Prelude.{bytes_under, Image, IsImage, image_now, synced_file, ReadingIsAnImage, DiskModel, LeavesOnly, Store}
+use Rattle.conf_store.proofs.Prelude.{LeavesOnly-joined, LeavesOnly-now, HoldsStore, OnlyHeldIsLeft, IsStoreOf, LeavesStoreOr}
 use Rattle.conf_store.proofs.FileLemmas.{loaded-old}
 
 module _ {D : Type 0} (model : DiskModel D) (old mid new : D)

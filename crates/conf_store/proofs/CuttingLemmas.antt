@@ -1,6 +1,6 @@
 -- Bytes that are cut from a part into a slice.
 use Rattle.std.proofs.Common.{◌≡◌, ℕ, ◌+◌, List, ◌++◌, take, drop, sym, ap, ◌∙◌, append_assoc, take-append-drop}
-use Rattle.std.proofs.lemmas.List.{drop-drop}
+use Rattle.conf_store.proofs.Prelude.{drop-drop}
 
 -- what is in the slice, and what is left of the part, are what was there
 pub cut-same : (slice new bytes : List ℕ) (cut count : ℕ) → new ≡ slice ++ take count (drop cut bytes)

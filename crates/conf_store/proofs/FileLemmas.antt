@@ -1,29 +1,15 @@
 -- How long the files are, and what opening makes of them.
 use Rattle.std.proofs.Common.{◌≡◌, ◌≢◌, ◌⊎◌, inl, inr, ⊎_elim, refl, sym, ◌∙◌, ap, subst, ◌≤◌, length-append}
 use Rattle.std.specs.Prelude.{ℕ, Bool, List, get_or, Option, Some, None, IsSome, option_map}
-use Rattle.std.proofs.lemmas.Bool.{false≢true}
-use Rattle.conf_disk.specs.Folder.{File, empty_file, file_bytes, Folder, bytes_at, bytes_under}
-use Rattle.conf_disk.specs.Image.{Image, IsImage, image_now, synced_file}
-use Rattle.conf_disk.specs.Laws.{ReadingIsAnImage}
-use Rattle.conf_disk.specs.Models.{DiskModel}
-use Rattle.conf_disk.specs.Moments.{LeavesOnly, TimeGoesOn}
-use Rattle.conf_disk.specs.declared.disk.DiskFault.{DiskFault}
-use Rattle.conf_disk.specs.declared.disk.DiskFault.TheVariants as disk
-use Rattle.conf_disk.specs.declared.disk.Name.TheVariants.{Store}
-use Rattle.conf_disk.proofs.Moments.{LeavesOnly-weaker, LeavesOnly-joined, LeavesOnly-now, LeavesOnly-same}
-use Rattle.conf_journal.specs.Held.{HoldsStore, OnlyHeldIsLeft, file_at}
-use Rattle.conf_journal.specs.Store.{IsStoreOf, LeavesStoreOr}
-use Rattle.conf_state.specs.States.{Contents}
-use Rattle.conf_state.specs.BaseTexts.{base_bytes}
-use Rattle.conf_store.specs.Faults.{open_fault}
-use Rattle.conf_store.specs.Staged.{Staged, staged_length}
-use Rattle.conf_store.specs.Durable.{IsHeld, IsStaging, staged_text}
-use Rattle.conf_store.specs.Opens.{IsFound}
+use Rattle.conf_store.proofs.Prelude.{false≢true, File, empty_file, file_bytes, Folder, bytes_at, bytes_under, Image, IsImage, image_now}
+use Rattle.conf_store.proofs.Prelude.{synced_file, ReadingIsAnImage, DiskModel, LeavesOnly, TimeGoesOn, DiskFault, Store, LeavesOnly-weaker}
+use Rattle.conf_store.proofs.Prelude.{LeavesOnly-joined, LeavesOnly-now, LeavesOnly-same, HoldsStore, OnlyHeldIsLeft, file_at, IsStoreOf}
+use Rattle.conf_store.proofs.Prelude.{LeavesStoreOr, Contents, base_bytes}
+use Rattle.conf_store.specs.{Faults.open_fault, Staged.Staged, Staged.staged_length, Durable.IsHeld, Durable.IsStaging, Durable.staged_text}
+use Rattle.conf_store.specs.{Opens.IsFound, declared.fault.OpenFault.OpenFault, declared.fault.OpenFault.TheVariants.Device}
 use Rattle.conf_store.specs.Files.{HasLength, FilesStay, IsNewBase, IsOldOrBase, LeavesOldOrBase}
-use Rattle.conf_store.specs.declared.fault.OpenFault.{OpenFault}
-use Rattle.conf_store.specs.declared.fault.OpenFault.TheVariants.{Device}
-use Rattle.conf_store.proofs.StagedLemmas.{text-of, text-length}
-use Rattle.conf_store.proofs.OpenLemmas.{found-means}
+use Rattle.conf_store.proofs.{StagedLemmas.text-of, StagedLemmas.text-length, OpenLemmas.found-means}
+use Rattle.conf_disk.specs.declared.disk.DiskFault.TheVariants as disk
 
 -- ---- lengths
 

@@ -1,17 +1,12 @@
 -- What is read as a record or a base of the first format, and today as the same.
-use Rattle.std.proofs.Common.{◌≡◌, ℕ, Bool, true, false, ◌&&◌, if◌then◌else◌, List, [], ◌∷◌, codes, Option, Some}
-use Rattle.std.proofs.Common.{None, option_map, refl, ap, sym, subst}
-use Rattle.std.proofs.lemmas.Bool.{and_parts}
-use Rattle.yaml_grammar.specs.Texts.{same_text}
-use Rattle.yaml_grammar.specs.Trees.{Tree, text, sequence, mapping, Members, no_member, member}
-use Rattle.conf_state.specs.Names.{good_name}
-use Rattle.conf_state.specs.Commands.{Edit, Command, single, name_of}
-use Rattle.conf_state.specs.States.{Contents}
-use Rattle.conf_record.specs.RecordsRead.{keys_are, values, number_from_digits, entries, base_keys, import_keys}
-use Rattle.conf_record.specs.RecordsRead.{set_keys, delete_keys, has_good_path, if_good, import_of, set_of, delete_of}
-use Rattle.conf_record.specs.RecordsRead.{with_number, numbered_of, record_of, contents_of, base_of}
-use Rattle.conf_store.specs.First as first
+use Rattle.std.proofs.Common.{◌≡◌, ℕ, Bool, true, false, ◌&&◌, if◌then◌else◌, List, [], ◌∷◌, codes, Option, Some, None, option_map, refl}
+use Rattle.std.proofs.Common.{ap, sym, subst}
+use Rattle.conf_store.proofs.Prelude.{and_parts, same_text, Tree, text, sequence, mapping, Members, no_member, member, good_name, Edit}
+use Rattle.conf_store.proofs.Prelude.{Command, single, name_of, Contents, keys_are, values, number_from_digits, entries, base_keys}
+use Rattle.conf_store.proofs.Prelude.{import_keys, set_keys, delete_keys, has_good_path, if_good, import_of, set_of, delete_of, with_number}
+use Rattle.conf_store.proofs.Prelude.{numbered_of, record_of, contents_of, base_of}
 use Rattle.conf_store.proofs.FirstStepLemmas.{as_edit}
+use Rattle.conf_store.specs.First as first
 
 -- a mapping with more keys than one is no batch
 not_batch : (k l : List ℕ) (ls : List (List ℕ)) (ms : Members) → keys_are (k ∷ l ∷ ls) ms ≡ true → keys_are (codes "batch" ∷ []) ms ≡ false

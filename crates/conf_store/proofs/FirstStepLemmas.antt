@@ -1,26 +1,15 @@
 -- What the first format's commands make of a state, and today's make the same of it.
-use Rattle.std.proofs.Common.{◌≡◌, ℕ, ◌≤◌, ◌+◌, Bool, true, false, nat_lt, nat_le, if◌then◌else◌, List, [], ◌∷◌}
-use Rattle.std.proofs.Common.{Result, Ok, Err, refl, ap, subst, ◌∙◌, arith}
-use Rattle.std.proofs.lemmas.Bool.Decides.{nat_tests}
-use Rattle.yaml_grammar.specs.Texts.{byte_len}
-use Rattle.yaml_grammar.specs.Trees.{Tree, depth}
+use Rattle.std.proofs.Common.{◌≡◌, ℕ, ◌≤◌, ◌+◌, Bool, true, false, nat_lt, nat_le, if◌then◌else◌, List, [], ◌∷◌, Result, Ok, Err, refl, ap}
+use Rattle.std.proofs.Common.{subst, ◌∙◌, arith}
+use Rattle.conf_store.proofs.Prelude.{nat_tests, byte_len, Tree, depth, style_text, config_limits, good_name, Entry, Contents, config_named}
+use Rattle.conf_store.proofs.Prelude.{put_config, base_limit, count_limit, base_length, base_text, Edit, import_as, set_at, delete_at}
+use Rattle.conf_store.proofs.Prelude.{Command, single, name_of, AreConfigs, IsState, and_then, found, by_path, checked_tree}
+use Rattle.conf_store.proofs.Prelude.{with_checked_config, configs_after_delete, configs_after, edited, next_state, step, after, StoreFault}
+use Rattle.conf_store.proofs.Prelude.{BadName, TooDeep, ConfigLarge, StoreFull, CountFull, Enough, and_then-Ok}
 use Rattle.yaml_grammar.specs.Reads.{Limits, Good, Gives}
-use Rattle.yaml_grammar.specs.Style.{style_text}
 use Rattle.tree_path.specs.Paths.{set, delete}
 use Rattle.json_pointer.specs.Pointers.{path_of}
-use Rattle.yaml_config.specs.Limits.{config_limits}
-use Rattle.conf_state.specs.Names.{good_name}
-use Rattle.conf_state.specs.States.{Entry, Contents, config_named, put_config, base_limit, count_limit}
-use Rattle.conf_state.specs.BaseTexts.{base_length, base_text}
-use Rattle.conf_state.specs.Commands.{Edit, import_as, set_at, delete_at, Command, single, name_of}
-use Rattle.conf_state.specs.Limits.{AreConfigs, IsState}
-use Rattle.conf_state.specs.Steps.{and_then, found, by_path, checked_tree, with_checked_config, configs_after_delete}
-use Rattle.conf_state.specs.Steps.{configs_after, edited, next_state, step, after}
-use Rattle.conf_state.specs.declared.fault.StoreFault.{StoreFault}
-use Rattle.conf_state.specs.declared.fault.StoreFault.TheVariants.{BadName, TooDeep, ConfigLarge, StoreFull, CountFull}
-use Rattle.conf_state.specs.declared.room.Room.TheVariants.{Enough}
 use Rattle.conf_state.proofs.CountLemmas.{lt-false}
-use Rattle.conf_state.proofs.RunLaws.{and_then-Ok}
 use Rattle.conf_store.specs.First as first
 
 pub good-wider : (t : Tree) (less more : Limits) → less.depth ≤ more.depth → less.style ≤ more.style → Good t less → Good t more

@@ -1,28 +1,11 @@
 -- How long the base at the start of a file is, and by how much the file has grown.
-use Rattle.std.proofs.Common.{◌≡◌, ◌≤◌, refl, sym, ◌∙◌, ap, subst, arith, append_assoc, length-append, take-append-drop}
+use Rattle.std.proofs.Common.{◌≡◌, refl, sym, ◌∙◌, ap, subst, arith, append_assoc, length-append, take-append-drop}
 use Rattle.std.specs.Prelude.{ℕ, ◌-◌, List, [], ◌++◌, length, take, drop, Option, Some, None}
-use Rattle.std.proofs.lemmas.List.{append-nil, length-take-le}
-use Rattle.std.proofs.lemmas.List.Elements.{All-head}
-use Rattle.yaml_grammar.specs.Closings.{ClosesOnce}
-use Rattle.yaml_recognizers.specs.Closings.{PieceBetween}
-use Rattle.yaml_docs.specs.NextClosing.{IsNextClosing, StartsLine}
-use Rattle.std.specs.Prelude.{Vec}
-use Rattle.std.specs.declared.alloc.Global.{Global}
-use Rattle.conf_disk.specs.Folder.{Folder, Tells, bytes_under}
-use Rattle.conf_disk.specs.declared.disk.Content.TheVariants.{Missing, Bytes}
-use Rattle.conf_disk.specs.declared.disk.Name.TheVariants.{Next}
-use Rattle.conf_journal.specs.Store.{file_with_bytes, store_limit}
-use Rattle.conf_state.specs.States.{Contents}
-use Rattle.conf_record.specs.Documents.{IsBase}
-use Rattle.conf_store.specs.Accepting.{IsBaseOf}
-use Rattle.conf_store.specs.Durable.{staged_text}
-use Rattle.conf_store.specs.Files.{HasLength}
+use Rattle.conf_store.proofs.Prelude.{append-nil, length-take-le, All-head, ClosesOnce, PieceBetween, IsNextClosing, StartsLine, Folder}
+use Rattle.conf_store.proofs.Prelude.{Tells, bytes_under, Missing, Next, file_with_bytes, store_limit, Contents, IsBase}
+use Rattle.conf_store.specs.{Accepting.IsBaseOf, Durable.staged_text, Files.HasLength, Opens.IsFound, Staged.Staged, Staged.with_more}
 use Rattle.conf_store.specs.Grown.{IsGrown, HasGrown, StartsWithBase, FileStartsWithBase, StagedStartsWithBase, FoundBase}
-use Rattle.conf_store.specs.Opens.{IsFound}
-use Rattle.conf_store.specs.Staged.{Staged, with_more}
-use Rattle.conf_store.proofs.PieceLemmas.{closes-within}
-use Rattle.conf_store.proofs.RecoveryLemmas.{first-piece}
-use Rattle.conf_store.proofs.StagedLemmas.{text-more, text-same}
+use Rattle.conf_store.proofs.{PieceLemmas.closes-within, RecoveryLemmas.first-piece, StagedLemmas.text-more, StagedLemmas.text-same}
 
 -- ---- bytes
 
@@ -61,10 +44,6 @@ starts-more bytes more size starts = record {
   is_base = starts.is_base;
   long = starts.long;
 }
-
--- the base is no longer than the file
-pub base-within : (bytes : List ℕ) (size : ℕ) → StartsWithBase bytes size → size ≤ length bytes
-base-within bytes size starts = omega (arith, starts.long, ap length starts.joined, length-append starts.base starts.others)
 
 starts-grown : (bytes : List ℕ) (size : ℕ) → StartsWithBase bytes size → IsGrown bytes (length bytes - size)
 starts-grown bytes size starts = record {
@@ -133,9 +112,3 @@ staged-base-more old new more (Some staged) base same starts =
 pub missing-base : (file : Option (List ℕ)) → Tells file store_limit Missing → FoundBase file 0
 missing-base None tells = refl
 missing-base (Some bytes) tells = absurd tells
-
--- the bytes were read
-pub bytes-base : (file : Option (List ℕ)) (read : Vec ℕ Global) (base : ℕ) → Tells file store_limit (Bytes read)
-    → StartsWithBase read.items base → FoundBase file base
-bytes-base None read base tells starts = absurd tells
-bytes-base (Some bytes) read base tells starts = subst (λ b. StartsWithBase b base) tells.0 starts

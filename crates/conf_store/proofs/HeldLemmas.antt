@@ -1,28 +1,16 @@
 -- What an open store has on its disk, with commands that wait for a flush, and what a crash leaves of it.
 use Rattle.std.proofs.Common.{◌≡◌, ◌⊎◌, inl, inr, refl, sym, ◌∙◌, ap, subst, arith, ◌≤◌, append_assoc, length-append}
 use Rattle.std.specs.Prelude.{ℕ, zero, suc, false, ◌+◌, Bool, List, [], ◌∷◌, ◌++◌, length, take, Option, Some, None, option_map, Ok}
-use Rattle.std.proofs.lemmas.List.{append-nil, take-append-le, take_all}
-use Rattle.std.proofs.lemmas.List.Elements.{All-nil}
-use Rattle.std.proofs.lemmas.Bool.{cases_lt}
-use Rattle.yaml_grammar.specs.Closings.{ClosesOnce, Pieces}
-use Rattle.conf_disk.specs.Folder.{File, Folder, with_pending, synced_whole}
-use Rattle.conf_disk.specs.Image.{synced_file}
-use Rattle.conf_journal.specs.Held.{HoldsStore, IsLeftOf, HeldIsLeft}
-use Rattle.conf_journal.specs.Store.{IsStoreOf, store_limit}
-use Rattle.conf_state.specs.Commands.{Command}
-use Rattle.conf_state.specs.States.{Contents}
-use Rattle.conf_state.specs.Steps.{step, after}
-use Rattle.conf_state.proofs.RunLaws.{after-count}
-use Rattle.conf_state.specs.declared.room.Room.TheVariants.{Enough}
-use Rattle.yaml_recognizers.specs.Closings.{OnePieces}
-use Rattle.conf_record.specs.Documents.{OneBase, OneRecord, IsRecord, RecordsTear, RecordsClose, record_pieces, records_bytes}
-use Rattle.conf_record.specs.Records.{record_bytes}
+use Rattle.conf_store.proofs.Prelude.{append-nil, take-append-le, take_all, All-nil, cases_lt, ClosesOnce, Pieces, File, Folder}
+use Rattle.conf_store.proofs.Prelude.{with_pending, synced_whole, synced_file, HoldsStore, IsLeftOf, HeldIsLeft, IsStoreOf, store_limit}
+use Rattle.conf_store.proofs.Prelude.{Command, Contents, step, after, after-count, Enough, OnePieces, OneBase, OneRecord, IsRecord}
+use Rattle.conf_store.proofs.Prelude.{RecordsTear, RecordsClose, record_pieces, records_bytes, record_bytes}
 use Rattle.conf_store.specs.Meaning.{AreRecords, PiecesMean, FileMeans}
-use Rattle.conf_store.specs.Durable.{IsWholeStore, IsJournal, HasFlushed, IsHeld, IsDurable, AllImagesMean}
-use Rattle.conf_store.specs.Durable.{AfterPrefix, AllImagesAfterPrefix, OneFlushed, NothingWaits}
+use Rattle.conf_store.specs.Durable.{IsWholeStore, IsJournal, HasFlushed, IsHeld, IsDurable, AllImagesMean, AfterPrefix}
+use Rattle.conf_store.specs.Durable.{AllImagesAfterPrefix, OneFlushed, NothingWaits}
 use Rattle.conf_store.proofs.PieceLemmas.{pieces-joined, pieces-one, no_closing}
-use Rattle.conf_store.proofs.MeaningLemmas.{records-joined, after-joined, after-done, pieces-mean-more}
-use Rattle.conf_store.proofs.MeaningLemmas.{pieces-mean-one, one-list, journal-left, ok-same}
+use Rattle.conf_store.proofs.MeaningLemmas.{records-joined, after-joined, after-done, pieces-mean-more, pieces-mean-one, one-list}
+use Rattle.conf_store.proofs.MeaningLemmas.{journal-left, ok-same}
 
 -- ---- what a crash leaves
 
@@ -73,9 +61,6 @@ pub after-nothing : NothingWaits
 after-nothing s store some =
     let leads : after s [] ≡ Ok some.state = ap (after s) (sym (take-nothing some.count)) ∙ some.leads in
     subst (FileMeans store) (sym (ok-same s some.state (Ok s) refl leads)) some.means
-
-pub means-prefix : (s : Contents) (commands : List Command) (store : Option (List ℕ)) → FileMeans store s → AfterPrefix s commands store
-means-prefix s commands store means = record { count = 0; state = s; leads = refl; means = means }
 
 -- whatever a crash leaves means the state
 pub held-means : HeldIsLeft → RecordsTear → (folder : Folder) (s : Contents) (size : ℕ) (waits : Bool)

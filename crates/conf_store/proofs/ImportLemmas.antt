@@ -1,25 +1,13 @@
 -- What an import says of the name, the text and the tree.
 use Rattle.std.proofs.Common.{◌≡◌, ◌+◌, ℕ, Bool, true, false, nat_le, nat_lt, if◌then◌else◌, List, Result, Ok, Err, refl, subst}
-use Rattle.yaml_grammar.specs.Texts.{byte_len}
-use Rattle.yaml_grammar.specs.Style.{style_text}
-use Rattle.yaml_grammar.specs.Trees.{Tree, depth}
-use Rattle.yaml_config.specs.Limits.{config_limits}
+use Rattle.conf_store.proofs.Prelude.{byte_len, style_text, Tree, depth, config_limits, base_length, import_as, single, good_name, Entry}
+use Rattle.conf_store.proofs.Prelude.{Contents, put_config, base_limit, count_limit, and_then, step, with_checked_config, with_room}
+use Rattle.conf_store.proofs.Prelude.{next_state, StoreFault, EmptyBatch, BadName, NoConfig, Path, Read, TooDeep, ConfigLarge, StoreFull}
+use Rattle.conf_store.proofs.Prelude.{RecordLong, JournalLong, CountFull, Reopen, Device, OutOfMemory, Room, Enough, LongRecord}
 use Rattle.yaml_tree.specs.Reading.{IsRead}
-use Rattle.conf_state.specs.BaseTexts.{base_length}
-use Rattle.conf_state.specs.Commands.{import_as, single}
-use Rattle.conf_state.specs.Names.{good_name}
-use Rattle.conf_state.specs.States.{Entry, Contents, put_config, base_limit, count_limit}
-use Rattle.conf_state.specs.Steps.{and_then, step, with_checked_config, with_room, next_state}
-use Rattle.conf_state.specs.declared.fault.StoreFault.{StoreFault}
-use Rattle.conf_state.specs.declared.fault.StoreFault.TheVariants.{EmptyBatch, BadName, NoConfig, Path, Read, TooDeep}
-use Rattle.conf_state.specs.declared.fault.StoreFault.TheVariants.{ConfigLarge, StoreFull, RecordLong, JournalLong}
-use Rattle.conf_state.specs.declared.fault.StoreFault.TheVariants.{CountFull, Reopen, Device, OutOfMemory}
-use Rattle.conf_state.specs.declared.room.Room.{Room}
-use Rattle.conf_state.specs.declared.room.Room.TheVariants.{Enough, LongRecord, Missing}
-use Rattle.conf_store.specs.View.{StoreView}
+use Rattle.conf_state.specs.declared.room.Room.TheVariants.{Missing}
+use Rattle.conf_store.specs.{View.StoreView, Accepting.IsOfState, Imports.RefusesText, Imports.RefusesImport}
 use Rattle.conf_store.specs.Calls.{room_for, journal_length, RefusesCommand}
-use Rattle.conf_store.specs.Accepting.{IsOfState}
-use Rattle.conf_store.specs.Imports.{RefusesText, RefusesImport}
 
 -- a refusal that is neither of a name nor of a text
 OfTree : {A : Type 0} → Result A StoreFault → Type 0

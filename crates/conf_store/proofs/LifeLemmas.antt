@@ -1,18 +1,12 @@
 -- What a life keeps, and what lives keep.
 use Rattle.std.proofs.Common.{◌≡◌, inl, inr, refl, sym, ◌∙◌, ap, subst}
 use Rattle.std.specs.Prelude.{ℕ, zero, suc, true, false, ◌||◌, Bool, List, [], ◌∷◌, ◌++◌, take, if◌then◌else◌, Result, Ok, is_ok}
-use Rattle.std.specs.List.{AllByRecursion}
-use Rattle.conf_state.specs.Commands.{Command}
-use Rattle.conf_state.specs.States.{Contents}
-use Rattle.conf_state.specs.Steps.{after, and_then}
-use Rattle.conf_state.proofs.RunLaws.{after-append}
-use Rattle.conf_state.specs.declared.fault.StoreFault.{StoreFault}
-use Rattle.conf_store.specs.Lives.{Call, submitting, performing, flushing, beginning, slicing, checkpointing, Answer}
-use Rattle.conf_store.specs.Lives.{ok, more, refused, device, reopen, crashed, Event, World, opened, world_state}
-use Rattle.conf_store.specs.Lives.{with_submitted, all_flushed, MayRemain, Flushes, Succeeds, Continues}
-use Rattle.conf_store.specs.Lives.{MayRemainDuring, MayEndBy, MayEnd, state_or, after_call, flushes_all, acknowledges}
-use Rattle.conf_store.specs.Lives.{flushed_by, accepted_one, accepted_in, accepted_by, accepted_commands, Keeps}
-use Rattle.conf_store.specs.Lives.{all_commands, LivesHold}
+use Rattle.conf_store.proofs.Prelude.{AllByRecursion, Command, Contents, after, and_then, after-append, StoreFault}
+use Rattle.conf_store.specs.Lives.{Call, submitting, performing, flushing, beginning, slicing, checkpointing, Answer, ok, more, refused}
+use Rattle.conf_store.specs.Lives.{device, reopen, crashed, Event, World, opened, world_state, with_submitted, all_flushed, MayRemain}
+use Rattle.conf_store.specs.Lives.{Flushes, Succeeds, Continues, MayRemainDuring, MayEndBy, MayEnd, state_or, after_call, flushes_all}
+use Rattle.conf_store.specs.Lives.{acknowledges, flushed_by, accepted_one, accepted_in, accepted_by, accepted_commands, Keeps, all_commands}
+use Rattle.conf_store.specs.Lives.{LivesHold}
 
 after-joined : (s mid end : Contents) (first second : List Command) → after s first ≡ Ok mid
     → after mid second ≡ Ok end → after s (first ++ second) ≡ Ok end

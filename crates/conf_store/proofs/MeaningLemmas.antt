@@ -1,20 +1,10 @@
 -- What bytes mean: at most one state. After a crash it is the state after the records that are whole.
-use Rattle.std.proofs.Common.{◌≡◌, ◌⊎◌, inl, inr, refl, sym, ◌∙◌, ap, subst, arith, ◌≤◌, append_assoc, length-append, length-take}
-use Rattle.std.specs.Prelude.{ℕ, zero, suc, ◌+◌, List, [], ◌∷◌, ◌++◌, length, take, replicate, Option, Some, Result, Ok}
-use Rattle.std.proofs.lemmas.List.{length-replicate}
-use Rattle.yaml_grammar.specs.Closings.{ClosesOnce, Pieces}
-use Rattle.yaml_recognizers.specs.Closings.{OnePieces}
-use Rattle.conf_disk.specs.Folder.{File}
-use Rattle.conf_disk.specs.Image.{IsTorn}
-use Rattle.conf_state.specs.Commands.{Command}
-use Rattle.conf_state.specs.States.{Contents}
-use Rattle.conf_state.specs.Steps.{step, after, and_then}
-use Rattle.conf_state.specs.declared.fault.StoreFault.{StoreFault}
-use Rattle.conf_state.proofs.RunLaws.{after-append, after-count, and_then-Ok}
-use Rattle.conf_state.specs.declared.room.Room.TheVariants.{Enough}
-use Rattle.conf_record.specs.Documents.{IsRecord, IsBase, record_pieces, records_bytes, TornRecords, OneBase, OneRecord, RecordsTear}
-use Rattle.conf_journal.specs.Store.{store_limit}
-use Rattle.conf_store.specs.Meaning.{AreRecords, PiecesMean, Means, FileMeans}
+use Rattle.std.proofs.Common.{◌≡◌, refl, sym, ◌∙◌, ap, subst, arith, ◌≤◌, append_assoc, length-append, length-take}
+use Rattle.std.specs.Prelude.{ℕ, zero, suc, ◌+◌, List, [], ◌∷◌, ◌++◌, length, take, replicate, Some, Result, Ok}
+use Rattle.conf_store.proofs.Prelude.{length-replicate, ClosesOnce, Pieces, OnePieces, File, IsTorn, Command, Contents, step, after}
+use Rattle.conf_store.proofs.Prelude.{and_then, StoreFault, after-append, after-count, and_then-Ok, Enough, IsRecord, IsBase, record_pieces}
+use Rattle.conf_store.proofs.Prelude.{records_bytes, TornRecords, OneBase, OneRecord, RecordsTear, store_limit}
+use Rattle.conf_store.specs.Meaning.{AreRecords, PiecesMean, Means}
 use Rattle.conf_store.specs.Durable.{IsWholeStore, IsJournal, AfterPrefix}
 use Rattle.conf_store.proofs.PieceLemmas.{pieces-joined, pieces-one}
 
@@ -206,15 +196,3 @@ take-none (suc k) = refl
 -- the state after one command is the one after a list of it
 pub after-done : (s end : Contents) (command : Command) → step s command Enough ≡ Ok end → after s (command ∷ []) ≡ Ok end
 after-done s end command done = ap (λ r. and_then r (λ t. after t [])) done
-
--- of one pending record: the state before its command or after it
-pub after-one : (s end : Contents) (command : Command) (store : Option (List ℕ)) → step s command Enough ≡ Ok end
-    → AfterPrefix s (command ∷ []) store
-    → FileMeans store s ⊎ FileMeans store end
-after-one s end command store done some = by some.count some.leads
-  where
-    by : (k : ℕ) → after s (take k (command ∷ [])) ≡ Ok some.state → FileMeans store s ⊎ FileMeans store end
-    by zero leads = inl (subst (FileMeans store) (sym (ok-same s some.state (Ok s) refl leads)) some.means)
-    by (suc k) leads =
-        let leads_one : after s (command ∷ []) ≡ Ok some.state = ap (λ cs. after s (command ∷ cs)) (sym (take-none k)) ∙ leads in
-        inr (subst (FileMeans store) (ok-same some.state end (after s (command ∷ [])) leads_one (after-done s end command done)) some.means)

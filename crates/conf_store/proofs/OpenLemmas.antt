@@ -1,32 +1,17 @@
 -- What opening finds, and that it changes no meaning.
-use Rattle.std.proofs.Common.{◌≡◌, ◌≢◌, inl, inr, ⊎_elim, refl, sym, ◌∙◌, ap, subst, arith, ◌≤◌}
-use Rattle.std.specs.Prelude.{ℕ, zero, suc, List, length, Option, Some, None, option_map}
-use Rattle.std.specs.Prelude.{Vec}
+use Rattle.std.proofs.Common.{◌≡◌, inl, inr, ⊎_elim, refl, sym, ◌∙◌, ap, subst, arith, ◌≤◌}
+use Rattle.std.specs.Prelude.{ℕ, zero, suc, List, Option, Some, None, option_map, Vec}
+use Rattle.conf_store.proofs.Prelude.{OnePieces, Folder, Tells, bytes_under, Image, IsImage, image_now, synced_file, ReadingIsAnImage}
+use Rattle.conf_store.proofs.Prelude.{Bytes, TooLong, Store, HoldsStore, OnlyHeldIsLeft, IsStoreOf, store_limit, Contents, OneBase}
+use Rattle.conf_store.proofs.Prelude.{OneRecord, base_bytes, cases_lt, DiskFault}
 use Rattle.std.specs.declared.alloc.Global.{Global}
-use Rattle.yaml_recognizers.specs.Closings.{OnePieces}
-use Rattle.conf_disk.specs.Folder.{Folder, Tells, bytes_under}
-use Rattle.conf_disk.specs.Image.{Image, IsImage, image_now, synced_file}
-use Rattle.conf_disk.specs.Laws.{ReadingIsAnImage}
-use Rattle.conf_disk.specs.declared.disk.Content.TheVariants.{Missing, Bytes, TooLong}
-use Rattle.conf_disk.specs.declared.disk.Name.TheVariants.{Store}
-use Rattle.conf_journal.specs.Held.{HoldsStore, OnlyHeldIsLeft}
-use Rattle.conf_journal.specs.Store.{IsStoreOf, store_limit}
-use Rattle.conf_state.specs.States.{Contents}
-use Rattle.conf_record.specs.Documents.{OneBase, OneRecord}
-use Rattle.conf_state.specs.BaseTexts.{base_bytes}
-use Rattle.std.proofs.lemmas.Bool.{cases_lt}
-use Rattle.conf_disk.specs.declared.disk.DiskFault.{DiskFault}
-use Rattle.conf_disk.specs.declared.disk.DiskFault.TheVariants as disk
-use Rattle.conf_store.specs.Faults.{open_fault}
-use Rattle.conf_store.specs.Calls.{HasFailed}
-use Rattle.conf_store.specs.Meaning.{FileMeans, MeanTheSame, empty_state}
-use Rattle.conf_store.specs.Durable.{IsDurable}
-use Rattle.conf_store.specs.Opens.{RecoversTo, FileRecoversTo, HasNoBase, RefusesBytes, IsFound, RefusesOpening}
-use Rattle.conf_store.specs.Opens.{RefusalMeans, RefusedMeansNothing, ReadsAfterOpening, MeantAtEntry}
-use Rattle.conf_store.specs.declared.fault.OpenFault.{OpenFault}
+use Rattle.conf_store.specs.{Faults.open_fault, Calls.HasFailed, Durable.IsDurable, declared.fault.OpenFault.OpenFault}
+use Rattle.conf_store.specs.Meaning.{FileMeans, MeanTheSame}
+use Rattle.conf_store.specs.Opens.{RecoversTo, FileRecoversTo, HasNoBase, RefusesBytes, IsFound, RefusesOpening, RefusalMeans}
+use Rattle.conf_store.specs.Opens.{RefusedMeansNothing, ReadsAfterOpening, MeantAtEntry}
 use Rattle.conf_store.specs.declared.fault.OpenFault.TheVariants.{NotAStore, Damaged, Device, OutOfMemory}
-use Rattle.conf_store.proofs.MeaningLemmas.{means-one}
-use Rattle.conf_store.proofs.RecoveryLemmas.{recovers-means, recovers-whole}
+use Rattle.conf_store.proofs.{MeaningLemmas.means-one, RecoveryLemmas.recovers-means, RecoveryLemmas.recovers-whole}
+use Rattle.conf_disk.specs.declared.disk.DiskFault.TheVariants as disk
 
 -- ---- what is found
 
@@ -43,29 +28,6 @@ not-read (Some bytes) read NotAStore tells unread = inr (subst HasNoBase tells.0
 not-read (Some bytes) read (Damaged number) tells unread = (tells.1, subst (λ b. RefusesBytes b (Damaged number)) tells.0 unread)
 not-read (Some bytes) read Device tells unread = tt
 not-read (Some bytes) read OutOfMemory tells unread = tt
-
--- where there is no store, the empty state is found
-pub found-missing : (store : Option (List ℕ)) → Tells store store_limit Missing → IsFound store empty_state 0 0 None
-found-missing (Some bytes) tells = absurd tells
-found-missing None tells = record {
-  recovers = (refl, refl, refl);
-  stays = λ n e. absurd (cc e);
-  staged = λ e. inl refl;
-  short = λ bytes e. absurd (cc e);
-}
-
--- where a store's bytes give a state, that state is found
-pub found-bytes : (store : Option (List ℕ)) (read : Vec ℕ Global) (s : Contents) (records dropped : ℕ)
-    (size : Option ℕ) → Tells store store_limit (Bytes read) → RecoversTo read.items s records dropped
-    → ((n : ℕ) → size ≡ Some n → (dropped ≡ 0) × (length read.items ≡ n)) → (size ≡ None → dropped ≢ 0)
-    → IsFound store s records dropped size
-found-bytes None read s records dropped size tells recovers stays staged = absurd tells
-found-bytes (Some bytes) read s records dropped size tells recovers stays staged = record {
-  recovers = subst (λ b. RecoversTo b s records dropped) tells.0 recovers;
-  stays = λ n e. (let is = stays n e in (is.0, bytes, refl, ap length (sym tells.0) ∙ is.1));
-  staged = λ e. inr (staged e);
-  short = λ b e. (let same : bytes ≡ b = cc e in subst (λ l. length l ≤ store_limit) same tells.1);
-}
 
 -- the state that is found is the one that the file means
 pub found-means : (store : Option (List ℕ)) (s : Contents) (records dropped : ℕ) (size : Option ℕ)

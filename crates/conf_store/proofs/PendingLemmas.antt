@@ -1,27 +1,14 @@
 -- Parts of a base that wait, and the texts that are made early.
-use Rattle.std.proofs.Common.{◌≡◌, ◌≤◌, ◌<◌, ◌==◌, ◌⊎◌, inl, inr, suc, ℕ, ◌+◌, max, Bool, true, false, cond, List, []}
-use Rattle.std.proofs.Common.{◌∷◌, ◌++◌, length, map, take, get_or, Option, Some, None, Result, Ok, Err, OnOk, OnErr}
-use Rattle.std.proofs.Common.{not, ◌&&◌, ◌||◌, option_map, unwrap_or, IsSome, is_some, bytes_eq, string_bytes, String}
-use Rattle.std.proofs.Common.{Global, IsUtf8, encode_utf8_all, refl, sym, ap, ◌∙◌, subst, append_assoc, append-nil}
-use Rattle.std.proofs.Common.{arith}
-use Rattle.std.proofs.lemmas.Bool.{false≢true, eqb-true}
+use Rattle.std.proofs.Common.{◌≡◌, ◌≤◌, ◌<◌, ◌==◌, ◌⊎◌, inl, inr, suc, ℕ, ◌+◌, max, Bool, true, false, cond, List, [], ◌∷◌, ◌++◌, length}
+use Rattle.std.proofs.Common.{map, take, get_or, Option, Some, None, Result, Ok, Err, OnOk, OnErr, not, ◌&&◌, ◌||◌, option_map, unwrap_or}
+use Rattle.std.proofs.Common.{IsSome, is_some, bytes_eq, string_bytes, String, Global, IsUtf8, encode_utf8_all, refl, sym, ap, ◌∙◌, subst}
+use Rattle.std.proofs.Common.{append_assoc, append-nil, arith}
+use Rattle.conf_store.proofs.Prelude.{false≢true, eqb-true, IsUtf8-string_bytes, get_by_text, chars, byte_len, same_text, byte_len-encoded}
+use Rattle.conf_store.proofs.Prelude.{same_text-true, same_text-self, nat_tests, map_more, map-append, Command, edit_of, name_of, text_of}
+use Rattle.conf_store.proofs.Prelude.{lines_if_there, entry_named, Entry, Contents, has_name, names_differ, step, touched, Room}
 use Rattle.std.proofs.lemmas.Slice.Eq.{bytes_eq-Decides}
-use Rattle.std.proofs.lemmas.Str.{IsUtf8-string_bytes}
-use Rattle.std.specs.HashMap.{get_by_text}
 use Rattle.std.specs.Map.{lookup}
-use Rattle.std.specs.Str.{chars}
-use Rattle.yaml_grammar.specs.Texts.{byte_len, same_text}
-use Rattle.yaml_writer.proofs.ByteLemmas.{byte_len-encoded}
-use Rattle.yaml_data.proofs.CharacterLemmas.{same_text-true, same_text-self}
-use Rattle.std.proofs.lemmas.Bool.Decides.{nat_tests}
-use Rattle.std.proofs.lemmas.List.{map_more, map-append}
-use Rattle.conf_state.specs.Commands.{Command, edit_of, name_of, text_of}
 use Rattle.conf_state.specs.declared.command.Edit.{Edit as CodeEdit}
-use Rattle.conf_state.specs.EntryTexts.{lines_if_there, entry_named}
-use Rattle.conf_state.specs.States.{Entry, Contents, has_name, names_differ}
-use Rattle.conf_state.specs.Steps.{step}
-use Rattle.conf_state.specs.Touched.{touched}
-use Rattle.conf_state.specs.declared.room.Room.{Room}
 use Rattle.conf_state.proofs.EntryLemmas.{same_key}
 use Rattle.conf_state.proofs.TouchedLemmas.{IsNoneOf, step-other}
 use Rattle.conf_store.specs.Early.{AreApart, IsApart, Texts, part_of, parts_of}

@@ -1,17 +1,9 @@
 -- The faults of a command on a state, and what a store makes of them.
 use Rattle.std.proofs.Common.{◌≡◌, ◌⊎◌, inl, inr, refl, subst}
 use Rattle.std.specs.Prelude.{Err}
-use Rattle.conf_state.specs.Commands.{Command}
-use Rattle.conf_state.specs.States.{Contents}
-use Rattle.conf_state.specs.Steps.{step, IsRefusal}
-use Rattle.conf_state.specs.declared.fault.StoreFault.{StoreFault}
-use Rattle.conf_state.specs.declared.fault.StoreFault.TheVariants.{EmptyBatch, BadName, NoConfig, Path, Read, TooDeep}
-use Rattle.conf_state.specs.declared.fault.StoreFault.TheVariants.{ConfigLarge, StoreFull, RecordLong, JournalLong}
-use Rattle.conf_state.specs.declared.fault.StoreFault.TheVariants.{CountFull, Reopen, Device, OutOfMemory}
-use Rattle.conf_state.specs.declared.room.Room.{Room}
-use Rattle.conf_store.specs.View.{StoreView}
-use Rattle.conf_store.specs.Accepting.{IsOfState}
-use Rattle.conf_store.specs.Calls.{outcome, journal_length, RefusesCommand}
+use Rattle.conf_store.proofs.Prelude.{Command, Contents, step, IsRefusal, StoreFault, EmptyBatch, BadName, NoConfig, Path, Read, TooDeep}
+use Rattle.conf_store.proofs.Prelude.{ConfigLarge, StoreFull, RecordLong, JournalLong, CountFull, Reopen, Device, OutOfMemory, Room}
+use Rattle.conf_store.specs.{View.StoreView, Accepting.IsOfState, Calls.outcome, Calls.journal_length, Calls.RefusesCommand}
 
 -- a step refuses for the command and the state alone
 abbrev pub StepsRefuse : Type 0

@@ -1,8 +1,8 @@
 -- What a string does that has room.
-use Rattle.std.proofs.Common.{◌≡◌, ◌≤◌, ℕ, ◌+◌, false, if◌then◌else◌, List, ◌++◌, length, String, Global, Result}
-use Rattle.std.proofs.Common.{string_bytes, sym, ap, ◌∙◌}
-use Rattle.std.proofs.lemmas.Bool.{false≢true}
+use Rattle.std.proofs.Common.{◌≡◌, ◌≤◌, ℕ, ◌+◌, false, if◌then◌else◌, List, ◌++◌, length, String, Global, Result, string_bytes, sym, ap}
+use Rattle.std.proofs.Common.{◌∙◌}
 use Rattle.std.specs.Prelude.{string_capacity, string_len, is_ok, is_err, IsOk, OnOk, Ok, Err}
+use Rattle.conf_store.proofs.Prelude.{false≢true}
 use Rattle.conf_store.specs.Room.{AppendsWithin}
 
 pub appended : {E : Type 0} (old new : String Global) (more : List ℕ) (result : Result (Unit {0}) E)

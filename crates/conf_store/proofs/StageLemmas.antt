@@ -1,28 +1,15 @@
 -- What is left of a checkpoint that is made part by part.
-use Rattle.std.proofs.Common.{◌≡◌, ◌≤◌, ◌⊎◌, inl, inr, ℕ, ◌+◌, ◌-◌, min, Bool, true, false, List, [], ◌∷◌, ◌++◌}
-use Rattle.std.proofs.Common.{length, take, drop, Some, None, Ok, IsSome, is_some, codes, decimal, encode_utf8_all}
-use Rattle.std.proofs.Common.{refl, sym, ap, ◌∙◌, subst, append_assoc, append-nil, length-append, arith}
-use Rattle.std.proofs.lemmas.Bool.{false≢true}
-use Rattle.std.proofs.lemmas.List.{length-take-le, take-append-le}
-use Rattle.std.proofs.lemmas.Str.{encodes-append}
-use Rattle.yaml_grammar.specs.Texts.{same_text}
-use Rattle.yaml_grammar.specs.Trees.{text, mapping}
-use Rattle.yaml_grammar.specs.Style.{value_at, members_after}
-use Rattle.yaml_data.proofs.CharacterLemmas.{same_text-true, same_text-self}
-use Rattle.yaml_writer.proofs.ByteLemmas.{byte_len-encoded}
-use Rattle.conf_state.specs.BaseTexts.{members, base_text, base_bytes, base_length, entry_lines}
-use Rattle.conf_state.specs.Commands.{Command}
-use Rattle.conf_state.specs.Limits.{IsState}
-use Rattle.conf_state.specs.EntryTexts.{lines_if_there}
-use Rattle.conf_state.specs.States.{Entry, Contents, config_named, names_of, has_name, names_differ}
-use Rattle.conf_state.specs.Steps.{step}
-use Rattle.conf_state.specs.Touched.{touched}
-use Rattle.conf_state.specs.declared.room.Room.{Room}
+use Rattle.std.proofs.Common.{◌≡◌, ◌≤◌, ◌⊎◌, inl, inr, ℕ, ◌+◌, ◌-◌, min, Bool, true, false, List, [], ◌∷◌, ◌++◌, length, take, drop, Some}
+use Rattle.std.proofs.Common.{None, Ok, IsSome, is_some, codes, decimal, encode_utf8_all, refl, sym, ap, ◌∙◌, subst, append_assoc}
+use Rattle.std.proofs.Common.{append-nil, length-append, arith}
+use Rattle.conf_store.proofs.Prelude.{false≢true, length-take-le, take-append-le, encodes-append, same_text, text, mapping, value_at}
+use Rattle.conf_store.proofs.Prelude.{members_after, same_text-true, same_text-self, byte_len-encoded, members, base_text, base_bytes}
+use Rattle.conf_store.proofs.Prelude.{base_length, entry_lines, Command, IsState, lines_if_there, Entry, Contents, config_named, names_of}
+use Rattle.conf_store.proofs.Prelude.{has_name, names_differ, step, touched, Room}
 use Rattle.conf_state.proofs.LineLemmas.{line, base_lines}
 use Rattle.conf_record.specs.BaseStart.{base_start, configs_start}
-use Rattle.conf_store.specs.Cuttings.{Cut}
+use Rattle.conf_store.specs.{Cuttings.Cut, Stagings.left_of, Stagings.staged_view, Stagings.HasRoom}
 use Rattle.conf_store.specs.Parts.{Part, parts_named, texts, joined, AreWithin, AreMade}
-use Rattle.conf_store.specs.Stagings.{left_of, staged_view, HasRoom}
 use Rattle.conf_store.specs.Staged.{Staged, staged_length, with_more, slice_limit, next_slice, after_slice}
 use Rattle.conf_store.proofs.PendingLemmas.{AreWithin-more, differ-names, no-name, texts-step}
 
@@ -143,30 +130,6 @@ module _ (s new : Contents) (command : Command) (room : Room) (ok : step s comma
         within = subst (AreWithin cut.part_room) (sym kept-texts) ready.within;
       }
 
--- texts that are made early change nothing else
-pub left-kept : (configs : List Entry) (cut : Cut) (old ps : List Part) (before since : List ℕ)
-    → texts configs ps ≡ texts configs old → since ≡ before
-    → left_of configs cut ps since ≡ left_of configs cut old before
-left-kept configs cut old ps before since same is =
-    ap (λ ts. cut.slice ++ cut.rest ++ joined ts ++ since) same ∙ ap (λ bs. cut.slice ++ cut.rest ++ joined (texts configs old) ++ bs) is
-
-pub ready-kept : (configs : List Entry) (written total : ℕ) (cut : Cut) (old ps : List Part) (before since : List ℕ)
-    → texts configs ps ≡ texts configs old → since ≡ before
-    → HasRoom configs written total cut old before → HasRoom configs written total cut ps since
-ready-kept configs written total cut old ps before since same is ready =
-    let whole = ready.whole in
-    let long = ap length (left-kept configs cut old ps before since same is) in
-    record {
-      whole = omega (arith, whole, long);
-      room = ready.room;
-      within = subst (AreWithin cut.part_room) (sym same) ready.within;
-    }
-
--- where no checkpoint runs, what is left is not seen
-pub view-none : (running : Bool) (written : ℕ) (left : List ℕ) → running ≡ false → staged_view running written left ≡ None
-view-none true written left e = absurd (false≢true (sym e))
-view-none false written left e = refl
-
 -- whether one runs
 pub view-runs : (running : Bool) (written : ℕ) (left : List ℕ) → running ≡ is_some (staged_view running written left)
 view-runs true written left = refl
@@ -233,10 +196,6 @@ slice-passed slice others written staged is made =
     ∙ ap (λ bs. record { written = written + length slice; left = bs }) (rest-after slice others (length slice) refl)
 
 -- ---- slices that are made
-
-no-part : (xs ys : List ℕ) → xs ++ ys ≡ [] → xs ≡ []
-no-part [] ys e = refl
-no-part (x ∷ xs) ys e = cc
 
 -- the bytes that come after the slice
 abbrev pub others_of : List Entry → Cut → List Part → List ℕ → List ℕ
@@ -359,8 +318,3 @@ pub none-more : (running : Bool) (written other : ℕ) (left after more : List �
     → staged_view running written after ≡ with_more more (staged_view running other left)
 none-more false written other left after more off = refl
 none-more true written other left after more off = absurd (false≢true (sym off))
-
-pub none-same : (running : Bool) (written : ℕ) (left after : List ℕ) → running ≡ false
-    → staged_view running written after ≡ staged_view running written left
-none-same false written left after off = refl
-none-same true written left after off = absurd (false≢true (sym off))

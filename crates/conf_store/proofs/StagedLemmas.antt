@@ -1,33 +1,12 @@
 -- A running checkpoint beside what is under `store.yaml`.
 use Rattle.std.proofs.Common.{◌≡◌, refl, sym, ◌∙◌, ap, subst, arith, ◌≤◌, append_assoc, length-append, take-append-drop}
 use Rattle.std.specs.Prelude.{ℕ, ◌+◌, min, List, [], ◌∷◌, ◌++◌, length, take, Option, Some, None, IsSome, option_map, Ok}
-use Rattle.std.proofs.lemmas.Bool.{false≢true}
-use Rattle.std.proofs.lemmas.List.{length-take-le}
-use Rattle.yaml_grammar.specs.Closings.{ClosesOnce}
-use Rattle.conf_disk.specs.Folder.{File, Folder, bytes_at, bytes_under}
-use Rattle.conf_disk.specs.Image.{synced_file}
-use Rattle.conf_disk.specs.declared.disk.Name.TheVariants.{Next}
-use Rattle.conf_journal.specs.Held.{HoldsStore}
-use Rattle.conf_journal.specs.Store.{store_limit, file_with_bytes}
-use Rattle.conf_state.specs.Commands.{Command}
-use Rattle.conf_state.specs.States.{Contents}
-use Rattle.conf_state.specs.Steps.{step, after}
-use Rattle.conf_state.specs.declared.room.Room.TheVariants.{Enough}
-use Rattle.conf_record.specs.Documents.{IsRecord, IsBase}
+use Rattle.conf_store.proofs.Prelude.{false≢true, length-take-le, ClosesOnce, File, Folder, bytes_under, synced_file, Next, HoldsStore}
+use Rattle.conf_store.proofs.Prelude.{store_limit, file_with_bytes, Command, Contents, step, after, Enough, IsRecord, IsBase}
 use Rattle.conf_store.specs.Meaning.{FileMeans}
 use Rattle.conf_store.specs.Staged.{Staged, staged_length, with_more, slice_limit, next_slice, after_slice}
 use Rattle.conf_store.specs.Durable.{IsWholeStore, IsJournal, IsDurable, AfterPrefix, IsStaged, IsStaging, staged_text}
 use Rattle.conf_store.proofs.MeaningLemmas.{whole-means, base-whole, record-whole}
-
-next_there : (files : List File) (place : Option ℕ) (start : List ℕ) → bytes_at files place ≡ Some start → IsSome place
-next_there files None start e = absurd (cc e)
-next_there files (Some id) start e = refl
-
--- while a checkpoint runs, `next.yaml` is there
-pub staged-there : (folder : Folder) (s : Contents) (staged : Option Staged) → IsSome staged
-    → IsStaging folder s staged → IsSome folder.now.next
-staged-there folder s None some is = absurd (false≢true some)
-staged-there folder s (Some staged) some is = next_there folder.files folder.now.next is.start is.reads
 
 -- the new file's bytes
 pub text-of : (folder : Folder) (s : Contents) (staged : Staged) → (is : IsStaged folder s staged)

@@ -1,39 +1,21 @@
 -- What an open store keeps on its disk, and what a crash during its calls leaves.
 use Rattle.std.proofs.Common.{◌≡◌, ◌⊎◌, inl, ⊎_elim, refl, sym, ◌∙◌, ap, subst, arith, ◌≤◌, length-append}
-use Rattle.std.specs.Prelude.{ℕ, true, false, ◌+◌, ◌&&◌, min, Bool, nat_le, nat_lt, if◌then◌else◌, List, [], ◌∷◌}
-use Rattle.std.specs.Prelude.{◌++◌, length, Option, Some, option_map, Ok, Err}
-use Rattle.std.proofs.lemmas.Bool.{false≢true}
-use Rattle.yaml_grammar.specs.Closings.{ClosesOnce}
-use Rattle.yaml_grammar.specs.Texts.{byte_len}
-use Rattle.yaml_writer.proofs.ByteLemmas.{byte_len-encoded}
-use Rattle.conf_disk.specs.Folder.{Folder, with_pending}
-use Rattle.conf_disk.specs.Image.{Image, IsImage, synced_file}
-use Rattle.conf_disk.specs.Models.{DiskModel}
-use Rattle.conf_disk.specs.Moments.{LeavesOnly, greatest}
-use Rattle.conf_disk.proofs.Moments.{LeavesOnly-start, LeavesOnly-weaker}
-use Rattle.conf_journal.specs.Held.{HoldsStore, IsLeftOf, HeldIsLeft, SyncedIsLeft}
-use Rattle.conf_journal.specs.Store.{IsStoreOf, store_limit}
-use Rattle.conf_state.specs.Commands.{Command, single, batch, is_batch}
-use Rattle.conf_state.specs.States.{Contents, count_limit}
-use Rattle.conf_state.specs.Limits.{IsState}
+use Rattle.std.specs.Prelude.{ℕ, true, false, ◌+◌, ◌&&◌, min, Bool, nat_le, nat_lt, if◌then◌else◌, List, [], ◌∷◌, ◌++◌, length, Option}
+use Rattle.std.specs.Prelude.{Some, option_map, Ok, Err}
+use Rattle.conf_store.proofs.Prelude.{false≢true, ClosesOnce, byte_len, byte_len-encoded, Folder, with_pending, Image, IsImage, synced_file}
+use Rattle.conf_store.proofs.Prelude.{DiskModel, LeavesOnly, greatest, LeavesOnly-start, LeavesOnly-weaker, HoldsStore, IsLeftOf}
+use Rattle.conf_store.proofs.Prelude.{HeldIsLeft, SyncedIsLeft, IsStoreOf, store_limit, Command, single, batch, is_batch, Contents}
+use Rattle.conf_store.proofs.Prelude.{count_limit, IsState, step, after, Room, Enough, LongRecord, IsRecord, IsBase, BasesAreRead}
+use Rattle.conf_store.proofs.Prelude.{BasesClose, BasesFit, RecordsAreRead, RecordsClose, RecordsTear, base_bytes, FitsRecord, record_text}
+use Rattle.conf_store.proofs.Prelude.{record_bytes, IsCommand, nat_tests, StoreFault}
 use Rattle.conf_state.specs.Rooms.{record_limit, room_of}
-use Rattle.conf_state.specs.Steps.{step, after}
-use Rattle.conf_state.specs.declared.room.Room.{Room}
-use Rattle.conf_state.specs.declared.room.Room.TheVariants.{Enough, LongRecord, Missing}
-use Rattle.conf_record.specs.Documents.{IsRecord, IsBase, BasesAreRead, BasesClose, BasesFit, RecordsAreRead, RecordsClose, RecordsTear}
-use Rattle.conf_state.specs.BaseTexts.{base_bytes}
-use Rattle.conf_record.specs.Records.{FitsRecord, record_text, record_bytes}
-use Rattle.conf_record.specs.RecordsRead.{IsCommand}
-use Rattle.std.proofs.lemmas.Bool.Decides.{nat_tests}
-use Rattle.conf_state.specs.declared.fault.StoreFault.{StoreFault}
-use Rattle.conf_store.specs.Accepting.{IsAccepted, IsBaseOf, IsMeasured}
+use Rattle.conf_state.specs.declared.room.Room.TheVariants.{Missing}
+use Rattle.conf_store.specs.{Accepting.IsAccepted, Accepting.IsBaseOf, Accepting.IsMeasured, Meaning.FileMeans}
 use Rattle.conf_store.specs.Calls.{next_number, next_record, room_for, outcome}
-use Rattle.conf_store.proofs.StepLemmas.{StepsNeedRoom, StepsCount, accepted-anyway, accepted-number}
-use Rattle.conf_store.specs.Meaning.{FileMeans}
 use Rattle.conf_store.specs.Durable.{IsJournal, HasFlushed, IsHeld, IsDurable, AllImagesMean, AfterPrefix}
-use Rattle.conf_store.proofs.MeaningLemmas.{whole-means, base-whole, ok-same}
+use Rattle.conf_store.proofs.{MeaningLemmas.whole-means, MeaningLemmas.base-whole, MeaningLemmas.ok-same, StagedLemmas.means-waiting}
+use Rattle.conf_store.proofs.StepLemmas.{StepsNeedRoom, StepsCount, accepted-anyway, accepted-number}
 use Rattle.conf_store.proofs.HeldLemmas.{held-journal, held-images, held-stores, journal-more, journal-synced, appended-left}
-use Rattle.conf_store.proofs.StagedLemmas.{means-waiting}
 
 -- a durable store's images mean its state
 pub durable-means : SyncedIsLeft → (folder : Folder) (s : Contents) (size : ℕ) → IsDurable folder s size → AllImagesMean folder s
@@ -41,12 +23,6 @@ durable-means left folder s size durable image is =
     let same : image.store ≡ Some durable.bytes = left folder durable.bytes durable.holds image is in
     subst (λ store. FileMeans store s) (sym same)
     (whole-means durable.bytes s durable.whole (omega (arith, durable.long, durable.short)))
-
--- each store that a crash may leave of a durable one means its state
-pub store-means : SyncedIsLeft → (folder : Folder) (s : Contents) (size : ℕ) → IsDurable folder s size
-    → (store : Option (List ℕ)) → IsStoreOf folder store → FileMeans store s
-store-means left folder s size durable store is =
-    subst (λ b. FileMeans b s) is.same (durable-means left folder s size durable is.image is.is)
 
 -- ---- a base as the new file
 

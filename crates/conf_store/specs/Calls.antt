@@ -1,21 +1,9 @@
 -- What the calls of an open store return, and how they change it.
 use Rattle.std.specs.Prelude.{◌≡◌, ◌⊎◌, ℕ, ◌+◌, ◌<◌, ◌≤◌, min, max, false, if◌then◌else◌, List, length, Result, Ok, Err}
-use Rattle.conf_disk.specs.Moments.{greatest}
-use Rattle.conf_journal.specs.Store.{store_limit}
-use Rattle.conf_state.specs.Commands.{Command, is_batch}
-use Rattle.conf_state.specs.States.{Contents, config_named, count_limit}
-use Rattle.yaml_grammar.specs.Trees.{Tree}
-use Rattle.yaml_grammar.specs.Style.{style_text}
-use Rattle.tree_path.specs.Paths.{at}
-use Rattle.conf_state.specs.Names.{good_name}
-use Rattle.conf_state.specs.Rooms.{room_of}
-use Rattle.conf_state.specs.Steps.{step, and_then, found, by_path}
-use Rattle.conf_state.specs.declared.fault.StoreFault.{StoreFault}
-use Rattle.conf_state.specs.declared.fault.StoreFault.TheVariants.{BadName, Reopen, Device, OutOfMemory}
-use Rattle.conf_state.specs.declared.room.Room.{Room}
-use Rattle.conf_record.specs.Records.{record_bytes}
-use Rattle.conf_store.specs.Staged.{staged_length, with_more}
-use Rattle.conf_store.specs.View.{StoreView}
+use Rattle.conf_store.specs.Prelude.{greatest, store_limit, Command, is_batch, Contents, config_named, count_limit}
+use Rattle.conf_store.specs.Prelude.{Tree, style_text, at, good_name, room_of, step, and_then, found, by_path}
+use Rattle.conf_store.specs.Prelude.{StoreFault, BadName, Reopen, Device, OutOfMemory, Room, record_bytes}
+use Rattle.conf_store.specs.{Staged.staged_length, Staged.with_more, View.StoreView}
 
 -- The number of the next record. At the greatest count it is that count, which has as many digits as the number after
 -- it.

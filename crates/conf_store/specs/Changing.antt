@@ -1,18 +1,9 @@
 -- What a call that may change an open store says of the store before it, `old`, and of the one after it, `new`.
 use Rattle.std.specs.Prelude.{◌≡◌, ◌≢◌, ◌⊎◌, ◌≤◌, ℕ, false, List, [], ◌∷◌, ◌++◌, Option, Result, IfErr, IsErrOf, OnOk}
-use Rattle.conf_disk.specs.Folder.{bytes_under}
-use Rattle.conf_disk.specs.Models.{DiskModel}
-use Rattle.conf_disk.specs.Moments.{LeavesOnly}
-use Rattle.conf_disk.specs.declared.disk.Name.TheVariants.{Store}
-use Rattle.conf_journal.specs.Store.{file_with_bytes}
-use Rattle.conf_state.specs.Commands.{Command}
-use Rattle.conf_state.specs.States.{Contents}
-use Rattle.conf_state.specs.declared.fault.StoreFault.{StoreFault}
-use Rattle.conf_state.specs.declared.fault.StoreFault.TheVariants.{Device}
-use Rattle.conf_store.specs.Calls.{HasFailed, next_record}
+use Rattle.conf_store.specs.Prelude.{bytes_under, DiskModel, LeavesOnly, Store, file_with_bytes, Command, Contents}
+use Rattle.conf_store.specs.Prelude.{StoreFault, Device}
+use Rattle.conf_store.specs.{Calls.HasFailed, Calls.next_record, Meaning.FileMeans, View.StoreView}
 use Rattle.conf_store.specs.Durable.{AfterPrefix, AllImagesMean, HasFlushed, staged_text}
-use Rattle.conf_store.specs.Meaning.{FileMeans}
-use Rattle.conf_store.specs.View.{StoreView}
 
 -- ---- faults
 

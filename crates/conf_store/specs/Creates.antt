@@ -1,10 +1,6 @@
 -- Why no store was made of a state.
 use Rattle.std.specs.Prelude.{◌≡◌, ◌≢◌, ◌⊎◌, None, Some, Result, Ok, Err}
-use Rattle.conf_disk.specs.Folder.{Folder, bytes_under}
-use Rattle.conf_disk.specs.Image.{image_now}
-use Rattle.conf_disk.specs.declared.disk.Name.TheVariants.{Store}
-use Rattle.conf_state.specs.BaseTexts.{base_bytes}
-use Rattle.conf_state.specs.States.{Contents}
+use Rattle.conf_store.specs.Prelude.{Folder, bytes_under, image_now, Store, base_bytes, Contents}
 use Rattle.conf_store.specs.declared.creating.CreateFault.{CreateFault}
 use Rattle.conf_store.specs.declared.creating.CreateFault.TheVariants.{StoreExists, Device, OutOfMemory}
 

@@ -1,7 +1,7 @@
 -- What is seen of the slice that is made next.
 use Rattle.std.specs.Prelude.{ℕ, List}
-use Rattle.std.specs.Coded.{Coded, code_by, coded×, coded_ℕ, coded_list}
 use Rattle.std.proofs.Common.{refl}
+use Rattle.conf_store.specs.Prelude.{Coded, code_by, coded×, coded_ℕ, coded_list}
 
 -- the slice as far as it is made, what is left of the part, and how many bytes there is room for in both
 pub record Cut : Type 0 where

@@ -1,17 +1,9 @@
 -- What an open store keeps on its disk, and what a crash leaves of it.
-use Rattle.std.specs.Prelude.{◌≡◌, ◌≤◌, ℕ, ◌+◌, Bool, false, List, [], ◌++◌, length, take, Option, Some, None, option_map, Ok}
-use Rattle.yaml_grammar.specs.Closings.{Pieces}
-use Rattle.conf_disk.specs.Folder.{File, Folder, bytes_under}
-use Rattle.conf_disk.specs.Image.{Image, IsImage, synced_file}
-use Rattle.conf_disk.specs.declared.disk.Name.TheVariants.{Next}
-use Rattle.conf_journal.specs.Held.{HoldsStore, file_at}
-use Rattle.conf_journal.specs.Store.{store_limit}
-use Rattle.conf_state.specs.Commands.{Command}
-use Rattle.conf_state.specs.States.{Contents}
-use Rattle.conf_state.specs.Steps.{after}
-use Rattle.conf_record.specs.Documents.{record_pieces, records_bytes}
-use Rattle.conf_store.specs.Meaning.{AreRecords, PiecesMean, FileMeans}
-use Rattle.conf_store.specs.Staged.{Staged}
+use Rattle.std.specs.Prelude.{◌≡◌, ◌≤◌, ℕ, ◌+◌, Bool, false, List, [], ◌++◌, length, take, Option, Some, None}
+use Rattle.std.specs.Prelude.{option_map, Ok}
+use Rattle.conf_store.specs.Prelude.{Pieces, File, Folder, bytes_under, Image, IsImage, synced_file, Next, HoldsStore}
+use Rattle.conf_store.specs.Prelude.{file_at, store_limit, Command, Contents, after, record_pieces, records_bytes}
+use Rattle.conf_store.specs.{Meaning.AreRecords, Meaning.PiecesMean, Meaning.FileMeans, Staged.Staged}
 
 -- The bytes mean `s`, and end with a closing line: nothing follows the last piece.
 pub record IsWholeStore (bytes : List ℕ) (s : Contents) : Type 0 where

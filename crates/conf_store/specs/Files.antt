@@ -1,15 +1,8 @@
 -- What the files of a folder read as, and what opening makes of them.
 use Rattle.std.specs.Prelude.{◌≡◌, ◌≢◌, ◌⊎◌, ℕ, List, length, Option, Some, None}
-use Rattle.conf_disk.specs.Folder.{bytes_under}
-use Rattle.conf_disk.specs.Image.{Image, IsImage, image_now}
-use Rattle.conf_disk.specs.Models.{DiskModel}
-use Rattle.conf_disk.specs.Moments.{LeavesOnly}
-use Rattle.conf_disk.specs.declared.disk.Name.TheVariants.{Store}
-use Rattle.conf_journal.specs.Store.{IsStoreOf}
-use Rattle.conf_state.specs.States.{Contents}
-use Rattle.conf_state.specs.BaseTexts.{base_bytes}
-use Rattle.conf_store.specs.Meaning.{FileMeans}
-use Rattle.conf_store.specs.Opens.{FileRecoversTo}
+use Rattle.conf_store.specs.Prelude.{bytes_under, Image, IsImage, image_now, DiskModel, LeavesOnly, Store, IsStoreOf}
+use Rattle.conf_store.specs.Prelude.{Contents, base_bytes}
+use Rattle.conf_store.specs.{Meaning.FileMeans, Opens.FileRecoversTo}
 
 -- the file is there, and has so many bytes
 abbrev pub HasLength : Option (List ℕ) → ℕ → Type 0

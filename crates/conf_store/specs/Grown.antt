@@ -1,11 +1,7 @@
 -- By how much a file has grown since its base was written.
 use Rattle.std.specs.Prelude.{◌≡◌, ℕ, List, ◌++◌, length, Option, Some, None}
-use Rattle.yaml_grammar.specs.Closings.{ClosesOnce}
-use Rattle.conf_disk.specs.Folder.{Folder}
-use Rattle.conf_state.specs.States.{Contents}
-use Rattle.conf_record.specs.Documents.{IsBase}
-use Rattle.conf_store.specs.Durable.{staged_text}
-use Rattle.conf_store.specs.Staged.{Staged}
+use Rattle.conf_store.specs.Prelude.{ClosesOnce, Folder, Contents, IsBase}
+use Rattle.conf_store.specs.{Durable.staged_text, Staged.Staged}
 
 -- The bytes are a base, a piece that is closed once, and then others: so many.
 pub record IsGrown (bytes : List ℕ) (count : ℕ) : Type 0 where

@@ -1,3 +1,4 @@
+pub mod Prelude
 pub mod Meaning
 pub mod First
 pub mod OldStores

@@ -1,13 +1,8 @@
 -- Why a piece is not the next record after a state.
-use Rattle.std.specs.Prelude.{◌≡◌, ◌≢◌, ℕ, ◌+◌, List, Err}
-use Rattle.conf_state.specs.Commands.{Command}
-use Rattle.conf_state.specs.States.{Contents}
-use Rattle.conf_state.specs.Steps.{step}
-use Rattle.conf_state.specs.declared.room.Room.TheVariants.{Enough}
-use Rattle.conf_record.specs.Documents.{IsRecord, IsNoRecord}
-use Rattle.conf_store.specs.declared.records.NoRecord.{NoRecord}
+use Rattle.std.specs.Prelude.{◌≡◌, ◌≢◌, ℕ, ◌+◌, List, Ok, Err}
+use Rattle.conf_store.specs.Prelude.{Command, Contents, step, Enough, IsRecord, IsNoRecord}
+use Rattle.conf_store.specs.{declared.records.NoRecord.NoRecord, declared.records.RecordFault.RecordFault}
 use Rattle.conf_store.specs.declared.records.NoRecord.TheVariants.{NotARecord, WrongNumber, Refused}
-use Rattle.conf_store.specs.declared.records.RecordFault.{RecordFault}
 use Rattle.conf_store.specs.declared.records.RecordFault.TheVariants.{Bad, OutOfMemory}
 
 -- the reason holds of the piece and the state
@@ -21,3 +16,10 @@ IsWhy piece s (Refused fault) =
 abbrev pub RefusesRecord : List ℕ → Contents → RecordFault → Type 0
 RefusesRecord piece s (Bad why) = IsWhy piece s why
 RefusesRecord piece s OutOfMemory = Unit {0}
+
+-- the piece is the next record after `old`, its command leads to `new`, and this is told of the command
+pub record PerformsRecord (tells : ℕ → Command → Type 0) (piece : List ℕ) (old new : Contents) : Type 0 where
+  pub command : Command
+  pub is_record : IsRecord piece command (old.count + 1)
+  pub done : step old command Enough ≡ Ok new
+  pub told : tells (old.count + 1) command

@@ -1,6 +1,6 @@
 -- What today's meaning makes of the files of the first format.
 use Rattle.std.specs.Prelude.{ℕ, List}
-use Rattle.conf_state.specs.States.{Contents}
+use Rattle.conf_store.specs.Prelude.{Contents}
 use Rattle.conf_store.specs.First as first
 use Rattle.conf_store.specs.Meaning as now
 

@@ -1,6 +1,6 @@
 -- Text that is appended within the room of a string.
 use Rattle.std.specs.Prelude.{◌≡◌, ◌≤◌, ℕ, ◌+◌, List, ◌++◌, length, String, string_bytes, string_capacity, string_len}
-use Rattle.std.specs.declared.alloc.Global.{Global}
+use Rattle.conf_store.specs.Prelude.{Global}
 
 -- where there is room for the bytes they are at the end; the room never shrinks
 pub record AppendsWithin (old : String Global) (more : List ℕ) (new : String Global) : Type 0 where

@@ -1,7 +1,7 @@
 -- Texts that are appended one after the other.
 use Rattle.std.specs.Prelude.{ℕ, List, [], ◌++◌, String, string_bytes, encode_utf8_all}
-use Rattle.std.specs.declared.alloc.Global.{Global}
 use Rattle.std.proofs.Common.{sym, ap, ◌∙◌, subst, append-nil, append_assoc, arith, length-append}
+use Rattle.conf_store.specs.Prelude.{Global}
 use Rattle.std.proofs.lemmas.Str.{encodes-append}
 use Rattle.conf_store.specs.Room.{AppendsWithin}
 

@@ -1,18 +1,10 @@
 -- What a checkpoint does that is written in slices.
 use Rattle.std.specs.Prelude.{◌≡◌, ℕ, ◌<◌, true, false, List, [], length, Option, Some, None}
-use Rattle.conf_disk.specs.Folder.{File, Folder, bytes_under}
-use Rattle.conf_disk.specs.Image.{synced_file}
-use Rattle.conf_disk.specs.Models.{DiskModel}
-use Rattle.conf_disk.specs.declared.disk.Name.TheVariants.{Store, Next}
-use Rattle.conf_journal.specs.Held.{HoldsStore}
-use Rattle.conf_journal.specs.Store.{IsSynced, file_with_bytes}
+use Rattle.conf_store.specs.Prelude.{File, Folder, bytes_under, synced_file, DiskModel, Store, Next, HoldsStore}
+use Rattle.conf_store.specs.Prelude.{IsSynced, file_with_bytes, Command, Contents, base_bytes}
+use Rattle.conf_store.specs.{View.StoreView, declared.slicing.Progress.Progress}
 use Rattle.conf_store.specs.Staged.{Staged, staged_length, next_slice, after_slice, is_sync_due}
-use Rattle.conf_state.specs.Commands.{Command}
-use Rattle.conf_state.specs.States.{Contents}
-use Rattle.conf_state.specs.BaseTexts.{base_bytes}
 use Rattle.conf_store.specs.Durable.{HasFlushed, AllImagesMean, staged_text}
-use Rattle.conf_store.specs.View.{StoreView}
-use Rattle.conf_store.specs.declared.slicing.Progress.{Progress}
 use Rattle.conf_store.specs.declared.slicing.Progress.TheVariants.{Left, Done}
 
 -- nothing of `next.yaml` is pending, where a sync is due

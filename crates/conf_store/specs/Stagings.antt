@@ -1,10 +1,8 @@
 -- A checkpoint that is made part by part, beside the state.
 use Rattle.std.specs.Prelude.{◌≡◌, ◌≤◌, ℕ, ◌+◌, Bool, true, false, List, ◌++◌, length, Option, Some, None, string_bytes}
-use Rattle.conf_state.specs.States.{Entry, Contents}
-use Rattle.conf_store.specs.Cuttings.{Cut}
+use Rattle.conf_store.specs.Prelude.{Entry, Contents}
+use Rattle.conf_store.specs.{Cuttings.Cut, Staged.Staged, Staged.slice_limit, declared.staging.Staging.Staging}
 use Rattle.conf_store.specs.Parts.{Part, AreWithin, joined, texts}
-use Rattle.conf_store.specs.Staged.{Staged, slice_limit}
-use Rattle.conf_store.specs.declared.staging.Staging.{Staging}
 
 -- what is left to write: the slice and the part at hand, the configurations that wait, and what comes after them
 abbrev pub left_of : List Entry → Cut → List Part → List ℕ → List ℕ

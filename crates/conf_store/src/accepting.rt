@@ -1,7 +1,6 @@
 // Performing a command on the state, and making its record, before anything is written to the disk.
 ghost use Rattle.std.specs.Prelude.{◌≡◌, ◌⊎◌, ◌≤◌, max, IfOk, IfErr, OnErr, Err, string_bytes};
-ghost use Rattle.conf_journal.specs.Store.{store_limit};
-ghost use Rattle.conf_state.specs.Commands.{command_of};
+ghost use Rattle.conf_store.specs.Prelude.{store_limit, command_of};
 ghost use Rattle.conf_store.specs.Accepting.{IsAccepted, IsMeasured, IsOfState};
 ghost use Rattle.conf_store.specs.Calls.{outcome};
 ghost use Rattle.conf_store.specs.Staged.{staged_length, with_more};

@@ -1,9 +1,7 @@
 // Checkpoints of an open store.
-ghost use Rattle.std.specs.Prelude.{◌≡◌, ◌⊎◌, ◌↔◌, true, false, List, length, IfOk, IfErr, IsErrOf, OnOk, Some, None, IsSome, is_some};
-ghost use Rattle.conf_disk.specs.Folder.{bytes_under};
-ghost use Rattle.conf_state.specs.BaseTexts.{base_bytes};
-ghost use Rattle.conf_state.specs.Commands.{Command};
-ghost use Rattle.conf_state.specs.States.{Contents};
+ghost use Rattle.std.specs.Prelude.{◌≡◌, ◌⊎◌, ◌↔◌, true, false, List, length, IfOk, IfErr, IsErrOf, OnOk, Some, None};
+ghost use Rattle.std.specs.Prelude.{IsSome, is_some};
+ghost use Rattle.conf_store.specs.Prelude.{bytes_under, base_bytes, Command, Contents};
 ghost use Rattle.conf_store.specs.Changing.{CrashesLeaveState, DeviceHasCause, FailuresNeverFall, LeavesPrefix, NoneWaits, RefusalsChangeNothing, SameWait, new_file, store_file};
 ghost use Rattle.conf_store.specs.Durable.{HasFlushed};
 ghost use Rattle.conf_store.specs.Slices.{Begins, SliceFlushes, SliceReads, Slices, SyncedWhenDue};

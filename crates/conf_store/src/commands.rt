@@ -1,8 +1,6 @@
 // Commands on an open store.
 ghost use Rattle.std.specs.Prelude.{◌≡◌, ◌⊎◌, ◌↔◌, true, false, IfOk, IfErr, IsErrOf, OnOk, Err, is_some};
-ghost use Rattle.std.specs.Str.{chars};
-ghost use Rattle.conf_state.specs.Commands.{command_of};
-ghost use Rattle.conf_state.specs.Names.{good_name};
+ghost use Rattle.conf_store.specs.Prelude.{chars, command_of, good_name};
 ghost use Rattle.conf_store.specs.Calls.{Accepts, RefusesCommand};
 ghost use Rattle.conf_store.specs.Changing.{AppendsRecord, CommandWaits, CrashesLeaveState, DeviceHasCause, FailuresNeverFall, LeavesPrefix, LeavesPrefixOrNew, NoneWaits, RefusalsChangeNothing, new_file, store_file};
 ghost use Rattle.conf_store.specs.Imports.{AppendsImport, Imports, RefusesImport};

@@ -1,12 +1,7 @@
 // Making a store of a state.
 ghost use Rattle.std.specs.Prelude.{◌≡◌, ◌≢◌, ◌≤◌, None, Some, OnOk, IfOk, IfErr, IsErrOf, Err};
-ghost use Rattle.conf_disk.specs.Folder.{bytes_under};
-ghost use Rattle.conf_disk.specs.Image.{Image, IsImage, image_now};
-ghost use Rattle.conf_disk.specs.Moments.{LeavesOnly};
-ghost use Rattle.conf_journal.specs.Held.{HoldsStore};
-ghost use Rattle.conf_journal.specs.Store.{LeavesStoreOr};
-ghost use Rattle.conf_state.specs.BaseTexts.{base_bytes};
-ghost use Rattle.conf_state.specs.Limits.{IsState};
+ghost use Rattle.conf_store.specs.Prelude.{bytes_under, Image, IsImage, image_now, LeavesOnly, HoldsStore};
+ghost use Rattle.conf_store.specs.Prelude.{LeavesStoreOr, base_bytes, IsState};
 ghost use Rattle.conf_store.specs.Calls.{HasFailed};
 ghost use Rattle.conf_store.specs.Creates.{RefusesCreation, disk_behind};
 ghost use Rattle.conf_store.specs.Durable.{AllImagesMean};

@@ -1,7 +1,6 @@
 // The next slice of a file that is made part by part.
 ghost use Rattle.std.specs.Prelude.{◌≡◌, ◌≤◌, ◌⊎◌, ◌++◌, [], true, false, length, string_bytes, encode_utf8_all, IfOk};
-ghost use Rattle.std.specs.Str.{chars};
-ghost use Rattle.conf_state.specs.EntryTexts.{entry_named};
+ghost use Rattle.conf_store.specs.Prelude.{chars, entry_named};
 ghost use Rattle.conf_store.specs.Staged.{slice_limit};
 
 use crate::part_text::PartText;

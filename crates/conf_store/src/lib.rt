@@ -14,7 +14,8 @@
 //! [`read_state`] reads the state of a folder and changes nothing, also where nothing can be written. [`create_store`]
 //! makes a store of a state where there is none.
 //!
-//! [`next_command`] and [`replay_command`] perform one record on a state, for whoever goes over a store's file.
+//! [`replay_record`] performs one record on what is [`Replayed`], and [`replay_records`] all of them, for whoever goes
+//! over a store's file.
 //!
 //! After a crash at any moment, opening finds the state after a prefix of the accepted commands, with every command
 //! that was acknowledged ([`lives_hold`]).
@@ -47,7 +48,7 @@ pub use laws::{
     bytes_mean_one_state, lives_hold, old_stores_read, one_state_is_flushed, records_are_measured,
 };
 pub use reading::read_state;
-pub use records::{NoRecord, OnRefusal, RecordFault, next_command, replay_command};
-pub use recovery::Opened;
+pub use records::{NoRecord, OnRefusal, RecordFault, Replayed, replay_record};
+pub use recovery::{Opened, replay_records};
 pub use slicing::Progress;
 pub use store::Store;

@@ -1,7 +1,7 @@
 // The text of one part of a base, in memory that was taken before.
 ghost use Rattle.std.specs.Prelude.{◌≡◌, ◌≤◌, ◌+◌, ◌++◌, length, string_bytes, string_capacity};
+ghost use Rattle.conf_store.specs.Prelude.{spaces};
 ghost use Rattle.std.specs.String.{string_len};
-ghost use Rattle.yaml_grammar.specs.Texts.{spaces};
 ghost use Rattle.conf_store.specs.Room.{AppendsWithin};
 
 use std::convert::Infallible;

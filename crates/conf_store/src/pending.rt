@@ -1,10 +1,6 @@
 // The configurations of a running checkpoint's base whose text isn't written yet.
 ghost use Rattle.std.specs.Prelude.{◌≡◌, ◌≤◌, ◌+◌, ◌<◌, ◌++◌, [], ◌∷◌, true, false, List, ℕ, length, map, IfOk, OnOk};
-ghost use Rattle.std.specs.Str.{chars};
-ghost use Rattle.conf_state.specs.Commands.{command_of};
-ghost use Rattle.conf_state.specs.Commands.{edit_of, name_of};
-ghost use Rattle.conf_state.specs.Limits.{IsState};
-ghost use Rattle.conf_state.specs.States.{names_of};
+ghost use Rattle.conf_store.specs.Prelude.{chars, command_of, edit_of, name_of, IsState, names_of};
 ghost use Rattle.conf_store.specs.Early.{text_named};
 ghost use Rattle.conf_state.specs.Touched.{touched};
 ghost use Rattle.conf_store.specs.Parts.{AreMade, AreWithin, IsMade, joined, parts_named, texts};

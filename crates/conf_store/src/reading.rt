@@ -1,7 +1,6 @@
 // Reading the state of a folder without a change to it.
 ghost use Rattle.std.specs.Prelude.{◌≡◌, ◌≤◌, IfOk, IfErr, IsErrOf};
-ghost use Rattle.conf_disk.specs.Folder.{bytes_under};
-ghost use Rattle.conf_state.specs.Limits.{IsState};
+ghost use Rattle.conf_store.specs.Prelude.{bytes_under, IsState};
 ghost use Rattle.conf_store.specs.Calls.{HasFailed};
 ghost use Rattle.conf_store.specs.Files.{FilesStay};
 ghost use Rattle.conf_store.specs.Meaning.{FileMeans};

@@ -1,15 +1,11 @@
 // Writing the next slice of a checkpoint.
 ghost use Rattle.std.specs.Prelude.{◌≡◌, ◌≢◌, ◌<◌, Option, IsSome, Err, IfOk, OnOk};
-ghost use Rattle.conf_disk.specs.Folder.{File};
-ghost use Rattle.conf_disk.specs.Image.{image_now};
-ghost use Rattle.conf_disk.specs.Moments.{CountsFailures, greatest};
-ghost use Rattle.conf_journal.specs.Held.{HoldsStore};
-ghost use Rattle.conf_journal.specs.Store.{LeavesOldStore, LeavesStoreOr};
+ghost use Rattle.conf_store.specs.Prelude.{File, image_now, CountsFailures, greatest, HoldsStore, LeavesOldStore};
+ghost use Rattle.conf_store.specs.Prelude.{LeavesStoreOr, Contents};
 ghost use Rattle.conf_store.specs.Durable.{staged_text};
 ghost use Rattle.conf_store.specs.Slices.{SyncedWhenDue, WritesSlice};
 ghost use Rattle.conf_store.specs.Staged.{staged_length};
 ghost use Rattle.conf_store.specs.Stagings.{CanSlice, staged_of};
-ghost use Rattle.conf_state.specs.States.{Contents};
 
 use crate::staging::Staging;
 use conf_disk::{Disk, DiskFault};

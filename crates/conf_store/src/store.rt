@@ -1,12 +1,9 @@
 // An open store: how it is opened and closed, and what it says of its state.
-ghost use Rattle.std.specs.Prelude.{◌≡◌, ◌≢◌, ◌≤◌, ◌⊎◌, true, false, List, OnOk, IfOk, IfErr, Ok, Err, None, IsSome, [], string_bytes};
-ghost use Rattle.std.specs.Str.{chars};
+ghost use Rattle.std.specs.Prelude.{◌≡◌, ◌≢◌, ◌≤◌, ◌⊎◌, true, false, List, OnOk, IfOk, IfErr, Ok, Err, None, IsSome};
+ghost use Rattle.std.specs.Prelude.{[], string_bytes};
+ghost use Rattle.conf_store.specs.Prelude.{chars, bytes_under, LeavesOnly, IsState, Contents, names_of};
 ghost use Rattle.yaml_data.specs.Seen.{tree_of};
-ghost use Rattle.conf_disk.specs.Folder.{bytes_under};
-ghost use Rattle.conf_disk.specs.Moments.{LeavesOnly};
 ghost use Rattle.conf_state.specs.Commands.{Command as GivenCommand};
-ghost use Rattle.conf_state.specs.Limits.{IsState};
-ghost use Rattle.conf_state.specs.States.{Contents, names_of};
 ghost use Rattle.conf_store.specs.Calls.{Exports, HasFailed, tree_at, tree_named};
 ghost use Rattle.conf_store.specs.Changing.{new_file, store_file};
 ghost use Rattle.conf_store.specs.Durable.{AllImagesMean, AllImagesAfterPrefix, HasFlushed};

@@ -1,33 +1,18 @@
 -- What calls of the program keep, one call after the other.
-use Rattle.std.proofs.Common.{◌≡◌, ◌≤◌, ℕ, Bool, true, false, if◌then◌else◌, List, [], ◌∷◌, ◌++◌, length, take}
-use Rattle.std.proofs.Common.{Option, None, Some, Result, Ok, Err, refl, sym, ap, ◌∙◌, subst, ⊎_elim, arith}
-use Rattle.conf_disk.specs.Folder.{bytes_under}
-use Rattle.conf_disk.specs.Image.{Image, IsImage, image_now}
-use Rattle.conf_disk.specs.Laws.{ReadingIsAnImage}
-use Rattle.conf_disk.specs.Models.{DiskModel}
-use Rattle.conf_disk.specs.Moments.{LeavesOnly}
-use Rattle.conf_disk.specs.declared.disk.Name.TheVariants.{Store}
-use Rattle.conf_state.specs.Commands.{Command}
-use Rattle.conf_state.specs.States.{Contents}
-use Rattle.conf_state.specs.Steps.{after, and_then}
+use Rattle.std.proofs.Common.{◌≡◌, ◌≤◌, ℕ, Bool, true, false, if◌then◌else◌, List, [], ◌∷◌, ◌++◌, length, take, Option, None, Some, Result}
+use Rattle.std.proofs.Common.{Ok, Err, refl, sym, ap, ◌∙◌, subst, ⊎_elim, arith}
+use Rattle.conf_tools.proofs.Prelude.{bytes_under, Image, IsImage, image_now, ReadingIsAnImage, DiskModel, LeavesOnly, Store, Command}
+use Rattle.conf_tools.proofs.Prelude.{Contents, after, and_then, AfterPrefix, FileMeans, MeantAtEntry, OneMeaning, SessionFault, Tally}
+use Rattle.conf_tools.proofs.Prelude.{Streams}
 use Rattle.conf_state.proofs.RunLaws.{after-append}
-use Rattle.conf_store.specs.Durable.{AfterPrefix}
 use Rattle.conf_store.specs.Lives.{all_commands}
-use Rattle.conf_store.specs.Meaning.{FileMeans}
-use Rattle.conf_store.specs.Opens.{MeantAtEntry, OneMeaning}
-use Rattle.conf_session.specs.declared.fault.SessionFault.{SessionFault}
-use Rattle.conf_session.specs.declared.session.Tally.{Tally}
-use Rattle.conf_tools.specs.ProgramCalls.{AreCalls, Call, CallHolds, CallsHold, EachKept, EachMeans, Ending, Event}
-use Rattle.conf_tools.specs.ProgramCalls.{KeptOf, MayLeave, MeantBy, accepted, answered, changing, cut_off}
-use Rattle.conf_tools.specs.ProgramCalls.{disk_before, disk_behind, exporting, returned, running}
-use Rattle.conf_tools.specs.Changes.{KeepsChange}
-use Rattle.conf_tools.specs.Stores.{KeepsAnswered}
-use Rattle.conf_tools.specs.declared.changes.Change.{Change}
-use Rattle.conf_tools.specs.declared.stores.Grouping.{Grouping}
-use Rattle.conf_tools.specs.declared.stores.StoreToolFault.TheVariants.{Folder as InFolder, Open, Session, Export}
-use Rattle.conf_tools.specs.declared.stores.StoreToolFault.TheVariants.{Condition as OnCondition, Refused}
-use Rattle.conf_tools.specs.declared.stores.StoreToolFault.TheVariants.{StoreExists}
-use Rattle.conf_session.specs.Streams.{Streams}
+use Rattle.conf_tools.specs.declared.stores.StoreToolFault.TheVariants.{Folder as InFolder}
+use Rattle.conf_tools.specs.declared.stores.StoreToolFault.TheVariants.{Condition as OnCondition}
+use Rattle.conf_tools.specs.{Changes.KeepsChange, Stores.KeepsAnswered, declared.changes.Change.Change, declared.stores.Grouping.Grouping}
+use Rattle.conf_tools.specs.ProgramCalls.{AreCalls, Call, CallHolds, CallsHold, EachKept, EachMeans, Ending, Event, KeptOf, MayLeave}
+use Rattle.conf_tools.specs.ProgramCalls.{MeantBy, accepted, answered, changing, cut_off, disk_before, disk_behind, exporting, returned}
+use Rattle.conf_tools.specs.ProgramCalls.{running}
+use Rattle.conf_tools.specs.declared.stores.StoreToolFault.TheVariants.{Open, Session, Export, Refused, StoreExists}
 
 -- a file means one state at most
 file-one : OneMeaning → (file : Option (List ℕ)) (s t : Contents) → FileMeans file s → FileMeans file t → s ≡ t

@@ -1,33 +1,19 @@
 -- What a single change leaves of a store.
-use Rattle.std.proofs.Common.{◌≡◌, ◌≢◌, ◌⊎◌, ◌≤◌, ℕ, Bool, true, false, List, [], ◌∷◌, inl, inr, refl, sym, ◌∙◌, ap}
-use Rattle.std.proofs.Common.{subst, arith, length, ⊎_elim}
+use Rattle.std.proofs.Common.{◌≡◌, ◌≢◌, ◌⊎◌, ◌≤◌, ℕ, Bool, true, false, List, [], ◌∷◌, inl, inr, refl, sym, ◌∙◌, ap, subst, arith, length}
+use Rattle.std.proofs.Common.{⊎_elim}
 use Rattle.std.specs.Prelude.{Option, Ok}
+use Rattle.conf_tools.proofs.Prelude.{false≢true, Folder, Image, IsImage, DiskModel, LeavesOnly, TimeGoesOn, LeavesOnly-joined}
+use Rattle.conf_tools.proofs.Prelude.{LeavesOnly-now, LeavesOnly-weaker, command_of, import_as, single, text_of, Contents, after}
+use Rattle.conf_tools.proofs.Prelude.{StoreFault, EmptyBatch, BadName, NoConfig, Path, Read, TooDeep, ConfigLarge, StoreFull, RecordLong}
+use Rattle.conf_tools.proofs.Prelude.{JournalLong, CountFull, Reopen, Device, OutOfMemory, room_for, journal_length, outcome, AfterPrefix}
+use Rattle.conf_tools.proofs.Prelude.{AllImagesMean, NothingWaits, FileMeans, StoreView, MeantAtEntry, image-meant}
 use Rattle.std.proofs.Math.Seq.{take-length}
-use Rattle.std.proofs.lemmas.Bool.{false≢true}
-use Rattle.conf_disk.specs.Folder.{Folder}
-use Rattle.conf_disk.specs.Image.{Image, IsImage}
-use Rattle.conf_disk.specs.Models.{DiskModel}
-use Rattle.conf_disk.specs.Moments.{LeavesOnly, TimeGoesOn}
-use Rattle.conf_disk.proofs.Moments.{LeavesOnly-joined, LeavesOnly-now, LeavesOnly-weaker}
-use Rattle.conf_state.specs.Commands.{Command as GivenCommand, command_of, import_as, single, text_of}
-use Rattle.conf_state.specs.States.{Contents}
-use Rattle.conf_state.specs.Steps.{after}
-use Rattle.conf_state.specs.declared.fault.StoreFault.{StoreFault}
-use Rattle.conf_state.specs.declared.fault.StoreFault.TheVariants.{EmptyBatch, BadName, NoConfig, Path, Read, TooDeep}
-use Rattle.conf_state.specs.declared.fault.StoreFault.TheVariants.{ConfigLarge, StoreFull, RecordLong, JournalLong}
-use Rattle.conf_state.specs.declared.fault.StoreFault.TheVariants.{CountFull, Reopen, Device, OutOfMemory}
-use Rattle.conf_store.specs.Calls.{room_for, journal_length, outcome}
-use Rattle.conf_store.specs.Durable.{AfterPrefix, AllImagesMean, NothingWaits}
-use Rattle.conf_store.specs.Meaning.{FileMeans}
-use Rattle.conf_store.specs.View.{StoreView}
-use Rattle.conf_store.specs.Opens.{MeantAtEntry}
+use Rattle.conf_state.specs.Commands.{Command as GivenCommand}
 use Rattle.conf_store.proofs.FileLemmas.{read-stays}
 use Rattle.conf_store.proofs.MeaningLemmas.{after-done}
-use Rattle.conf_store.proofs.OpenLemmas.{image-meant}
 use Rattle.conf_store.proofs.StepLemmas.{StepsNeedRoom, accepted-anyway}
+use Rattle.conf_tools.specs.{Stores.OpensOn, declared.changes.Change.Change}
 use Rattle.conf_tools.specs.Changes.{KeepsChange, Makes, MeansOneOf, Performs, RefusesChange}
-use Rattle.conf_tools.specs.Stores.{OpensOn}
-use Rattle.conf_tools.specs.declared.changes.Change.{Change}
 use Rattle.conf_tools.specs.declared.changes.Change.TheVariants.{Import, Perform, Copy, Rename, Checkpoint}
 
 -- ---- which commands a change performs

@@ -1,37 +1,20 @@
 -- What an export finds, whether the store was opened or its file was read.
 use Rattle.std.proofs.Common.{◌≡◌, ◌≤◌, ◌⊎◌, ℕ, List, Ok, Err, inl, inr, refl, sym, ap, subst, arith, ⊎_elim}
 use Rattle.std.specs.Prelude.{Option, Some, None, Result, IfOk, IfErr, OnOk, Vec}
+use Rattle.conf_tools.proofs.Prelude.{Folder, Reads, Tells, bytes_under, Image, IsImage, image_now, ReadingIsAnImage, DiskModel, LeavesOnly}
+use Rattle.conf_tools.proofs.Prelude.{Content, Bytes, Missing, Store, LeavesOnly-joined, LeavesOnly-now, LeavesOnly-start}
+use Rattle.conf_tools.proofs.Prelude.{LeavesOnly-weaker, store_limit, Contents, StoreFault, HasFailed, tree_named, FileMeans, empty_state}
+use Rattle.conf_tools.proofs.Prelude.{MeantAtEntry, RecoversTo, RefusesBytes, RefusesOpening, StoreView, OpenFault, image-meant, not-read}
 use Rattle.std.specs.declared.alloc.Global.{Global}
-use Rattle.conf_disk.specs.Folder.{Folder, Reads, Tells, bytes_under}
-use Rattle.conf_disk.specs.Image.{Image, IsImage, image_now}
-use Rattle.conf_disk.specs.Laws.{ReadingIsAnImage}
-use Rattle.conf_disk.specs.Models.{DiskModel}
-use Rattle.conf_disk.specs.Moments.{LeavesOnly}
-use Rattle.conf_disk.specs.declared.disk.Content.{Content}
-use Rattle.conf_disk.specs.declared.disk.Content.TheVariants.{Bytes, Missing}
-use Rattle.conf_disk.specs.declared.disk.Name.TheVariants.{Store}
-use Rattle.conf_disk.proofs.Moments.{LeavesOnly-joined, LeavesOnly-now, LeavesOnly-start, LeavesOnly-weaker}
-use Rattle.conf_journal.specs.Store.{store_limit}
-use Rattle.conf_state.specs.States.{Contents}
-use Rattle.conf_state.specs.declared.fault.StoreFault.{StoreFault}
 use Rattle.conf_state.specs.declared.fault.StoreFault.TheVariants.{OutOfMemory as OutOfMemoryHere}
-use Rattle.conf_store.specs.Calls.{HasFailed, tree_named}
 use Rattle.conf_store.specs.Files.{FilesStay, IsNewBase, IsOldOrBase}
-use Rattle.conf_store.specs.Meaning.{FileMeans, empty_state}
-use Rattle.conf_store.specs.Opens.{MeantAtEntry, RecoversTo, RefusesBytes, RefusesOpening}
-use Rattle.conf_store.specs.View.{StoreView}
-use Rattle.conf_store.specs.declared.fault.OpenFault.{OpenFault}
-use Rattle.conf_store.specs.declared.fault.OpenFault.TheVariants.{NotAStore, Damaged, Device, OutOfMemory}
-use Rattle.conf_store.proofs.OpenLemmas.{image-meant, not-read}
 use Rattle.conf_store.proofs.RecoveryLemmas.{recovers-means}
 use Rattle.conf_words.specs.declared.invocation.TreeForm.{TreeForm}
-use Rattle.conf_tools.specs.Dropped.{HasNoRest, TellsDroppedOf}
+use Rattle.conf_tools.specs.declared.stores.StoreToolFault.TheVariants.{Folder as InFolder}
+use Rattle.conf_tools.specs.declared.stores.StoreToolFault.TheVariants.{Condition as OnCondition}
+use Rattle.conf_tools.specs.{Dropped.HasNoRest, Dropped.TellsDroppedOf, Stores.OpensOn, declared.stores.StoreToolFault.StoreToolFault}
 use Rattle.conf_tools.specs.Exports.{Finds, HasNoTextIn, HasText, IsTextIn, IsTextOf, IsTextOfFound, LacksText, disk_back}
-use Rattle.conf_tools.specs.Stores.{CannotOpen, OpensOn}
-use Rattle.conf_tools.specs.declared.stores.StoreToolFault.{StoreToolFault}
-use Rattle.conf_tools.specs.declared.stores.StoreToolFault.TheVariants.{Folder as InFolder, Open, Session, Export}
-use Rattle.conf_tools.specs.declared.stores.StoreToolFault.TheVariants.{Condition as OnCondition, Refused}
-use Rattle.conf_tools.specs.declared.stores.StoreToolFault.TheVariants.{StoreExists}
+use Rattle.conf_tools.specs.declared.stores.StoreToolFault.TheVariants.{Open, Session, Export, Refused, StoreExists}
 
 -- a failure is still one after further calls
 failed-on : (before now later : ℕ) → HasFailed before now → now ≤ later → HasFailed before later
@@ -142,16 +125,6 @@ module _ {D : Type 0} (model : DiskModel D) where
   lacks-read old new name content (OnCondition fault) same reads none = absurd none
   lacks-read old new name content (Refused fault) same reads none = absurd none
   lacks-read old new name content StoreExists same reads none = absurd none
-
-  -- what was refused at opening is refused of the file as it is then
-  pub refused-now : (old new : D) (fault : OpenFault) → CannotOpen model old new fault → model.honest
-      → RefusesOpening fault (bytes_under (model.folder new) Store)
-  refused-now old new NotAStore cannot h = subst (λ (image : Image). RefusesOpening NotAStore image.store)
-      (sym (cannot.stays h (λ same. cc)).reads) (cannot.refuses h)
-  refused-now old new (Damaged number) cannot h =
-      subst (λ (image : Image). RefusesOpening (Damaged number) image.store) (sym (cannot.stays h (λ same. cc)).reads) (cannot.refuses h)
-  refused-now old new Device cannot h = tt
-  refused-now old new OutOfMemory cannot h = tt
 
   -- the state of a file that was read as these bytes
   pub bytes-find : (disk : D) (read : Vec ℕ Global) (state : Contents) (records dropped : ℕ)

@@ -1,20 +1,17 @@
 -- What the text of one file says of the reader and the writer.
-use Rattle.std.proofs.Common.{◌≡◌, ℕ, List, [], ◌∷◌, ◌++◌, sym, ap, ◌∙◌, subst, append_assoc, append-nil}
+use Rattle.std.proofs.Common.{◌≡◌, ℕ, List, [], ◌∷◌, ◌++◌, sym, ap, ◌∙◌, append_assoc, append-nil}
 use Rattle.std.specs.Prelude.{Option, Some, None}
-use Rattle.std.specs.Io.KnownBytes.{Appends, Keeps}
-use Rattle.std.proofs.KnownBytes.{Appends-trans, Keeps-refl}
+use Rattle.conf_tools.proofs.Prelude.{Appends, Keeps, Appends-trans, Keeps-refl, config_limits}
 use Rattle.yaml_events.specs.declared.read_fault.ReadFault.TheVariants.{TooLong, NotUtf8, Syntax, Documents}
 use Rattle.yaml_events.specs.declared.read_fault.ReadFault.TheVariants.{KeyNotText, KeyTwice, TooDeep, LargeInStyle}
 use Rattle.yaml_events.specs.declared.read_fault.ReadFault.TheVariants.{OutOfMemory}
 use Rattle.yaml_events.specs.declared.read_fault.ReadFault.{ReadFault}
 use Rattle.yaml_style.specs.declared.finding.Finding.{Finding}
-use Rattle.yaml_config.specs.Limits.{config_limits}
 use Rattle.yaml_docs.specs.Reading.{RefusesBytes}
 use Rattle.yaml_tree.specs.Reading.{Refuses}
 use Rattle.conf_words.specs.declared.invocation.Comments.TheVariants.{Dropped}
+use Rattle.conf_tools.specs.{Tools.Stops, declared.texts.ToolFault.ToolFault}
 use Rattle.conf_tools.specs.FileTexts.{Adds, StopsInFile, StopsRestyling, file_line, file_report}
-use Rattle.conf_tools.specs.Tools.{Stops}
-use Rattle.conf_tools.specs.declared.texts.ToolFault.{ToolFault}
 use Rattle.conf_tools.specs.declared.texts.ToolFault.TheVariants.{Input, Output, Read, Comments}
 
 -- ---- bytes that are known
@@ -79,9 +76,3 @@ one_line_written held now written file line all f rest more (lines, before, whol
   ap (λ l. lines ++ l ++ file_report file more) is
       ∙ append_assoc lines (file_line file f) (file_report file more) ∙ ap (λ fs. lines ++ file_report file fs) (sym split) ∙ whole,
 )
-
--- where no finding is left, all lines were written
-pub all_lines_written : (held written : Option (List ℕ)) (file all : List ℕ) (rest : List Finding) → rest ≡ []
-    → WritesUpTo held written file rest all → Appends held written all
-all_lines_written held written file all rest none (lines, before, whole) =
-    subst (λ ls. Appends held written ls) (sym (append-nil lines) ∙ ap (λ fs. lines ++ file_report file fs) (sym none) ∙ whole) before

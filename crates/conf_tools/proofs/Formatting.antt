@@ -1,14 +1,9 @@
 -- What a text that was read and one that was written say of the writer.
 use Rattle.std.proofs.Common.{ℕ, List, ◌∙◌, subst}
 use Rattle.std.specs.Prelude.{Option, Some, None}
-use Rattle.std.specs.Io.KnownBytes.{Keeps, Appends}
+use Rattle.conf_tools.proofs.Prelude.{Keeps, Appends, config_limits}
 use Rattle.yaml_tree.specs.Formatting.{IsFormatted}
-use Rattle.yaml_config.specs.Limits.{config_limits}
-use Rattle.conf_tools.specs.Tools.{Formats, GivesTree}
-
--- a text that is formatted gives a tree
-pub formatted_gives : (bytes text : List ℕ) → IsFormatted bytes config_limits text → GivesTree bytes
-formatted_gives bytes text is = (is.tree, is.reads)
+use Rattle.conf_tools.specs.Tools.{Formats}
 
 -- what was written stays written by a flush
 pub then_kept : (held written flushed : Option (List ℕ)) (text : List ℕ) → Appends held written text

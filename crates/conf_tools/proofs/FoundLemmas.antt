@@ -1,17 +1,11 @@
 -- What was found at a place, or what stands for it, where a look may have ended since memory ran out.
-use Rattle.std.proofs.Common.{◌≡◌, ◌⊎◌, inl, inr, refl, sym, ◌∙◌, ap, subst, List, ℕ, true, false, Ok, Err, Bor}
-use Rattle.std.specs.Prelude.{Result, IfOk, IfErr, if◌then◌else◌}
-use Rattle.std.specs.Str.{chars}
-use Rattle.yaml_grammar.specs.Trees.{Tree, text}
-use Rattle.conf_state.specs.declared.fault.StoreFault.{StoreFault}
-use Rattle.conf_state.specs.declared.fault.StoreFault.TheVariants.{OutOfMemory}
-use Rattle.conf_words.specs.declared.invocation.MissingValue.{MissingValue}
+use Rattle.std.proofs.Common.{◌≡◌, ◌⊎◌, inl, inr, refl, sym, ◌∙◌, ap, subst, List, ℕ, Ok, Err}
+use Rattle.std.specs.Prelude.{Result, IfOk, IfErr}
+use Rattle.conf_tools.proofs.Prelude.{Tree, StoreFault, OutOfMemory, MissingValue, ValueForm}
 use Rattle.conf_words.specs.declared.invocation.MissingValue.TheVariants.{Refused, Default}
-use Rattle.conf_words.specs.declared.invocation.ValueForm.{ValueForm}
-use Rattle.conf_tools.specs.Reads.{CannotShow, HidesPresence, LacksFound, ShowsFound, ShowsTree, found_or, is_absent, presence_of}
-use Rattle.conf_tools.specs.declared.reading_fault.ReadingFault.{ReadingFault}
+use Rattle.conf_tools.specs.{declared.reading_fault.ReadingFault.ReadingFault, declared.reads.Presence.Presence}
+use Rattle.conf_tools.specs.Reads.{CannotShow, HidesPresence, LacksFound, ShowsFound, ShowsTree, found_or, presence_of}
 use Rattle.conf_tools.specs.declared.reading_fault.ReadingFault.TheVariants as reading
-use Rattle.conf_tools.specs.declared.reads.Presence.{Presence}
 
 -- a look ended with this fault: memory ran out, or that is what was found
 abbrev Why : StoreFault → Result Tree StoreFault → Type 0
@@ -134,28 +128,3 @@ module _ (missing : MissingValue) (found : Result Tree StoreFault) (fault : Stor
       → IfErr r (LacksFound (found_or missing found) form)
   missing-lacks-all (Ok x) lacks = tt
   missing-lacks-all (Err other) lacks = missing-lacks missing found fault form other why lacks
-
--- ---- the text that the words give
-
-module _ (fault : StoreFault) (word : Bor (List ℕ)) (form : ValueForm) where
-  -- it stands for a place where nothing is
-  pub default-shown : {X : Type 0} (bytes : X → List ℕ) (r : Result X ReadingFault) → is_absent fault ≡ true
-      → IfOk r (λ x. ShowsTree form (text (chars word.now)) (bytes x))
-      → IfOk r (λ x. ShowsFound (found_or (Default word) (Err fault)) form (bytes x))
-  default-shown bytes (Ok x) absent shows = record {
-    tree = text (chars word.now);
-    is = subst (λ b. (if b then Ok (text (chars word.now)) else Err fault) ≡ Ok (text (chars word.now))) (sym absent) refl;
-    shows = shows;
-  }
-  default-shown bytes (Err other) absent shows = tt
-
-  -- and for no other
-  pub default-refused : is_absent fault ≡ false → LacksFound (found_or (Default word) (Err fault)) form (reading.Value fault)
-  default-refused there = inr (subst (λ b. (if b then Ok (text (chars word.now)) else Err fault) ≡ Err fault) (sym there) refl)
-
--- memory ran out
-pub memory-lacks : {X : Type 0} (found : Result Tree StoreFault) (form : ValueForm) (r : Result X ReadingFault)
-    → IfErr r (λ f. f ≡ reading.Value OutOfMemory)
-    → IfErr r (LacksFound found form)
-memory-lacks found form (Ok x) is = tt
-memory-lacks found form (Err f) is = subst (LacksFound found form) (sym is) (inl refl)

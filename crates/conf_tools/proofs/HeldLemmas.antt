@@ -1,18 +1,12 @@
 -- What is written of one configuration that a file holds.
 use Rattle.std.proofs.Common.{◌≡◌, ap, subst, refl, ℕ, List}
-use Rattle.std.specs.Borrow.{Bor}
 use Rattle.std.specs.Prelude.{Option, Some, None, option_copied, option_map}
-use Rattle.std.specs.Io.KnownBytes.{Appends, Keeps}
-use Rattle.yaml_data.specs.Seen.{tree_of}
-use Rattle.yaml_data.specs.declared.tree.Tree as code
-use Rattle.yaml_grammar.specs.Trees.{Tree}
-use Rattle.conf_state.specs.States.{Contents, config_named}
+use Rattle.conf_tools.proofs.Prelude.{Appends, Keeps, tree_of, Tree, Contents, config_named, value_at_path, MissingValue, ValueForm}
+use Rattle.std.specs.Borrow.{Bor}
 use Rattle.conf_history.specs.Histories.{ReadsState}
-use Rattle.conf_session.specs.Answers.{value_at_path}
-use Rattle.conf_words.specs.declared.invocation.MissingValue.{MissingValue}
-use Rattle.conf_words.specs.declared.invocation.ValueForm.{ValueForm}
 use Rattle.conf_tools.specs.Reads.{LacksFound, RefusesValue, ShowsFound, WritesValue, found_or, tree_found, value_in}
 use Rattle.conf_tools.specs.declared.reading_fault.ReadingFault.{ReadingFault}
+use Rattle.yaml_data.specs.declared.tree.Tree as code
 use Rattle.conf_tools.specs.declared.reading_fault.ReadingFault.TheVariants as reading
 
 -- what was found, by a reference to it

@@ -1,18 +1,10 @@
 -- A store that was opened where there was no file is an empty one.
 use Rattle.std.proofs.Common.{◌≡◌, ℕ, List, refl, sym, ◌∙◌, ap, subst}
 use Rattle.std.specs.Prelude.{Option, Some, None}
-use Rattle.conf_disk.specs.Folder.{Folder, Reads, Tells, bytes_under}
-use Rattle.conf_disk.specs.Models.{DiskModel}
-use Rattle.conf_disk.specs.declared.disk.Content.TheVariants.{Missing}
-use Rattle.conf_disk.specs.declared.disk.Name.TheVariants.{Store}
+use Rattle.conf_tools.proofs.Prelude.{Folder, Reads, Tells, bytes_under, DiskModel, Missing, Store, Contents, AllImagesMean, empty_state}
+use Rattle.conf_tools.proofs.Prelude.{StoreView, stored_of}
 use Rattle.conf_state.specs.BaseTexts.{base_bytes}
-use Rattle.conf_state.specs.States.{Contents}
-use Rattle.conf_store.specs.Durable.{AllImagesMean}
-use Rattle.conf_store.specs.Meaning.{empty_state}
-use Rattle.conf_store.specs.View.{StoreView}
-use Rattle.conf_session.specs.Runs.{stored_of}
-use Rattle.conf_tools.specs.Changes.{MakesStore}
-use Rattle.conf_tools.specs.Stores.{OpensOn, OpensTo}
+use Rattle.conf_tools.specs.{Changes.MakesStore, Stores.OpensOn, Stores.OpensTo}
 
 was-missing : (file : Option (List ℕ)) (max : ℕ) → Tells file max Missing → file ≡ None
 was-missing None max tells = refl

@@ -1,25 +1,17 @@
 -- Where the status is 0, nothing was told.
 use Rattle.std.proofs.Common.{◌≡◌, ◌<◌, ◌⊎◌, ℕ, Bool, true, false, List, refl, sym, ◌∙◌, ap, subst, arith, rules, inl, inr, codes}
 use Rattle.std.specs.Prelude.{nat_lt, if◌then◌else◌, None, Result, Ok, Err, OnOk}
-use Rattle.std.proofs.lemmas.Grind.{common_steps}
-use Rattle.conf_session.specs.declared.session.Tally.{Tally}
-use Rattle.conf_tools.specs.Dropped.{TellsDropped}
-use Rattle.conf_tools.specs.FaultLines.{text_fault_name}
-use Rattle.conf_tools.specs.Listening.{fault_line}
-use Rattle.conf_tools.specs.Outcomes.{EndsWriting, LeavesText, SilentIfDone, SilentReport, TellsOnlyTold, TellsOutcome}
-use Rattle.conf_tools.specs.Outcomes.{TellsSession, TellsUnperformed, status_of_outcome}
-use Rattle.conf_tools.specs.Statuses.{code_of, status_of, worst}
-use Rattle.conf_tools.specs.Tails.{end_of_rest}
-use Rattle.conf_tools.specs.TextWords.{status_after, status_after_check, status_of_report}
-use Rattle.conf_tools.specs.declared.outcome.Ending.{Ending}
-use Rattle.conf_tools.specs.declared.outcome.Ending.TheVariants.{Of, Told}
-use Rattle.conf_tools.specs.declared.outcome.Outcome.{Outcome}
-use Rattle.conf_tools.specs.declared.outcome.Outcome.TheVariants as ends
-use Rattle.conf_tools.specs.declared.program.Status.{Status}
-use Rattle.conf_tools.specs.declared.program.Status.TheVariants.{Done, Device}
-use Rattle.conf_tools.specs.declared.tail.Tail.{Tail}
-use Rattle.conf_tools.specs.declared.texts.ToolFault.{ToolFault}
+use Rattle.conf_tools.proofs.Prelude.{common_steps, Tally}
+use Rattle.conf_tools.specs.{Dropped.TellsDropped, FaultLines.text_fault_name, Listening.fault_line, Statuses.code_of, Statuses.status_of}
+use Rattle.conf_tools.specs.{Statuses.worst, Tails.end_of_rest, TextWords.status_after, TextWords.status_after_check}
+use Rattle.conf_tools.specs.{TextWords.status_of_report, declared.outcome.Ending.Ending, declared.outcome.Ending.TheVariants.Of}
+use Rattle.conf_tools.specs.{declared.outcome.Ending.TheVariants.Told, declared.outcome.Outcome.Outcome, declared.program.Status.Status}
+use Rattle.conf_tools.specs.{declared.program.Status.TheVariants.Done, declared.program.Status.TheVariants.Device, declared.tail.Tail.Tail}
+use Rattle.conf_tools.specs.{declared.texts.ToolFault.ToolFault}
+use Rattle.conf_tools.specs.Outcomes.{EndsWriting, LeavesText, SilentIfDone, SilentReport, TellsOnlyTold, TellsOutcome, TellsSession}
+use Rattle.conf_tools.specs.Outcomes.{TellsUnperformed, status_of_outcome}
 use Rattle.conf_tools.specs.declared.texts.ToolFault.TheVariants.{Input, Output, Read, Comments}
+use Rattle.conf_tools.specs.declared.outcome.Outcome.TheVariants as ends
 
 counts : (fault : ToolFault) → 0 < code_of (status_of fault)
 counts Input = omega arith

@@ -1,18 +1,15 @@
 -- What the words that read a store write, piece after piece.
 use Rattle.std.proofs.Common.{◌≡◌, ℕ, List, [], ◌∷◌, ◌++◌, refl, sym, ap, ◌∙◌, append_assoc, arith, ◌≤◌, codes, Ok, Err}
-use Rattle.std.proofs.lemmas.Str.{encodes-chars}
 use Rattle.std.specs.Prelude.{encode_utf8_all, Result, OnOk, is_ok, suc, if◌then◌else◌, Option, Some, None}
-use Rattle.std.specs.Str.{IsUtf8, chars}
-use Rattle.yaml_grammar.specs.Trees.{Tree, depth}
+use Rattle.conf_tools.proofs.Prelude.{IsUtf8, chars, Tree, depth, IsKept, own_limits, Contents}
+use Rattle.std.proofs.lemmas.Str.{encodes-chars}
 use Rattle.tree_path.specs.Paths.{at, at_from, at_step, child, refusal}
 use Rattle.tree_path.specs.declared.place.Miss.{Miss}
-use Rattle.yaml_config.specs.Kept.{IsKept, own_limits}
 use Rattle.yaml_config.proofs.Located.{child-within}
-use Rattle.conf_state.specs.States.{Contents}
-use Rattle.conf_history.specs.declared.fault.HistoryFault.TheVariants as history
 use Rattle.conf_history.specs.declared.survey.Findings.{Findings}
 use Rattle.conf_tools.specs.Surveys.{CannotWrite, FileIsAs, RefusesWriting}
 use Rattle.conf_tools.specs.declared.reading_fault.ReadingFault.{ReadingFault}
+use Rattle.conf_history.specs.declared.fault.HistoryFault.TheVariants as history
 use Rattle.conf_tools.specs.declared.reading_fault.ReadingFault.TheVariants as reading
 
 -- bytes that were put behind others, where there was memory for them

@@ -1,27 +1,18 @@
 -- What a session leaves of the disk of the store that was opened for it.
-use Rattle.std.proofs.Common.{◌≡◌, ◌≢◌, ◌≤◌, ◌⊎◌, ◌↔◌, ℕ, Bool, true, false, List, [], ◌∷◌, ◌++◌, ap, inl, inr}
-use Rattle.std.proofs.Common.{length, refl, sym, ◌∙◌, subst}
-use Rattle.std.proofs.lemmas.Bool.{false≢true}
-use Rattle.std.specs.Prelude.{Option, None, Result, Err, IsErrOf}
-use Rattle.conf_disk.specs.Folder.{bytes_under}
-use Rattle.conf_disk.specs.Models.{DiskModel}
-use Rattle.conf_disk.specs.declared.disk.Name.TheVariants.{Store}
-use Rattle.conf_store.specs.Calls.{HasFailed}
-use Rattle.conf_store.specs.Durable.{staged_text}
-use Rattle.conf_store.specs.View.{StoreView}
-use Rattle.conf_store.proofs.OpenLemmas.{failed-later}
-use Rattle.conf_session.specs.Answers.{AllAreAcknowledged, Stored, accepted_commands, file_after_all}
+use Rattle.std.proofs.Common.{◌≡◌, ◌≢◌, ◌≤◌, ◌⊎◌, ◌↔◌, ℕ, Bool, true, false, List, [], ◌∷◌, ◌++◌, ap, inl, inr, length, refl, sym, ◌∙◌}
+use Rattle.std.proofs.Common.{subst}
+use Rattle.std.specs.Prelude.{Option, None, Result, Ok, Err, IsErrOf}
+use Rattle.conf_tools.proofs.Prelude.{false≢true, bytes_under, DiskModel, Store, HasFailed, staged_text, StoreView, failed-later}
+use Rattle.conf_tools.proofs.Prelude.{AllAreAcknowledged, Stored, accepted_commands, file_after_all, AfterAtLeast, Runs, stored_of}
+use Rattle.conf_tools.proofs.Prelude.{SessionFault, Tally, Streams}
 use Rattle.conf_session.specs.Groups.{AreDue, RunsGrouped, Turn, acknowledged_turns, all_asked, files_after_turns, turns_accepted}
-use Rattle.conf_session.specs.Runs.{AfterAtLeast, Runs, stored_of}
 use Rattle.conf_session.specs.declared.groups.Checkpoints.{Checkpoints}
 use Rattle.conf_session.specs.declared.groups.Checkpoints.TheVariants.{After, Asked}
-use Rattle.conf_session.specs.declared.fault.SessionFault.{SessionFault}
 use Rattle.conf_session.specs.declared.fault.SessionFault.TheVariants.{Device, Reopen}
-use Rattle.conf_session.specs.declared.session.Tally.{Tally}
-use Rattle.conf_tools.specs.Stores.{Answers, AnswersOn, BeginsWhenDue, KeepsAnswered, OpensOn, SessionRuns, Work}
+use Rattle.conf_tools.specs.Stores.{Answers, AnswersOn, BeginsWhenDue, KeepsAnswered, OpensOn, RunsOn, SessionRuns, SurvivesCrashes, Work}
+use Rattle.conf_tools.specs.Stores.{after_session}
 use Rattle.conf_tools.specs.declared.stores.Grouping.{Grouping}
 use Rattle.conf_tools.specs.declared.stores.Grouping.TheVariants.{Single, Grouped}
-use Rattle.conf_session.specs.Streams.{Streams}
 
 -- a store that was in order needs to be opened again only after Device
 in-order : (before after : Bool) (result : Result Tally SessionFault) → before ≡ false
@@ -174,3 +165,15 @@ module _ {D : Type 0} (model : DiskModel D) (io : Streams)
       → AllAreAcknowledged → model.honest → KeepsAnswered model io grouping old new.disk result
   keeps-answered Single runs all h = each-kept runs all h
   keeps-answered (Grouped checkpoints) runs all h = groups-kept checkpoints runs h
+
+-- the same of what a tool hands back
+module _ {D : Type 0} (model : DiskModel D) (io : Streams) (grouping : Grouping) (old new : D) where
+  pub runs-after : (ended : Result Tally SessionFault) → AnswersOn model io grouping old new ended
+      → RunsOn model io grouping old (after_session new ended)
+  runs-after (Ok tally) answers = answers
+  runs-after (Err fault) answers = answers
+
+  pub survives-after : (ended : Result Tally SessionFault) → KeepsAnswered model io grouping old new ended
+      → SurvivesCrashes model io grouping old (after_session new ended)
+  survives-after (Ok tally) keeps = keeps
+  survives-after (Err fault) keeps = keeps

@@ -1,9 +1,8 @@
 -- A part that stands in the bytes.
-use Rattle.std.proofs.Common.{◌≡◌, ℕ, ◌+◌, ◌-◌, ◌^◌, ◌<◌, ◌≤◌, true, false, ◌||◌, ◌==◌, List, [], ◌∷◌, ◌++◌, length, take, drop, get_or}
-use Rattle.std.proofs.Common.{ap, refl, sym, ◌∙◌, subst, arith, take-append-drop}
-use Rattle.std.proofs.lemmas.List.{at_drop_all, drop_more}
-use Rattle.std.specs.List.{starts_with}
+use Rattle.std.proofs.Common.{◌≡◌, ℕ, ◌+◌, ◌-◌, ◌^◌, ◌<◌, ◌≤◌, false, ◌||◌, ◌==◌, List, [], ◌∷◌, ◌++◌, length, take, drop, get_or, ap, refl}
+use Rattle.std.proofs.Common.{sym, ◌∙◌, subst, arith, take-append-drop}
 use Rattle.std.specs.Prelude.{if◌then◌else◌, min}
+use Rattle.conf_tools.proofs.Prelude.{drop_more, starts_with}
 use Rattle.conf_tools.specs.Tails.{blanks_after, has_part, is_blank}
 
 without-first : (part : List ℕ) (byte : ℕ) (bytes : List ℕ) → starts_with ◌==◌ (byte ∷ bytes) part ≡ false
@@ -30,14 +29,6 @@ joined : (blanks : ℕ) (before after : List ℕ) → blanks_after blanks (befor
 joined blanks [] after = refl
 joined blanks (byte ∷ before) after = joined (if is_blank byte then min (blanks + 1) (2 ^ 64 - 1) else 0) before after
 
--- no byte comes after the last one
-pub none_blank : (bytes : List ℕ) → AreBlankFrom bytes (length bytes)
-none_blank bytes blanks small =
-    let rest : blanks_after blanks (drop (length bytes) bytes) ≡ blanks =
-    at_drop_all (blanks_after blanks) bytes (length bytes) (omega arith) in
-    let sum : blanks ≡ min (blanks + (length bytes - length bytes)) (2 ^ 64 - 1) = omega (arith, small) in
-    rest ∙ sum
-
 module _ (bytes : List ℕ) (before at : ℕ) (one : before + 1 ≡ at) (within : at ≤ length bytes) (rest : AreBlankFrom bytes at) where
   -- what one byte and those after it make
   with_byte : (blanks : ℕ) → blanks_after blanks (drop before bytes)
@@ -46,15 +37,6 @@ module _ (bytes : List ℕ) (before at : ℕ) (one : before + 1 ≡ at) (within 
       let inside : before < length bytes = omega arith in
       ap (blanks_after blanks) (drop_more bytes before 0 inside)
       ∙ ap (λ n. blanks_after (if is_blank (get_or bytes before 0) then min (blanks + 1) (2 ^ 64 - 1) else 0) (drop n bytes)) one
-
-  -- one more is blank
-  pub one_more_blank : is_blank (get_or bytes before 0) ≡ true → AreBlankFrom bytes before
-  one_more_blank blank blanks small =
-      let next : min (blanks + 1) (2 ^ 64 - 1) ≤ 2 ^ 64 - 1 = omega arith in
-      let sum : min (min (blanks + 1) (2 ^ 64 - 1) + (length bytes - at)) (2 ^ 64 - 1)
-      ≡ min (blanks + (length bytes - before)) (2 ^ 64 - 1) = omega (arith, within, one) in
-      with_byte blanks ∙ ap (λ b. blanks_after (if b then min (blanks + 1) (2 ^ 64 - 1) else 0) (drop at bytes)) blank
-      ∙ rest (min (blanks + 1) (2 ^ 64 - 1)) next ∙ sum
 
   -- one is not, and those after it are
   pub last_not_blank : is_blank (get_or bytes before 0) ≡ false → length bytes ≤ 2 ^ 64 - 1 → (blanks : ℕ)
@@ -67,10 +49,3 @@ module _ (bytes : List ℕ) (before at : ℕ) (one : before + 1 ≡ at) (within 
       sym (sym parts ∙ joined blanks (take before bytes) (drop before bytes) ∙ with_byte (blanks_after blanks (take before bytes))
       ∙ ap (λ b. blanks_after (if b then min (blanks_after blanks (take before bytes) + 1) (2 ^ 64 - 1) else 0) (drop at bytes)) solid
       ∙ rest 0 none ∙ few)
-
--- all are blank
-pub all_blank : (bytes : List ℕ) → AreBlankFrom bytes 0 → (blanks : ℕ) → blanks ≤ 2 ^ 64 - 1
-    → min (blanks + length bytes) (2 ^ 64 - 1) ≡ blanks_after blanks bytes
-all_blank bytes from blanks small =
-    let all : min (blanks + (length bytes - 0)) (2 ^ 64 - 1) ≡ min (blanks + length bytes) (2 ^ 64 - 1) = omega arith in
-    sym (from blanks small ∙ all)

@@ -2,13 +2,10 @@
 use Rattle.std.proofs.Common.{◌≡◌, ℕ, true, false, List, ◌∷◌, refl, sym, subst}
 use Rattle.std.specs.Prelude.{Option, Result}
 use Rattle.conf_words.specs.declared.invocation.Comments.{Comments}
+use Rattle.conf_tools.specs.{Statuses.worst, Worlds.Around, Worlds.WorldModel, declared.file_words.Report.Report}
+use Rattle.conf_tools.specs.{declared.program.Status.Status, declared.program.Status.TheVariants.Done}
+use Rattle.conf_tools.specs.{declared.program.Status.TheVariants.Device, declared.texts.ToolFault.ToolFault}
 use Rattle.conf_tools.specs.TextWords.{IfSo, ReportsOn, ReportsOnAll, RestylesAll, RestylesFile, status_of_report, stops_all}
-use Rattle.conf_tools.specs.Statuses.{worst}
-use Rattle.conf_tools.specs.Worlds.{Around, WorldModel}
-use Rattle.conf_tools.specs.declared.file_words.Report.{Report}
-use Rattle.conf_tools.specs.declared.program.Status.{Status}
-use Rattle.conf_tools.specs.declared.program.Status.TheVariants.{Done, Device}
-use Rattle.conf_tools.specs.declared.texts.ToolFault.{ToolFault}
 
 module _ {W D F P : Type 0} (world : WorldModel W D F P) (remaining : F → Option (List ℕ)) where
   -- ---- reports

@@ -1,17 +1,12 @@
 -- The conditions that words give, on the place that they change.
 use Rattle.std.specs.Prelude.{◌≡◌, ℕ, List, [], ◌∷◌, ◌++◌, Option, Some, None, Result, Ok, Err, Vec}
-use Rattle.std.specs.declared.alloc.Global.{Global}
-use Rattle.std.specs.Str.{chars}
-use Rattle.yaml_events.specs.declared.read_fault.ReadFault.TheVariants.{OutOfMemory}
-use Rattle.yaml_grammar.specs.Trees.{text}
-use Rattle.conf_conditions.specs.Conditions.{Condition, absent_at, condition_of, conditions_of, count_is, test_at}
-use Rattle.conf_conditions.specs.declared.condition.Condition as code
-use Rattle.conf_words.specs.declared.invocation.Conditions.{Conditions}
+use Rattle.conf_tools.specs.Prelude.{Global, chars, OutOfMemory, text, Condition, absent_at, condition_of}
+use Rattle.conf_tools.specs.Prelude.{conditions_of, count_is, test_at, Conditions}
 use Rattle.conf_words.specs.declared.invocation.Wanted.{Wanted}
 use Rattle.conf_words.specs.declared.invocation.Wanted.TheVariants.{Anything, Nothing, Text}
-use Rattle.conf_tools.specs.TextWords.{RefusesText}
-use Rattle.conf_tools.specs.declared.texts.ToolFault.{ToolFault}
-use Rattle.conf_tools.specs.declared.texts.ToolFault.TheVariants.{Read}
+use Rattle.conf_tools.specs.{TextWords.RefusesText, declared.texts.ToolFault.ToolFault}
+use Rattle.conf_tools.specs.{declared.texts.ToolFault.TheVariants.Read}
+use Rattle.conf_conditions.specs.declared.condition.Condition as code
 
 -- the conditions of the code that words gave, or why there are none
 abbrev pub AskedConditions : Type 0

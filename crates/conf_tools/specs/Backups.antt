@@ -1,16 +1,11 @@
 -- What `backup` does: which file and which disk the world hands out, what is done with them, and that the disk is given
 -- back.
 use Rattle.std.specs.Prelude.{◌≡◌, ◌⊎◌, ℕ, List, Option, Result, Ok, Err, IfOk, IfErr}
-use Rattle.conf_disk.specs.Models.{DiskModel}
-use Rattle.conf_history.specs.Copies.{BacksUp, LeavesOldOrCopy, RefusesBackup, disk_handed_back}
-use Rattle.conf_history.specs.declared.fault.SalvageFault.{SalvageFault}
-use Rattle.conf_tools.specs.ReadingStatuses.{status_of_reading}
+use Rattle.conf_tools.specs.Prelude.{DiskModel, BacksUp, LeavesOldOrCopy, RefusesBackup, disk_handed_back, SalvageFault}
+use Rattle.conf_tools.specs.{ReadingStatuses.status_of_reading, Worlds.WorldModel, declared.program.Status.Status}
+use Rattle.conf_tools.specs.{declared.program.Status.TheVariants.Done, declared.reading_fault.ReadingFault.ReadingFault}
+use Rattle.conf_tools.specs.{declared.reading_fault.ReadingFault.TheVariants.Salvage}
 use Rattle.conf_tools.specs.StoreWords.{OpensFile, OpensNew}
-use Rattle.conf_tools.specs.Worlds.{WorldModel}
-use Rattle.conf_tools.specs.declared.program.Status.{Status}
-use Rattle.conf_tools.specs.declared.program.Status.TheVariants.{Done}
-use Rattle.conf_tools.specs.declared.reading_fault.ReadingFault.{ReadingFault}
-use Rattle.conf_tools.specs.declared.reading_fault.ReadingFault.TheVariants.{Salvage}
 
 -- the status of a new store
 abbrev pub status_after_backup : {D : Type 0} → Result D (D × SalvageFault) → Status

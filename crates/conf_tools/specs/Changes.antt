@@ -1,38 +1,23 @@
 -- What a change of a store that was asked for by itself makes of it, and what a crash leaves.
 use Rattle.std.specs.Prelude.{◌≡◌, ◌≢◌, ◌⊎◌, ℕ, Bool, true, false, if◌then◌else◌, List, [], ◌∷◌, length, Option, None}
 use Rattle.std.specs.Prelude.{Some, Result, Ok, Err}
-use Rattle.yaml_grammar.specs.Trees.{Tree}
-use Rattle.yaml_tree.specs.Reading.{IsRead}
-use Rattle.yaml_config.specs.Limits.{config_limits}
-use Rattle.conf_conditions.specs.Conditions.{Condition, first_fault}
-use Rattle.conf_conditions.specs.declared.fault.ConditionFault.{ConditionFault}
+use Rattle.conf_tools.specs.Prelude.{Tree, IsRead, config_limits, Condition, first_fault, ConditionFault, Folder}
+use Rattle.conf_tools.specs.Prelude.{bytes_under, Image, IsImage, DiskModel, LeavesOnly, Store, batch, command_of}
+use Rattle.conf_tools.specs.Prelude.{delete_at, import_as, single, text_of, Contents, StoreFault, Reopen, Device}
+use Rattle.conf_tools.specs.Prelude.{Accepts, HasFailed, RefusesCommand, tree_named, AppendsRecord, store_file}
+use Rattle.conf_tools.specs.Prelude.{AfterPrefix, AllImagesMean, IsOldOrBase, FileMeans, empty_state, MeantAtEntry}
+use Rattle.conf_tools.specs.Prelude.{StoreView, AfterAtLeast, OpenFault}
 use Rattle.conf_conditions.specs.declared.fault.ConditionFault.TheVariants.{OutOfMemory as NoMemory}
-use Rattle.conf_disk.specs.Folder.{Folder, bytes_under}
-use Rattle.conf_disk.specs.Image.{Image, IsImage}
-use Rattle.conf_disk.specs.Models.{DiskModel}
-use Rattle.conf_disk.specs.Moments.{LeavesOnly}
-use Rattle.conf_disk.specs.declared.disk.Name.TheVariants.{Store}
 use Rattle.conf_state.specs.BaseTexts.{base_bytes}
-use Rattle.conf_state.specs.Commands.{Command as GivenCommand, batch, command_of, delete_at, import_as, single, text_of}
-use Rattle.conf_state.specs.States.{Contents}
-use Rattle.conf_state.specs.declared.fault.StoreFault.{StoreFault}
-use Rattle.conf_state.specs.declared.fault.StoreFault.TheVariants.{Reopen, Device, OutOfMemory}
-use Rattle.conf_store.specs.Calls.{Accepts, HasFailed, RefusesCommand, tree_named}
-use Rattle.conf_store.specs.Changing.{AppendsRecord, store_file}
-use Rattle.conf_store.specs.Durable.{AfterPrefix, AllImagesMean}
-use Rattle.conf_store.specs.Files.{IsOldOrBase}
+use Rattle.conf_state.specs.Commands.{Command as GivenCommand}
+use Rattle.conf_state.specs.declared.fault.StoreFault.TheVariants.{OutOfMemory}
 use Rattle.conf_store.specs.Imports.{AppendsImport, Imports, RefusesImport}
-use Rattle.conf_store.specs.Meaning.{FileMeans, empty_state}
-use Rattle.conf_store.specs.Opens.{MeantAtEntry}
-use Rattle.conf_store.specs.View.{StoreView}
-use Rattle.conf_session.specs.Runs.{AfterAtLeast}
-use Rattle.conf_store.specs.declared.fault.OpenFault.{OpenFault}
-use Rattle.conf_store.specs.declared.fault.OpenFault.TheVariants as OpenFaults
+use Rattle.conf_tools.specs.declared.stores.StoreToolFault.TheVariants.{Condition as OnCondition}
+use Rattle.conf_tools.specs.{declared.changes.Change.Change, declared.stores.StoreToolFault.StoreToolFault}
 use Rattle.conf_tools.specs.Stores.{CannotOpen, OpensOn}
-use Rattle.conf_tools.specs.declared.changes.Change.{Change}
 use Rattle.conf_tools.specs.declared.changes.Change.TheVariants.{Import, Perform, Copy, Rename, Checkpoint}
-use Rattle.conf_tools.specs.declared.stores.StoreToolFault.{StoreToolFault}
-use Rattle.conf_tools.specs.declared.stores.StoreToolFault.TheVariants.{Open, Condition as OnCondition, Refused, StoreExists}
+use Rattle.conf_tools.specs.declared.stores.StoreToolFault.TheVariants.{Open, Refused, StoreExists}
+use Rattle.conf_store.specs.declared.fault.OpenFault.TheVariants as OpenFaults
 
 -- ---- commands that are made of a state
 

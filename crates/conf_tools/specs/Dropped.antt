@@ -1,7 +1,6 @@
 -- What is said of the bytes after the last whole record of a `store.yaml`, which opening drops.
 use Rattle.std.specs.Prelude.{◌≡◌, ◌⊎◌, ℕ, zero, suc, ◌==◌, if◌then◌else◌, List, ◌++◌, Option, codes, decimal}
-use Rattle.conf_state.specs.States.{Contents}
-use Rattle.conf_store.specs.Opens.{FileRecoversTo}
+use Rattle.conf_tools.specs.Prelude.{Contents, FileRecoversTo}
 
 -- the line for more than one byte
 abbrev pub dropped_bytes_line : ℕ → List ℕ

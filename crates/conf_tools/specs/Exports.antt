@@ -1,23 +1,12 @@
 -- What an export finds, and in which state.
 use Rattle.std.specs.Prelude.{◌≡◌, ◌≢◌, ◌⊎◌, ℕ, List, Option, Result, Ok, Err, encode_utf8_all}
-use Rattle.yaml_grammar.specs.Trees.{Tree}
-use Rattle.conf_disk.specs.Folder.{Tells, bytes_under}
-use Rattle.conf_disk.specs.Models.{DiskModel}
+use Rattle.conf_tools.specs.Prelude.{Tree, Tells, bytes_under, DiskModel, Store, store_limit, Contents, StoreFault}
+use Rattle.conf_tools.specs.Prelude.{HasFailed, tree_named, IsNewBase, FileMeans, RefusesOpening, TreeForm}
 use Rattle.conf_disk.specs.declared.disk.Content.{Content}
-use Rattle.conf_disk.specs.declared.disk.Name.TheVariants.{Store}
-use Rattle.conf_journal.specs.Store.{store_limit}
-use Rattle.conf_state.specs.States.{Contents}
-use Rattle.conf_state.specs.declared.fault.StoreFault.{StoreFault}
 use Rattle.conf_state.specs.declared.fault.StoreFault.TheVariants.{OutOfMemory}
-use Rattle.conf_store.specs.Calls.{HasFailed, tree_named}
-use Rattle.conf_store.specs.Files.{IsNewBase}
-use Rattle.conf_store.specs.Meaning.{FileMeans}
-use Rattle.conf_store.specs.Opens.{RefusesOpening}
-use Rattle.conf_store.specs.declared.fault.OpenFault.TheVariants as OpenFaults
-use Rattle.conf_words.specs.declared.invocation.TreeForm.{TreeForm}
-use Rattle.conf_tools.specs.Reads.{tree_text}
-use Rattle.conf_tools.specs.declared.stores.StoreToolFault.{StoreToolFault}
+use Rattle.conf_tools.specs.{Reads.tree_text, declared.stores.StoreToolFault.StoreToolFault}
 use Rattle.conf_tools.specs.declared.stores.StoreToolFault.TheVariants.{Open, Export}
+use Rattle.conf_store.specs.declared.fault.OpenFault.TheVariants as OpenFaults
 
 -- the disk that a call hands back, with a value or a fault
 abbrev pub disk_back : {D A F : Type 0} → Result (D × A) (D × F) → D

@@ -1,23 +1,17 @@
 -- The names of faults, as lines on standard error have them: that of the innermost fault.
 use Rattle.std.specs.Prelude.{ℕ, List, codes}
-use Rattle.conf_conditions.specs.declared.fault.ConditionFault.{ConditionFault}
+use Rattle.conf_tools.specs.Prelude.{ConditionFault, FolderFault, HistoryFault, SalvageFault, SessionFault, fault_name}
+use Rattle.conf_tools.specs.Prelude.{path_name, read_name, OpenFault}
+use Rattle.conf_tools.specs.{declared.reading_fault.ReadingFault.ReadingFault}
+use Rattle.conf_tools.specs.{declared.stores.StoreToolFault.StoreToolFault, declared.texts.ToolFault.ToolFault}
 use Rattle.conf_conditions.specs.declared.fault.ConditionFault.TheVariants as condition
-use Rattle.conf_folder.specs.declared.fault.FolderFault.{FolderFault}
 use Rattle.conf_folder.specs.declared.fault.FolderFault.TheVariants as folder
-use Rattle.conf_history.specs.declared.fault.HistoryFault.{HistoryFault}
 use Rattle.conf_history.specs.declared.fault.HistoryFault.TheVariants as history
-use Rattle.conf_history.specs.declared.fault.SalvageFault.{SalvageFault}
 use Rattle.conf_history.specs.declared.fault.SalvageFault.TheVariants as salvage
-use Rattle.conf_session.specs.declared.fault.SessionFault.{SessionFault}
 use Rattle.conf_session.specs.declared.fault.SessionFault.TheVariants as session
-use Rattle.conf_state.specs.FaultNames.{fault_name, path_name, read_name}
-use Rattle.conf_store.specs.declared.fault.OpenFault.{OpenFault}
 use Rattle.conf_store.specs.declared.fault.OpenFault.TheVariants as opening
-use Rattle.conf_tools.specs.declared.reading_fault.ReadingFault.{ReadingFault}
 use Rattle.conf_tools.specs.declared.reading_fault.ReadingFault.TheVariants as reading
-use Rattle.conf_tools.specs.declared.stores.StoreToolFault.{StoreToolFault}
 use Rattle.conf_tools.specs.declared.stores.StoreToolFault.TheVariants as store
-use Rattle.conf_tools.specs.declared.texts.ToolFault.{ToolFault}
 use Rattle.conf_tools.specs.declared.texts.ToolFault.TheVariants as text
 
 -- ---- faults of the crates below

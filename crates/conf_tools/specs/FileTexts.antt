@@ -1,25 +1,16 @@
 -- What a tool has written for the text of a file that was named.
 use Rattle.std.specs.Prelude.{◌≡◌, ◌≢◌, ℕ, Bool, true, false, List, [], ◌∷◌, ◌++◌, Option, length, codes, decimal}
 use Rattle.std.specs.Prelude.{encode_utf8_all, string_bytes}
-use Rattle.std.specs.Io.KnownBytes.{Appends, Keeps}
-use Rattle.yaml_grammar.specs.Style.{style_text}
-use Rattle.yaml_grammar.specs.Trees.{Tree}
-use Rattle.yaml_tree.specs.Reading.{IsRead, Refuses}
+use Rattle.conf_tools.specs.Prelude.{Appends, Keeps, style_text, Tree, IsRead, Refuses, config_limits, HasComment}
+use Rattle.conf_tools.specs.Prelude.{HasNoComment, IsChecked, name_of, Finding, Comments}
 use Rattle.yaml_events.specs.declared.read_fault.ReadFault.{ReadFault}
-use Rattle.yaml_config.specs.Limits.{config_limits}
-use Rattle.yaml_refusals.specs.Comments.{HasComment, HasNoComment}
-use Rattle.yaml_style.specs.Checking.{IsChecked}
-use Rattle.yaml_style.specs.Findings.{name_of}
-use Rattle.yaml_style.specs.declared.finding.Finding.{Finding}
 use Rattle.yaml_style.specs.declared.finding.Rule.{Rule}
 use Rattle.yaml_style.specs.declared.finding.Rule.TheVariants.{TrailingWhitespace, LineEnd, LongLine, NotInStyle}
-use Rattle.conf_words.specs.declared.invocation.Comments.{Comments}
 use Rattle.conf_words.specs.declared.invocation.Comments.TheVariants.{Refused, Dropped}
-use Rattle.conf_tools.specs.Tools.{GivesTree}
-use Rattle.conf_tools.specs.declared.file_texts.Restyled.{Restyled}
+use Rattle.conf_tools.specs.declared.texts.ToolFault.TheVariants.{Comments as HasComments}
+use Rattle.conf_tools.specs.{Tools.GivesTree, declared.file_texts.Restyled.Restyled, declared.texts.ToolFault.ToolFault}
 use Rattle.conf_tools.specs.declared.file_texts.Restyled.TheVariants.{Same, Changed}
-use Rattle.conf_tools.specs.declared.texts.ToolFault.{ToolFault}
-use Rattle.conf_tools.specs.declared.texts.ToolFault.TheVariants.{Input, Output, Read, Comments as HasComments}
+use Rattle.conf_tools.specs.declared.texts.ToolFault.TheVariants.{Input, Output, Read}
 
 -- ---- the one style
 

@@ -1,3 +1,4 @@
+pub mod Prelude
 pub mod Asking
 pub mod Backups
 pub mod Statuses

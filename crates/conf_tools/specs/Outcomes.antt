@@ -1,27 +1,18 @@
 -- How a run of the program ends, and what is told of it.
 use Rattle.std.specs.Prelude.{◌≡◌, ◌⊎◌, ℕ, List, Option, Result, Ok, Err, codes, string_bytes}
-use Rattle.conf_session.specs.declared.session.Tally.{Tally}
-use Rattle.conf_words.specs.declared.invocation.Invocation.{Invocation}
-use Rattle.conf_words.specs.declared.invocation.Invocation.TheVariants.{Init, Import, Set, Delete, Copy, Rename}
-use Rattle.conf_words.specs.declared.invocation.Invocation.TheVariants.{Checkpoint, Run, Export, Names, Get, Exists}
-use Rattle.conf_words.specs.declared.invocation.Invocation.TheVariants.{Log, Verify, Salvage, Backup, Format, Check}
-use Rattle.conf_words.specs.declared.unparsed.Unparsed.{Unparsed}
-use Rattle.conf_words.specs.declared.unparsed.Unparsed.TheVariants.{Shown, Wrong, OutOfMemory as NoMemory}
-use Rattle.conf_tools.specs.Dropped.{TellsDropped}
+use Rattle.conf_tools.specs.Prelude.{Tally, Invocation, Init, Import, Set, Delete, Copy, Rename, Checkpoint, Run}
+use Rattle.conf_tools.specs.Prelude.{Export, Names, Get, Exists, Log, Verify, Salvage, Backup, Format, Check, Unparsed}
+use Rattle.conf_tools.specs.Prelude.{Shown, Wrong}
+use Rattle.conf_words.specs.declared.unparsed.Unparsed.TheVariants.{OutOfMemory as NoMemory}
+use Rattle.conf_tools.specs.{Dropped.TellsDropped, Listening.fault_line, ReadingStatuses.status_of_reading}
+use Rattle.conf_tools.specs.{Tails.TellsRest, Tails.end_of_rest, declared.outcome.Ending.Ending}
+use Rattle.conf_tools.specs.{declared.outcome.Ending.TheVariants.Of, declared.outcome.Ending.TheVariants.Told}
+use Rattle.conf_tools.specs.{declared.outcome.Outcome.Outcome, declared.program.Status.Status, declared.tail.Tail.Tail}
+use Rattle.conf_tools.specs.{declared.texts.ToolFault.ToolFault, declared.texts.ToolFault.TheVariants.Output}
 use Rattle.conf_tools.specs.FaultLines.{reading_fault_name, store_fault_name, text_fault_name}
-use Rattle.conf_tools.specs.Listening.{fault_line}
-use Rattle.conf_tools.specs.ReadingStatuses.{status_of_reading}
 use Rattle.conf_tools.specs.Statuses.{code_of, status_of, status_of_store}
-use Rattle.conf_tools.specs.Tails.{TellsRest, end_of_rest}
-use Rattle.conf_tools.specs.declared.outcome.Ending.{Ending}
-use Rattle.conf_tools.specs.declared.outcome.Ending.TheVariants.{Of, Told}
-use Rattle.conf_tools.specs.declared.outcome.Outcome.{Outcome}
-use Rattle.conf_tools.specs.declared.outcome.Outcome.TheVariants as ends
-use Rattle.conf_tools.specs.declared.program.Status.{Status}
 use Rattle.conf_tools.specs.declared.program.Status.TheVariants.{Done, Absent, Refused, WrongWords, Device}
-use Rattle.conf_tools.specs.declared.tail.Tail.{Tail}
-use Rattle.conf_tools.specs.declared.texts.ToolFault.{ToolFault}
-use Rattle.conf_tools.specs.declared.texts.ToolFault.TheVariants.{Output}
+use Rattle.conf_tools.specs.declared.outcome.Outcome.TheVariants as ends
 
 -- ---- statuses
 

@@ -1,56 +1,39 @@
 -- What the program does for an invocation, with the world around it, its input and its output, and how it ends.
 use Rattle.std.specs.Prelude.{◌≡◌, ℕ, List, [], ◌∷◌, map, Option, Some, None, Result, Ok, Err, codes}
-use Rattle.std.specs.Str.{chars}
-use Rattle.conf_disk.specs.Models.{DiskModel}
+use Rattle.conf_tools.specs.Prelude.{chars, DiskModel, After, Asked, Comments, Conditions, Invocation}
+use Rattle.conf_tools.specs.Prelude.{Init, Import, Set, Delete, Copy, Rename, Checkpoint, Run, Export, Names, Get}
+use Rattle.conf_tools.specs.Prelude.{Exists, Log, Verify, Salvage, Backup, Format, Check, Value}
 use Rattle.conf_history.specs.declared.line.LineForm.TheVariants.{Names as LineNames, Values as LineValues}
 use Rattle.conf_history.specs.declared.log.LogForm.{LogForm as HistoryForm}
-use Rattle.conf_history.specs.declared.log.LogForm.TheVariants as history
-use Rattle.conf_session.specs.declared.groups.Checkpoints.{Checkpoints}
-use Rattle.conf_session.specs.declared.groups.Checkpoints.TheVariants.{After, Asked}
-use Rattle.conf_words.specs.declared.invocation.Comments.{Comments}
-use Rattle.conf_words.specs.declared.invocation.Conditions.{Conditions}
-use Rattle.conf_words.specs.declared.invocation.Formatting.TheVariants as formatting
 use Rattle.conf_words.specs.declared.invocation.Grouping.{Grouping as AskedGrouping}
-use Rattle.conf_words.specs.declared.invocation.Grouping.TheVariants as asked
-use Rattle.conf_words.specs.declared.invocation.Invocation.{Invocation}
-use Rattle.conf_words.specs.declared.invocation.Invocation.TheVariants.{Init, Import, Set, Delete, Copy, Rename}
-use Rattle.conf_words.specs.declared.invocation.Invocation.TheVariants.{Checkpoint, Run, Export, Names, Get, Exists}
-use Rattle.conf_words.specs.declared.invocation.Invocation.TheVariants.{Log, Verify, Salvage, Backup, Format, Check}
 use Rattle.conf_words.specs.declared.invocation.LogForm.{LogForm}
 use Rattle.conf_words.specs.declared.invocation.LogForm.TheVariants.{Lines, Values, Records}
 use Rattle.conf_words.specs.declared.invocation.MissingStore.{MissingStore}
-use Rattle.conf_words.specs.declared.invocation.MissingStore.TheVariants as missing
-use Rattle.conf_words.specs.declared.invocation.Value.{Value}
 use Rattle.conf_words.specs.declared.invocation.Formatting.{Formatting}
-use Rattle.conf_tools.specs.Asking.{AskedConditions, AsksFor}
-use Rattle.conf_tools.specs.Backups.{BacksUpStore}
+use Rattle.conf_tools.specs.{Asking.AskedConditions, Asking.AsksFor, Backups.BacksUpStore, Tools.IsTaken, Tools.Taken}
+use Rattle.conf_tools.specs.{Statuses.status_of, Worlds.Around, Worlds.LeavesStreams, Worlds.WorldModel}
+use Rattle.conf_tools.specs.{declared.changes.Change.Change, declared.file_words.Report.TheVariants.Findings}
+use Rattle.conf_tools.specs.{declared.file_words.Report.TheVariants.Name, declared.program.Status.Status}
+use Rattle.conf_tools.specs.{declared.program.Status.TheVariants.Done, declared.stores.Grouping.Grouping}
+use Rattle.conf_tools.specs.{declared.stores.Grouping.TheVariants.Single, declared.stores.Grouping.TheVariants.Grouped}
+use Rattle.conf_tools.specs.{declared.texts.ToolFault.ToolFault, declared.world.Access.Access}
+use Rattle.conf_tools.specs.{declared.world.Access.TheVariants.Changing, declared.world.Access.TheVariants.Making}
 use Rattle.conf_tools.specs.StoreWords.{ChangesInFolder, ExportsFromFolder, Inits, MakesChange, Reads, RunsOnFolder}
 use Rattle.conf_tools.specs.StoreWords.{Salvages, SaysLog, SaysNames, SaysPresence, SaysSurvey, SaysValue}
 use Rattle.conf_tools.specs.TextWords.{ChecksRead, FormatsFile, FormatsRead, IsCopy, IsDelete, IsImport, IsRename}
 use Rattle.conf_tools.specs.TextWords.{IsSet, ReportsOnAll, RestylesAll, TakesText}
-use Rattle.conf_tools.specs.Tools.{IsTaken, Taken}
-use Rattle.conf_tools.specs.Statuses.{status_of}
-use Rattle.conf_tools.specs.Worlds.{Around, LeavesStreams, WorldModel}
-use Rattle.conf_tools.specs.declared.changes.Change.{Change}
+use Rattle.conf_history.specs.declared.log.LogForm.TheVariants as history
+use Rattle.conf_words.specs.declared.invocation.Formatting.TheVariants as formatting
+use Rattle.conf_words.specs.declared.invocation.Grouping.TheVariants as asked
+use Rattle.conf_words.specs.declared.invocation.MissingStore.TheVariants as missing
 use Rattle.conf_tools.specs.declared.changes.Change.TheVariants as change
-use Rattle.conf_tools.specs.declared.file_words.Report.TheVariants.{Findings, Name}
-use Rattle.conf_tools.specs.declared.program.Status.{Status}
-use Rattle.conf_tools.specs.declared.program.Status.TheVariants.{Done}
-use Rattle.conf_tools.specs.declared.stores.Grouping.{Grouping}
-use Rattle.conf_tools.specs.declared.stores.Grouping.TheVariants.{Single, Grouped}
-use Rattle.conf_tools.specs.declared.texts.ToolFault.{ToolFault}
-use Rattle.conf_tools.specs.declared.world.Access.{Access}
-use Rattle.conf_tools.specs.declared.world.Access.TheVariants.{Changing, Making}
 
 -- ---- what the words say, as the crates below take it
 
-abbrev pub checkpoints_of : Option ℕ → Checkpoints
-checkpoints_of (Some bytes) = After bytes
-checkpoints_of None = Asked
-
 abbrev pub grouping_of : AskedGrouping → Grouping
 grouping_of asked.Single = Single
-grouping_of (asked.Grouped checkpoint_after) = Grouped (checkpoints_of checkpoint_after)
+grouping_of (asked.Grouped (Some bytes)) = Grouped (After bytes)
+grouping_of (asked.Grouped None) = Grouped Asked
 
 -- for what the folder of an import is opened
 abbrev pub access_of : MissingStore → Access

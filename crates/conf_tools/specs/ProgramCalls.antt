@@ -1,23 +1,12 @@
 -- Calls of the program on the store of one folder, one after the other, and what the folder keeps of their commands.
 use Rattle.std.specs.Prelude.{◌≡◌, ◌≤◌, ℕ, List, [], ◌∷◌, length, take, Option, Result, Ok, Err}
-use Rattle.conf_disk.specs.Image.{Image, IsImage}
-use Rattle.conf_disk.specs.Models.{DiskModel}
-use Rattle.conf_disk.specs.Moments.{LeavesOnly}
-use Rattle.conf_state.specs.Commands.{Command}
-use Rattle.conf_state.specs.States.{Contents}
-use Rattle.conf_state.specs.Steps.{after}
+use Rattle.conf_tools.specs.Prelude.{Image, IsImage, DiskModel, LeavesOnly, Command, Contents, after, FileMeans}
+use Rattle.conf_tools.specs.Prelude.{MeantAtEntry, Tally, Streams}
 use Rattle.conf_store.specs.Lives.{all_commands}
-use Rattle.conf_store.specs.Meaning.{FileMeans}
-use Rattle.conf_store.specs.Opens.{MeantAtEntry}
-use Rattle.conf_session.specs.declared.session.Tally.{Tally}
-use Rattle.conf_tools.specs.Changes.{ChangeSurvives}
+use Rattle.conf_tools.specs.{Changes.ChangeSurvives, Stores.SurvivesCrashes, declared.changes.Change.Change}
+use Rattle.conf_tools.specs.{declared.stores.Grouping.Grouping, declared.stores.StoreToolFault.StoreToolFault}
 use Rattle.conf_tools.specs.Exports.{disk_back, disk_handed_back}
-use Rattle.conf_tools.specs.Stores.{SurvivesCrashes}
-use Rattle.conf_tools.specs.declared.changes.Change.{Change}
-use Rattle.conf_tools.specs.declared.stores.Grouping.{Grouping}
-use Rattle.conf_tools.specs.declared.stores.StoreToolFault.{StoreToolFault}
 use Rattle.conf_tools.specs.declared.stores.StoreToolFault.TheVariants.{Session, Refused}
-use Rattle.conf_session.specs.Streams.{Streams}
 
 -- ---- one call
 

@@ -1,13 +1,12 @@
 -- The statuses of the words that read a store.
 use Rattle.conf_folder.specs.declared.fault.FolderFault.TheVariants as FolderFault
-use Rattle.conf_history.specs.declared.fault.HistoryFault.{HistoryFault}
-use Rattle.conf_history.specs.declared.fault.HistoryFault.TheVariants as HistoryFaults
-use Rattle.conf_history.specs.declared.fault.SalvageFault.TheVariants as SalvageFault
-use Rattle.conf_tools.specs.declared.program.Status.{Status}
+use Rattle.conf_tools.specs.Prelude.{HistoryFault}
+use Rattle.conf_tools.specs.{declared.program.Status.Status, declared.reading_fault.ReadingFault.ReadingFault}
 use Rattle.conf_tools.specs.declared.program.Status.TheVariants.{Refused, Device}
-use Rattle.conf_tools.specs.declared.reading_fault.ReadingFault.{ReadingFault}
 use Rattle.conf_tools.specs.declared.reading_fault.ReadingFault.TheVariants.{Folder, History, Value, NotText}
 use Rattle.conf_tools.specs.declared.reading_fault.ReadingFault.TheVariants.{NotCollection, Salvage, Output}
+use Rattle.conf_history.specs.declared.fault.HistoryFault.TheVariants as HistoryFaults
+use Rattle.conf_history.specs.declared.fault.SalvageFault.TheVariants as SalvageFault
 
 -- the status after a fault of a store's file
 abbrev pub status_of_history : HistoryFault → Status

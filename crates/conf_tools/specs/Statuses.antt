@@ -1,20 +1,19 @@
 -- The program's statuses.
 use Rattle.std.specs.Prelude.{◌≡◌, ◌⊎◌, ℕ, nat_lt, if◌then◌else◌, List, Option, string_bytes}
-use Rattle.std.specs.Io.KnownBytes.{Appends, Keeps}
+use Rattle.conf_tools.specs.Prelude.{Appends, Keeps, Unparsed, Shown, Wrong}
+use Rattle.conf_words.specs.declared.unparsed.Unparsed.TheVariants.{OutOfMemory as UnparsedOutOfMemory}
+use Rattle.conf_tools.specs.declared.stores.StoreToolFault.TheVariants.{Folder as InFolder}
+use Rattle.conf_tools.specs.declared.stores.StoreToolFault.TheVariants.{Condition as OnCondition}
+use Rattle.conf_tools.specs.declared.stores.StoreToolFault.TheVariants.{Refused as RefusedChange}
+use Rattle.conf_tools.specs.{declared.stores.StoreToolFault.StoreToolFault, declared.program.Status.Status}
+use Rattle.conf_tools.specs.{declared.texts.ToolFault.ToolFault}
+use Rattle.conf_tools.specs.declared.stores.StoreToolFault.TheVariants.{Open, Session, Export, StoreExists}
+use Rattle.conf_tools.specs.declared.program.Status.TheVariants.{Done, Found, Absent, Refused, WrongWords, Device}
+use Rattle.conf_tools.specs.declared.texts.ToolFault.TheVariants.{Input, Output, Read, Comments}
 use Rattle.conf_folder.specs.declared.fault.FolderFault.TheVariants as FolderFault
 use Rattle.conf_state.specs.declared.fault.StoreFault.TheVariants as StoreFault
 use Rattle.conf_store.specs.declared.fault.OpenFault.TheVariants as OpenFault
 use Rattle.conf_session.specs.declared.fault.SessionFault.TheVariants as SessionFaults
-use Rattle.conf_words.specs.declared.unparsed.Unparsed.{Unparsed}
-use Rattle.conf_words.specs.declared.unparsed.Unparsed.TheVariants.{Shown, Wrong, OutOfMemory as UnparsedOutOfMemory}
-use Rattle.conf_tools.specs.declared.stores.StoreToolFault.{StoreToolFault}
-use Rattle.conf_tools.specs.declared.stores.StoreToolFault.TheVariants.{Folder as InFolder, Open, Session, Export}
-use Rattle.conf_tools.specs.declared.stores.StoreToolFault.TheVariants.{Condition as OnCondition}
-use Rattle.conf_tools.specs.declared.stores.StoreToolFault.TheVariants.{Refused as RefusedChange, StoreExists}
-use Rattle.conf_tools.specs.declared.program.Status.{Status}
-use Rattle.conf_tools.specs.declared.program.Status.TheVariants.{Done, Found, Absent, Refused, WrongWords, Device}
-use Rattle.conf_tools.specs.declared.texts.ToolFault.{ToolFault}
-use Rattle.conf_tools.specs.declared.texts.ToolFault.TheVariants.{Input, Output, Read, Comments}
 
 -- the number of a status
 abbrev pub code_of : Status → ℕ

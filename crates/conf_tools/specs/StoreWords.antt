@@ -1,50 +1,34 @@
 -- What the words on a store do: which disk or file the world hands out, what is done with it, and that it is given back.
-use Rattle.std.specs.Prelude.{◌≡◌, ◌⊎◌, ℕ, List, Option, Some, None, Result, Ok, Err, IfOk, IfErr, OnOk, String, string_bytes}
-use Rattle.std.specs.declared.alloc.Global.{Global}
-use Rattle.std.specs.Str.{chars}
-use Rattle.std.specs.Io.KnownBytes.{Appends}
-pub use Rattle.conf_conditions.specs.Conditions.{Condition, conditions_of}
-use Rattle.conf_disk.specs.Models.{DiskModel}
-use Rattle.conf_disk.specs.Moments.{LeavesOnly}
-use Rattle.conf_folder.specs.declared.fault.FolderFault.{FolderFault}
+use Rattle.std.specs.Prelude.{◌≡◌, ◌⊎◌, ℕ, List, Option, Some, None, Result, Ok, Err, IfOk, IfErr, OnOk, String}
+use Rattle.std.specs.Prelude.{string_bytes}
+use Rattle.conf_tools.specs.Prelude.{Global, chars, Appends, DiskModel, LeavesOnly, FolderFault, HistoryFault}
+use Rattle.conf_tools.specs.Prelude.{NotAStore, SalvageFault, LogForm, Findings, Tally, MeantAtEntry, MissingValue}
+use Rattle.conf_tools.specs.Prelude.{NamesForm, TreeForm, ValueForm, streams_of}
 use Rattle.conf_history.specs.Logs.{FailsToLog, LogsAll}
 use Rattle.conf_history.specs.Salvages.{LeavesOldOrSaved, RefusesSalvage, Saves, disk_of}
-use Rattle.conf_history.specs.declared.fault.HistoryFault.{HistoryFault}
-use Rattle.conf_history.specs.declared.fault.HistoryFault.TheVariants.{NotAStore}
-use Rattle.conf_history.specs.declared.fault.SalvageFault.{SalvageFault}
 use Rattle.conf_history.specs.declared.fault.SalvageFault.TheVariants.{StoreExists as NewStoreExists}
-use Rattle.conf_history.specs.declared.log.LogForm.{LogForm}
-use Rattle.conf_history.specs.declared.survey.Findings.{Findings}
-use Rattle.conf_session.specs.declared.session.Tally.{Tally}
-use Rattle.conf_store.specs.Opens.{MeantAtEntry}
-use Rattle.conf_words.specs.declared.invocation.MissingValue.{MissingValue}
-use Rattle.conf_words.specs.declared.invocation.NamesForm.{NamesForm}
-use Rattle.conf_words.specs.declared.invocation.TreeForm.{TreeForm}
-use Rattle.conf_words.specs.declared.invocation.ValueForm.{ValueForm}
-use Rattle.conf_tools.specs.Asking.{AskedConditions}
+use Rattle.conf_tools.specs.declared.reading_fault.ReadingFault.TheVariants.{Folder as ReadingFolder}
+use Rattle.conf_tools.specs.declared.reads.Presence.TheVariants.{Absent as NothingThere}
+use Rattle.conf_tools.specs.declared.stores.StoreToolFault.TheVariants.{Folder as InFolder}
+use Rattle.conf_tools.specs.{Asking.AskedConditions, ReadingStatuses.status_of_reading, declared.changes.Change.Change}
+use Rattle.conf_tools.specs.{declared.program.Status.Status, declared.reading_fault.ReadingFault.ReadingFault}
+use Rattle.conf_tools.specs.{declared.reads.Presence.Presence, declared.reads.Presence.TheVariants.Present}
+use Rattle.conf_tools.specs.{declared.stores.Grouping.Grouping, declared.stores.StoreToolFault.StoreToolFault}
+use Rattle.conf_tools.specs.{declared.surveys.Soundness.Soundness, declared.world.Access.Access}
+use Rattle.conf_tools.specs.declared.read_words.Question.{Question}
+use Rattle.conf_tools.specs.declared.read_words.Question.TheVariants as asks
 use Rattle.conf_tools.specs.Changes.{CannotChange, CannotMake, ChangeSurvives, ChangesOn, MakesStore}
 use Rattle.conf_tools.specs.Exports.{HasText, LacksText, disk_back, disk_handed_back}
 use Rattle.conf_tools.specs.Reads.{FindsPresence, RefusesNames, RefusesPresence, RefusesValue, WritesNames, WritesValue}
-use Rattle.conf_tools.specs.ReadingStatuses.{status_of_reading}
 use Rattle.conf_tools.specs.Statuses.{status_of, status_of_store}
 use Rattle.conf_tools.specs.Stores.{RunsOn, SurvivesCrashes}
 use Rattle.conf_tools.specs.Surveys.{CannotWrite, RefusesWriting, WritesSurvey, findings_text}
 use Rattle.conf_tools.specs.Worlds.{Around, LeavesStreams, WorldModel}
-use Rattle.conf_tools.specs.declared.changes.Change.{Change}
-use Rattle.conf_tools.specs.declared.program.Status.{Status}
 use Rattle.conf_tools.specs.declared.program.Status.TheVariants.{Done, Absent, Refused, Device}
-use Rattle.conf_tools.specs.declared.reading_fault.ReadingFault.{ReadingFault}
-use Rattle.conf_tools.specs.declared.reading_fault.ReadingFault.TheVariants.{Folder as ReadingFolder, History, Salvage}
-use Rattle.conf_tools.specs.declared.reads.Presence.{Presence}
-use Rattle.conf_tools.specs.declared.reads.Presence.TheVariants.{Present, Absent as NothingThere}
-use Rattle.conf_tools.specs.declared.stores.Grouping.{Grouping}
-use Rattle.conf_tools.specs.declared.stores.StoreToolFault.{StoreToolFault}
-use Rattle.conf_tools.specs.declared.stores.StoreToolFault.TheVariants.{Folder as InFolder}
-use Rattle.conf_tools.specs.declared.surveys.Soundness.{Soundness}
+use Rattle.conf_tools.specs.declared.reading_fault.ReadingFault.TheVariants.{History, Salvage}
 use Rattle.conf_tools.specs.declared.surveys.Soundness.TheVariants.{Whole, Damaged}
-use Rattle.conf_tools.specs.declared.world.Access.{Access}
 use Rattle.conf_tools.specs.declared.world.Access.TheVariants.{Making, New, Reading}
-use Rattle.conf_session.specs.Streams.{streams_of}
+pub use Rattle.conf_conditions.specs.Conditions.{Condition, conditions_of}
 
 -- ---- statuses
 
@@ -274,6 +258,14 @@ pub record SaysSurvey (given held written : Option (List ℕ)) (status : Status)
   pub ends : status ≡ status_after_survey result
   pub done : IfOk result (WritesSurvey given held written)
   pub refused : IfErr result (RefusesWriting given held written)
+
+-- what is written of a file to answer a question
+abbrev pub Says : Question → Option (List ℕ) → Option (List ℕ) → Option (List ℕ) → Status → Type 0
+Says (asks.Names at form) = SaysNames at form
+Says (asks.Value place missing form) = SaysValue place.at place.name.now place.pointer.now missing form
+Says (asks.Presence place) = SaysPresence place.at place.name.now place.pointer.now
+Says (asks.Log at form) = SaysLog at form
+Says asks.Survey = SaysSurvey
 
 -- ---- a store of what stands before the damage
 

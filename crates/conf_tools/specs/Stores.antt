@@ -1,34 +1,18 @@
 -- What a tool on a store has read, answered and written, and what it leaves on its disk.
 use Rattle.std.specs.Prelude.{◌≡◌, ◌≢◌, ◌≤◌, ℕ, false, List, [], ◌++◌, length, Option, None, Result, Ok, Err}
-use Rattle.std.specs.Io.KnownBytes.{Keeps}
-use Rattle.conf_disk.specs.Folder.{bytes_under}
-use Rattle.conf_disk.specs.Image.{Image, IsImage}
-use Rattle.conf_disk.specs.Models.{DiskModel}
-use Rattle.conf_disk.specs.Moments.{LeavesOnly}
-use Rattle.conf_disk.specs.declared.disk.Name.TheVariants.{Store}
-use Rattle.conf_state.specs.Commands.{Command}
-use Rattle.conf_store.specs.Calls.{HasFailed}
-use Rattle.conf_store.specs.Meaning.{FileMeans}
-use Rattle.conf_store.specs.Durable.{AfterPrefix, AllImagesMean, HasFlushed}
-use Rattle.conf_store.specs.Files.{FilesStay, HasLength, IsOldOrBase}
-use Rattle.conf_store.specs.Opens.{FileRecoversTo, MeantAtEntry, ReadsAfterOpening, RefusalMeans, RefusesOpening}
-use Rattle.conf_store.specs.View.{StoreView}
-use Rattle.conf_store.specs.declared.fault.OpenFault.{OpenFault}
-use Rattle.conf_store.specs.declared.fault.OpenFault.TheVariants as OpenFaults
-use Rattle.conf_session.specs.declared.fault.SessionFault.{SessionFault}
-use Rattle.conf_session.specs.declared.fault.SessionFault.TheVariants as SessionFaults
-use Rattle.conf_session.specs.Answers.{Stored, accepted_commands, file_after_all}
+use Rattle.conf_tools.specs.Prelude.{Keeps, bytes_under, Image, IsImage, DiskModel, LeavesOnly, Store, Command}
+use Rattle.conf_tools.specs.Prelude.{HasFailed, FileMeans, AfterPrefix, AllImagesMean, HasFlushed, FilesStay, HasLength}
+use Rattle.conf_tools.specs.Prelude.{IsOldOrBase, FileRecoversTo, MeantAtEntry, ReadsAfterOpening, RefusalMeans}
+use Rattle.conf_tools.specs.Prelude.{RefusesOpening, StoreView, OpenFault, SessionFault, Stored, accepted_commands}
+use Rattle.conf_tools.specs.Prelude.{file_after_all, AfterAtLeast, Ends, Runs, stored_of, Checkpoints, After, Asked}
+use Rattle.conf_tools.specs.Prelude.{Tally, Streams}
 use Rattle.conf_session.specs.Requests.{Request}
 use Rattle.conf_session.specs.Groups.{AreDue, GroupedEnds, RunsGrouped, Turn, all_asked, files_after_turns, requests_of, turns_accepted}
-use Rattle.conf_session.specs.Runs.{AfterAtLeast, Ends, Runs, stored_of}
-use Rattle.conf_session.specs.declared.groups.Checkpoints.{Checkpoints}
-use Rattle.conf_session.specs.declared.groups.Checkpoints.TheVariants.{After, Asked}
-use Rattle.conf_session.specs.declared.session.Tally.{Tally}
-use Rattle.conf_tools.specs.declared.stores.Grouping.{Grouping}
+use Rattle.conf_tools.specs.{declared.stores.Grouping.Grouping, declared.stores.StoreToolFault.StoreToolFault}
 use Rattle.conf_tools.specs.declared.stores.Grouping.TheVariants.{Single, Grouped}
-use Rattle.conf_tools.specs.declared.stores.StoreToolFault.{StoreToolFault}
 use Rattle.conf_tools.specs.declared.stores.StoreToolFault.TheVariants.{Open, Session}
-use Rattle.conf_session.specs.Streams.{Streams}
+use Rattle.conf_store.specs.declared.fault.OpenFault.TheVariants as OpenFaults
+use Rattle.conf_session.specs.declared.fault.SessionFault.TheVariants as SessionFaults
 
 -- What a session made of its input: the commands that it accepted, how many of these it answered (the first ones), and
 -- what it left of `store.yaml`.
@@ -152,6 +136,11 @@ pub record AnswersOn {D : Type 0} (model : DiskModel D)
   pub reads : model.honest → result ≢ Err SessionFaults.Device → bytes_under (model.folder new) Store ≡ work.file
   pub not_reopen : result ≢ Err SessionFaults.Reopen
   pub cause : result ≡ Err SessionFaults.Device → HasFailed (model.failure_count old) (model.failure_count new)
+
+-- what a tool hands back after a session
+abbrev pub after_session : {D : Type 0} → D → Result Tally SessionFault → Result (D × Tally) (D × StoreToolFault)
+after_session disk (Ok tally) = Ok (disk, tally)
+after_session disk (Err fault) = Err (disk, Session fault)
 
 -- How a session on a disk ends, and what its files read as then. Nothing is read or written if the store can't be
 -- opened.

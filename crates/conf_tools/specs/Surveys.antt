@@ -1,17 +1,12 @@
 -- What is written of a store's file by `verify`: what an opening would find in it.
 use Rattle.std.specs.Prelude.{◌≡◌, ℕ, List, [], ◌++◌, Option, Some, None, IfSome, codes, decimal}
-use Rattle.std.specs.Io.KnownBytes.{Keeps, Appends}
-use Rattle.conf_state.specs.States.{Contents}
-use Rattle.conf_state.specs.FaultNames.{fault_name}
-use Rattle.conf_history.specs.Histories.{IsSurvey, RefusesSurvey}
+use Rattle.conf_tools.specs.Prelude.{Keeps, Appends, Contents, fault_name, IsSurvey, RefusesSurvey, Findings}
 use Rattle.conf_history.specs.declared.fault.HistoryFault.TheVariants.{OutOfMemory}
 use Rattle.conf_store.specs.declared.records.NoRecord.{NoRecord}
 use Rattle.conf_store.specs.declared.records.NoRecord.TheVariants.{NotARecord, WrongNumber, Refused}
 use Rattle.conf_history.specs.declared.survey.Bad.{Bad}
-use Rattle.conf_history.specs.declared.survey.Findings.{Findings}
-use Rattle.conf_tools.specs.declared.reading_fault.ReadingFault.{ReadingFault}
+use Rattle.conf_tools.specs.{declared.reading_fault.ReadingFault.ReadingFault, declared.surveys.Soundness.Soundness}
 use Rattle.conf_tools.specs.declared.reading_fault.ReadingFault.TheVariants.{History, Output}
-use Rattle.conf_tools.specs.declared.surveys.Soundness.{Soundness}
 use Rattle.conf_tools.specs.declared.surveys.Soundness.TheVariants.{Whole, Damaged}
 
 -- why a piece is not the next record: the name of the innermost fault, if its command is refused

@@ -1,37 +1,29 @@
 -- What the words on texts do, and how a change is made ready of the text that it is given.
-use Rattle.std.specs.Prelude.{◌≡◌, ◌≢◌, ◌⊎◌, ◌<◌, ◌≤◌, ℕ, Bool, true, false, ◌==◌, if◌then◌else◌, List, [], ◌∷◌}
-use Rattle.std.specs.Prelude.{length, Option, Some, None, Result, Ok, Err, IfOk, IfErr, IsErrAnd, OnOk, codes}
-use Rattle.std.specs.Prelude.{encode_utf8_all, string_bytes}
-use Rattle.std.specs.Str.{chars, IsUtf8}
+use Rattle.std.specs.Prelude.{◌≡◌, ◌≢◌, ◌⊎◌, ◌<◌, ◌≤◌, ℕ, Bool, true, false, ◌==◌, if◌then◌else◌, List, [], ◌∷◌, length}
+use Rattle.std.specs.Prelude.{Option, Some, None, Result, Ok, Err, IfOk, IfErr, IsErrAnd, OnOk, codes, encode_utf8_all}
+use Rattle.std.specs.Prelude.{string_bytes}
+use Rattle.conf_tools.specs.Prelude.{chars, IsUtf8, ReplaceFault, command_of, delete_at, set_at, single, text_of}
+use Rattle.conf_tools.specs.Prelude.{Comments, Value, IsFirstFault, own_limits, config_limits, TooLong, NotUtf8}
+use Rattle.conf_tools.specs.Prelude.{OutOfMemory, Tree, text, IsRead, Refuses}
 use Rattle.std.specs.Str.Lossy.{utf8_valid_len}
-use Rattle.conf_files.specs.declared.replace.ReplaceFault.{ReplaceFault}
-use Rattle.conf_files.specs.declared.replace.ReplaceFault.TheVariants as replacing
-use Rattle.conf_state.specs.Commands.{command_of, delete_at, set_at, single, text_of}
 use Rattle.conf_words.specs.Escapes.{escaped}
-use Rattle.conf_words.specs.declared.invocation.Comments.{Comments}
-use Rattle.conf_words.specs.declared.invocation.Value.{Value}
 use Rattle.conf_words.specs.declared.invocation.Value.TheVariants.{Text, Yaml, File}
-use Rattle.yaml_config.specs.Kept.{IsFirstFault, own_limits}
-use Rattle.yaml_config.specs.Limits.{config_limits}
-use Rattle.yaml_events.specs.declared.read_fault.ReadFault.TheVariants.{TooLong, NotUtf8, OutOfMemory}
-use Rattle.yaml_grammar.specs.Trees.{Tree, text}
-use Rattle.yaml_tree.specs.Reading.{IsRead, Refuses}
+use Rattle.conf_tools.specs.{declared.change_words.Alteration.Alteration, declared.changes.Change.Change}
+use Rattle.conf_tools.specs.declared.change_words.Meaning.{Meaning}
+use Rattle.conf_tools.specs.declared.change_words.Meaning.TheVariants as means
+use Rattle.conf_tools.specs.{declared.file_texts.Restyled.Restyled, declared.file_words.Report.Report}
+use Rattle.conf_tools.specs.{declared.program.Status.Status, declared.texts.ToolFault.ToolFault}
 use Rattle.conf_tools.specs.FileTexts.{ChecksFile, Lists, Restyles, StopsInFile, StopsRestyling}
 use Rattle.conf_tools.specs.Statuses.{status_of, worst}
 use Rattle.conf_tools.specs.Tools.{Checks, Formats, IsTaken, Stops, Taken}
 use Rattle.conf_tools.specs.Worlds.{Around, WorldModel}
-use Rattle.conf_tools.specs.declared.change_words.Alteration.{Alteration}
-use Rattle.conf_tools.specs.declared.change_words.Alteration.TheVariants as alteration
-use Rattle.conf_tools.specs.declared.changes.Change.{Change}
 use Rattle.conf_tools.specs.declared.changes.Change.TheVariants.{Import, Perform, Copy, Rename}
-use Rattle.conf_tools.specs.declared.file_texts.Restyled.{Restyled}
 use Rattle.conf_tools.specs.declared.file_texts.Restyled.TheVariants.{Same, Changed}
-use Rattle.conf_tools.specs.declared.file_words.Report.{Report}
 use Rattle.conf_tools.specs.declared.file_words.Report.TheVariants.{Findings, Name}
-use Rattle.conf_tools.specs.declared.program.Status.{Status}
 use Rattle.conf_tools.specs.declared.program.Status.TheVariants.{Done, Found, Device}
-use Rattle.conf_tools.specs.declared.texts.ToolFault.{ToolFault}
 use Rattle.conf_tools.specs.declared.texts.ToolFault.TheVariants.{Input, Output, Read}
+use Rattle.conf_files.specs.declared.replace.ReplaceFault.TheVariants as replacing
+use Rattle.conf_tools.specs.declared.change_words.Alteration.TheVariants as alteration
 
 -- ---- statuses
 
@@ -109,24 +101,6 @@ SetsBytes name pointer bytes (Ok change) =
     (tree : Tree) × IsRead bytes config_limits tree × SetsAt name pointer tree change
 SetsBytes name pointer bytes (Err fault) = RefusesBytes bytes fault
 
--- the change sets what the bytes give that were read; or they were not read
-abbrev pub SetsTaken : List ℕ → List ℕ → Taken → Result Change ToolFault → Type 0
-SetsTaken name pointer (Ok bytes) change = SetsBytes name pointer bytes.items change
-SetsTaken name pointer (Err fault) change = change ≡ Err fault
-
--- the change sets what the input gives
-pub record SetsInput (name pointer : List ℕ) (given left : Option (List ℕ)) (change : Result Change ToolFault)
-    : Type 0 where
-  pub read : Taken
-  pub takes : IsTaken read given left
-  pub sets : SetsTaken name pointer read change
-
--- the change sets what a word gives as a text of YAML, or the input for `-`
-abbrev pub SetsWord : List ℕ → List ℕ → List ℕ → Result Change ToolFault → Option (List ℕ) → Option (List ℕ) → Type 0
-SetsWord name pointer word change given left =
-    ((word ≢ codes "-") × (left ≡ given) × SetsBytes name pointer word change)
-    ⊎ ((word ≡ codes "-") × SetsInput name pointer given left change)
-
 -- why bytes can't be a text: there are too many, or they are not UTF-8
 abbrev pub IsNoText : List ℕ → ToolFault → Type 0
 IsNoText bytes (Read TooLong) = config_limits.bytes < length bytes
@@ -140,10 +114,28 @@ SetsPlain name pointer bytes change =
     (IsUtf8 bytes × (length bytes ≤ config_limits.bytes) × SetsText name pointer (chars bytes) change)
     ⊎ IsErrAnd change (IsNoText bytes)
 
--- the same of bytes that were read
-abbrev pub SetsRead : List ℕ → List ℕ → Taken → Result Change ToolFault → Type 0
-SetsRead name pointer (Ok bytes) change = SetsPlain name pointer bytes.items change
-SetsRead name pointer (Err fault) change = change ≡ Err fault
+-- the change sets what the bytes are
+abbrev pub SetsMeant : Meaning → List ℕ → List ℕ → List ℕ → Result Change ToolFault → Type 0
+SetsMeant means.Text name pointer bytes change = SetsPlain name pointer bytes change
+SetsMeant means.Yaml name pointer bytes change = SetsBytes name pointer bytes change
+
+-- the same of bytes that were read; or they were not read
+abbrev pub SetsRead : Meaning → List ℕ → List ℕ → Taken → Result Change ToolFault → Type 0
+SetsRead meaning name pointer (Ok bytes) change = SetsMeant meaning name pointer bytes.items change
+SetsRead meaning name pointer (Err fault) change = change ≡ Err fault
+
+-- the change sets what the input gives as a text of YAML
+pub record SetsInput (name pointer : List ℕ) (given left : Option (List ℕ)) (change : Result Change ToolFault)
+    : Type 0 where
+  pub read : Taken
+  pub takes : IsTaken read given left
+  pub sets : SetsRead means.Yaml name pointer read change
+
+-- the change sets what a word gives as a text of YAML, or the input for `-`
+abbrev pub SetsWord : List ℕ → List ℕ → List ℕ → Result Change ToolFault → Option (List ℕ) → Option (List ℕ) → Type 0
+SetsWord name pointer word change given left =
+    ((word ≢ codes "-") × (left ≡ given) × SetsBytes name pointer word change)
+    ⊎ ((word ≡ codes "-") × SetsInput name pointer given left change)
 
 module _ {W D F P : Type 0} (world : WorldModel W D F P) (remaining : F → Option (List ℕ)) where
   -- The change sets the text of the file at a path, or of the input for `-`.
@@ -151,7 +143,7 @@ module _ {W D F P : Type 0} (world : WorldModel W D F P) (remaining : F → Opti
       (given left : Option (List ℕ)) : Type 0 where
     pub read : Taken
     pub takes : TakesText world remaining path read old new given left
-    pub sets : SetsRead name pointer read change
+    pub sets : SetsRead means.Text name pointer read change
 
   -- The change sets the value that the words give, or a file, or the input for `-`.
   abbrev pub IsSet : List ℕ → List ℕ → Value → Result Change ToolFault → W → W → Option (List ℕ) → Option (List ℕ)

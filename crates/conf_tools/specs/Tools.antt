@@ -1,17 +1,9 @@
 -- What a tool has read from its reader, and what it has written to its writer. The bytes of a reader or a writer are
 -- known, or nothing is said of them (`None`).
-use Rattle.std.specs.Prelude.{◌≡◌, ◌⊎◌, ℕ, ◌+◌, ◌<◌, ◌≤◌, List, [], ◌∷◌, ◌++◌, Option, Result, Vec, IfOk, IfErr}
-use Rattle.std.specs.Prelude.{length, codes, decimal, encode_utf8_all}
-use Rattle.std.specs.declared.alloc.Global.{Global}
-use Rattle.std.specs.Io.KnownBytes.{Consumes, IsAtEnd, Keeps, Appends}
-use Rattle.yaml_grammar.specs.Style.{style_text}
-use Rattle.yaml_grammar.specs.Trees.{Tree}
-use Rattle.yaml_tree.specs.Reading.{IsRead, Refuses}
-use Rattle.yaml_events.specs.declared.read_fault.ReadFault.TheVariants.{OutOfMemory}
-use Rattle.yaml_style.specs.Checking.{IsChecked}
-use Rattle.yaml_config.specs.Limits.{config_limits}
-use Rattle.yaml_style.specs.Findings.{name_of}
-use Rattle.yaml_style.specs.declared.finding.Finding.{Finding}
+use Rattle.std.specs.Prelude.{◌≡◌, ◌⊎◌, ℕ, ◌+◌, ◌<◌, ◌≤◌, List, [], ◌∷◌, ◌++◌, Option, Result, Vec, IfOk, IfErr, length}
+use Rattle.std.specs.Prelude.{codes, decimal, encode_utf8_all}
+use Rattle.conf_tools.specs.Prelude.{Global, Consumes, IsAtEnd, Keeps, Appends, style_text, Tree, IsRead, Refuses}
+use Rattle.conf_tools.specs.Prelude.{OutOfMemory, IsChecked, config_limits, name_of, Finding}
 use Rattle.conf_tools.specs.declared.texts.ToolFault.{ToolFault}
 use Rattle.conf_tools.specs.declared.texts.ToolFault.TheVariants.{Input, Output, Read, Comments}
 

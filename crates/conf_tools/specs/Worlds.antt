@@ -1,7 +1,6 @@
 -- What is around the program, by what contracts see of it.
 use Rattle.std.specs.Prelude.{◌≡◌, ℕ, List, Option, Result}
-use Rattle.conf_files.specs.declared.replace.ReplaceFault.{ReplaceFault}
-use Rattle.conf_folder.specs.declared.fault.FolderFault.{FolderFault}
+use Rattle.conf_tools.specs.Prelude.{ReplaceFault, FolderFault}
 use Rattle.conf_tools.specs.declared.world.Access.{Access}
 
 -- Worlds W, the disks D of their folders, their open files F, and the places P of files that are to be replaced. Each

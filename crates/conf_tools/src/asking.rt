@@ -1,8 +1,7 @@
 // The conditions that words give, ready to be judged.
 ghost use Rattle.std.specs.Prelude.{◌≡◌, ◌++◌, IfErr, IfOk};
-ghost use Rattle.std.specs.Str.{chars};
+ghost use Rattle.conf_tools.specs.Prelude.{chars, absent_at, condition_of, conditions_of, test_at};
 ghost use Rattle.yaml_grammar.specs.Trees.{text as one_text};
-ghost use Rattle.conf_conditions.specs.Conditions.{absent_at, condition_of, conditions_of, test_at};
 ghost use Rattle.conf_tools.specs.Asking.{AsksFor, RefusesWanted, counted, listed, wanted_at};
 ghost use Rattle.conf_tools.specs.TextWords.{RefusesText};
 

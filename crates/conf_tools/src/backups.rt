@@ -1,27 +1,27 @@
 // The word of the program that makes a store with the base and the records of another one.
 ghost use Rattle.std.specs.Prelude.{◌≡◌};
-ghost use Rattle.conf_history.specs.Copies.{disk_handed_back};
-ghost use Rattle.conf_tools.specs.Backups.{BacksUpFound, BacksUpInFolder, status_after_backup};
+ghost use Rattle.conf_tools.specs.Prelude.{disk_handed_back};
+ghost use Rattle.conf_tools.specs.Backups.{BacksUpInFolder, BacksUpStore, status_after_backup};
 ghost use Rattle.conf_tools.specs.Outcomes.{status_of_outcome};
 
 use crate::outcome::Outcome;
-use crate::read_words::open_new;
+use crate::read_words::{open_file, open_new};
 use crate::reading_fault::ReadingFault;
 use crate::world::World;
 use conf_history::{SalvageFault, back_up};
 use std::alloc::Global;
 
-/// Makes a store in a new folder, with the base and the records of a store's file, if there is one.
-pub(crate) fn back_up_file<A: World>(
+/// Makes a store in a new folder, with the base and the records of the store in another one.
+pub(crate) fn back_up_folder<A: World>(
     world: &mut A,
     alloc: Global,
-    file: Result<A::File, ReadingFault>,
+    folder: &str,
     new: &str,
 ) -> Outcome<'static>
-    ensures { BacksUpFound A.model A.Disk.model A.File.remaining new.now file
+    ensures { BacksUpStore A.model A.Disk.model A.File.remaining folder.now new.now
         world.old world.new (status_of_outcome result) }
 {
-    match file {
+    match open_file(world, alloc, folder) {
         Ok(mut file) => back_up_in_folder(world, alloc, &mut file, new),
         Err(fault) => Outcome::Reading(fault),
     }

@@ -1,16 +1,13 @@
 // The words of the program that change a store.
 ghost use Rattle.std.specs.Prelude.{◌≡◌, ◌≤◌, [], IfOk, IfErr, Err, OnOk, length};
-ghost use Rattle.std.specs.Str.{IsUtf8, chars};
-ghost use Rattle.yaml_config.specs.Limits.{config_limits};
+ghost use Rattle.conf_tools.specs.Prelude.{IsUtf8, chars, config_limits, tree_of, conditions_of};
 ghost use Rattle.yaml_grammar.specs.Trees.{text as one_text};
-ghost use Rattle.yaml_data.specs.Seen.{tree_of};
-ghost use Rattle.conf_conditions.specs.Conditions.{conditions_of};
 ghost use Rattle.conf_tools.specs.Dropped.{TellsDropped};
 ghost use Rattle.conf_tools.specs.Exports.{disk_handed_back};
 ghost use Rattle.conf_tools.specs.Outcomes.{LeavesText, TellsOnlyTold, status_of_ending, status_of_outcome};
-ghost use Rattle.conf_tools.specs.Performs.{ChangesAt, ChangesByWords, ChangesIf, ImportsBytes, ImportsRead, Sets, access_of};
+ghost use Rattle.conf_tools.specs.Performs.{ChangesByWords, ChangesIf, ImportsBytes, ImportsRead, Sets, access_of};
 ghost use Rattle.conf_tools.specs.StoreWords.{ChangesInFolder, Inits, MakesInFolder, status_at_end};
-ghost use Rattle.conf_tools.specs.TextWords.{IsAlteration, IsCopy, IsDelete, IsImport, IsNoText, IsRename, IsSet, RefusesText, SetsAt, SetsBytes, SetsInput, SetsPlain, SetsRead, SetsTaken, SetsText, SetsWord};
+ghost use Rattle.conf_tools.specs.TextWords.{IsAlteration, IsImport, IsNoText, IsSet, RefusesText, SetsAt, SetsBytes, SetsMeant, SetsPlain, SetsRead, SetsText, SetsWord};
 
 use crate::asking::conditions_at;
 use crate::changes::{Change, change_store, make_store};
@@ -58,6 +55,26 @@ pub(crate) struct Target<'w> {
     pub(crate) pointer: &'w str,
     /// What has to hold before.
     pub(crate) conditions: Conditions<'w>,
+}
+
+/// What the bytes of a value are.
+#[derive(Clone, Copy)]
+pub(crate) enum Meaning {
+    /// The text itself, in UTF-8.
+    Text,
+    /// A YAML text.
+    Yaml,
+}
+
+/// Where the bytes of a value come from, and what they are.
+#[derive(Clone, Copy)]
+struct Source<'w> {
+    /// The file that they were read of, `-` for standard input.
+    file: &'w str,
+    /// What is named where they were not read.
+    unread: Origin<'w>,
+    /// What they are.
+    meaning: Meaning,
 }
 
 /// How a word changes what is at a place, where it takes no text for it.
@@ -146,42 +163,19 @@ fn import_bytes<A: World, E: Listener>(
         (status_of_ending result) }
     ensures leaves { LeavesText E.hears errors.old result errors.new }
 {
+    let place = Target {
+        folder: asked.folder,
+        name: asked.name,
+        pointer: WHOLE,
+        conditions: asked.conditions,
+    };
+    let access = access_of(asked.missing);
     match import_of(reporter.alloc, asked.name, text) {
         Ok(change) => {
-            let ended = import_change(world, reporter.alloc, asked, change, errors);
+            let ended = change_if(world, reporter.alloc, access, place, change, errors);
             tell_import(reporter, errors, asked.file, text, ended)
         }
         Err(fault) => Ending::Of(Outcome::Text(fault)),
-    }
-}
-
-/// Makes the change that imports a text.
-fn import_change<A: World, E: Listener>(
-    world: &mut A,
-    alloc: Global,
-    asked: Import<'_>,
-    change: Change<'_>,
-    errors: &mut E,
-) -> Outcome<'static>
-    ensures makes { ChangesIf A.model A.Disk.model asked.entry.conditions (access_of asked.entry.missing)
-        asked.entry.folder.now asked.entry.name.now [] change.entry world.old world.new
-        (status_of_outcome result) }
-    ensures told { TellsDropped E.hears errors.old errors.new }
-{
-    match conditions_at(alloc, asked.name, WHOLE, asked.conditions) {
-        Ok(conditions) => {
-            let access = access_of(asked.missing);
-            change_in_folder(
-                world,
-                alloc,
-                access,
-                asked.folder,
-                &conditions,
-                change,
-                errors,
-            )
-        }
-        Err(fault) => Outcome::Text(fault),
     }
 }
 
@@ -240,16 +234,11 @@ pub(crate) fn set_at<A: World, R: Read, E: Listener>(
         (R.remaining input.old) (R.remaining input.new) (status_of_ending result) }
     ensures leaves { LeavesText E.hears errors.old result errors.new }
 {
-    match set_of(
-        world,
-        reporter,
-        place.name,
-        place.pointer,
-        value,
-        input,
-        errors,
-    ) {
-        Ok(change) => Ending::Of(change_if(world, reporter.alloc, place, change, errors)),
+    match set_of(world, reporter, place, value, input, errors) {
+        Ok(change) => {
+            let access = Access::Changing;
+            Ending::Of(change_if(world, reporter.alloc, access, place, change, errors))
+        }
         Err(fault) => Ending::Told(status_of(fault)),
     }
 }
@@ -262,54 +251,79 @@ pub(crate) fn set_at<A: World, R: Read, E: Listener>(
 fn set_of<A: World, R: Read, E: Write>(
     world: &mut A,
     reporter: Reporter,
-    name: &str,
-    pointer: &str,
+    place: Target<'_>,
     value: Value<'_>,
     input: &mut R,
     errors: &mut E,
 ) -> Result<Change<'static>, ToolFault>
-    ensures sets { IsSet A.model A.File.remaining name.now pointer.now value.entry result
+    ensures sets { IsSet A.model A.File.remaining place.entry.name.now place.entry.pointer.now value.entry result
         world.old world.new (R.remaining input.old) (R.remaining input.new) }
     ensures silent { OnOk result (errors.new ≡ errors.old) }
 {
     match value {
         Value::Text(text) => {
-            let change = set_text(reporter.alloc, name, pointer, text);
+            let change = set_text(reporter.alloc, place.name, place.pointer, text);
             reporter.tell(errors, Origin::Input, b"", &change);
             change
         }
-        Value::Yaml(word) => set_word(reporter, name, pointer, word, input, errors),
+        Value::Yaml(word) => set_word(reporter, place, word, input, errors),
         Value::File(file) => {
             let read = read_named(world, reporter.alloc, file, input);
-            let change = set_read(reporter, name, pointer, file, read, errors);
+            let source = Source {
+                file,
+                unread: Origin::Named(file),
+                meaning: Meaning::Text,
+            };
+            let change = set_read(reporter, place, source, read, errors);
             tell_cause_of(world, reporter.alloc, file, &change, errors);
             change
         }
     }
 }
 
-/// The change that sets the text of a file, if it was read.
+/// The change that sets what the bytes of a source are, if they were read.
 fn set_read<E: Write>(
     reporter: Reporter,
-    name: &str,
-    pointer: &str,
-    file: &str,
+    place: Target<'_>,
+    source: Source<'_>,
     read: Result<Vec<u8>, ToolFault>,
     errors: &mut E,
 ) -> Result<Change<'static>, ToolFault>
-    ensures sets { SetsRead name.now pointer.now read result }
+    ensures sets { SetsRead source.entry.meaning place.entry.name.now place.entry.pointer.now read result }
     ensures silent { OnOk result (errors.new ≡ errors.old) }
 {
     match read {
         Ok(bytes) => {
-            let change = set_plain(reporter.alloc, name, pointer, &bytes);
-            reporter.tell(errors, Origin::Named(file), &bytes, &change);
+            let change = set_bytes(
+                reporter.alloc,
+                place.name,
+                place.pointer,
+                source.meaning,
+                &bytes,
+            );
+            reporter.tell(errors, Origin::Named(source.file), &bytes, &change);
             change
         }
         Err(fault) => {
-            reporter.tell_fault(errors, Origin::Named(file), b"", fault);
+            reporter.tell_fault(errors, source.unread, b"", fault);
             Err(fault)
         }
+    }
+}
+
+/// The change that sets what these bytes are.
+fn set_bytes(
+    alloc: Global,
+    name: &str,
+    pointer: &str,
+    meaning: Meaning,
+    bytes: &[u8],
+) -> Result<Change<'static>, ToolFault>
+    ensures { SetsMeant meaning name.now pointer.now bytes.now result }
+{
+    match meaning {
+        Meaning::Text => set_plain(alloc, name, pointer, bytes),
+        Meaning::Yaml => set_yaml(alloc, name, pointer, bytes),
     }
 }
 
@@ -351,20 +365,25 @@ fn plain_text(bytes: &[u8]) -> Result<&str, ToolFault>
 /// The change that sets what a word gives as a YAML text, or `input` if the word is `-`.
 fn set_word<R: Read, E: Write>(
     reporter: Reporter,
-    name: &str,
-    pointer: &str,
+    place: Target<'_>,
     word: &str,
     input: &mut R,
     errors: &mut E,
 ) -> Result<Change<'static>, ToolFault>
-    ensures sets { SetsWord name.now pointer.now word.now result
+    ensures sets { SetsWord place.entry.name.now place.entry.pointer.now word.now result
         (R.remaining input.old) (R.remaining input.new) }
     ensures silent { OnOk result (errors.new ≡ errors.old) }
 {
     if word == STANDARD_INPUT {
-        return set_input(reporter, name, pointer, input, errors);
+        let read = read_text(reporter.alloc, input);
+        let source = Source {
+            file: STANDARD_INPUT,
+            unread: Origin::Input,
+            meaning: Meaning::Yaml,
+        };
+        return set_read(reporter, place, source, read, errors);
     }
-    let change = set_yaml(reporter.alloc, name, pointer, word.as_bytes());
+    let change = set_yaml(reporter.alloc, place.name, place.pointer, word.as_bytes());
     reporter.tell(errors, Origin::Named(VALUE), word.as_bytes(), &change);
     change
 }
@@ -398,45 +417,6 @@ fn set_yaml(
     Ok(set_command(alloc, name, pointer, value)?)
 }
 
-/// The change that sets what the YAML text of a reader gives.
-fn set_input<R: Read, E: Write>(
-    reporter: Reporter,
-    name: &str,
-    pointer: &str,
-    reader: &mut R,
-    errors: &mut E,
-) -> Result<Change<'static>, ToolFault>
-    ensures sets { SetsInput name.now pointer.now (R.remaining reader.old) (R.remaining reader.new) result }
-    ensures silent { OnOk result (errors.new ≡ errors.old) }
-{
-    let read = read_text(reporter.alloc, reader);
-    set_taken(reporter, name, pointer, read, errors)
-}
-
-/// The change that sets what a YAML text of standard input gives, if it was read.
-fn set_taken<E: Write>(
-    reporter: Reporter,
-    name: &str,
-    pointer: &str,
-    read: Result<Vec<u8>, ToolFault>,
-    errors: &mut E,
-) -> Result<Change<'static>, ToolFault>
-    ensures sets { SetsTaken name.now pointer.now read result }
-    ensures silent { OnOk result (errors.new ≡ errors.old) }
-{
-    match read {
-        Ok(text) => {
-            let change = set_yaml(reporter.alloc, name, pointer, &text);
-            reporter.tell(errors, Origin::Named(STANDARD_INPUT), &text, &change);
-            change
-        }
-        Err(fault) => {
-            reporter.tell_fault(errors, Origin::Input, b"", fault);
-            Err(fault)
-        }
-    }
-}
-
 /// The change that sets a value at a place of a configuration. It fails only if memory runs out.
 fn set_command(
     alloc: Global,
@@ -467,8 +447,10 @@ pub(crate) fn alter<A: World, E: Listener>(
         world.old world.new (status_of_outcome result) }
     ensures told { TellsDropped E.hears errors.old errors.new }
 {
-    let change = alter_change(alloc, place.name, place.pointer, asked);
-    make_change(world, alloc, place, change, errors)
+    match alter_change(alloc, place.name, place.pointer, asked) {
+        Ok(change) => change_if(world, alloc, Access::Changing, place, change, errors),
+        Err(fault) => Outcome::Text(fault),
+    }
 }
 
 /// The change that alters what is at a place of a configuration so. It fails only if memory runs out.
@@ -481,101 +463,46 @@ fn alter_change(
     ensures { IsAlteration asked.entry name.now pointer.now result }
 {
     match asked {
-        Alteration::Delete => delete_change(alloc, name, pointer),
-        Alteration::Copy { from } => copy_change(alloc, from, name),
-        Alteration::Rename { from } => rename_change(alloc, from, name),
+        Alteration::Delete => Ok(Change::Perform(Command::Delete {
+            name: String::from_str(alloc, name)?,
+            path: String::from_str(alloc, pointer)?,
+        })),
+        Alteration::Copy { from } => Ok(Change::Copy {
+            name: String::from_str(alloc, from)?,
+            to: String::from_str(alloc, name)?,
+        }),
+        Alteration::Rename { from } => Ok(Change::Rename {
+            name: String::from_str(alloc, from)?,
+            to: String::from_str(alloc, name)?,
+        }),
     }
 }
 
-/// The change that removes what is at a place of a configuration. It fails only if memory runs out.
-fn delete_change(alloc: Global, name: &str, pointer: &str) -> Result<Change<'static>, ToolFault>
-    ensures { IsDelete name.now pointer.now result }
-{
-    Ok(Change::Perform(Command::Delete {
-        name: String::from_str(alloc, name)?,
-        path: String::from_str(alloc, pointer)?,
-    }))
-}
-
-/// The change that puts a copy of a configuration under another name. It fails only if memory runs out.
-fn copy_change(alloc: Global, name: &str, to: &str) -> Result<Change<'static>, ToolFault>
-    ensures { IsCopy name.now to.now result }
-{
-    Ok(Change::Copy {
-        name: String::from_str(alloc, name)?,
-        to: String::from_str(alloc, to)?,
-    })
-}
-
-/// The change that gives a configuration another name. It fails only if memory runs out.
-fn rename_change(alloc: Global, name: &str, to: &str) -> Result<Change<'static>, ToolFault>
-    ensures { IsRename name.now to.now result }
-{
-    Ok(Change::Rename {
-        name: String::from_str(alloc, name)?,
-        to: String::from_str(alloc, to)?,
-    })
-}
-
-/// Makes a change at a place of the store in a folder, if memory was there for it and what is wanted of the place
-/// holds.
-fn make_change<A: World, E: Listener>(
-    world: &mut A,
-    alloc: Global,
-    place: Target<'_>,
-    change: Result<Change<'_>, ToolFault>,
-    errors: &mut E,
-) -> Outcome<'static>
-    ensures makes { ChangesAt A.model A.Disk.model place.entry.conditions Access.Changing
-        place.entry.folder.now place.entry.name.now place.entry.pointer.now change.entry
-        world.old world.new (status_of_outcome result) }
-    ensures told { TellsDropped E.hears errors.old errors.new }
-{
-    match change {
-        Ok(change) => change_if(world, alloc, place, change, errors),
-        Err(fault) => Outcome::Text(fault),
-    }
-}
-
-/// Makes a change at a place of the store in a folder, if what is wanted of the place holds.
+/// Makes a change at a place of the store in a folder that is opened so, if what is wanted of the place holds.
 fn change_if<A: World, E: Listener>(
     world: &mut A,
     alloc: Global,
+    access: Access,
     place: Target<'_>,
     change: Change<'_>,
     errors: &mut E,
 ) -> Outcome<'static>
-    ensures makes { ChangesIf A.model A.Disk.model place.entry.conditions Access.Changing
+    ensures makes { ChangesIf A.model A.Disk.model place.entry.conditions access
         place.entry.folder.now place.entry.name.now place.entry.pointer.now change.entry
         world.old world.new (status_of_outcome result) }
     ensures told { TellsDropped E.hears errors.old errors.new }
 {
     match conditions_at(alloc, place.name, place.pointer, place.conditions) {
-        Ok(conditions) => change_now(world, alloc, place.folder, &conditions, change, errors),
+        Ok(conditions) => {
+            let folder = place.folder;
+            change_in_folder(world, alloc, access, folder, &conditions, change, errors)
+        }
         Err(fault) => Outcome::Text(fault),
     }
 }
 
-/// Makes a change of the store in a folder, if the conditions hold.
-pub(crate) fn change_now<A: World, E: Listener>(
-    world: &mut A,
-    alloc: Global,
-    folder: &str,
-    conditions: &[Condition],
-    change: Change<'_>,
-    errors: &mut E,
-) -> Outcome<'static>
-    ensures makes { ChangesInFolder A.model A.Disk.model Access.Changing folder.now
-        (conditions_of conditions.now) change.entry world.old world.new
-        (status_of_outcome result) }
-    ensures told { TellsDropped E.hears errors.old errors.new }
-{
-    let access = Access::Changing;
-    change_in_folder(world, alloc, access, folder, conditions, change, errors)
-}
-
 /// Makes a change of the store in a folder that is opened so, if the conditions hold.
-fn change_in_folder<A: World, E: Listener>(
+pub(crate) fn change_in_folder<A: World, E: Listener>(
     world: &mut A,
     alloc: Global,
     access: Access,

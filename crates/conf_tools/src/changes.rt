@@ -1,15 +1,8 @@
 // Single changes of a store, over any disk.
 ghost use Rattle.std.specs.Prelude.{◌≡◌, ◌≢◌, ◌≤◌, ◌⊎◌, ◌↔◌, [], true, false, IfOk, IfErr, IsErrOf, Ok, OnOk};
-ghost use Rattle.std.specs.Str.{chars};
-ghost use Rattle.yaml_data.specs.Seen.{tree_of};
-ghost use Rattle.conf_conditions.specs.Conditions.{conditions_of};
-ghost use Rattle.conf_disk.specs.Folder.{bytes_under};
-ghost use Rattle.conf_disk.specs.Moments.{LeavesOnly};
-ghost use Rattle.conf_state.specs.Commands.{command_of, text_of};
-ghost use Rattle.conf_store.specs.Calls.{Accepts, RefusesCommand, tree_named};
-ghost use Rattle.conf_store.specs.Changing.{AppendsRecord, DeviceHasCause, FailuresNeverFall, store_file};
-ghost use Rattle.conf_store.specs.Durable.{AllImagesMean, HasFlushed};
-ghost use Rattle.conf_store.specs.Opens.{MeantAtEntry};
+ghost use Rattle.conf_tools.specs.Prelude.{chars, tree_of, conditions_of, bytes_under, LeavesOnly, command_of, text_of};
+ghost use Rattle.conf_tools.specs.Prelude.{Accepts, RefusesCommand, tree_named, AppendsRecord, DeviceHasCause};
+ghost use Rattle.conf_tools.specs.Prelude.{FailuresNeverFall, store_file, AllImagesMean, HasFlushed, MeantAtEntry};
 ghost use Rattle.conf_tools.specs.Changes.{CannotChange, CannotMake, ChangesOn, ChangeSurvives, IsMadeOf, LacksTree, MakesStore, Makes, MeansOneOf, ReadsChanged, RefusesChange, copies, renames};
 ghost use Rattle.conf_tools.specs.Dropped.{HasNoRest, TellsDropped, TellsDroppedOf};
 ghost use Rattle.conf_tools.specs.Exports.{disk_handed_back};

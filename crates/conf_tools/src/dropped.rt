@@ -1,6 +1,6 @@
 // What is said of the bytes after the last whole record of a store's file, which opening it drops.
 ghost use Rattle.std.specs.Prelude.{◌≡◌, IfErr, IfOk, OnOk};
-ghost use Rattle.conf_disk.specs.Folder.{bytes_under};
+ghost use Rattle.conf_tools.specs.Prelude.{bytes_under};
 ghost use Rattle.conf_tools.specs.Dropped.{HasNoRest, TellsCount, TellsDropped, TellsDroppedOf, dropped_bytes_line};
 ghost use Rattle.conf_tools.specs.Stores.{CannotOpen, OpensOn};
 

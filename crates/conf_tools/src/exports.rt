@@ -1,12 +1,7 @@
 // The text of one configuration of a store, over any disk.
 ghost use Rattle.std.specs.Prelude.{◌≡◌, ◌≤◌, ◌⊎◌, IfOk, IfErr, Ok, Err, OnOk, string_bytes};
-ghost use Rattle.std.specs.Str.{chars};
-ghost use Rattle.conf_disk.specs.Folder.{Reads, bytes_under};
-ghost use Rattle.conf_disk.specs.Moments.{LeavesOnly};
-ghost use Rattle.conf_journal.specs.Store.{store_limit};
-ghost use Rattle.conf_store.specs.Calls.{HasFailed, tree_named};
-ghost use Rattle.conf_store.specs.Files.{FilesStay};
-ghost use Rattle.conf_store.specs.Opens.{MeantAtEntry};
+ghost use Rattle.conf_tools.specs.Prelude.{chars, Reads, bytes_under, LeavesOnly, store_limit, HasFailed, tree_named};
+ghost use Rattle.conf_tools.specs.Prelude.{FilesStay, MeantAtEntry};
 ghost use Rattle.conf_tools.specs.Dropped.{HasNoRest, TellsDropped, TellsDroppedOf};
 ghost use Rattle.conf_tools.specs.Exports.{HasNoTextIn, HasText, IsTextIn, IsTextOf, IsTextOfFound, LacksText, disk_back};
 ghost use Rattle.conf_tools.specs.Reads.{tree_found, tree_or};

@@ -1,9 +1,8 @@
 // The tools for the text of a file that was named, over any writer.
 ghost use Rattle.std.specs.Prelude.{◌≡◌, ◌⊎◌, ◌++◌, IfErr, IfOk, OnOk, codes, true};
-ghost use Rattle.std.specs.Io.KnownBytes.{Appends, Keeps};
+ghost use Rattle.conf_tools.specs.Prelude.{Appends, Keeps, HasNoComment};
 ghost use Rattle.conf_tools.specs.FileTexts.{Adds, ChecksFile, Lists, MayLose, Restyles, StopsInFile, StopsRestyling, file_line, file_report, name_line, words_of};
 ghost use Rattle.conf_tools.specs.Tools.{Stops};
-ghost use Rattle.yaml_refusals.specs.Comments.{HasNoComment};
 
 use crate::texts::{ToolFault, write_whole};
 use conf_words::Comments;

@@ -3,24 +3,21 @@ ghost use Rattle.std.specs.Prelude.{◌≡◌, ◌⊎◌};
 ghost use Rattle.conf_tools.specs.Dropped.{TellsDropped};
 ghost use Rattle.conf_tools.specs.Exports.{disk_back};
 ghost use Rattle.conf_tools.specs.Outcomes.{EndsWriting, Leaves, RefusesWords, Tells, TellsNoMemory, TellsSession, TellsUnparsed, TellsUnperformed, status_of_ending, status_of_outcome};
-ghost use Rattle.conf_tools.specs.Performs.{Performs, checkpoints_of, grouping_of};
+ghost use Rattle.conf_tools.specs.Performs.{Performs, grouping_of};
 ghost use Rattle.conf_tools.specs.Statuses.{ShowsUnparsed, code_of, status_of, status_of_store};
 ghost use Rattle.conf_tools.specs.StoreWords.{ExportsFromFolder, RunsOnFolder, WritesFound, WritesWhole, status_at_end};
 ghost use Rattle.conf_tools.specs.Worlds.{around};
 
-use crate::backups::back_up_file;
+use crate::backups::back_up_folder;
 use crate::change_words::{
-    Alteration, Import, Target, WHOLE, alter, change_now, import_text, init_folder, set_at,
+    Alteration, Import, Target, WHOLE, alter, change_in_folder, import_text, init_folder, set_at,
 };
 use crate::changes::Change;
 use crate::exports::export_text;
 use crate::file_words::{check_files, format_files, read_named};
 use crate::listener::Listener;
 use crate::outcome::{Ending, Outcome, tell_ending, tell_outcome};
-use crate::read_words::{
-    Asked, log_form_of, open_file, save_file, tell_log, tell_names, tell_presence, tell_survey,
-    tell_value,
-};
+use crate::read_words::{Question, answer_on_folder, log_form_of, salvage_folder};
 use crate::reads::Place;
 use crate::reporter::{Reporter, write_cause};
 use crate::rest::tell_rest;
@@ -108,16 +105,11 @@ pub fn perform<A: World, R: Read, W: Write, E: Listener>(
 fn tell_cause_at<A: World, E: Write>(world: &A, alloc: Global, status: Status, errors: &mut E)
     ensures { (status ≡ Status.Device) ⊎ (errors.new ≡ errors.old) }
 {
-    match status {
-        Status::Device => tell_folder_cause(world, alloc, errors),
-        Status::Done | Status::Found | Status::Absent | Status::Refused | Status::WrongWords => {}
-    }
-}
-
-/// Writes why a folder could not be used, if that is known.
-fn tell_folder_cause<A: World, E: Write>(world: &A, alloc: Global, errors: &mut E) {
-    if let Some((cause, folder)) = world.cause() {
-        write_cause(errors, alloc, cause, folder, "FOLDER");
+    match (status, world.cause()) {
+        (Status::Device, Some((cause, folder))) => {
+            write_cause(errors, alloc, cause, folder, "FOLDER");
+        }
+        _ => {}
     }
 }
 
@@ -220,8 +212,8 @@ fn perform_word<'w, A: World, R: Read, W: Write, E: Listener>(
             Ending::Of(alter(world, alloc, place, asked, errors))
         }
         Invocation::Checkpoint { folder } => {
-            let change = Change::Checkpoint;
-            Ending::Of(change_now(world, alloc, folder, &[], change, errors))
+            let (access, change) = (Access::Changing, Change::Checkpoint);
+            Ending::Of(change_in_folder(world, alloc, access, folder, &[], change, errors))
         }
         Invocation::Run { folder, grouping } => {
             let grouping = grouping_of(grouping);
@@ -231,8 +223,8 @@ fn perform_word<'w, A: World, R: Read, W: Write, E: Listener>(
             Ending::Of(export_folder(world, alloc, folder, name, form, output, errors))
         }
         Invocation::Names { folder, at, form } => {
-            let file = open_file(world, alloc, folder);
-            Ending::Of(tell_names(alloc, file, at, form, output))
+            let asked = Question::Names { at, form };
+            Ending::Of(answer_on_folder(world, alloc, folder, asked, output))
         }
         Invocation::Get {
             folder,
@@ -242,13 +234,13 @@ fn perform_word<'w, A: World, R: Read, W: Write, E: Listener>(
             missing,
             form,
         } => {
-            let file = open_file(world, alloc, folder);
-            let asked = Asked {
-                place: Place { name, pointer, at },
+            let place = Place { name, pointer, at };
+            let asked = Question::Value {
+                place,
                 missing,
                 form,
             };
-            Ending::Of(tell_value(alloc, file, asked, output))
+            Ending::Of(answer_on_folder(world, alloc, folder, asked, output))
         }
         Invocation::Exists {
             folder,
@@ -256,25 +248,23 @@ fn perform_word<'w, A: World, R: Read, W: Write, E: Listener>(
             pointer,
             at,
         } => {
-            let file = open_file(world, alloc, folder);
-            let place = Place { name, pointer, at };
-            Ending::Of(tell_presence(alloc, file, place))
+            let asked = Question::Presence(Place { name, pointer, at });
+            Ending::Of(answer_on_folder(world, alloc, folder, asked, output))
         }
         Invocation::Log { folder, at, form } => {
-            let file = open_file(world, alloc, folder);
-            Ending::Of(tell_log(alloc, file, at, log_form_of(form), output))
+            let form = log_form_of(form);
+            let asked = Question::Log { at, form };
+            Ending::Of(answer_on_folder(world, alloc, folder, asked, output))
         }
         Invocation::Verify { folder } => {
-            let file = open_file(world, alloc, folder);
-            Ending::Of(tell_survey(alloc, file, folder, output))
+            let asked = Question::Survey;
+            Ending::Of(answer_on_folder(world, alloc, folder, asked, output))
         }
         Invocation::Salvage { folder, new } => {
-            let file = open_file(world, alloc, folder);
-            Ending::Of(save_file(world, alloc, file, new, output))
+            Ending::Of(salvage_folder(world, alloc, folder, new, output))
         }
         Invocation::Backup { folder, new } => {
-            let file = open_file(world, alloc, folder);
-            Ending::Of(back_up_file(world, alloc, file, new))
+            Ending::Of(back_up_folder(world, alloc, folder, new))
         }
         Invocation::Format {
             formatting,
@@ -357,20 +347,12 @@ fn grouping_of(asked: conf_words::Grouping) -> Grouping
 {
     match asked {
         conf_words::Grouping::Single => Grouping::Single,
-        conf_words::Grouping::Grouped { checkpoint_after } => {
-            Grouping::Grouped(checkpoints_of(checkpoint_after))
-        }
-    }
-}
-
-/// Which checkpoints a session in groups makes: each time that its file has grown by so many bytes, or those that are
-/// asked for.
-fn checkpoints_of(after: Option<u64>) -> Checkpoints
-    ensures { result ≡ checkpoints_of after }
-{
-    match after {
-        Some(bytes) => Checkpoints::After { bytes },
-        None => Checkpoints::Asked,
+        conf_words::Grouping::Grouped {
+            checkpoint_after: Some(bytes),
+        } => Grouping::Grouped(Checkpoints::After { bytes }),
+        conf_words::Grouping::Grouped {
+            checkpoint_after: None,
+        } => Grouping::Grouped(Checkpoints::Asked),
     }
 }
 

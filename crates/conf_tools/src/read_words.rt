@@ -1,10 +1,10 @@
 // The words of the program that only read a store, and the one that makes a store of what a damaged one still says.
-ghost use Rattle.std.specs.Prelude.{◌≡◌, ℕ, List, Option};
+ghost use Rattle.std.specs.Prelude.{◌≡◌};
 ghost use Rattle.conf_tools.specs.Outcomes.{status_of_outcome};
 ghost use Rattle.conf_tools.specs.Performs.{log_form_of};
 ghost use Rattle.conf_tools.specs.ReadingStatuses.{status_of_history, status_of_reading};
 ghost use Rattle.conf_tools.specs.Exports.{disk_back};
-ghost use Rattle.conf_tools.specs.StoreWords.{OpensFile, OpensNew, SavesFound, SavesInFolder, SaysLog, SaysNames, SaysOfFile, SaysPresence, SaysSurvey, SaysValue, WritesFindings, status_after_log, status_after_presence, status_after_reading, status_after_survey};
+ghost use Rattle.conf_tools.specs.StoreWords.{OpensFile, OpensNew, Reads, Salvages, SavesInFolder, Says, WritesFindings, status_after_log, status_after_presence, status_after_reading, status_after_survey};
 
 use crate::outcome::Outcome;
 use crate::program::Status;
@@ -18,79 +18,84 @@ use conf_words::{MissingValue, NamesForm, ValueForm};
 use std::alloc::Global;
 use std::io::{Read, Write};
 
-/// Which value of a store is asked for, and how it is to be written.
+/// What is asked of a store's file.
 #[derive(Clone, Copy)]
-pub(crate) struct Asked<'w> {
-    /// Where it stands.
-    pub(crate) place: Place<'w>,
-    /// What is done where nothing is.
-    pub(crate) missing: MissingValue<'w>,
-    /// How it is to be written.
-    pub(crate) form: ValueForm,
+pub(crate) enum Question<'w> {
+    /// The names of its configurations.
+    Names {
+        at: Option<u64>,
+        form: NamesForm,
+    },
+    /// The value at a place, or what is written where nothing is.
+    Value {
+        place: Place<'w>,
+        missing: MissingValue<'w>,
+        form: ValueForm,
+    },
+    /// Whether something is at a place.
+    Presence(Place<'w>),
+    /// Its commands.
+    Log {
+        at: Option<u64>,
+        form: LogForm,
+    },
+    /// Whether it can be opened.
+    Survey,
 }
 
-/// Writes the names of the configurations that a store's file holds, if there is one.
-pub(crate) fn tell_names<F: Read + Drop, W: Write>(
+/// Answers a question on the store in a folder, beside whoever holds the store.
+pub(crate) fn answer_on_folder<'w, A: World, W: Write>(
+    world: &mut A,
     alloc: Global,
-    file: Result<F, ReadingFault>,
-    at: Option<u64>,
-    form: NamesForm,
+    folder: &'w str,
+    question: Question<'_>,
     output: &mut W,
-) -> Outcome<'static>
-    ensures { SaysOfFile F.remaining (SaysNames at form) file
+) -> Outcome<'w>
+    ensures { Reads A.model A.File.remaining folder.now (Says question.entry) world.old world.new
         (W.contents output.old) (W.contents output.new) (status_of_outcome result) }
 {
-    match file {
-        Ok(mut file) => {
-            let ended = write_names(alloc, &mut file, at, form, output);
-            outcome_of_reading(ended)
-        }
+    match open_file(world, alloc, folder) {
+        Ok(mut file) => answer(alloc, &mut file, folder, question, output),
         Err(fault) => Outcome::Reading(fault),
     }
 }
 
-/// Writes the value that is asked for, of a store's file, if there is one.
-pub(crate) fn tell_value<F: Read + Drop, W: Write>(
+/// Answers a question on a store, of whose folder this is the file.
+fn answer<'w, R: Read, W: Write>(
     alloc: Global,
-    file: Result<F, ReadingFault>,
-    asked: Asked<'_>,
+    file: &mut R,
+    folder: &'w str,
+    question: Question<'_>,
     output: &mut W,
-) -> Outcome<'static>
-    ensures { SaysOfFile F.remaining
-        (SaysValue asked.entry.place.at asked.entry.place.name.now asked.entry.place.pointer.now
-        asked.entry.missing asked.entry.form)
-        file (W.contents output.old) (W.contents output.new) (status_of_outcome result) }
+) -> Outcome<'w>
+    ensures { Says question.entry (R.remaining file.old) (W.contents output.old)
+        (W.contents output.new) (status_of_outcome result) }
 {
-    let Asked {
-        place,
-        missing,
-        form,
-    } = asked;
-    match file {
-        Ok(mut file) => {
-            let ended = write_value(alloc, &mut file, place, missing, form, output);
+    match question {
+        Question::Names { at, form } => {
+            let ended = write_names(alloc, file, at, form, output);
             outcome_of_reading(ended)
         }
-        Err(fault) => Outcome::Reading(fault),
-    }
-}
-
-/// Looks whether something is at a place of a store's file, if there is one.
-pub(crate) fn tell_presence<F: Read + Drop>(
-    alloc: Global,
-    file: Result<F, ReadingFault>,
-    place: Place<'_>,
-) -> Outcome<'static>
-    ensures { (output : Option (List ℕ)) → SaysOfFile F.remaining
-        (SaysPresence place.entry.at place.entry.name.now place.entry.pointer.now)
-        file output output (status_of_outcome result) }
-{
-    match file {
-        Ok(mut file) => {
-            let found = find_presence(alloc, &mut file, place);
+        Question::Value {
+            place,
+            missing,
+            form,
+        } => {
+            let ended = write_value(alloc, file, place, missing, form, output);
+            outcome_of_reading(ended)
+        }
+        Question::Presence(place) => {
+            let found = find_presence(alloc, file, place);
             outcome_of_presence(found)
         }
-        Err(fault) => Outcome::Reading(fault),
+        Question::Log { at, form } => {
+            let ended = write_log(alloc, file, at, form, output);
+            outcome_of_log(ended)
+        }
+        Question::Survey => {
+            let ended = write_survey(alloc, file, output);
+            outcome_of_survey(folder, ended)
+        }
     }
 }
 
@@ -101,26 +106,6 @@ fn outcome_of_presence(found: Result<Presence, ReadingFault>) -> Outcome<'static
     match found {
         Ok(Presence::Present) => Outcome::Done,
         Ok(Presence::Absent) => Outcome::Absent,
-        Err(fault) => Outcome::Reading(fault),
-    }
-}
-
-/// Writes the commands of a store's file, if there is one.
-pub(crate) fn tell_log<F: Read + Drop, W: Write>(
-    alloc: Global,
-    file: Result<F, ReadingFault>,
-    at: Option<u64>,
-    form: LogForm,
-    output: &mut W,
-) -> Outcome<'static>
-    ensures { SaysOfFile F.remaining (SaysLog at form) file
-        (W.contents output.old) (W.contents output.new) (status_of_outcome result) }
-{
-    match file {
-        Ok(mut file) => {
-            let ended = write_log(alloc, &mut file, at, form, output);
-            outcome_of_log(ended)
-        }
         Err(fault) => Outcome::Reading(fault),
     }
 }
@@ -156,25 +141,6 @@ pub(crate) fn log_form_of(asked: conf_words::LogForm) -> LogForm
     }
 }
 
-/// Writes whether a store can be opened, of whose folder this is the file, if there is one.
-pub(crate) fn tell_survey<'w, F: Read + Drop, W: Write>(
-    alloc: Global,
-    file: Result<F, ReadingFault>,
-    folder: &'w str,
-    output: &mut W,
-) -> Outcome<'w>
-    ensures { SaysOfFile F.remaining SaysSurvey file
-        (W.contents output.old) (W.contents output.new) (status_of_outcome result) }
-{
-    match file {
-        Ok(mut file) => {
-            let ended = write_survey(alloc, &mut file, output);
-            outcome_of_survey(folder, ended)
-        }
-        Err(fault) => Outcome::Reading(fault),
-    }
-}
-
 /// How a survey of the store in a folder ended.
 fn outcome_of_survey<'w>(folder: &'w str, ended: Result<Soundness, ReadingFault>) -> Outcome<'w>
     ensures { status_of_outcome result ≡ status_after_survey ended }
@@ -186,18 +152,18 @@ fn outcome_of_survey<'w>(folder: &'w str, ended: Result<Soundness, ReadingFault>
     }
 }
 
-/// Makes a store in a new folder, of what a store's file says before its first bad piece, if there is a file.
-pub(crate) fn save_file<A: World, W: Write>(
+/// Makes a store in a new folder, of what the file of the store in another one says before its first bad piece.
+pub(crate) fn salvage_folder<A: World, W: Write>(
     world: &mut A,
     alloc: Global,
-    file: Result<A::File, ReadingFault>,
+    folder: &str,
     new: &str,
     output: &mut W,
 ) -> Outcome<'static>
-    ensures { SavesFound A.model A.Disk.model A.File.remaining new.now file world.old world.new
+    ensures { Salvages A.model A.Disk.model A.File.remaining folder.now new.now world.old world.new
         (W.contents output.old) (W.contents output.new) (status_of_outcome result) }
 {
-    match file {
+    match open_file(world, alloc, folder) {
         Ok(mut file) => save_in_folder(world, alloc, &mut file, new, output),
         Err(fault) => Outcome::Reading(fault),
     }

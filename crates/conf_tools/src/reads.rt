@@ -1,12 +1,8 @@
 // The names and values of a store's file, over any reader and writer.
-ghost use Rattle.std.specs.Prelude.{◌≡◌, ◌≤◌, ◌⊎◌, ◌++◌, Ok, Err, IfOk, IfErr, OnOk, map, string_bytes, encode_utf8_all, codes};
-ghost use Rattle.std.specs.Str.{chars};
-ghost use Rattle.yaml_grammar.specs.Style.{style_text};
-ghost use Rattle.yaml_forms.specs.Json.{json_texts};
-ghost use Rattle.yaml_grammar.specs.Trees.{depth, text as one_text};
-ghost use Rattle.yaml_config.specs.Kept.{own_limits};
-ghost use Rattle.yaml_data.specs.Seen.{tree_of};
-ghost use Rattle.conf_state.specs.Commands.{text_of};
+ghost use Rattle.std.specs.Prelude.{◌≡◌, ◌≤◌, ◌⊎◌, ◌++◌, Ok, Err, IfOk, IfErr, OnOk, map, string_bytes};
+ghost use Rattle.std.specs.Prelude.{encode_utf8_all, codes};
+ghost use Rattle.conf_tools.specs.Prelude.{chars, style_text, json_texts, depth, own_limits, tree_of, text_of};
+ghost use Rattle.yaml_grammar.specs.Trees.{text as one_text};
 ghost use Rattle.conf_tools.specs.Reads.{CannotShow, FindsPresence, HidesPresence, LacksFound, RefusesNames, RefusesPresence, RefusesValue, ShowsFound, ShowsTree, WritesNames, WritesValue, found_or, is_absent, name_lines, names_text, presence_of, tree_found, tree_or, tree_text, value_in};
 
 use crate::reading_fault::ReadingFault;
@@ -339,11 +335,8 @@ fn shown_text(alloc: Global, text: &str, form: ValueForm) -> Result<String, Read
         ShowsTree form (one_text (chars text.now)) (string_bytes bytes)) }
     ensures refused { IfErr result (CannotShow form (one_text (chars text.now))) }
 {
-    match form {
-        ValueForm::Whole(form) => Ok(whole_text(alloc, text, form)?),
-        ValueForm::Raw(end) => Ok(raw_text(alloc, text, end)?),
-        ValueForm::Keys => Err(ReadingFault::NotCollection),
-    }
+    let value = Tree::Text(Text::new(alloc, text)?);
+    shown(alloc, &value, form)
 }
 
 /// A value in a form, in UTF-8.
@@ -420,15 +413,6 @@ fn bare(alloc: Global, text: &str) -> Result<String, AllocError>
     let mut bytes = String::new(alloc);
     bytes.put_text(text)?;
     Ok(bytes)
-}
-
-/// A text as a value that is written whole.
-fn whole_text(alloc: Global, text: &str, form: TreeForm) -> Result<String, AllocError>
-    ensures { IfOk result (λ bytes.
-        string_bytes bytes ≡ encode_utf8_all (tree_text form (one_text (chars text.now)))) }
-{
-    let value = Tree::Text(Text::new(alloc, text)?);
-    tree_text(alloc, &value, form)
 }
 
 /// A value written whole.

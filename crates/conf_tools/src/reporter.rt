@@ -10,7 +10,7 @@ use yaml_refusals::{Detail, Excerpt, Place, Refusal, remedy};
 use yaml_tree::{Limits, ReadFault};
 
 /// Where a text comes from, as a line on standard error names it.
-#[derive(Clone, Copy, Debug, PartialEq, Eq)]
+#[derive(Clone, Copy)]
 pub(crate) enum Origin<'f> {
     /// Standard input, where the words name no file.
     Input,

@@ -7,7 +7,7 @@ use crate::tail::Tail;
 use itoa::Buffer;
 
 /// Why the end of an input most likely has no closing line.
-#[derive(Clone, Copy, Debug, PartialEq, Eq)]
+#[derive(Clone, Copy)]
 pub(crate) enum Cause {
     /// It has NUL bytes, as UTF-16 has.
     NulBytes,

@@ -1,10 +1,8 @@
 // Sessions on a store, over any disk, reader and writer.
 ghost use Rattle.std.specs.Prelude.{◌≡◌, ◌≤◌, ◌⊎◌, ◌↔◌, true, IsErrOf};
-ghost use Rattle.conf_disk.specs.Folder.{bytes_under};
-ghost use Rattle.conf_store.specs.Calls.{HasFailed};
+ghost use Rattle.conf_tools.specs.Prelude.{bytes_under, HasFailed, streams_of};
 ghost use Rattle.conf_tools.specs.Dropped.{HasNoRest, TellsDropped, TellsDroppedOf};
-ghost use Rattle.conf_tools.specs.Stores.{RunsOn, SessionRuns, SurvivesCrashes, WasOpened};
-ghost use Rattle.conf_session.specs.Streams.{streams_of};
+ghost use Rattle.conf_tools.specs.Stores.{RunsOn, SessionRuns, SurvivesCrashes, WasOpened, after_session};
 
 use crate::dropped::open_told;
 use crate::fault_names::{
@@ -150,7 +148,17 @@ pub fn run_store<D: Disk + Drop, R: Read, S: AnswerSink<D>, E: Listener>(
     };
     let result = run_session(alloc, &mut store, grouping, reader, sink);
     let disk = store.close();
-    match result {
+    after_session(disk, result)
+}
+
+/// The disk that a session leaves, with how the session ended.
+fn after_session<D>(
+    disk: D,
+    ended: Result<Tally, SessionFault>,
+) -> Result<(D, Tally), (D, StoreToolFault)>
+    ensures { result ≡ after_session disk ended }
+{
+    match ended {
         Ok(tally) => Ok((disk, tally)),
         Err(fault) => Err((disk, StoreToolFault::Session(fault))),
     }

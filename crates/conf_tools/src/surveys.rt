@@ -1,6 +1,6 @@
 // What stands in a store's file, over any reader and writer.
 ghost use Rattle.std.specs.Prelude.{◌≡◌, IfOk, IfErr, OnOk};
-ghost use Rattle.std.specs.Io.KnownBytes.{Appends};
+ghost use Rattle.conf_tools.specs.Prelude.{Appends};
 ghost use Rattle.conf_tools.specs.Surveys.{CannotWrite, RefusesWriting, WritesSurvey, findings_text, soundness_of};
 
 use crate::findings::findings_text;

@@ -1,7 +1,7 @@
 // A reader that remembers the end of what it gave.
 ghost use Rattle.std.specs.Prelude.{◌≡◌, take, replicate, option_map, IfOk, IfErr};
+ghost use Rattle.conf_tools.specs.Prelude.{ReadConsumes};
 ghost use Rattle.std.specs.Io.{ReadsAtMost};
-ghost use Rattle.std.specs.Io.KnownBytes.{ReadConsumes};
 ghost use Rattle.conf_tools.specs.Tails.{Follows, blanks_after, end_of_rest, is_blank};
 
 use std::io;

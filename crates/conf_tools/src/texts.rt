@@ -1,6 +1,6 @@
 // The tools for texts, over any reader and writer.
 ghost use Rattle.std.specs.Prelude.{◌≡◌, IfErr, IfOk, OnOk};
-ghost use Rattle.std.specs.Io.KnownBytes.{Appends};
+ghost use Rattle.conf_tools.specs.Prelude.{Appends};
 ghost use Rattle.conf_tools.specs.Tools.{Checks, Formats, IsTaken, Stops};
 
 use crate::input::read_up_to;

@@ -1,7 +1,7 @@
 // Folders of the system, and the disk of one of them.
 use crate::calls::call;
 use conf_folder::{FolderDisk, FolderError, NewFolder, make_folder};
-use probe_words::remove_folder;
+use probe_words::{ended, remove_folder};
 use std::alloc::{AllocError, Global};
 use std::fs;
 
@@ -62,6 +62,43 @@ impl<'r> Folders<'r> {
     /// Removes a folder.
     pub(crate) fn remove(&self, alloc: Global, name: &str) -> Result<String, AllocError> {
         remove_folder(self.rt, alloc, name)
+    }
+
+    /// Has others give a file these bytes in place of its own.
+    pub(crate) fn write(
+        &self,
+        alloc: Global,
+        path: &str,
+        bytes: &str,
+    ) -> Result<String, AllocError> {
+        ended(alloc, fs::write(self.rt, path, bytes))
+    }
+
+    /// Has others put a new file of these bytes in the place of one.
+    pub(crate) fn replace(
+        &self,
+        alloc: Global,
+        path: &str,
+        bytes: &str,
+    ) -> Result<String, AllocError> {
+        let new = format!(in alloc; "{path}.new")?;
+        match fs::write(self.rt, new.as_str(), bytes) {
+            Ok(()) => ended(alloc, fs::rename(self.rt, new.as_str(), path)),
+            Err(error) => ended(alloc, Err(error)),
+        }
+    }
+
+    /// Has others remove a file.
+    pub(crate) fn unlink(&self, alloc: Global, path: &str) -> Result<String, AllocError> {
+        ended(alloc, fs::remove_file(self.rt, path))
+    }
+
+    /// What a file reads as, as a quoted text.
+    pub(crate) fn show(&self, alloc: Global, path: &str) -> Result<String, AllocError> {
+        match fs::read_to_string(self.rt, path) {
+            Ok(text) => format!(in alloc; "{text:?}"),
+            Err(_) => String::from_str(alloc, "no text"),
+        }
     }
 
     /// Takes the disk of a folder, in which a store may be made. Where it can't be taken, the one that was taken before

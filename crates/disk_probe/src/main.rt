@@ -22,6 +22,8 @@
 //!
 //! - `make;NAME`: makes the folder, or finds it. `unmake`: removes the folder that was made last, if nothing is in it.
 //!   `remove;NAME`: removes it, with all that is in it. `files;NAME`: which files of a store are in it.
+//! - What others do to a file: `write;PATH;BYTES` gives it other bytes, `replace;PATH;BYTES` puts a new file in its
+//!   place, and `unlink;PATH` removes it. `show;PATH`: what it reads as.
 //! - `take;NAME`: takes the disk of the folder. `take_store;NAME`: the same, if there is a store. `take_new;NAME`: the
 //!   same, if there is none. `take_for_reading;NAME`: the same, for reading alone. `close`: closes the disk that was
 //!   taken. `release`: the same, at the end of a run.

@@ -1,30 +1,20 @@
 -- Pointers: a path's text reads back as the path, and where a text goes wrong no path has it.
-use Rattle.std.proofs.Common.{◌≡◌, ◌==◌, ℕ, ◌+◌, ◌<◌, Bool, true, false, cond, not, ◌||◌, List, [], ◌∷◌, ◌++◌, length}
-use Rattle.std.proofs.Common.{length-append, map, drop, slice_range, Global, Option, Some, None, option_map, Result}
-use Rattle.std.proofs.Common.{Ok, Err, refl, sym, ap, ap₂, subst, ◌∙◌, append_assoc, arith}
-use Rattle.std.specs.Cow.{cow_str_bytes}
-use Rattle.std.specs.declared.borrow.CowStr.{CowStr}
-use Rattle.std.specs.Char.{len_utf8}
-use Rattle.std.specs.Str.{chars, IsUtf8}
+use Rattle.std.proofs.Common.{◌≡◌, ◌==◌, ℕ, ◌+◌, ◌<◌, Bool, true, false, cond, not, ◌||◌, List, [], ◌∷◌, ◌++◌, length, length-append, map}
+use Rattle.std.proofs.Common.{drop, slice_range, Global, Option, Some, None, option_map, Ok, Err, refl, sym, ap, ap₂, subst, ◌∙◌}
+use Rattle.std.proofs.Common.{append_assoc, arith}
+use Rattle.json_pointer.proofs.Prelude.{cow_str_bytes, CowStr, len_utf8, chars, IsUtf8, nat_tests, length-encode, encodes-chars}
+use Rattle.json_pointer.proofs.Prelude.{encodes-append, chars-append, chars-nil, chars_past_char, IsUtf8-encode, IsUtf8-past_char}
+use Rattle.json_pointer.proofs.Prelude.{IsUtf8-drop, IsCharBoundary-start, IsScalar, MatchOption, byte_len, IsBlind}
 use Rattle.std.proofs.lemmas.Bool.{eqb-true, and_parts}
 use Rattle.std.proofs.lemmas.List.Sums.{list_all-from_AllPass}
 use Rattle.std.specs.List.{list_all}
-use Rattle.std.proofs.lemmas.Bool.Decides.{nat_tests}
-use Rattle.std.proofs.lemmas.Str.{length-encode, encodes-chars, encodes-append, chars-append, chars-nil}
-use Rattle.std.proofs.lemmas.Str.{chars_past_char, IsUtf8-encode, IsUtf8-past_char, IsUtf8-drop, IsCharBoundary-start}
-use Rattle.std.specs.Char.{IsScalar}
-use Rattle.std.specs.Option.{MatchOption}
-use Rattle.std.specs.Result.{OnOk, is_ok}
-use Rattle.json_pointer.specs.Tokens.{texts, escaped_by}
 use lib.Utf8.{encodes, encode}
-use Rattle.yaml_grammar.specs.Texts.{byte_len}
 use Rattle.yaml_chars.specs.Places.{IsRun, between}
 use Rattle.yaml_chars.proofs.Places.{rest-between}
-use Rattle.yaml_chars.proofs.Runs.{IsBlind}
-use Rattle.json_pointer.specs.Pointers.{unescaped, char_text, token_text, pointer_text, stray, first_stray, bad_place}
-use Rattle.json_pointer.specs.Pointers.{first_piece, pieces, token_from_text, path_of, tokens_or_place}
-use Rattle.json_pointer.specs.declared.fault.PathFault.{PathFault}
-use Rattle.json_pointer.specs.declared.fault.PathFault.TheVariants.{BadPath}
+use Rattle.json_pointer.specs.{declared.fault.PathFault.PathFault, declared.fault.PathFault.TheVariants.BadPath}
+use Rattle.json_pointer.specs.Tokens.{texts, escaped_by}
+use Rattle.json_pointer.specs.Pointers.{unescaped, char_text, token_text, pointer_text, stray, first_stray, bad_place, first_piece, pieces}
+use Rattle.json_pointer.specs.Pointers.{token_from_text, path_of, tokens_or_place}
 
 -- ---- a character's spelling: two characters, or itself
 
@@ -199,12 +189,6 @@ token_text-append : (cs ds : List ℕ) → token_text (cs ++ ds) ≡ token_text 
 token_text-append [] ds = refl
 token_text-append (c ∷ cs) ds = ap (λ es. char_text c ++ es) (token_text-append cs ds)
     ∙ sym (append_assoc (char_text c) (token_text cs) (token_text ds))
-
--- what is pushed, if the call succeeds
-pub pushed-OnOk : {E : Type 0} (r : Result (Unit {0}) E) (bytes old : List ℕ) (c : ℕ)
-    → bytes ≡ cond (is_ok r) (old ++ encode c) old → OnOk r (bytes ≡ old ++ encode c)
-pushed-OnOk (Ok x) bytes old c is = is
-pushed-OnOk (Err e) bytes old c is = tt
 
 -- ---- runs of characters that are written as themselves
 

@@ -1,10 +1,9 @@
 -- The tokens of the code, as texts.
 use Rattle.std.specs.Prelude.{◌==◌, ℕ, List, Option, Some, None, if◌then◌else◌, map}
+use Rattle.json_pointer.specs.Prelude.{chars, digit_zero, digit_one, tilde}
 use Rattle.std.specs.Cow.{cow_str_bytes}
 use Rattle.std.specs.declared.borrow.CowStr.{CowStr}
 use Rattle.std.specs.declared.alloc.Global.{Global}
-use Rattle.std.specs.Str.{chars}
-use Rattle.yaml_chars.specs.Signs.{digit_zero, digit_one, tilde}
 use Rattle.json_pointer.specs.Pointers.{slash}
 
 -- each token as its characters

@@ -1,6 +1,6 @@
 // A path: the tokens of a pointer.
 ghost use Rattle.std.specs.Prelude.{◌≡◌, ◌≢◌, ◌⊎◌, ◌<◌, ◌++◌, ℕ, List, length, IfOk, IfErr, OnOk};
-ghost use Rattle.std.specs.Str.{chars};
+ghost use Rattle.json_pointer.specs.Prelude.{chars};
 ghost use Rattle.yaml_chars.specs.Places.{IsRun};
 ghost use Rattle.json_pointer.specs.Pointers.{path_of, pointer_text, char_text, unescaped};
 ghost use Rattle.json_pointer.specs.Tokens.{escaped_by, texts};

@@ -1,7 +1,6 @@
 // Whether a text is a pointer, without a list of its tokens.
 ghost use Rattle.std.specs.Prelude.{◌≡◌, ◌||◌, ◌==◌, is_none, is_ok};
-ghost use Rattle.std.specs.Str.{chars};
-ghost use Rattle.yaml_grammar.specs.Texts.{first, is_empty};
+ghost use Rattle.json_pointer.specs.Prelude.{chars, first, is_empty};
 ghost use Rattle.json_pointer.specs.Pointers.{slash, first_stray, path_of};
 
 use crate::path::escaped;

@@ -10,6 +10,18 @@ pub fn text_of(alloc: Global, written: &str) -> Result<Option<String>, AllocErro
     }
 }
 
+/// Returns the words that are meant, which have a space between them, or `None` if one is written wrongly.
+pub fn words_of(alloc: Global, written: &str) -> Result<Option<Vec<String>>, AllocError> {
+    let mut words = Vec::new(alloc);
+    for word in written.split(' ') {
+        match text_of(alloc, word)? {
+            Some(word) => words.push(word)?,
+            None => return Ok(None),
+        }
+    }
+    Ok(Some(words))
+}
+
 /// Returns the bytes that are meant, or `None` if they are written wrongly.
 pub fn bytes_of(alloc: Global, written: &str) -> Result<Option<Vec<u8>>, AllocError> {
     let mut bytes = Vec::new(alloc);

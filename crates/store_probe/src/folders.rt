@@ -2,7 +2,7 @@
 use crate::calls::FusedStore;
 use conf_disk::{Content, Cuts, Disk, DiskFault, Name};
 use conf_journal::STORE_LIMIT;
-use conf_store::{Store, create_store, read_state};
+use conf_store::{OpenFault, Opened, Store, create_store, read_state};
 use probe_words::{meant, measured};
 use std::alloc::{AllocError, Global};
 use std::mem;
@@ -22,10 +22,33 @@ impl Place {
     }
 
     /// Takes the folder out, and leaves one without a file. The store is closed.
-    fn take(&mut self, alloc: Global) -> MemoryDisk {
+    pub(crate) fn take(&mut self, alloc: Global) -> MemoryDisk {
+        self.close(alloc).into_inner()
+    }
+
+    /// The same, with the fuse of the store's disk. The disk of a folder lets all calls pass.
+    pub(crate) fn close(&mut self, alloc: Global) -> FusedDisk<MemoryDisk> {
         match mem::replace(self, Place::new(alloc)) {
-            Place::Folder(disk) => disk,
-            Place::Open(store) => store.close().into_inner(),
+            Place::Folder(disk) => FusedDisk::new(disk, u64::MAX, Fuse::Stop),
+            Place::Open(store) => store.close(),
+        }
+    }
+
+    /// Opens the store over a disk, and takes it.
+    pub(crate) fn open(
+        &mut self,
+        alloc: Global,
+        disk: FusedDisk<MemoryDisk>,
+    ) -> Result<Opened, OpenFault> {
+        match Store::open(alloc, disk) {
+            Ok((store, opened)) => {
+                *self = Place::Open(store);
+                Ok(opened)
+            }
+            Err((disk, fault)) => {
+                *self = Place::Folder(disk.into_inner());
+                Err(fault)
+            }
         }
     }
 }
@@ -73,15 +96,11 @@ pub(crate) fn open(
     fuse: Fuse,
 ) -> Result<String, AllocError> {
     let disk = FusedDisk::new(place.take(alloc), calls, fuse);
-    match Store::open(alloc, disk) {
-        Ok((store, opened)) => {
-            *place = Place::Open(store);
-            format!(in alloc; "commands {}, dropped {}", opened.commands, opened.dropped)
-        }
-        Err((disk, fault)) => {
-            *place = Place::Folder(disk.into_inner());
-            format!(in alloc; "{fault:?}")
-        }
+    match place.open(alloc, disk) {
+        Ok(Opened { commands, dropped }) => format!(in alloc;
+            "commands {commands}, dropped {dropped}"
+        ),
+        Err(fault) => format!(in alloc; "{fault:?}"),
     }
 }
 

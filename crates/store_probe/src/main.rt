@@ -37,17 +37,54 @@
 //!   `broken;TEXT` and `interrupted;TEXT`: at most 100, and after them a read fails. `room;BYTES;TEXT`: the output
 //!   takes so many bytes. `copies;COUNT;TEXT`: the input is so many times the text, and the output takes nothing.
 //!
+//! On stores of their own, over disks in memory. Each image that a crash may leave is opened, and its store goes on.
+//! Where something is not as it has to be, the answer says what.
+//!
+//! - `crash;CALLS`: a run of commands is cut off after so many calls of its disk. The answer is how many images a crash
+//!   leaves then, and how many more after each of their openings was cut off.
+//! - `waiting;CALLS`: three commands are submitted and then flushed, over a disk that stops after so many calls. The
+//!   answer is how many of the images have how many of the commands. `misjudged;CALLS` takes each submit for a flush:
+//!   as long as a command waits, the answer says that an image lacks it.
+//! - `lists;LENGTH`: each list of so many calls, which are submit, flush, slice (a checkpoint begins if none runs),
+//!   checkpoint, apply, and close and open. It is stopped after each disk call of its last call, and what a crash
+//!   leaves is cut at the ends of records and beside them. The answer is how many lists, stops and images there are.
+//!   `lists again;LENGTH`: each opening is cut off too, and the answer has how many images that leaves.
+//!
+//! On a worked session with a store of its own:
+//!
+//! - `device;FUSE;CALLS`: the disk lets so many calls pass, and then fails as for `open`. The answer is how the session
+//!   ends, whether the store has to be opened again, how many bytes are answered, the count that the file has then, and
+//!   the count that it has if a crash keeps no pending byte. If the disk fails before the session, the answer is why
+//!   the folder is not opened, and the count that the file has then.
+//! - `puts;KIND;PUTS`: it is cut off when it hands out answers, after so many puts. It is the worked session
+//!   (`single`), the same in groups (`grouped`), or one of two questions to a store in which three commands wait
+//!   (`waiting`). The answer is how it ends, how many bytes were handed out, and how many of the images that a crash
+//!   leaves then have how many commands.
+//! - `each;HOW`: a session for each byte, with its number. The worked session's input ends (`input ends`) or fails
+//!   (`input fails`) there, or its output takes no more (`output full`) or fails (`output fails`). `part read`: the
+//!   input is a part of one command.
+//!
 //! A `TREE` is a text of YAML. In it and in a `TEXT`, `*COUNT*` means that many letters `x`. `\n`, `\r` and `\t` mean a
 //! line feed, a carriage return and a tab, `\0` a zero byte, and `\\` and `\s` a backslash.
 #![tactic(auto)]
 
 mod calls;
+mod choices;
+mod cut_sessions;
+mod device;
 mod folders;
 mod groups;
+mod images;
+mod list_calls;
+mod lists;
 mod orders;
+mod puts;
 mod rounds;
 mod sessions;
 mod store_commands;
+mod subjects;
+mod worked;
+mod wrong;
 
 use folders::Place;
 use probe_words::answer_lines;

@@ -1,6 +1,11 @@
 // Orders on a store and their answers.
 use crate::calls::call;
+use crate::cut_sessions::each;
+use crate::device::device;
 use crate::folders::{Place, create, image, open, renew, shown};
+use crate::images::Openings;
+use crate::lists::{crash, lists, misjudged, waiting};
+use crate::puts::puts;
 use conf_disk::Name;
 use probe_words::{Answers, number_of};
 use std::alloc::{AllocError, Global};
@@ -33,6 +38,14 @@ fn answer(alloc: Global, place: &mut Place, words: &[&str]) -> Result<String, Al
         ["file"] => shown(alloc, place, Name::Store),
         ["next"] => shown(alloc, place, Name::Next),
         ["image", stage] => image(alloc, place, number_of(stage)),
+        ["crash", calls] => crash(alloc, number_of(calls)),
+        ["waiting", calls] => waiting(alloc, number_of(calls)),
+        ["misjudged", calls] => misjudged(alloc, number_of(calls)),
+        ["lists", length] => lists(alloc, number_of(length), Openings::Whole),
+        ["lists again", length] => lists(alloc, number_of(length), Openings::CutOff),
+        ["device", fuse, calls] => device(alloc, number_of(calls), fuse_of(fuse)),
+        ["each", how] => each(alloc, how),
+        ["puts", kind, count] => puts(alloc, kind, number_of(count)),
         words => match place {
             Place::Open(store) => call(alloc, store, words),
             Place::Folder(_) => String::from_str(alloc, "no store is open"),

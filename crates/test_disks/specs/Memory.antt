@@ -1,9 +1,10 @@
 -- A disk in memory, as the list of steps that it keeps.
-use Rattle.std.specs.Prelude.{◌≡◌, ℕ, ◌+◌, min, List, [], ◌∷◌, ◌++◌, map, Result, OnOk, OnErr}
-use Rattle.conf_disk.specs.Folder.{Folder, empty_folder, Step}
+use Rattle.std.specs.Prelude.{◌≡◌, ℕ, ◌+◌, min, List, [], ◌∷◌, ◌++◌, map, Option, option_map, slice_get, Result, OnOk, OnErr}
+use Rattle.conf_disk.specs.Folder.{Folder, empty_folder, Step, stages, under}
 use Rattle.conf_disk.specs.Log.{folder_after}
 use Rattle.conf_disk.specs.Moments.{greatest}
-use Rattle.test_disks.specs.Replay.{step_of}
+use Rattle.test_disks.specs.Replay.{step_of, pending_in}
+use Rattle.conf_disk.specs.declared.disk.Name.{Name}
 use Rattle.conf_disk.specs.declared.disk.DiskFault.{DiskFault}
 use Rattle.test_disks.specs.declared.memory.MemoryDisk.{MemoryDisk}
 
@@ -26,3 +27,7 @@ pub record Notes {T : Type 0} (old : MemoryDisk) (step : Step) (result : Result 
   pub no_failure : OnOk result (memory_failures new ≡ memory_failures old)
   pub not_done : OnErr result (steps_of new ≡ steps_of old)
   pub failure : OnErr result (memory_failures new ≡ min (memory_failures old + 1) greatest)
+
+-- how many bytes are pending at a place among a folder's stages in the file under a name
+abbrev pub pending_of_stage : Folder → ℕ → Name → Option ℕ
+pending_of_stage folder place name = option_map (λ stage. pending_in folder.files (under stage name)) (slice_get (stages folder) place)

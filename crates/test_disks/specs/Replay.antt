@@ -1,7 +1,7 @@
 -- A folder's data as the folder of the model.
-use Rattle.std.specs.Prelude.{ℕ, List, map, Option, Some, None, Vec}
+use Rattle.std.specs.Prelude.{ℕ, List, length, get_or, map, Option, Some, None, Vec}
 use Rattle.std.specs.declared.alloc.Global.{Global}
-use Rattle.conf_disk.specs.Folder.{File, Stage, Folder, Step, CreateNext, Append, Sync, RenameNext, RemoveNext, SyncFolder}
+use Rattle.conf_disk.specs.Folder.{File, empty_file, Stage, Folder, Step, CreateNext, Append, Sync, RenameNext, RemoveNext, SyncFolder}
 use Rattle.test_disks.specs.declared.folder.FileData.{FileData}
 use Rattle.test_disks.specs.declared.folder.FolderData.{FolderData}
 use Rattle.test_disks.specs.declared.folder.StageData.{StageData}
@@ -41,3 +41,8 @@ step_of change.SyncFolder = SyncFolder
 abbrev pub items_of : Option (Vec ℕ Global) → Option (List ℕ)
 items_of None = None
 items_of (Some bytes) = Some bytes.items
+
+-- how many bytes are pending in a file, where there is one
+abbrev pub pending_in : List File → Option ℕ → ℕ
+pending_in files None = 0
+pending_in files (Some id) = length (get_or files id empty_file).pending

@@ -2,7 +2,7 @@
 ghost use Rattle.std.specs.Prelude.{◌≡◌, ◌<◌, length, true, [], ◌∷◌, ◌++◌, map, set, get_or, Some, None, OnOk, IfOk, option_map, slice_get};
 ghost use Rattle.conf_disk.specs.Folder.{CreateNext, under, after, with_pending, synced_whole, empty_file, empty_folder, file_bytes, stages};
 ghost use Rattle.conf_disk.specs.Image.{IsWhole, fits_at, torn_at};
-ghost use Rattle.test_disks.specs.Replay.{file_of, files_of, stage_of, folder_of, step_of, items_of};
+ghost use Rattle.test_disks.specs.Replay.{file_of, files_of, stage_of, folder_of, step_of, items_of, pending_in};
 
 use conf_disk::Name;
 use std::alloc::{AllocError, Global};
@@ -152,15 +152,18 @@ impl FolderData {
         ensures { result ≡ fits_at (files_of self.now.files) id cut.0 cut.1 }
     {
         let (keep, zeros) = cut;
-        let Some(id) = id else {
-            return keep == 0 && zeros == 0;
-        };
-        let room = if id < self.files.len() {
-            self.files[id].pending.len()
-        } else {
-            0
-        };
+        let room = self.pending(id);
         keep <= room && zeros <= room - keep
+    }
+
+    /// How many bytes are pending in a file; 0 without one.
+    pub(crate) fn pending(&self, id: Option<usize>) -> usize
+        ensures { result ≡ pending_in (files_of self.now.files) id }
+    {
+        match id {
+            Some(id) if id < self.files.len() => self.files[id].pending.len(),
+            _ => 0,
+        }
     }
 
     /// What a crash leaves of a file under a cut, if there is a file.

@@ -21,7 +21,7 @@ pub struct MemoryDisk {
 }
 
 impl MemoryDisk {
-    ghost use Rattle.test_disks.specs.Memory.{steps_of, memory_folder, memory_failures, Notes};
+    ghost use Rattle.test_disks.specs.Memory.{steps_of, memory_folder, memory_failures, pending_of_stage, Notes};
 
     /// An empty folder.
     pub fn new(alloc: Global) -> Self
@@ -85,6 +85,22 @@ impl MemoryDisk {
         let store = folder.torn_bytes(self.alloc, names.store, cuts.store)?;
         let next = folder.torn_bytes(self.alloc, names.next, cuts.next)?;
         Ok(Some(MemoryDisk::with_files(self.alloc, store, next)?))
+    }
+
+    /// Returns how many bytes are pending at stage `stage` in the file under a name, or `None` if there is no such
+    /// stage. They are 0 where there is no file.
+    ///
+    /// # Errors
+    /// If there is no memory for looking.
+    pub fn pending(&self, stage: usize, name: Name) -> Result<Option<usize>, AllocError>
+        ensures { IfOk result
+            (λ pending. pending ≡ pending_of_stage (memory_folder self.now) stage name) }
+    {
+        let folder = self.replay(self.alloc)?;
+        match folder.stage_at(stage) {
+            Some(names) => Ok(Some(folder.pending(names.under(name)))),
+            None => Ok(None),
+        }
     }
 
     fn content(&self, alloc: Global, name: Name, max: u64) -> Result<Content, AllocError>

@@ -1,17 +1,10 @@
 -- Going down a tree along a path and back up: what a step adds to each, and what the definitions of paths say of them.
-use Rattle.std.proofs.Common.{◌≡◌, ℕ, suc, ◌+◌, ◌-◌, ◌≤◌, List, [], ◌∷◌, ◌++◌, length, Result, Ok, Err, Global, take}
-use Rattle.std.proofs.Common.{drop, get_or, ◌<◌, refl, sym, ap, subst, ◌∙◌, add-zero, arith}
-use Rattle.std.specs.Cow.{cow_str_bytes}
-use Rattle.std.specs.declared.borrow.CowStr.{CowStr}
-use Rattle.std.specs.Result.{IfErr, IsOk}
-use Rattle.std.specs.Str.{chars}
-use Rattle.std.proofs.lemmas.List.{take_more, at_drop_more, take-append-drop, length-map, length-take-le}
-use Rattle.yaml_grammar.specs.Trees.{Tree}
+use Rattle.std.proofs.Common.{◌≡◌, ℕ, suc, ◌+◌, ◌-◌, ◌≤◌, List, [], ◌∷◌, ◌++◌, length, Result, Ok, Err, Global, take, drop, get_or, ◌<◌}
+use Rattle.std.proofs.Common.{refl, sym, ap, subst, ◌∙◌, add-zero, arith}
+use Rattle.tree_path.proofs.Prelude.{cow_str_bytes, CowStr, chars, take_more, at_drop_more, take-append-drop, length-map, length-take-le}
+use Rattle.tree_path.proofs.Prelude.{Tree, texts, PathFault}
+use Rattle.tree_path.specs.{Steps.Lowered, Steps.Rebuilt, declared.place.Miss.Miss}
 use Rattle.tree_path.specs.Paths.{child, put, refusal, at_step, and_then, at_from, edit_from, key_in, last_key, in_child}
-use Rattle.tree_path.specs.Steps.{Lowered, Rebuilt}
-use Rattle.json_pointer.specs.Tokens.{texts}
-use Rattle.json_pointer.specs.declared.fault.PathFault.{PathFault}
-use Rattle.tree_path.specs.declared.place.Miss.{Miss}
 use Rattle.tree_path.proofs.StepLaws.{child-put, put-put, put-child}
 
 -- ---- one step more, and one less
@@ -223,9 +216,3 @@ at_from-missed tokens n token t u miss within is before missed =
       length-map (take n tokens) (λ (x : CowStr Global). chars (cow_str_bytes x)),
       length-take-le n tokens (omega arith),
     )))
-
--- a call that misses only where there is no child doesn't miss where there is one
-pub IsOk-there : (r : Result (Unit {0}) Miss) (found : Result Tree Miss) (d : Tree) → found ≡ Ok d
-    → IfErr r (λ miss. found ≡ Err miss) → IsOk r
-IsOk-there (Ok x) found d is missed = refl
-IsOk-there (Err miss) found d is missed = cc

@@ -1,19 +1,14 @@
 -- Laws of edits. What is set is found again; and where no mapping holds a key twice, none does after an edit.
-use Rattle.std.proofs.Common.{◌≡◌, ℕ, zero, suc, Bool, true, false, cond, not, ◌&&◌, ◌||◌, ◌==◌, List, [], ◌∷◌, ◌++◌}
-use Rattle.std.proofs.Common.{Some, option_map, Result, Ok, Err, refl, sym, ap, ap₂, subst, ◌∙◌, arith}
-use Rattle.std.proofs.lemmas.Bool.Decides.{nat_tests}
-use Rattle.yaml_grammar.specs.Texts.{same_text}
-use Rattle.yaml_grammar.specs.Trees.{Tree, text, sequence, mapping, Elements, no_element, element, Members, no_member}
-use Rattle.yaml_grammar.specs.Trees.{member, distinct, elements_distinct, members_distinct, has_key}
-use Rattle.tree_path.specs.Paths.{Index, number, after_last, no_index, index_of, at_index, present, element_at}
-use Rattle.tree_path.specs.Paths.{put_element, cut_element, push_element, value_of, put_member, cut_member, child}
-use Rattle.tree_path.specs.Paths.{put, cut, at_step, and_then, at_from, at, edit_from, set, delete}
-use Rattle.json_pointer.specs.declared.fault.PathFault.{PathFault}
-use Rattle.tree_path.specs.declared.place.Miss.{Miss}
-use Rattle.tree_path.specs.declared.place.Miss.TheVariants.{Absent}
+use Rattle.std.proofs.Common.{◌≡◌, ℕ, zero, suc, Bool, true, false, cond, not, ◌&&◌, ◌||◌, ◌==◌, List, [], ◌∷◌, ◌++◌, Some, option_map}
+use Rattle.std.proofs.Common.{Result, Ok, Err, refl, sym, ap, ap₂, subst, ◌∙◌, arith}
+use Rattle.tree_path.proofs.Prelude.{nat_tests, same_text, Tree, text, sequence, mapping, Elements, no_element, element, Members, no_member}
+use Rattle.tree_path.proofs.Prelude.{member, distinct, elements_distinct, members_distinct, has_key, PathFault}
+use Rattle.tree_path.specs.{declared.place.Miss.Miss, declared.place.Miss.TheVariants.Absent}
+use Rattle.tree_path.specs.Paths.{Index, number, after_last, no_index, index_of, at_index, present, element_at, put_element, cut_element}
+use Rattle.tree_path.specs.Paths.{push_element, value_of, put_member, cut_member, child, put, cut, at_step, and_then, at_from, at}
+use Rattle.tree_path.specs.Paths.{edit_from, set, delete}
+use Rattle.tree_path.proofs.{Descents.edit_path, Descents.edit_path-step, Edits.set-edit}
 use Rattle.tree_path.proofs.StepLaws.{option_map-Some, present-Ok, element_at-put_element, value_of-put_member, child-put}
-use Rattle.tree_path.proofs.Descents.{edit_path, edit_path-step}
-use Rattle.tree_path.proofs.Edits.{set-edit}
 
 both : (a b : Bool) → (a && b) ≡ true → (a ≡ true) × (b ≡ true)
 both true b is = (refl, is)

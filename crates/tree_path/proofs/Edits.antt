@@ -1,11 +1,8 @@
 -- An edit at the end of a path, from what the code did: down to the parent, the edit there, and back up.
 use Rattle.std.proofs.Common.{◌≡◌, ℕ, ◌+◌, List, [], ◌∷◌, ◌++◌, length, Result, Ok, Err, refl, ap, ◌∙◌, arith}
-use Rattle.std.specs.Result.{OnOk}
-use Rattle.yaml_grammar.specs.Trees.{Tree}
+use Rattle.tree_path.proofs.Prelude.{OnOk, Tree, PathFault}
+use Rattle.tree_path.specs.{Steps.Lowered, Steps.Rebuilt, declared.place.Miss.Miss}
 use Rattle.tree_path.specs.Paths.{child, put, cut, refusal, at_step, at, set, delete}
-use Rattle.tree_path.specs.Steps.{Lowered, Rebuilt}
-use Rattle.json_pointer.specs.declared.fault.PathFault.{PathFault}
-use Rattle.tree_path.specs.declared.place.Miss.{Miss}
 use Rattle.tree_path.proofs.Descents.{edit_path, edit_path-Rebuilt, edit_path-missed, edit_path-refused, at_from-append, at_from-Lowered}
 
 -- a result that is no error

@@ -1,32 +1,19 @@
 -- What an edit does to the mapping of an index: at one of its keys, below one, or elsewhere.
-use Rattle.std.proofs.Common.{◌≡◌, ℕ, zero, suc, ◌+◌, ◌-◌, ◌<◌, Bool, true, false, cond, List, [], ◌∷◌, ◌++◌, length}
-use Rattle.std.proofs.Common.{get_or, take, drop, Bor, Global, Option, Some, None, is_some, option_map, IfSome}
-use Rattle.std.proofs.Common.{Result, Ok, refl, sym, ap, subst, ◌∙◌, arith, rules}
-use Rattle.std.specs.List.{remove}
-use Rattle.std.specs.Str.{chars}
-use Rattle.std.specs.Cow.{cow_str_bytes}
-use Rattle.std.specs.Option.{option_copied}
-use Rattle.std.specs.declared.borrow.CowStr.{CowStr}
-use Rattle.std.proofs.lemmas.List.{take_more, at_drop_more, take-append-drop, length-map, length-take-le, length-drop}
-use Rattle.std.proofs.lemmas.Slice.Eq.{compares_Decides}
-use Rattle.yaml_grammar.specs.Texts.{same_text}
-use Rattle.yaml_grammar.specs.Trees.{Tree, text, sequence, mapping, Members, no_member, member}
-use Rattle.yaml_data.specs.Seen.{Pair, members_of}
-use Rattle.yaml_data.specs.TextBytes.{text_bytes}
-use Rattle.yaml_data.specs.declared.text.Text.{Text}
-use Rattle.tree_path.specs.declared.key_index.KeyIndex.{KeyIndex}
-use Rattle.tree_path.specs.declared.key_table.KeyTable.{KeyTable}
-use Rattle.tree_path.specs.declared.place.Miss.{Miss}
-use Rattle.tree_path.specs.Paths.{present, value_of, put_member, cut_member, place_of, key_in, last_key, child, put}
-use Rattle.tree_path.specs.Paths.{cut, at_step, and_then, at_from, at, edit_from, set, delete}
-use Rattle.json_pointer.specs.Tokens.{texts}
-use Rattle.tree_path.specs.declared.step_places.StepPlaces.{StepPlaces}
+use Rattle.std.proofs.Common.{◌≡◌, ℕ, zero, suc, ◌+◌, ◌-◌, ◌<◌, Bool, true, false, cond, List, [], ◌∷◌, ◌++◌, length, get_or, take, drop}
+use Rattle.std.proofs.Common.{Bor, Global, Option, Some, None, is_some, option_map, IfSome, Result, Ok, refl, sym, ap, subst, ◌∙◌, arith}
+use Rattle.std.proofs.Common.{rules}
+use Rattle.tree_path.proofs.Prelude.{remove, chars, cow_str_bytes, option_copied, CowStr, take_more, at_drop_more, take-append-drop}
+use Rattle.tree_path.proofs.Prelude.{length-map, length-take-le, length-drop, compares_Decides, same_text, Tree, text, sequence, mapping}
+use Rattle.tree_path.proofs.Prelude.{Members, no_member, member, Pair, members_of, text_bytes, Text, texts}
+use Rattle.tree_path.specs.{declared.key_index.KeyIndex.KeyIndex, declared.key_table.KeyTable.KeyTable, declared.place.Miss.Miss}
+use Rattle.tree_path.specs.{declared.step_places.StepPlaces.StepPlaces}
+use Rattle.tree_path.specs.Paths.{present, value_of, put_member, cut_member, place_of, key_in, last_key, child, put, cut, at_step, and_then}
+use Rattle.tree_path.specs.Paths.{at_from, at, edit_from, set, delete}
 use Rattle.tree_path.specs.Steps.{key_place, step_place, parents_of, ArePlaces, Leads}
 use Rattle.tree_path.specs.Tables.{keys_of, steps_of, Lists, ListsIn, Indexes, Leaves, chain_of, on_chain, place_at}
+use Rattle.tree_path.proofs.{EditLaws.at_step-Ok, EditLaws.and_then-Ok, EditLaws.same_Ok, Ways.parents-more, Ways.Leads-step}
 use Rattle.tree_path.proofs.StepLaws.{option_map-Some, option_map-None, present-Ok, child-put}
 use Rattle.tree_path.proofs.Descents.{edit_path, Ok-same, at_from-append, last_key-parent, texts-split}
-use Rattle.tree_path.proofs.EditLaws.{at_step-Ok, and_then-Ok, same_Ok}
-use Rattle.tree_path.proofs.Ways.{parents-more, Leads-step}
 
 pub same_key : (key other : List ℕ) → same_text key other ≡ true → key ≡ other
 same_key key other same = (compares_Decides same_text (search rules) key other).0 same

@@ -1,13 +1,8 @@
 -- In a mapping where keys differ, a pair with a key is the only one, so its place is the key's.
-use Rattle.std.proofs.Common.{◌≡◌, ℕ, zero, suc, ◌<◌, Bool, true, false, cond, not, ◌&&◌, ◌||◌, List, [], ◌∷◌, length}
-use Rattle.std.proofs.Common.{get_or, Some, option_map, refl, ap, subst, arith, rules}
-use Rattle.std.specs.Str.{chars}
-use Rattle.std.proofs.lemmas.Bool.{and_parts}
-use Rattle.std.proofs.lemmas.Slice.Eq.{compares_Decides}
-use Rattle.yaml_grammar.specs.Texts.{same_text}
-use Rattle.yaml_grammar.specs.Trees.{distinct, members_distinct, has_key}
-use Rattle.yaml_data.specs.Seen.{Pair, tree_of, members_of}
-use Rattle.yaml_data.specs.TextBytes.{text_bytes}
+use Rattle.std.proofs.Common.{◌≡◌, ℕ, zero, suc, ◌<◌, Bool, true, false, cond, not, ◌&&◌, ◌||◌, List, [], ◌∷◌, length, get_or, Some}
+use Rattle.std.proofs.Common.{option_map, refl, ap, subst, arith, rules}
+use Rattle.tree_path.proofs.Prelude.{chars, and_parts, compares_Decides, same_text, distinct, members_distinct, has_key, Pair, tree_of}
+use Rattle.tree_path.proofs.Prelude.{members_of, text_bytes}
 use Rattle.tree_path.specs.Steps.{key_place}
 use Rattle.tree_path.proofs.StepLaws.{option_map-Some}
 

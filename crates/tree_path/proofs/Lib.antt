@@ -1,3 +1,4 @@
+pub mod Prelude
 pub mod Descents
 pub mod EditLaws
 pub mod Edits

@@ -1,16 +1,9 @@
 -- Indices read digit by digit: a number so far, and what the digits after it make of it.
-use Rattle.std.proofs.Common.{◌≡◌, ℕ, zero, suc, ◌+◌, ◌-◌, ◌*◌, ◌<◌, Bool, true, false, cond, ◌&&◌, ◌==◌, List, []}
-use Rattle.std.proofs.Common.{◌∷◌, length, get_or, drop, Option, Some, None, option_map, refl, sym, ap, subst, ◌∙◌}
-use Rattle.std.proofs.Common.{arith}
+use Rattle.std.proofs.Common.{◌≡◌, ℕ, zero, suc, ◌+◌, ◌-◌, ◌*◌, ◌<◌, Bool, true, false, cond, ◌&&◌, ◌==◌, List, [], ◌∷◌, length, get_or}
+use Rattle.std.proofs.Common.{drop, Option, Some, None, option_map, refl, sym, ap, subst, ◌∙◌, arith}
+use Rattle.tree_path.proofs.Prelude.{option_and_then, eqb-true, nat_tests, at_drop_more, list_all, is_empty}
 use Rattle.std.specs.Char.{digit_value}
-use Rattle.std.specs.Option.{option_and_then}
-use Rattle.std.proofs.lemmas.Bool.{eqb-true}
-use Rattle.std.proofs.lemmas.Bool.Decides.{nat_tests}
-use Rattle.std.proofs.lemmas.List.{at_drop_more}
-use Rattle.std.specs.List.{list_all}
-use Rattle.yaml_grammar.specs.Texts.{is_empty}
-use Rattle.tree_path.specs.Paths.{digit, number_after}
-use Rattle.tree_path.specs.Steps.{number_of, as_usize}
+use Rattle.tree_path.specs.{Paths.digit, Paths.number_after, Steps.number_of, Steps.as_usize}
 
 -- the number with one more digit; nothing comes after a leading zero
 abbrev pub digit_after : Option ℕ → ℕ → Option ℕ

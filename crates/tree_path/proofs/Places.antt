@@ -1,24 +1,15 @@
 -- Places in the lists of a tree of src/, and in the elements and members that they are seen as.
-use Rattle.std.proofs.Common.{◌≡◌, ℕ, zero, suc, ◌+◌, ◌<◌, ◌≤◌, Bool, true, false, cond, List, [], ◌∷◌, ◌++◌, length}
-use Rattle.std.proofs.Common.{get_or, set, drop, Option, Some, None, option_map, refl, sym, ap, subst, ◌∙◌, arith}
-use Rattle.std.proofs.Common.{rules}
-use Rattle.std.specs.List.{remove}
-use Rattle.std.specs.Str.{chars, IsUtf8, bytes_eq}
-use Rattle.std.proofs.lemmas.Bool.Decides.{same_from_decides}
-use Rattle.std.proofs.lemmas.List.{at_drop_more, at_drop_all}
-use Rattle.std.proofs.lemmas.Slice.Eq.{bytes_eq-Decides, compares_Decides}
-use Rattle.std.proofs.lemmas.Str.{encodes-chars}
+use Rattle.std.proofs.Common.{◌≡◌, ℕ, zero, suc, ◌+◌, ◌<◌, ◌≤◌, Bool, true, false, cond, List, [], ◌∷◌, ◌++◌, length, get_or, set, drop}
+use Rattle.std.proofs.Common.{Option, Some, None, option_map, refl, sym, ap, subst, ◌∙◌, arith, rules}
+use Rattle.tree_path.proofs.Prelude.{remove, chars, IsUtf8, bytes_eq, same_from_decides, at_drop_more, at_drop_all, bytes_eq-Decides}
+use Rattle.tree_path.proofs.Prelude.{compares_Decides, encodes-chars, same_text, element, member, Pair, tree_of, elements_of, members_of}
+use Rattle.tree_path.proofs.Prelude.{text_bytes, Text}
 use lib.Utf8.{encodes}
-use Rattle.yaml_grammar.specs.Texts.{same_text}
-use Rattle.yaml_grammar.specs.Trees as grammar
-use Rattle.yaml_grammar.specs.Trees.{element, member}
-use Rattle.yaml_data.specs.Seen.{Pair, tree_of, elements_of, members_of}
-use Rattle.yaml_data.specs.TextBytes.{text_bytes}
-use Rattle.yaml_data.specs.declared.text.Text.{Text}
 use Rattle.yaml_data.specs.declared.tree.Tree.{Tree}
 use Rattle.tree_path.specs.Paths.{element_at, put_element, cut_element, push_element, value_of, put_member, cut_member, place_of}
 use Rattle.tree_path.specs.Steps.{key_place}
 use Rattle.tree_path.proofs.StepLaws.{option_map-Some, option_map-None}
+use Rattle.yaml_grammar.specs.Trees as grammar
 
 -- ---- texts that are equal have equal bytes
 

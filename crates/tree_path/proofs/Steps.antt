@@ -1,30 +1,19 @@
 -- One step in a tree of src/: the index and the pair that the code finds, and what the definitions say there.
-use Rattle.std.proofs.Common.{◌≡◌, ℕ, ◌<◌, ◌≤◌, Bool, true, false, cond, nat_lt, List, [], ◌∷◌, ◌++◌, length, get_or}
-use Rattle.std.proofs.Common.{set, codes, Option, Some, None, option_map, Result, Ok, Err, Global, Vec, vec_len, refl}
-use Rattle.std.proofs.Common.{sym, ap, ◌∙◌, arith, rules}
-use Rattle.std.specs.List.{remove}
-use Rattle.std.specs.Option.{ok_or}
-use Rattle.std.specs.Str.{chars, IsUtf8, bytes_eq}
-use Rattle.std.proofs.lemmas.Bool.Decides.{nat_tests, same_from_decides}
-use Rattle.std.proofs.lemmas.Slice.Eq.{bytes_eq-Decides, compares_Decides}
-use Rattle.std.proofs.lemmas.Str.{encodes-chars}
+use Rattle.std.proofs.Common.{◌≡◌, ℕ, ◌<◌, ◌≤◌, Bool, true, false, cond, nat_lt, List, [], ◌∷◌, ◌++◌, length, get_or, set, codes, Option}
+use Rattle.std.proofs.Common.{Some, None, option_map, Result, Ok, Err, Global, Vec, vec_len, refl, sym, ap, ◌∙◌, arith, rules}
+use Rattle.tree_path.proofs.Prelude.{remove, ok_or, chars, IsUtf8, bytes_eq, nat_tests, same_from_decides, bytes_eq-Decides}
+use Rattle.tree_path.proofs.Prelude.{compares_Decides, encodes-chars, same_text, sequence, mapping, Pair, tree_of, elements_of, members_of}
+use Rattle.tree_path.proofs.Prelude.{text_bytes, Text}
 use lib.Utf8.{encodes, encode}
-use Rattle.yaml_grammar.specs.Texts.{same_text}
-use Rattle.yaml_grammar.specs.Trees as grammar
-use Rattle.yaml_grammar.specs.Trees.{sequence, mapping}
-use Rattle.yaml_data.specs.Seen.{Pair, tree_of, elements_of, members_of}
-use Rattle.yaml_data.specs.TextBytes.{text_bytes}
-use Rattle.yaml_data.specs.declared.text.Text.{Text}
 use Rattle.yaml_data.specs.declared.tree.Tree.{Tree}
-use Rattle.tree_path.specs.Paths.{Index, number, after_last, no_index, is_number, number_after, index_of, at_index}
-use Rattle.tree_path.specs.Paths.{present, element_at, put_element, cut_element, push_element, child, put, cut}
+use Rattle.tree_path.specs.{declared.place.Miss.Miss, declared.place.Miss.TheVariants.Absent, declared.place.Miss.TheVariants.NoIndex}
+use Rattle.tree_path.specs.Paths.{Index, number, after_last, no_index, is_number, number_after, index_of, at_index, present, element_at}
+use Rattle.tree_path.specs.Paths.{put_element, cut_element, push_element, child, put, cut}
 use Rattle.tree_path.specs.Steps.{number_of, index_below, key_place}
-use Rattle.tree_path.specs.declared.place.Miss.{Miss}
-use Rattle.tree_path.specs.declared.place.Miss.TheVariants.{Absent, NoIndex}
-use Rattle.tree_path.proofs.Places.{value_of-place, put_member-place, cut_member-place, value_of-absent}
-use Rattle.tree_path.proofs.Places.{put_member-absent, cut_member-absent, element_at-index, put_element-index}
-use Rattle.tree_path.proofs.Places.{cut_element-index, element_at-past, put_element-past, cut_element-past}
-use Rattle.tree_path.proofs.Places.{push_element-last}
+use Rattle.tree_path.proofs.Places.{value_of-place, put_member-place, cut_member-place, value_of-absent, put_member-absent}
+use Rattle.tree_path.proofs.Places.{cut_member-absent, element_at-index, put_element-index, cut_element-index, element_at-past}
+use Rattle.tree_path.proofs.Places.{put_element-past, cut_element-past, push_element-last}
+use Rattle.yaml_grammar.specs.Trees as grammar
 
 -- ---- what a token is
 
@@ -47,18 +36,6 @@ index_below-other token count is none =
     let P : Bool → Type 0 = λ b. cond b (Some (number_after 0 token)) None ≡ None
     → at_index (cond b (number (number_after 0 token)) no_index) (λ n. cond (nat_lt n count) (Some n) None) (Err Absent) ≡ Err NoIndex in
     rw is ((elim (is_number token) as P [ true ↦ λ e. cc | false ↦ λ e. refl ]) none)
-
--- a number below the count is
-pub index_below-number : (token : List ℕ) (count n : ℕ) → same_text token (codes "-") ≡ false → number_of token ≡ Some n
-    → index_below token count ≡ present (cond (nat_lt n count) (Some n) None)
-index_below-number token count n is some =
-    let P : Bool → Type 0 = λ b. cond b (Some (number_after 0 token)) None ≡ Some n
-    → at_index (cond b (number (number_after 0 token)) no_index) (λ m. cond (nat_lt m count) (Some m) None) (Err Absent)
-    ≡ present (cond (nat_lt n count) (Some n) None) in
-    rw is ((elim (is_number token) as P [
-      | true ↦ λ e. let same : number_after 0 token ≡ n = cc in ap (λ m. present (cond (nat_lt m count) (Some m) None)) same
-      | false ↦ λ e. cc
-    ]) some)
 
 -- ---- sequences, at what a token means
 

@@ -1,7 +1,6 @@
 -- The links of a table's chains, and what stays on the chains when one number is taken off.
 use Rattle.std.specs.Prelude.{◌≡◌, ◌<◌, ℕ, List, length, get_or, true}
-use Rattle.tree_path.specs.declared.key_table.KeyTable.{KeyTable}
-use Rattle.tree_path.specs.Tables.{on_chain, chain_of}
+use Rattle.tree_path.specs.{declared.key_table.KeyTable.KeyTable, Tables.on_chain, Tables.chain_of}
 
 -- a number's link is this one
 abbrev pub LeadsTo : List ℕ → ℕ → ℕ → Type 0

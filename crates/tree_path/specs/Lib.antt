@@ -1,3 +1,4 @@
+pub mod Prelude
 pub mod Chains
 pub mod Paths
 pub mod Steps

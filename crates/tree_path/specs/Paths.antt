@@ -2,11 +2,10 @@
 -- first refusal on the way; steps count from 1.
 use Rattle.std.specs.Prelude.{ℕ, zero, suc, ◌+◌, ◌-◌, ◌*◌, Bool, false, ◌==◌, if◌then◌else◌, List, [], ◌∷◌, codes}
 use Rattle.std.specs.Prelude.{Option, Some, None, option_map, Result, Ok, Err}
+use Rattle.tree_path.specs.Prelude.{list_all, is_empty, same_text, Tree, text, sequence, mapping, Elements, no_element}
+use Rattle.tree_path.specs.Prelude.{element, Members, no_member, member}
 use Rattle.yaml_chars.specs.Signs.{digit_zero}
 use Rattle.yaml_chars.specs.Classes.{in_range}
-use Rattle.std.specs.List.{list_all}
-use Rattle.yaml_grammar.specs.Texts.{is_empty, same_text}
-use Rattle.yaml_grammar.specs.Trees.{Tree, text, sequence, mapping, Elements, no_element, element, Members, no_member, member}
 use Rattle.json_pointer.specs.declared.fault.PathFault.{PathFault}
 use Rattle.json_pointer.specs.declared.fault.PathFault.TheVariants.{NoSuchPlace, NotIndex}
 use Rattle.tree_path.specs.declared.place.Miss.{Miss}

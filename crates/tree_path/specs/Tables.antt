@@ -1,17 +1,13 @@
 -- What a table of keys says of a mapping: each key has a number, the numbers grow with the places, and the chain of a
 -- key's bucket has its number. So a key that is on no chain is in the mapping nowhere.
-use Rattle.std.specs.Prelude.{◌≡◌, ◌<◌, ◌≤◌, ◌+◌, ◌++◌, ◌-◌, ◌*◌, ◌%◌, ◌^◌, ℕ, zero, suc, List, [], ◌∷◌, length}
-use Rattle.std.specs.Prelude.{get_or, Ok, IfSome, Bool, true, false, ◌||◌, if◌then◌else◌, ◌==◌, nat_lt}
-use Rattle.std.specs.Str.{chars}
-use Rattle.yaml_grammar.specs.Texts.{same_text}
-use Rattle.yaml_grammar.specs.Trees.{Tree, text, sequence, mapping, Members, no_member, member}
-use Rattle.yaml_data.specs.TextBytes.{text_bytes}
+use Rattle.std.specs.Prelude.{◌≡◌, ◌<◌, ◌≤◌, ◌+◌, ◌++◌, ◌-◌, ◌*◌, ◌%◌, ◌^◌, ℕ, zero, suc, List, [], ◌∷◌, length, get_or}
+use Rattle.std.specs.Prelude.{Ok, IfSome, Bool, true, false, ◌||◌, if◌then◌else◌, ◌==◌, nat_lt}
+use Rattle.tree_path.specs.Prelude.{chars, same_text, Tree, text, sequence, mapping, Members, no_member, member}
+use Rattle.tree_path.specs.Prelude.{text_bytes}
 use Rattle.yaml_data.specs.declared.text.Text.{Text}
-use Rattle.tree_path.specs.Paths.{at}
-use Rattle.tree_path.specs.declared.key_index.KeyIndex.{KeyIndex}
-use Rattle.tree_path.specs.declared.key_index.Reach.{Reach}
+use Rattle.tree_path.specs.{Paths.at, declared.key_index.KeyIndex.KeyIndex, declared.key_index.Reach.Reach}
+use Rattle.tree_path.specs.{declared.key_table.KeyTable.KeyTable}
 use Rattle.tree_path.specs.declared.key_index.Reach.TheVariants.{Around, Key, Below, Apart}
-use Rattle.tree_path.specs.declared.key_table.KeyTable.{KeyTable}
 
 -- ---- buckets
 

@@ -2,14 +2,12 @@
 // loops, so the call stack doesn't grow with the path. On the way down each value is taken out of its parent, and what
 // is above it is kept in the place that this leaves free.
 ghost use Rattle.std.specs.Prelude.{◌≡◌, ◌⊎◌, ◌<◌, true, IfOk, IfErr, IfSome, OnOk, OnErr, Ok, Err, length};
-ghost use Rattle.std.specs.Str.{chars};
+ghost use Rattle.tree_path.specs.Prelude.{chars, distinct, sequence, mapping, tree_of, elements_of, members_of, texts};
 ghost use Rattle.std.specs.Vec.{vec_len, vec_capacity};
-ghost use Rattle.yaml_grammar.specs.Trees.{Tree as Meant, distinct, sequence, mapping};
-ghost use Rattle.yaml_data.specs.Seen.{tree_of, elements_of, members_of};
+ghost use Rattle.yaml_grammar.specs.Trees.{Tree as Meant};
 ghost use Rattle.tree_path.specs.Paths.{at_step, at, put, cut, set, delete, child, key_in};
 ghost use Rattle.tree_path.specs.Steps.{ArePlaces, Knows, KnowsWay, Lowered, Rebuilt, key_place};
 ghost use Rattle.tree_path.specs.Tables.{Indexes};
-ghost use Rattle.json_pointer.specs.Tokens.{texts};
 
 use crate::key_index::{KeyIndex, table_at};
 use crate::place::{self, Miss};

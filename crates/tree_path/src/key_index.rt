@@ -1,13 +1,9 @@
 // Where the keys of a wide mapping are, so that an edit need not walk along it.
 ghost use Rattle.std.specs.Prelude.{◌≡◌, ◌<◌, ◌⊎◌, ◌++◌, ℕ, true, List, [], ◌∷◌, Ok, Some, None, IfOk, IfSome, length};
+ghost use Rattle.tree_path.specs.Prelude.{remove, chars, same_text, Members, mapping, members_of, tree_of, text_bytes};
+ghost use Rattle.tree_path.specs.Prelude.{texts};
 ghost use Rattle.std.specs.Cow.{cow_str_bytes};
-ghost use Rattle.std.specs.List.{remove};
-ghost use Rattle.std.specs.Str.{chars};
-ghost use Rattle.yaml_grammar.specs.Texts.{same_text};
-ghost use Rattle.yaml_grammar.specs.Trees.{Members, Tree as Meant, mapping};
-ghost use Rattle.yaml_data.specs.Seen.{members_of, tree_of};
-ghost use Rattle.yaml_data.specs.TextBytes.{text_bytes};
-ghost use Rattle.json_pointer.specs.Tokens.{texts};
+ghost use Rattle.yaml_grammar.specs.Trees.{Tree as Meant};
 ghost use Rattle.tree_path.specs.declared.key_table.KeyTable.{KeyTable};
 ghost use Rattle.tree_path.specs.declared.key_index.Reach.{Reach};
 ghost use Rattle.tree_path.specs.Paths.{at, set, delete};

@@ -1,9 +1,7 @@
 // The places of the keys of one mapping, by a hash of each key.
-ghost use Rattle.std.specs.Prelude.{◌≡◌, ◌<◌, ◌≤◌, ◌+◌, ◌-◌, ◌++◌, ℕ, true, Some, IfOk, IfSome, OnOk, List, [], ◌∷◌, length};
-ghost use Rattle.std.specs.List.{remove};
-ghost use Rattle.std.specs.Str.{chars};
-ghost use Rattle.yaml_grammar.specs.Trees.{members_distinct};
-ghost use Rattle.yaml_data.specs.Seen.{members_of};
+ghost use Rattle.std.specs.Prelude.{◌≡◌, ◌<◌, ◌≤◌, ◌+◌, ◌-◌, ◌++◌, ℕ, true, Some, IfOk, IfSome, OnOk, List, [], ◌∷◌};
+ghost use Rattle.std.specs.Prelude.{length};
+ghost use Rattle.tree_path.specs.Prelude.{remove, chars, members_distinct, members_of};
 ghost use Rattle.tree_path.specs.Steps.{key_place};
 ghost use Rattle.tree_path.specs.Chains.{KeepsOthers, LeadsTo};
 ghost use Rattle.tree_path.specs.Tables.{Lists, Rise, StandsAt, bucket_of, keys_of, on_chain, place_at};

@@ -1,6 +1,6 @@
 // Laws of edits, over the definitions alone.
 ghost use Rattle.std.specs.Prelude.{◌≡◌, ◌≢◌, ℕ, true, List, [], ◌∷◌, ◌++◌, Ok};
-ghost use Rattle.yaml_grammar.specs.Trees.{Tree, distinct};
+ghost use Rattle.tree_path.specs.Prelude.{Tree, distinct};
 ghost use Rattle.tree_path.specs.Paths.{index_of, after_last, at, set, delete};
 
 /// What is set at a path is found there, unless the last step is `-`.

@@ -1,8 +1,7 @@
 // One step of a path: the value that it leads to.
 ghost use Rattle.std.specs.Prelude.{◌≡◌, true, ℕ, List, IfOk, IfErr, IfSome, Ok, Err, option_map};
-ghost use Rattle.std.specs.Str.{chars};
-ghost use Rattle.yaml_grammar.specs.Trees.{sequence, mapping, distinct, members_distinct};
-ghost use Rattle.yaml_data.specs.Seen.{tree_of, elements_of, members_of};
+ghost use Rattle.tree_path.specs.Prelude.{chars, sequence, mapping, distinct, members_distinct, tree_of, elements_of};
+ghost use Rattle.tree_path.specs.Prelude.{members_of};
 ghost use Rattle.tree_path.specs.Paths.{child, put, refusal, key_in};
 ghost use Rattle.tree_path.specs.Steps.{number_of, as_usize, index_below, step_place, key_place as place_of};
 ghost use Rattle.tree_path.specs.Tables.{Lists, ListsIn, keys_of};

@@ -1,8 +1,6 @@
 // Where the steps of a path lead, kept so that an edit need not search for them again.
 ghost use Rattle.std.specs.Prelude.{◌≡◌, ◌⊎◌, true, Err, IfOk, IfErr, IfSome};
-ghost use Rattle.std.specs.Str.{chars};
-ghost use Rattle.yaml_grammar.specs.Trees.{distinct};
-ghost use Rattle.yaml_data.specs.Seen.{tree_of};
+ghost use Rattle.tree_path.specs.Prelude.{chars, distinct, tree_of};
 ghost use Rattle.tree_path.specs.Paths.{at, key_in};
 ghost use Rattle.tree_path.specs.Steps.{ArePlaces, KnowsLast, KnowsStep, parents_of, step_place};
 ghost use Rattle.tree_path.specs.Tables.{Indexes};

@@ -1,8 +1,8 @@
 // Trees that are built from texts: very deep ones, and mappings with a key twice.
-use probe_words::{no_place, shown, text_of};
+use probe_words::{no_place, text_of};
 use std::alloc::{AllocError, Global};
 use std::mem;
-use yaml_tree::{Limits, Text, Tree, read_one};
+use yaml_tree::{Text, Tree};
 
 /// Takes the tree, and leaves the empty text in its place.
 pub(crate) fn taken(tree: &mut Tree) -> Tree {
@@ -12,17 +12,6 @@ pub(crate) fn taken(tree: &mut Tree) -> Tree {
 /// The answer after a tree was built.
 fn built(alloc: Global) -> Result<String, AllocError> {
     String::from_str(alloc, "built")
-}
-
-/// Takes the tree of a text of YAML, and shows it.
-pub(crate) fn build_tree(alloc: Global, tree: &mut Tree, text: &str) -> Result<String, AllocError> {
-    match read_one(alloc, text.as_bytes(), &Limits::CONFIGURATION) {
-        Ok(config) => {
-            *tree = config.into_tree();
-            shown(alloc, tree)
-        }
-        Err(fault) => shown(alloc, &fault),
-    }
 }
 
 /// Takes a text as the tree.

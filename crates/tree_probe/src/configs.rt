@@ -1,6 +1,7 @@
 // Orders on what a configuration is: its limits, copies and sizes.
-use crate::builds::{build_nested, build_pairs, build_sequences, build_text, build_tree, taken};
+use crate::builds::{build_nested, build_pairs, build_sequences, build_text, taken};
 use crate::faults::{check_fault, fault_of, sentence_of};
+use crate::trees::take;
 use probe_words::{no_order, no_place, shown, text_of};
 use std::alloc::{AllocError, Global};
 use yaml_tree::{Config, Limits, Size, Text, Tree, style_len};
@@ -31,7 +32,7 @@ fn answer_to_words(
     text: &str,
 ) -> Result<String, AllocError> {
     match call {
-        "tree" => build_tree(alloc, tree, text),
+        "tree" => take(alloc, tree, text),
         "pairs" => build_pairs(alloc, tree, text),
         "text" => build_text(alloc, tree, text),
         "sequences" => build_sequences(alloc, tree, text),

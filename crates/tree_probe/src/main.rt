@@ -1,5 +1,6 @@
-//! Answers orders on trees and on texts that are trees. Each line of standard input is an order: the name of a group, a
-//! word and what belongs to it, with `;` between them. It is answered in one line.
+//! Answers orders on trees, on texts that are trees, on states, and on words for the program. Each line of standard
+//! input is an order: a word and what belongs to it, with `;` between them. The name of a group comes first, where an
+//! order is in one. It is answered in one line.
 //!
 //! - `style;TEXT`: how many nanoseconds reading the text's tree took, and the tree in the one style.
 //!   `checks/fuzz_texts.py` asks for it too. The text has escapes and no runs.
@@ -41,19 +42,52 @@
 //! - `keys;TEXT`: shows the keys of a mapping, or the indexes of a sequence, as lines.
 //! - `texts;TEXT;..`: the JSON text of a sequence of texts. `texts;` has one, the empty text.
 //!
-//! What is refused is answered with the fault. `probe_words` says how a text with escapes is written after `style` and
-//! in the groups `config` and `form`, what a heading is, and how the program ends.
+//! Refused texts: where they are at fault, and why. A text that is read is answered by `read`.
+//!
+//! - `line;BYTES`: the place, and the refusal in a few words, as an editor reads them. `small;BYTES` does so within
+//!   small limits: 40 bytes, a depth of 3, and 48 bytes in the one style.
+//! - `sentence;BYTES`: the refusal in a sentence.
+//! - `excerpt;BYTES`: the line of the text and the mark below it, as `Debug` shows a text.
+//! - `remedy;BYTES`: what to do.
+//! - `comment;BYTES`: the place of the first comment, or `none`.
+//!
+//! A state: commands, and the records and bases that are written and read. `checks/refuse_state_allocations.py` asks
+//! for some of these too. In a `TEXT` and a `TREE` `\n` means a line feed, and `*COUNT` at the end that many letters
+//! `x`; the `TEXT` of a name has neither.
+//!
+//! - `name;TEXT`: whether the text is a name.
+//! - `import;NAME;TREE`, `set;NAME;PATH;TREE` and `delete;NAME;PATH`: the command is performed. The answer is the count
+//!   after it, or why it is refused. `unfit;` before it says that the journal has no room for its record.
+//! - `record;NUMBER;` before a command: the length of its record with this number, and the record.
+//! - `perform;TEXT`: the command of a record is performed.
+//! - `read;TEXT`: the record or the base that the text is read as, written again, after its length. `read_bytes;BYTES`
+//!   reads bytes.
+//! - `open;TEXT`: the state of a base is taken; `new`: an empty state.
+//! - `show`: the count, and each configuration in the one style, in order. `length`: the bytes of the base text, as the
+//!   state keeps them. `base`: the length of the base text, and the base text.
+//! - `fault;NAME`: the message of a fault.
+//!
+//! `confstore WORD..`: what these words ask the program for. The answer is the invocation as `Debug` shows it, or
+//! `shown: ` and the first line of what is shown, or `wrong: ` and the first line of what is said.
+//!
+//! What is refused is answered with the fault. `probe_words` says how words, `BYTES`, and a text with escapes are
+//! written after `style` and in the groups `config` and `form`, what a heading is, and how the program ends.
 #![tactic(auto)]
 
 mod builds;
+mod commands;
 mod configs;
 mod edits;
 mod faults;
 mod forms;
 mod orders;
+mod refusals;
+mod states;
+mod store_faults;
 mod style;
 mod texts;
 mod trees;
+mod words;
 
 use orders::Held;
 use probe_words::answer_lines;

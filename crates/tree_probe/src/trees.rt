@@ -1,6 +1,6 @@
 // Orders on trees.
 use crate::edits::{at_path, delete_len_at, delete_path, set_len_at, set_path};
-use crate::texts::{config_of, meant};
+use crate::texts::{config_of, meant, measured};
 use probe_words::{no_order, shown};
 use std::alloc::{AllocError, Global};
 use tree_path::Path;
@@ -65,9 +65,9 @@ enum Role {
 }
 
 /// The length of a text and the text, or why there is none.
-fn measured(alloc: Global, text: Result<String, ReadFault>) -> Result<String, AllocError> {
+fn measured_or_not(alloc: Global, text: Result<String, ReadFault>) -> Result<String, AllocError> {
     match text {
-        Ok(text) => format!(in alloc; "{} {text:?}", text.len()),
+        Ok(text) => measured(alloc, &text),
         Err(fault) => shown(alloc, &fault),
     }
 }
@@ -80,13 +80,13 @@ fn restyled(alloc: Global, text: &str) -> Result<String, ReadFault> {
 
 /// The length of a tree's text in the one style, and the text.
 fn emitted(alloc: Global, text: &str) -> Result<String, AllocError> {
-    measured(alloc, restyled(alloc, text))
+    measured_or_not(alloc, restyled(alloc, text))
 }
 
 /// The length of a text that is formatted, and the text.
 fn formatted(alloc: Global, text: &str) -> Result<String, AllocError> {
     let text = meant(alloc, text)?;
-    measured(
+    measured_or_not(
         alloc,
         format_one(alloc, text.as_bytes(), &Limits::CONFIGURATION),
     )
@@ -144,7 +144,7 @@ fn steps_of(alloc: Global, text: &str) -> Result<String, AllocError> {
 }
 
 /// Takes the tree of a text.
-fn take(alloc: Global, tree: &mut Tree, text: &str) -> Result<String, AllocError> {
+pub(crate) fn take(alloc: Global, tree: &mut Tree, text: &str) -> Result<String, AllocError> {
     match config_of(alloc, text) {
         Ok(config) => {
             *tree = config.into_tree();

@@ -1,10 +1,11 @@
 // The last run of a list is cut off after each of its disk calls.
 use crate::histories::History;
-use crate::images::{Zeros, open_images};
+use crate::images::open_images;
 use crate::list::{Asked, List};
 use crate::runs::Ran;
 use crate::world::MemoryWorld;
 use crate::wrong::Wrong;
+use probe_words::Zeros;
 use std::alloc::{AllocError, Global};
 
 /// The line of a list whose last run is cut off after each of its disk calls.

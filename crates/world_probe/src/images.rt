@@ -4,35 +4,24 @@ use crate::states::told;
 use crate::world::MemoryWorld;
 use crate::wrong::Wrong;
 use conf_disk::{Cuts, Name};
+use probe_words::{Zeros, each_cut};
 use std::alloc::{AllocError, Global};
 use test_disks::MemoryDisk;
 
-/// Which images of a folder are looked at.
-#[derive(Clone, Copy, PartialEq, Eq)]
-pub(crate) enum Zeros {
-    /// All: with each number of zeros after the bytes that are kept.
-    Each,
-    /// Those without zeros, and those with as many as fit.
-    Ends,
-}
-
 /// More stages than any disk here has.
 const STAGES: usize = 16;
-
-/// More bytes than are pending in any file here.
-const BYTES: usize = 4096;
 
 /// How many pending bytes of a file are kept, and how many zeros come after them.
 type Cut = (usize, usize);
 
 /// A stage of a folder whose run was cut off.
 #[derive(Clone, Copy)]
-pub(crate) struct Stage<'a> {
-    pub(crate) alloc: Global,
-    pub(crate) disk: &'a MemoryDisk,
-    pub(crate) place: usize,
+struct Stage<'a> {
+    alloc: Global,
+    disk: &'a MemoryDisk,
+    place: usize,
     /// The states that it may have.
-    pub(crate) span: Span,
+    span: Span,
 }
 
 impl Stage<'_> {
@@ -40,50 +29,6 @@ impl Stage<'_> {
     fn image(self, store: Cut, next: Cut) -> Result<Option<MemoryDisk>, AllocError> {
         self.disk.image(self.place, Cuts { store, next })
     }
-
-    /// Whether a crash can leave the file under a name with so many pending bytes.
-    fn keeps(self, name: Name, kept: usize) -> Result<bool, AllocError> {
-        let image = match name {
-            Name::Store => self.image((kept, 0), (0, 0))?,
-            Name::Next => self.image((0, 0), (kept, 0))?,
-        };
-        Ok(image.is_some())
-    }
-
-    /// How many bytes are pending in the file under a name.
-    fn pending(self, name: Name) -> Result<usize, AllocError> {
-        for kept in 0..BYTES {
-            if !self.keeps(name, kept.saturating_add(1))? {
-                return Ok(kept);
-            }
-        }
-        Ok(BYTES)
-    }
-
-    /// The cuts of the file under a name.
-    fn cuts(self, name: Name, zeros: Zeros) -> Result<Vec<Cut>, AllocError> {
-        let pending = self.pending(name)?;
-        let mut cuts = Vec::new(self.alloc);
-        for kept in 0..=pending {
-            push_cuts(&mut cuts, kept, pending.saturating_sub(kept), zeros)?;
-        }
-        Ok(cuts)
-    }
-}
-
-/// Adds the cuts that keep so many bytes, with zeros in the place of those that are left.
-fn push_cuts(
-    cuts: &mut Vec<Cut>,
-    kept: usize,
-    left: usize,
-    zeros: Zeros,
-) -> Result<(), AllocError> {
-    for count in 0..=left {
-        if zeros == Zeros::Each || count == 0 || count == left {
-            cuts.push((kept, count))?;
-        }
-    }
-    Ok(())
 }
 
 /// Opens the images of a folder whose run was cut off, and may have these states.
@@ -101,17 +46,20 @@ pub(crate) fn open_images(
             place,
             span,
         };
-        if stage.keeps(Name::Store, 0)? {
-            open_stage(stage, zeros, history)?;
-        }
+        open_stage(stage, zeros, history)?;
     }
     Ok(())
 }
 
-/// Opens the images of a stage: each cut of one file with each of the other.
+/// Opens the images of a stage, if there is one: each cut of one file with each of the other.
 fn open_stage(stage: Stage<'_>, zeros: Zeros, history: &mut History) -> Result<(), Wrong> {
-    let stores = stage.cuts(Name::Store, zeros)?;
-    let nexts = stage.cuts(Name::Next, zeros)?;
+    let store = stage.disk.pending(stage.place, Name::Store)?;
+    let next = stage.disk.pending(stage.place, Name::Next)?;
+    let (Some(store), Some(next)) = (store, next) else {
+        return Ok(());
+    };
+    let stores = each_cut(stage.alloc, store, zeros)?;
+    let nexts = each_cut(stage.alloc, next, zeros)?;
     for store in &stores {
         open_row(stage, *store, &nexts, history)?;
     }

@@ -1,9 +1,8 @@
 // Orders on lists, and their answers.
 use crate::crashes::crash;
-use crate::images::Zeros;
 use crate::list::{Asked, Given, List};
 use crate::names::names;
-use probe_words::{Answers, bytes_of, no_order, text_of, wrong_escape};
+use probe_words::{Answers, Zeros, bytes_of, no_order, text_of, words_of, wrong_escape};
 use std::alloc::{AllocError, Global};
 use std::io;
 
@@ -83,16 +82,4 @@ fn run_next(alloc: Global, list: &mut List, order: &str) -> Result<String, Alloc
         Some(last) => list.world_after(alloc, last, u64::MAX)?.1.line(alloc),
         None => no_order(alloc),
     }
-}
-
-/// The words that are written, or `None` if one is written wrongly.
-fn words_of(alloc: Global, written: &str) -> Result<Option<Vec<String>>, AllocError> {
-    let mut words = Vec::new(alloc);
-    for word in written.split(' ') {
-        match text_of(alloc, word)? {
-            Some(word) => words.push(word)?,
-            None => return Ok(None),
-        }
-    }
-    Ok(Some(words))
 }

@@ -1,30 +1,15 @@
 -- A leaf or the first key of a mapping, from one reading of a flow node in the widest context.
 use Rattle.std.proofs.Common.{ap, inl, inr, refl, subst, sym, ◌∙◌, ◌≡◌}
 use Rattle.std.specs.Prelude.{Bool, List, None, Option, Some, [], false, if◌then◌else◌, is_some, true, ℕ, ◌&&◌, ◌++◌, ◌==◌, ◌∷◌}
-use Rattle.std.proofs.lemmas.Bool.{and_left, and_right, eqb-true, false≢true, or_cases}
-use Rattle.yaml_chars.specs.Classes.{white}
-use Rattle.yaml_grammar.specs.BlockNodes.{Indented, Node, Pair, block, flow, node}
-use Rattle.yaml_grammar.specs.FlowNodes.{Flow, flow_text, short_key}
-use Rattle.yaml_grammar.specs.FlowScalars.{block_key, outer}
-use Rattle.yaml_grammar.specs.Separation.{LineEnd, Sep}
-use Rattle.yaml_grammar.specs.Texts.{first}
-use Rattle.yaml_recognizers.specs.BlockFrames.{Sits, close_pairs, key_on_line, keyed_part, plug, waits_key, waits_value}
-use Rattle.yaml_recognizers.specs.BlockNodes.{bar, flow_with, key_after, opens_pair}
-use Rattle.yaml_recognizers.specs.BlockScalars.{read_block}
-use Rattle.yaml_recognizers.specs.Comments.{all_comments, closes_line}
-use Rattle.yaml_recognizers.specs.Ends.{solid}
-use Rattle.yaml_recognizers.specs.Prefixes.{drop_while, past, sign, take_while}
+use Rattle.yaml_block.proofs.Prelude.{and_left, and_right, eqb-true, false≢true, or_cases, white, Indented, Node, Pair, block, flow, node}
+use Rattle.yaml_block.proofs.Prelude.{Flow, flow_text, short_key, block_key, outer, LineEnd, Sep, first, Sits, close_pairs, key_on_line}
+use Rattle.yaml_block.proofs.Prelude.{keyed_part, plug, waits_key, waits_value, bar, flow_with, key_after, opens_pair, read_block}
+use Rattle.yaml_block.proofs.Prelude.{all_comments, closes_line, solid, drop_while, past, sign, take_while, Read, on, StandsFlow}
+use Rattle.yaml_block.proofs.Prelude.{block_indented_at, block_key_in, block_pairs_at, flow_leaf_at, flow_node_at, asked_opens, key_opens}
+use Rattle.yaml_block.proofs.Prelude.{no_key, no_comments, stands, take_while_every, take_while_split, is_key, leaf_is_key, leaf_no_key}
+use Rattle.yaml_block.proofs.Prelude.{no_leaf_no_key, flow_one_line, unbroken, head_of}
 use Rattle.yaml_recognizers.specs.OneLine.{on_one_line}
-use Rattle.yaml_recognizers.specs.Reading.{Read, on}
-use Rattle.yaml_recognizers.specs.Recognizers.{StandsFlow, block_indented_at, block_key_in, block_pairs_at, flow_leaf_at, flow_node_at}
-use Rattle.yaml_recognizers.proofs.Block.BlockFrames.{asked_opens, key_opens, no_key}
-use Rattle.yaml_recognizers.proofs.Separation.CommentsComplete.{no_comments}
 use Rattle.yaml_recognizers.proofs.Flow.FlowNodesBegin.{Opens, flow_opens}
-use Rattle.yaml_recognizers.proofs.Flow.FlowNodesFound.{stands}
-use Rattle.yaml_recognizers.proofs.Basics.Prefixes.{take_while_every, take_while_split}
-use Rattle.yaml_recognizers.proofs.Block.KeyLeaves.{is_key, leaf_is_key, leaf_no_key, no_leaf_no_key}
-use Rattle.yaml_recognizers.proofs.Flow.OneLineText.{flow_one_line, unbroken}
-use Rattle.yaml_recognizers.proofs.Basics.Solid.{head_of}
 use Rattle.yaml_block.specs.BlockParts.{as_part, leaf_part, part_at}
 
 -- ---- where there is no leaf
@@ -40,11 +25,6 @@ leaf_opens m bol text f rest e =
     subst (λ (t : List ℕ). Opens t × (first bar t ≡ false)) (sym s.spells)
     (flow_opens f m outer bol rest refl s.canonical)
 
--- the text that a leaf spells, before its rest
-pub leaf_spells : (m : ℕ) (bol : Bool) (text : List ℕ) (f : Flow) (rest : List ℕ)
-    → flow_leaf_at m bol text ≡ Some (f, rest) → text ≡ flow_text f ++ rest
-leaf_spells m bol text f rest e = (stands m outer bol text f rest e).spells
-
 -- it is on one line where its text has no break
 pub leaf_one_line : (m : ℕ) (bol : Bool) (text : List ℕ) (f : Flow) (rest : List ℕ)
     → flow_leaf_at m bol text ≡ Some (f, rest) → on_one_line f ≡ unbroken (flow_text f)
@@ -59,11 +39,6 @@ no_leaf_bar m bol text h = unread (flow_leaf_at m bol text)
 pub no_leaf_colon : (m : ℕ) (bol : Bool) (text : List ℕ) → sign 58 text ≡ true → flow_leaf_at m bol text ≡ None
 no_leaf_colon m bol text h = unread (flow_leaf_at m bol text)
     (λ f rest e. false≢true (sym ((leaf_opens m bol text f rest e).0).no_colon ∙ h))
-
--- nor with the `?` of a key
-pub no_leaf_question : (m : ℕ) (bol : Bool) (text : List ℕ) → sign 63 text ≡ true → flow_leaf_at m bol text ≡ None
-no_leaf_question m bol text h = unread (flow_leaf_at m bol text)
-    (λ f rest e. false≢true (sym ((leaf_opens m bol text f rest e).0).no_ask ∙ h))
 
 -- at white, a break, a `#` or the text's end
 pub no_leaf_unsolid : (m : ℕ) (bol : Bool) (text : List ℕ) → first solid text ≡ false → flow_leaf_at m bol text ≡ None
@@ -279,9 +254,3 @@ pub next_key_missing : (sits : Sits) (k : ℕ) (bol : Bool) (done : List Pair) (
 next_key_missing sits k bol done text h e =
     no_key sits k bol done text h
     (ap (λ r. on r (λ key rest'. key_after key (take_while white rest') (drop_while white rest'))) e)
-
--- nor with a `:` alone
-pub next_colon_refused : (sits : Sits) (k : ℕ) (bol : Bool) (done : List Pair) (text : List ℕ) → sign 58 text ≡ true
-    → close_pairs sits done (block_pairs_at k bol text) ≡ None
-next_colon_refused sits k bol done text h = no_key sits k bol done text (colon_no_question text h)
-    (no_leaf_no_key 0 bol text (no_leaf_colon 0 bol text h))

@@ -1,30 +1,15 @@
 -- What starts a line of a block, after comments or at the start of a line.
 use Rattle.std.proofs.Common.{ap, arith, inl, inr, length-append, refl, sym, ◌<◌, ◌∙◌, ◌≡◌, ◌≤◌, ◌⊎◌}
-use Rattle.std.specs.Prelude.{Bool, List, None, Option, Some, [], false, if◌then◌else◌, length, nat_le, not, suc}
-use Rattle.std.specs.Prelude.{true, zero, ℕ, ◌&&◌, ◌++◌, ◌==◌, ◌||◌, ◌∷◌}
-use Rattle.std.proofs.lemmas.Bool.{and_cases, and_from, and_left, and_right, cases_Bool, false≢true, le-leb, leb-true, not-false, or_cases}
-use Rattle.std.proofs.lemmas.Bool.Decides.{nat_tests}
-use Rattle.yaml_chars.specs.Classes.{white}
-use Rattle.yaml_grammar.specs.BlockNodes.{Items, Node, Pairs, items, pairs}
-use Rattle.yaml_grammar.specs.BlockScalars.{past_spaces, spaces_before}
-use Rattle.yaml_grammar.specs.Separation.{LineEnd, Sep, comments_text, indents, sep_text}
-use Rattle.std.specs.List.{list_all}
-use Rattle.yaml_grammar.specs.Texts.{begins, first, is_empty, spaces, starts_line}
-use Rattle.yaml_recognizers.specs.BlockFrames.{close_items, close_pairs, on_lines, plug, waits_item}
-use Rattle.yaml_recognizers.specs.BlockNodes.{flow_with, leaf_at, node_below, opens_pair, sep_at}
-use Rattle.yaml_recognizers.specs.BlockScalars.{read_block}
-use Rattle.yaml_recognizers.specs.Comments.{all_comments, more_comments, read_line_end}
-use Rattle.yaml_recognizers.specs.Ends.{solid}
-use Rattle.yaml_recognizers.specs.Prefixes.{drop_while, past, sign, take_while}
-use Rattle.yaml_recognizers.specs.Reading.{Read, on}
-use Rattle.yaml_recognizers.specs.Recognizers.{block_indented_at, block_items_at, block_key_in, block_pairs_at, flow_leaf_at}
-use Rattle.yaml_recognizers.proofs.Block.BlockFrames.{items_open}
-use Rattle.yaml_recognizers.proofs.Block.BlockNodesBegin.{lead_deep}
-use Rattle.yaml_recognizers.proofs.Separation.CommentsDepth.{comments_step}
-use Rattle.yaml_recognizers.proofs.Separation.CommentsSound.{LineOf, all_sound, line_sound, shorter}
-use Rattle.yaml_recognizers.proofs.Basics.Prefixes.{take_while_every, take_while_split}
-use Rattle.yaml_recognizers.proofs.Basics.LineStarts.{starts_joined}
-use Rattle.yaml_recognizers.proofs.Basics.Reading.{Sound}
+use Rattle.std.specs.Prelude.{Bool, List, None, Option, Some, [], false, if◌then◌else◌, length, nat_le, not, suc, true, zero, ℕ, ◌&&◌, ◌++◌}
+use Rattle.std.specs.Prelude.{◌==◌, ◌||◌, ◌∷◌}
+use Rattle.yaml_block.proofs.Prelude.{and_cases, and_from, and_left, and_right, cases_Bool, false≢true, le-leb, leb-true, not-false}
+use Rattle.yaml_block.proofs.Prelude.{or_cases, nat_tests, white, Items, Node, Pairs, items, pairs, past_spaces, spaces_before, LineEnd}
+use Rattle.yaml_block.proofs.Prelude.{Sep, comments_text, indents, sep_text, list_all, begins, first, is_empty, spaces, starts_line}
+use Rattle.yaml_block.proofs.Prelude.{close_items, close_pairs, on_lines, plug, waits_item, flow_with, leaf_at, node_below, opens_pair}
+use Rattle.yaml_block.proofs.Prelude.{sep_at, read_block, all_comments, more_comments, read_line_end, solid, drop_while, past, sign}
+use Rattle.yaml_block.proofs.Prelude.{take_while, Read, on, block_indented_at, block_items_at, block_key_in, block_pairs_at, flow_leaf_at}
+use Rattle.yaml_block.proofs.Prelude.{items_open, lead_deep, comments_step, LineOf, all_sound, line_sound, shorter, take_while_every}
+use Rattle.yaml_block.proofs.Prelude.{take_while_split, starts_joined, Sound}
 use Rattle.yaml_block.specs.BlockParts.{as_part, leaf_part, part_at, sep_after}
 use Rattle.yaml_block.proofs.BlockLeaves.{no_leaf_unsolid}
 use Rattle.yaml_block.proofs.BlockSigns.{white_after_spaces, no_pair_there, untabbed, untabbed_taken, white_starts, white_unsolid_first}

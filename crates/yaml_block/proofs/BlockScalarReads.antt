@@ -1,16 +1,10 @@
 -- A block scalar in a node: from what its scanners find to what the recognizer reads, and the comments after it.
 use Rattle.std.proofs.Common.{ap, append_assoc, refl, sym, ◌∙◌, ◌≡◌}
 use Rattle.std.specs.Prelude.{Bool, List, None, Option, Some, [], false, if◌then◌else◌, ℕ, ◌++◌, ◌+◌, ◌∷◌}
-use Rattle.std.proofs.lemmas.Bool.{and_parts, not-true}
-use Rattle.yaml_grammar.specs.BlockScalars.{BlockScalar, Body, Chomping, Header, bare_block_text, block_events}
-use Rattle.yaml_grammar.specs.BlockScalars.{block_text, block_value, goes_on}
-use Rattle.yaml_grammar.specs.Events.{folded_style, literal_style, scalar_event}
-use Rattle.yaml_grammar.specs.Separation.{LineEnd, comments_text}
-use Rattle.yaml_grammar.specs.Texts.{byte_len}
-use Rattle.yaml_recognizers.specs.BlockScalarFacts.{IsBody, IsHeader, NoBody, NoHeader}
-use Rattle.yaml_recognizers.specs.BlockScalars.{block_of, read_block, read_body, read_header, read_trail}
-use Rattle.yaml_recognizers.specs.Reading.{Read}
-use Rattle.yaml_recognizers.proofs.BlockScalars.BlockScalarFacts.{blocks_read, body_found, body_is, digit_first, header_found, header_is}
+use Rattle.yaml_block.proofs.Prelude.{and_parts, not-true, BlockScalar, Body, Chomping, Header, bare_block_text, block_events, block_text}
+use Rattle.yaml_block.proofs.Prelude.{block_value, goes_on, folded_style, literal_style, scalar_event, LineEnd, comments_text, byte_len}
+use Rattle.yaml_block.proofs.Prelude.{IsBody, IsHeader, NoBody, NoHeader, block_of, read_block, read_body, read_header, read_trail, Read}
+use Rattle.yaml_block.proofs.Prelude.{blocks_read, body_found, body_is, digit_first, header_found, header_is}
 use Rattle.yaml_recognizers.proofs.BlockScalars.Trails.{trail_sound}
 
 -- ---- the scalar

@@ -1,36 +1,17 @@
 -- What comes after a sign: on its line, or on a later one, or nothing.
 use Rattle.std.proofs.Common.{ap, arith, inl, inr, refl, sym, ◌∙◌, ◌≡◌}
-use Rattle.std.specs.Prelude.{Bool, List, None, Some, [], false, if◌then◌else◌, is_some, length, nat_le, nat_lt, not}
-use Rattle.std.specs.Prelude.{suc, true, ℕ, ◌&&◌, ◌+◌, ◌==◌, ◌||◌, ◌∷◌}
-use Rattle.std.proofs.lemmas.Bool.{and_from, and_left, and_parts, and_right, cases_Bool, cases_eq, cases_lt, eqb-true}
-use Rattle.std.proofs.lemmas.Bool.{false≢true, lt-ltb, le-ltb, not-false, not_from_false, or_from, or_parts}
-use Rattle.std.proofs.lemmas.Bool.Decides.{nat_tests}
-use Rattle.yaml_chars.specs.Classes.{line_break, white}
-use Rattle.yaml_grammar.specs.BlockNodes.{Indented, Node, compact_items, compact_pairs, node, omitted}
-use Rattle.yaml_grammar.specs.BlockScalars.{past_spaces, spaces_before}
-use Rattle.yaml_grammar.specs.Separation.{LineEnd, inline}
-use Rattle.std.specs.List.{list_all}
-use Rattle.yaml_grammar.specs.Texts.{first, is_empty, marker, spaces, starts_line}
-use Rattle.yaml_recognizers.specs.BlockFrames.{close_pairs, on_sign_line, plug, waits_item}
-use Rattle.yaml_recognizers.specs.BlockNodes.{indented_node, leaf_at, node_below, omits, opens_pair, sep_at}
-use Rattle.yaml_recognizers.specs.BlockScalars.{read_block}
-use Rattle.yaml_recognizers.specs.CanonicalComments.{is_line_end}
-use Rattle.yaml_recognizers.specs.Comments.{all_comments, closes_line, more_comments, read_line_end}
-use Rattle.yaml_recognizers.specs.Ends.{block_node_stops, solid}
-use Rattle.yaml_recognizers.specs.Prefixes.{drop_while, past, sign, take_while}
-use Rattle.yaml_recognizers.specs.Reading.{Read, on}
-use Rattle.yaml_recognizers.specs.Recognizers.{block_indented_at, block_items_at, block_key_in, block_node_at, block_pairs_at, flow_leaf_at}
-use Rattle.yaml_recognizers.proofs.Block.BlockFrames.{items_open, node_after_sign, sequence_on_sign_line}
-use Rattle.yaml_recognizers.proofs.Block.BlockNodesBegin.{comments_closed}
-use Rattle.yaml_recognizers.proofs.Block.BlockNodesSound.{tail_fit}
-use Rattle.yaml_recognizers.proofs.Separation.CommentsComplete.{no_comments}
-use Rattle.yaml_recognizers.proofs.Separation.CommentsDepth.{comments_step}
-use Rattle.yaml_recognizers.proofs.Separation.CommentsSound.{CommentsOf, all_sound, comments_end}
-use Rattle.yaml_recognizers.proofs.Basics.Prefixes.{every_space, spaces_split, take_while_every}
-use Rattle.yaml_recognizers.proofs.Block.KeyLeaves.{no_leaf_no_key}
-use Rattle.yaml_recognizers.proofs.Basics.Solid.{dash_unmarked, unsolid_sign, white_unsolid}
-use Rattle.yaml_recognizers.proofs.Basics.Spaces.{marker_unspaced, none_spaced}
-use Rattle.yaml_recognizers.proofs.Meanings.Steps.{indented_steps, node_steps}
+use Rattle.std.specs.Prelude.{Bool, List, None, Some, [], false, if◌then◌else◌, is_some, length, nat_le, nat_lt, not, suc, true, ℕ, ◌&&◌}
+use Rattle.std.specs.Prelude.{◌+◌, ◌==◌, ◌||◌, ◌∷◌}
+use Rattle.yaml_block.proofs.Prelude.{and_from, and_left, and_parts, and_right, cases_Bool, cases_eq, eqb-true, false≢true, lt-ltb}
+use Rattle.yaml_block.proofs.Prelude.{not-false, not_from_false, or_from, or_parts, nat_tests, line_break, white, Indented, Node}
+use Rattle.yaml_block.proofs.Prelude.{compact_items, compact_pairs, node, omitted, past_spaces, spaces_before, LineEnd, inline, list_all}
+use Rattle.yaml_block.proofs.Prelude.{first, is_empty, marker, spaces, starts_line, close_pairs, on_sign_line, indented_node, leaf_at}
+use Rattle.yaml_block.proofs.Prelude.{node_below, omits, opens_pair, sep_at, read_block, is_line_end, all_comments, closes_line}
+use Rattle.yaml_block.proofs.Prelude.{more_comments, read_line_end, block_node_stops, solid, drop_while, past, sign, take_while, Read, on}
+use Rattle.yaml_block.proofs.Prelude.{block_items_at, block_key_in, block_node_at, block_pairs_at, flow_leaf_at, node_after_sign}
+use Rattle.yaml_block.proofs.Prelude.{comments_closed, tail_fit, comments_step, CommentsOf, all_sound, comments_end, take_while_every}
+use Rattle.yaml_block.proofs.Prelude.{no_leaf_no_key, dash_unmarked, unsolid_sign, white_unsolid, marker_unspaced, none_spaced}
+use Rattle.yaml_block.proofs.Prelude.{indented_steps, node_steps}
 use Rattle.yaml_block.specs.BlockParts.{LineGoesOn, as_part, leaf_part, part_at, part_after_sign}
 use Rattle.yaml_block.proofs.BlockLeaves.{no_leaf_unsolid}
 
@@ -103,19 +84,6 @@ white_unsolid_first (c ∷ cs) h = white_unsolid c h
 all_end : (text : List ℕ) → is_line_end (all_comments true text).1 ≡ false
 all_end text = comments_end (suc (length text)) text (omega arith)
 
--- B1: where spaces are followed by something solid, the line goes on
-pub solid_goes_on : (text : List ℕ) → first solid (past_spaces text) ≡ true → LineGoesOn text
-solid_goes_on text h = record {
-  none = ap (all_comments false) (spaces_split text)
-      ∙ (no_comments false (spaces (spaces_before text)) (past_spaces text) (every_space (spaces_before text)) h
-      ∙ ap (λ t. ([], t)) (sym (spaces_split text)));
-  some = some text h;
-}
-  where
-    some : (text : List ℕ) → first solid (past_spaces text) ≡ true → is_empty text ≡ false
-    some [] h = absurd (false≢true h)
-    some (c ∷ cs) h = refl
-
 unclosed_by : (text : List ℕ) (r : Read LineEnd) → closes_line (more_comments text (λ rest. all_comments true rest) r)
     ≡ false
     → (more_comments text (λ rest. all_comments true rest) r ≡ ([], text)) × (is_empty text ≡ false)
@@ -130,11 +98,6 @@ unclosed_goes_on text h =
     × (is_empty text ≡ false) =
     unclosed_by text (read_line_end false text) (ap closes_line (sym (comments_step false text)) ∙ h) in
     record { none = comments_step false text ∙ p.0; some = p.1 }
-
--- before something solid no comments close the line
-pub solid_unclosed : (text : List ℕ) → first solid (past_spaces text) ≡ true
-    → closes_line (all_comments false text) ≡ false
-solid_unclosed text h = let g : LineGoesOn text = solid_goes_on text h in ap closes_line g.none ∙ and_left _ _ g.some
 
 -- where comments close the line, nothing solid comes after its spaces
 closed_unsolid : (text : List ℕ) → closes_line (all_comments false text) ≡ true
@@ -204,16 +167,6 @@ not_compact : (compact shallow : Bool) (k : ℕ) (text : List ℕ)
     (all_comments false text)
 not_compact false shallow k text d o = refl
 not_compact true shallow k text d o = node_after_sign k shallow text d o
-
--- a compact sequence
-pub compact_sequence_opens : (k : ℕ) (shallow : Bool) (text : List ℕ) → is_empty (take_while white text) ≡ false
-    → first white (past_spaces text) ≡ false → sign 45 (past_spaces text) ≡ true
-    → part_after_sign true shallow k text
-    ≡ on (block_indented_at (k + 1 + spaces_before text) false (past (past_spaces text)))
-    (λ i rest. plug (waits_item (on_sign_line (spaces_before text)) (k + 1 + spaces_before text) []) i rest)
-compact_sequence_opens k shallow text w t s =
-    sequence_on_sign_line k shallow text (and_from _ _ (some_spaces text w t) s)
-    ∙ items_open (on_sign_line (spaces_before text)) (k + 1 + spaces_before text) [] (past_spaces text) s
 
 -- a compact mapping or a leaf: spaces alone come before it
 pub compact_or_leaf : (k : ℕ) (shallow : Bool) (text : List ℕ) → LineGoesOn text → is_empty (take_while white text) ≡ false
@@ -300,13 +253,6 @@ node_on_lines compact shallow k text h e = after_comments compact shallow k text
 
 -- ---- B2: whether a node ends before a line, by its spaces
 
-same_tests : (s k : ℕ) (shallow d : Bool) → nat_lt s (suc k) && not (shallow && nat_le (suc k) (suc s) && d)
-    ≡ nat_lt s (suc k) && not (shallow && (s == k) && d)
-same_tests s k shallow d = elim (cases_lt s (suc k)) [
-  | inl l ↦ (let e : nat_le (suc k) (suc s) ≡ (s == k) = grind (arith, nat_tests) in rw e refl)
-  | inr l ↦ (let f : nat_lt s (suc k) ≡ false = le-ltb s (suc k) l in rw f refl)
-]
-
 unspaced : (k : ℕ) (shallow d : Bool) (s : ℕ) → s ≡ 0 → d ≡ false
     → nat_lt s (suc k) && not (shallow && (s == k) && d) ≡ true
 unspaced k shallow d s z e = and_from _ _ (lt-ltb s (suc k) (omega arith)) (not_from_false _ (and_right _ _ e))
@@ -317,21 +263,3 @@ marker_dash text h = elim (cases_Bool (sign 45 (past_spaces text))) [
       ∙ (ap marker (none_spaced text (marker_unspaced text h)) ∙ h)))
   | inr e ↦ e
 ]
-
--- what ends a part is what ends a node
-pub block_node_stops_is : (k : ℕ) (shallow : Bool) (text : List ℕ) → is_line_end text ≡ false
-    → block_node_stops (suc k) shallow text ≡ nat_lt (spaces_before text) (suc k)
-    && not (shallow && (spaces_before text == k) && sign 45 (past_spaces text))
-block_node_stops_is k shallow [] h = sym (unspaced k shallow false 0 refl refl)
-block_node_stops_is k shallow (c ∷ cs) h = elim (cases_Bool (marker (c ∷ cs))) [
-  | inl e ↦ rw e (sym (unspaced k shallow _ (spaces_before (c ∷ cs)) (marker_unspaced (c ∷ cs) e)
-      (marker_dash (c ∷ cs) e)))
-  | inr e ↦ rw (e, h) (same_tests (spaces_before (c ∷ cs)) k shallow (sign 45 (past_spaces (c ∷ cs))))
-]
-
--- the same with the two orders of spaces
-pub block_node_stops_line : (k : ℕ) (shallow : Bool) (text : List ℕ) → is_line_end text ≡ false
-    → block_node_stops (suc k) shallow text ≡ nat_lt (spaces_before text) (suc k)
-    && not (shallow && nat_le (suc k) (suc (spaces_before text)) && sign 45 (past_spaces text))
-block_node_stops_line k shallow text h = block_node_stops_is k shallow text h
-    ∙ sym (same_tests (spaces_before text) k shallow (sign 45 (past_spaces text)))

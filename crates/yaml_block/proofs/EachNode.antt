@@ -1,12 +1,7 @@
 -- What is read is the block node that is there.
 use Rattle.std.proofs.Common.{ap, ℕ, ◌∙◌}
 use Rattle.std.specs.Prelude.{Bool, List, ◌++◌}
-use Rattle.std.proofs.lemmas.List.{map-append}
-use Rattle.yaml_chars.specs.Places.{rest}
-use Rattle.yaml_recognizers.proofs.Meanings.StandingNodes.{block_only}
-use Rattle.yaml_events.specs.Meant.{event_of, events_of}
-use Rattle.yaml_events.specs.EventPlaces.{line_starts}
-use Rattle.yaml_events.specs.declared.event.Event.{Event}
+use Rattle.yaml_block.proofs.Prelude.{map-append, rest, block_only, event_of, events_of, line_starts, Event}
 use Rattle.yaml_block.specs.Found.{BlockNodeRead, BlockNodeIs}
 
 -- a node that is read is the one that stands there

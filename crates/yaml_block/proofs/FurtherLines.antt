@@ -1,26 +1,13 @@
 -- No further line of a plain scalar comes where the next line with something solid is less deep.
 use Rattle.std.proofs.Common.{ap, arith, refl, ◌<◌, ◌∙◌, ◌≡◌}
 use Rattle.std.specs.Prelude.{List, None, Some, [], false, is_some, not, true, ℕ, ◌++◌, ◌-◌, ◌||◌}
-use Rattle.std.proofs.lemmas.Bool.{and_parts, false≢true, lt-ltb, or_right}
-use Rattle.yaml_chars.specs.Places.{rest}
-use Rattle.yaml_grammar.specs.BlockScalars.{spaces_before}
-use Rattle.yaml_grammar.specs.FlowScalars.{Line, outer, plain}
-use Rattle.yaml_grammar.specs.Separation.{LineEnd, comments_text}
-use Rattle.yaml_grammar.specs.Texts.{is_empty, marker}
-use Rattle.yaml_recognizers.specs.CanonicalComments.{canonical_comments}
-use Rattle.yaml_recognizers.specs.Comments.{all_comments, closes_line}
-use Rattle.yaml_recognizers.specs.Ends.{less_deep}
-use Rattle.yaml_recognizers.specs.FlowScalars.{scalar_ends}
-use Rattle.yaml_recognizers.specs.PlainScalars.{plain_ends, read_plain_line}
-use Rattle.yaml_recognizers.specs.Reading.{Read}
+use Rattle.yaml_block.proofs.Prelude.{and_parts, false≢true, lt-ltb, or_right, rest, spaces_before, Line, outer, plain, LineEnd}
+use Rattle.yaml_block.proofs.Prelude.{comments_text, is_empty, marker, canonical_comments, all_comments, closes_line, less_deep}
+use Rattle.yaml_block.proofs.Prelude.{scalar_ends, plain_ends, read_plain_line, Read, tail_fit, no_more_lines, all_sound, IsSolidLine}
+use Rattle.yaml_block.proofs.Prelude.{NoNextLine}
 use Rattle.yaml_recognizers.proofs.Block.BlockKeys.{before_comments_stops}
-use Rattle.yaml_recognizers.proofs.Block.BlockNodesSound.{tail_fit}
-use Rattle.yaml_recognizers.proofs.Scalars.PlainSteps.{no_more_lines}
 use Rattle.yaml_recognizers.proofs.Scalars.ScalarsInNodes.{stops_end}
-use Rattle.yaml_recognizers.proofs.Separation.CommentsSound.{all_sound}
-use Rattle.yaml_scan.specs.Lines.{IsSolidLine}
 use Rattle.yaml_scan.specs.declared.lines.Line.{Line as NextLine}
-use Rattle.yaml_flow_scalars.specs.PlainPlaces.{NoNextLine}
 
 -- where a plain scalar ends no further line of it is read
 no_line : (n : ℕ) (after : List ℕ) → scalar_ends n outer (plain [] []) after ≡ true

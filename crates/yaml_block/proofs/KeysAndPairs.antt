@@ -1,48 +1,25 @@
 -- The steps of the reader at a flow node: a leaf, the first key of a mapping, or the key of a further pair.
 use Rattle.std.proofs.Common.{ap, arith, inl, inr, length, refl, subst, sym, ◌<◌, ◌∙◌, ◌≡◌, ◌≤◌, ◌⊎◌}
-use Rattle.std.specs.Prelude.{Bool, IfSome, List, None, Option, Some, [], false, insert, is_some, nat_le, true, ℕ}
-use Rattle.std.specs.Prelude.{◌&&◌, ◌*◌, ◌++◌, ◌+◌, ◌-◌, ◌∷◌}
-use Rattle.std.specs.Str.{IsCharBoundary, IsUtf8}
-use Rattle.std.proofs.lemmas.Bool.{and_left, and_parts, and_right}
-use Rattle.yaml_chars.specs.Breaks.{no_break}
-use Rattle.yaml_chars.specs.Classes.{white}
-use Rattle.yaml_chars.specs.Places.{between, rest}
-use Rattle.yaml_grammar.specs.BlockNodes.{Indented}
-use Rattle.yaml_grammar.specs.Events as grammar
-use Rattle.yaml_grammar.specs.FlowNodes.{flow_events, flow_text, short_key}
-use Rattle.yaml_grammar.specs.FlowScalars.{block_key, outer}
-use Rattle.std.specs.List.{list_all}
-use Rattle.yaml_grammar.specs.Texts.{byte_len, first}
-use Rattle.yaml_recognizers.specs.BlockFrames.{BlockFrame, key_on_line, waits_key, waits_value}
-use Rattle.yaml_recognizers.specs.BlockNodes.{bar}
-use Rattle.yaml_recognizers.specs.Comments.{all_comments, closes_line}
-use Rattle.yaml_recognizers.specs.Prefixes.{drop_while, sign, take_while}
-use Rattle.yaml_recognizers.specs.Reading.{Read}
-use Rattle.yaml_recognizers.specs.Recognizers.{flow_node_at}
-use Rattle.yaml_recognizers.proofs.Flow.OneLineText.{unbroken}
-use Rattle.yaml_recognizers.proofs.Basics.Reading.{none_some}
-use Rattle.yaml_events.specs.EventPlaces.{line_starts}
-use Rattle.yaml_events.specs.declared.event.Event.{Event}
-use Rattle.yaml_events.specs.declared.event.Event.TheVariants.{MapStart}
-use Rattle.yaml_scan.specs.Lines.{IsSolidLine}
-use Rattle.yaml_scan.specs.ScanPlaces.{AreTaken}
+use Rattle.std.specs.Prelude.{Bool, IfSome, List, None, Option, Some, [], false, insert, is_some, nat_le, true, ℕ, ◌&&◌, ◌*◌, ◌++◌, ◌+◌}
+use Rattle.std.specs.Prelude.{◌-◌, ◌∷◌}
+use Rattle.yaml_block.proofs.Prelude.{IsCharBoundary, IsUtf8, and_left, and_parts, and_right, no_break, white, between, rest, Indented}
+use Rattle.yaml_block.proofs.Prelude.{flow_events, flow_text, short_key, block_key, outer, list_all, byte_len, first, BlockFrame}
+use Rattle.yaml_block.proofs.Prelude.{key_on_line, waits_key, waits_value, bar, all_comments, closes_line, drop_while, sign, take_while}
+use Rattle.yaml_block.proofs.Prelude.{Read, flow_node_at, unbroken, none_some, line_starts, Event, MapStart, IsSolidLine, AreTaken}
+use Rattle.yaml_block.proofs.Prelude.{Appended, FlowNodeRead}
 use Rattle.yaml_scan.specs.declared.lines.Line.{Line}
-use Rattle.yaml_flow.specs.FlowNodes.{Appended, FlowNodeRead}
+use Rattle.yaml_block.specs.{declared.frame.Collection.Collection, declared.frame.Leaf.Leaf, declared.frame.Next.Next}
+use Rattle.yaml_block.specs.{declared.line_sign.Sign.Sign, declared.reader.Reader.Reader}
 use Rattle.yaml_block.specs.Frames.{AfterSign, AtLeaf, AtLine, indent_of, waits_of}
 use Rattle.yaml_block.specs.States.{BeforeColon, BeforeLeaf, BeforePair, Fails, Holds, Leads, Onward, Stack}
-use Rattle.yaml_block.specs.declared.frame.Collection.{Collection}
-use Rattle.yaml_block.specs.declared.frame.Leaf.{Leaf}
-use Rattle.yaml_block.specs.declared.frame.Next.{Next}
-use Rattle.yaml_block.specs.declared.frame.Next.TheVariants as next
-use Rattle.yaml_block.specs.declared.line_sign.Sign.{Sign}
 use Rattle.yaml_block.specs.declared.line_sign.Sign.TheVariants.{Asked, Colon}
 use Rattle.yaml_block.specs.declared.frame.Waits.TheVariants.{Key, Value}
-use Rattle.yaml_block.specs.declared.reader.Reader.{Reader}
-use Rattle.yaml_block.proofs.Stacks.{appended_before, appended_more, appended_one, opened}
-use Rattle.yaml_block.proofs.LeafSteps.{asked_pair, first_key, leaf_goes_on, leaf_read, next_asked, next_key}
-use Rattle.yaml_block.proofs.LeafSteps.{no_first_key, no_leaf, no_next_key, no_next_node, second_key}
+use Rattle.yaml_block.proofs.{Stacks.appended_before, Stacks.appended_more, Stacks.opened, TextPlaces.IsPastSign, TextPlaces.past_sign}
+use Rattle.yaml_block.proofs.LeafSteps.{first_key, leaf_goes_on, leaf_read, next_asked, next_key, no_first_key, no_leaf, no_next_key}
+use Rattle.yaml_block.proofs.LeafSteps.{no_next_node, second_key}
 use Rattle.yaml_block.proofs.PlaceSteps.{WhiteTo, comments_to, flow_to, short_is, unbroken_is, white_to}
-use Rattle.yaml_block.proofs.TextPlaces.{IsPastSign, past_sign}
+use Rattle.yaml_grammar.specs.Events as grammar
+use Rattle.yaml_block.specs.declared.frame.Next.TheVariants as next
 
 -- a step to a place after a sign leads on
 pub after_onward : (text : List ℕ) (at bound p k : ℕ) (before : Sign) → IsPastSign text p → at ≤ p → k ≤ p
@@ -165,26 +142,6 @@ module _ (text : List ℕ) (u : IsUtf8 text) where
   pair_missing at k old q n = λ W from base fs evs held pair. no_next_node W text from fs evs k at pair q n
 
   -- ---- a leaf
-
-  -- the first pair of a mapping starts with `?`
-  pub leaf_asked : (leaf : Leaf) (k : ℕ) (old new : Reader) → leaf.pairs ≡ Some k → IsCharBoundary text leaf.at
-      → sign 63 (rest text leaf.at) ≡ true
-      → new.collections.items ≡ old.collections.items ++ (record { waits = Key; indent = k }) ∷ []
-      → new.events ≡ old.events ++ MapStart ∷ []
-      → Leads text (BeforeLeaf text leaf) old new (next.After (leaf.at + 1) k Asked)
-  leaf_asked leaf k old new n b q c e = λ W from base fs evs held here.
-      let s : IsPastSign text leaf.at = past_sign text leaf.at 63 u b (omega arith) refl q in
-      let at_leaf : AtLeaf W text from fs evs leaf.least (Some k) leaf.at =
-      subst (λ (x : Option ℕ). AtLeaf W text from fs evs leaf.least x leaf.at) n here in
-      let p = asked_pair W text from fs evs leaf.least k leaf.at at_leaf q s.past_is in
-      record {
-        fs = waits_key p.0 k [] ∷ fs;
-        evs = evs ++ grammar.map_start ∷ [];
-        holds = opened text base fs evs (evs ++ grammar.map_start ∷ []) old new (waits_key p.0 k [])
-            (record { waits = Key; indent = k }) held c (record { waits = refl; indent = refl })
-            (appended_one text base old.events new.events evs MapStart held.appended e tt);
-        stands = p.1;
-      }
 
   -- the first key of a mapping waits for its value
   pub leaf_waits : (leaf : Leaf) (k end colon : ℕ) (old mid : List Event) → leaf.pairs ≡ Some k

@@ -1,36 +1,19 @@
 -- The steps of the scanner at a leaf, at the first pair of a mapping, and at a further pair.
 use Rattle.std.proofs.Common.{ap, append_assoc, arith, refl, subst, sym, ◌∙◌, ◌≡◌}
 use Rattle.std.specs.Prelude.{Bool, List, None, Option, Some, [], false, is_some, true, ℕ, ◌&&◌, ◌++◌, ◌+◌, ◌==◌, ◌∷◌}
-use Rattle.std.proofs.lemmas.Bool.{and_from, and_right}
-use Rattle.yaml_chars.specs.Classes.{white}
-use Rattle.yaml_chars.specs.Places.{rest}
-use Rattle.yaml_grammar.specs.BlockNodes.{Indented, Node, Pair, block, flow, node}
-use Rattle.yaml_grammar.specs.BlockScalars.{BlockScalar, bare_block_text, block_events, block_text}
-use Rattle.yaml_grammar.specs.Events.{Event, map_start}
-use Rattle.yaml_grammar.specs.FlowNodes.{Flow, flow_events, flow_text, short_key}
-use Rattle.yaml_grammar.specs.FlowScalars.{block_key}
-use Rattle.yaml_grammar.specs.Separation.{LineEnd, comments_text, sep_text}
-use Rattle.yaml_grammar.specs.Texts.{byte_len, first}
-use Rattle.yaml_recognizers.specs.BlockFrames.{BlockFrame, PairKey, Sits, key_asked, key_on_line, keyed_part, plug}
-use Rattle.yaml_recognizers.specs.BlockFrames.{unwind, waits_item, waits_key, waits_value}
-use Rattle.yaml_recognizers.specs.BlockNodes.{bar}
-use Rattle.yaml_recognizers.specs.BlockScalars.{read_block}
-use Rattle.yaml_recognizers.specs.Comments.{all_comments, closes_line}
-use Rattle.yaml_recognizers.specs.Prefixes.{drop_while, past, sign, take_while}
-use Rattle.yaml_recognizers.specs.Reading.{Read, on}
-use Rattle.yaml_recognizers.specs.Recognizers.{block_indented_at, flow_leaf_at, flow_node_at}
-use Rattle.yaml_recognizers.proofs.Block.BlockFrames.{asked_opens, unwind_none}
-use Rattle.yaml_recognizers.proofs.Meanings.EventPrefixes.{done_pairs_events}
-use Rattle.yaml_recognizers.proofs.Block.KeyLeaves.{is_key}
-use Rattle.yaml_recognizers.proofs.Basics.LineStarts.{byte_len_joined}
-use Rattle.yaml_recognizers.proofs.Flow.OneLineText.{unbroken}
-use Rattle.yaml_events.specs.EventPlaces.{line_starts}
-use Rattle.yaml_block.specs.declared.line_sign.Sign.TheVariants.{Asked, Colon}
-use Rattle.yaml_block.specs.BlockParts.{part_at}
-use Rattle.yaml_block.specs.Frames.{AfterSign, AtLeaf, AtLine, AtPair, MaySit, Seated, events_in, fits_frames}
-use Rattle.yaml_block.specs.Frames.{pairs_of, place_in, sign_after, sits_place}
-use Rattle.yaml_block.proofs.BlockLeaves.{bar_part, first_key_opens, leaf_before_colon, leaf_closes}
-use Rattle.yaml_block.proofs.BlockLeaves.{leaf_goes_on as leaf_unclosed, leaf_missing, leaf_one_line}
+use Rattle.yaml_block.proofs.Prelude.{and_from, and_right, white, rest, Indented, Node, Pair, block, flow, node, BlockScalar}
+use Rattle.yaml_block.proofs.Prelude.{bare_block_text, block_events, block_text, map_start, Flow, flow_events, flow_text, short_key}
+use Rattle.yaml_block.proofs.Prelude.{block_key, LineEnd, comments_text, sep_text, byte_len, first, BlockFrame, PairKey, Sits, key_asked}
+use Rattle.yaml_block.proofs.Prelude.{key_on_line, keyed_part, plug, unwind, waits_item, waits_key, waits_value, bar, read_block}
+use Rattle.yaml_block.proofs.Prelude.{all_comments, closes_line, drop_while, past, sign, take_while, Read, on, block_indented_at}
+use Rattle.yaml_block.proofs.Prelude.{flow_leaf_at, flow_node_at, asked_opens, unwind_none, done_pairs_events, is_key, byte_len_joined}
+use Rattle.yaml_block.proofs.Prelude.{unbroken, line_starts}
+use Rattle.yaml_grammar.specs.Events.{Event}
+use Rattle.yaml_block.proofs.BlockLeaves.{leaf_goes_on as leaf_unclosed}
+use Rattle.yaml_block.specs.{declared.line_sign.Sign.TheVariants.Asked, declared.line_sign.Sign.TheVariants.Colon, BlockParts.part_at}
+use Rattle.yaml_block.specs.Frames.{AfterSign, AtLeaf, AtLine, AtPair, MaySit, Seated, events_in, fits_frames, pairs_of, place_in}
+use Rattle.yaml_block.specs.Frames.{sign_after, sits_place}
+use Rattle.yaml_block.proofs.BlockLeaves.{bar_part, first_key_opens, leaf_before_colon, leaf_closes, leaf_missing, leaf_one_line}
 use Rattle.yaml_block.proofs.BlockLeaves.{next_key_missing, next_key_opens, next_key_unfit, question_opens}
 
 -- ---- where the mapping may sit

@@ -1,3 +1,4 @@
+pub mod Prelude
 pub mod BlockLeaves
 pub mod BlockSigns
 pub mod BlockLines

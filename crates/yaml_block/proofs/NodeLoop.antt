@@ -1,26 +1,13 @@
 -- The loop over what is read next, and the whole node.
 use Rattle.std.proofs.Common.{◌≡◌, refl, subst, ℕ, ◌≤◌}
 use Rattle.std.specs.Prelude.{Bool, List, [], Option, Some, None}
-use Rattle.yaml_chars.specs.Places.{rest}
-use Rattle.yaml_grammar.specs.Events as grammar
-use Rattle.yaml_grammar.specs.BlockNodes.{Node, Indented}
-use Rattle.yaml_recognizers.specs.Reading.{Read}
-use Rattle.yaml_recognizers.specs.Recognizers.{block_node_at}
-use Rattle.yaml_events.specs.EventPlaces.{line_starts}
-use Rattle.yaml_events.specs.declared.event.Event.{Event}
-use Rattle.yaml_block.specs.BlockParts.{as_part}
-use Rattle.yaml_flow.specs.FlowNodes.{Appended}
-use Rattle.yaml_block.specs.Found.{BlockNodeRead}
+use Rattle.yaml_block.proofs.Prelude.{rest, Node, Indented, Read, block_node_at, line_starts, Event, Appended}
+use Rattle.yaml_block.specs.{BlockParts.as_part, Found.BlockNodeRead, Lines.IsLine, Turns.IsPart, Turns.Unwinds, declared.frame.Next.Next}
+use Rattle.yaml_block.specs.{declared.next_line.NextLine.NextLine, declared.line_sign.Sign.Sign, declared.reader.Reader.Reader}
 use Rattle.yaml_block.specs.States.{BeforeNode, BeforePair, BeforePart, Fails, GoesOn, Holds, Leads}
-use Rattle.yaml_block.specs.Lines.{IsLine}
-use Rattle.yaml_block.specs.Turns.{IsPart, Unwinds}
-use Rattle.yaml_block.specs.declared.frame.Next.{Next}
+use Rattle.yaml_block.proofs.{Stacks.appended_none, Unwinding.whole}
+use Rattle.yaml_grammar.specs.Events as grammar
 use Rattle.yaml_block.specs.declared.frame.Next.TheVariants as next
-use Rattle.yaml_block.specs.declared.next_line.NextLine.{NextLine}
-use Rattle.yaml_block.specs.declared.line_sign.Sign.{Sign}
-use Rattle.yaml_block.specs.declared.reader.Reader.{Reader}
-use Rattle.yaml_block.proofs.Stacks.{appended_none}
-use Rattle.yaml_block.proofs.Unwinding.{whole}
 
 none_part : (r : Read Node) → as_part r ≡ None → r ≡ None
 none_part None e = refl

@@ -1,32 +1,17 @@
 -- The steps of the scanner before a node: at the start of a line, and on a line that goes on.
 use Rattle.std.proofs.Common.{ap, arith, refl, sym, ◌∙◌, ◌≡◌, ◌⊎◌}
 use Rattle.std.specs.Prelude.{Bool, List, None, Some, [], false, if◌then◌else◌, nat_le, not, suc, true, ℕ, ◌&&◌, ◌++◌, ◌+◌, ◌||◌, ◌∷◌}
-use Rattle.std.proofs.lemmas.Bool.{and_left, and_right, not_from_true, or_left, or_right}
-use Rattle.yaml_chars.specs.Classes.{white}
-use Rattle.yaml_chars.specs.Places.{rest}
-use Rattle.yaml_grammar.specs.BlockNodes.{Indented}
-use Rattle.yaml_grammar.specs.BlockScalars.{past_spaces, spaces_before}
-use Rattle.yaml_grammar.specs.Events.{Event, seq_start}
-use Rattle.yaml_grammar.specs.Separation.{LineEnd, comments_text, inline, sep_text}
-use Rattle.yaml_grammar.specs.Texts.{byte_len, first, is_empty, starts_line}
-use Rattle.yaml_recognizers.specs.BlockFrames.{BlockFrame, Sits, on_lines, plug, unwind, waits_item}
-use Rattle.yaml_recognizers.specs.BlockNodes.{node_below}
-use Rattle.yaml_recognizers.specs.BlockScalars.{read_block}
-use Rattle.yaml_recognizers.specs.Comments.{all_comments}
-use Rattle.yaml_recognizers.specs.Prefixes.{drop_while, past, sign, take_while}
-use Rattle.yaml_recognizers.specs.Reading.{Read, on}
-use Rattle.yaml_recognizers.specs.Recognizers.{block_indented_at, block_items_at, block_key_in, block_pairs_at, flow_leaf_at}
-use Rattle.yaml_recognizers.proofs.Block.BlockFrames.{unwind_none}
-use Rattle.yaml_recognizers.proofs.Basics.LineStarts.{byte_len_joined}
-use Rattle.yaml_recognizers.proofs.Meanings.Steps.{node_steps}
-use Rattle.yaml_events.specs.EventPlaces.{line_starts}
-use Rattle.yaml_block.specs.declared.line_sign.Sign.TheVariants.{Dash}
-use Rattle.yaml_block.specs.BlockParts.{as_part, part_at, sep_after}
+use Rattle.yaml_block.proofs.Prelude.{and_left, and_right, not_from_true, or_left, or_right, white, rest, Indented, past_spaces}
+use Rattle.yaml_block.proofs.Prelude.{spaces_before, seq_start, LineEnd, comments_text, inline, sep_text, byte_len, first, is_empty}
+use Rattle.yaml_block.proofs.Prelude.{starts_line, BlockFrame, Sits, on_lines, plug, unwind, waits_item, node_below, read_block}
+use Rattle.yaml_block.proofs.Prelude.{all_comments, drop_while, past, sign, take_while, Read, on, block_indented_at, block_items_at}
+use Rattle.yaml_block.proofs.Prelude.{block_key_in, block_pairs_at, flow_leaf_at, unwind_none, byte_len_joined, node_steps, line_starts}
+use Rattle.yaml_grammar.specs.Events.{Event}
+use Rattle.yaml_block.specs.{declared.line_sign.Sign.TheVariants.Dash, BlockParts.as_part, BlockParts.part_at, BlockParts.sep_after}
 use Rattle.yaml_block.specs.Frames.{AfterSign, AtLeaf, AtNode, AtNodeLine, place_in}
-use Rattle.yaml_block.proofs.BlockLines.{is_deep, leaf_alone_after, mapping_or_leaf_after, nothing_after}
-use Rattle.yaml_block.proofs.BlockLines.{sep_after_text, sequence_after, too_shallow_after}
-use Rattle.yaml_block.proofs.BlockSigns.{leaf_on_line, nothing_on_line, untabbed_taken}
-use Rattle.yaml_block.proofs.SignSteps.{byte_len_spaces, untaken}
+use Rattle.yaml_block.proofs.{BlockLines.is_deep, BlockLines.leaf_alone_after, BlockLines.mapping_or_leaf_after, BlockLines.nothing_after}
+use Rattle.yaml_block.proofs.{BlockLines.sep_after_text, BlockLines.sequence_after, BlockLines.too_shallow_after, BlockSigns.leaf_on_line}
+use Rattle.yaml_block.proofs.{BlockSigns.nothing_on_line, BlockSigns.untabbed_taken, SignSteps.byte_len_spaces, SignSteps.untaken}
 
 -- a separation after comments ends where its white does
 sep_end : (from start lead : ℕ) (comments : List LineEnd) (blank : List ℕ)

@@ -1,9 +1,8 @@
 -- The loop over the pairs that are whole lines.
 use Rattle.std.specs.Prelude.{ℕ, List}
+use Rattle.yaml_block.specs.{declared.frame.Next.Next, declared.reader.Reader.Reader}
 use Rattle.yaml_block.specs.States.{BeforePair, Fails, GoesOn, Leads}
-use Rattle.yaml_block.specs.declared.frame.Next.{Next}
 use Rattle.yaml_block.specs.declared.frame.Next.TheVariants as next
-use Rattle.yaml_block.specs.declared.reader.Reader.{Reader}
 
 module _ (text : List ℕ) (k at : ℕ) (first : Reader) where
   -- before the first pair the reader is there

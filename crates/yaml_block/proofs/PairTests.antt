@@ -1,14 +1,8 @@
 -- The tests of a line by which a mapping goes on with a further pair.
 use Rattle.std.proofs.Common.{ap, arith, inl, inr, length, refl, sym, ◌<◌, ◌∙◌, ◌≡◌, eq-eqb}
 use Rattle.std.specs.Prelude.{Bool, List, [], false, nat_lt, not, true, ℕ, ◌&&◌, ◌==◌, ◌||◌}
-use Rattle.std.specs.Str.{IsUtf8, IsCharBoundary}
-use Rattle.std.proofs.lemmas.Bool.{and_left, and_right, cases_eq, false≢true, le-ltb, ne_eqb, or_right}
-use Rattle.yaml_chars.specs.Places.{rest}
-use Rattle.yaml_chars.proofs.Places.{rest-end, char_at}
-use Rattle.yaml_grammar.specs.BlockScalars.{spaces_before}
-use Rattle.yaml_grammar.specs.Texts.{is_empty, marker}
-use Rattle.yaml_recognizers.specs.CanonicalComments.{is_line_end}
-use Rattle.yaml_recognizers.specs.Ends.{block_node_stops}
+use Rattle.yaml_block.proofs.Prelude.{IsUtf8, IsCharBoundary, and_left, and_right, cases_eq, false≢true, le-ltb, ne_eqb, or_right, rest}
+use Rattle.yaml_block.proofs.Prelude.{rest-end, char_at, spaces_before, is_empty, marker, is_line_end, block_node_stops}
 
 -- nothing goes on at the text's end, at a marker, or at a line of white space or a comment
 abbrev pub stops_all : List ℕ → Bool

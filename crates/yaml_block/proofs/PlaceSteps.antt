@@ -1,28 +1,10 @@
 -- What the scanners of lines and flow nodes say of places of a text, in the words of the steps.
 use Rattle.std.proofs.Common.{ap, arith, inl, inr, length, refl, sym, ◌<◌, ◌∙◌, ◌≡◌}
 use Rattle.std.specs.Prelude.{Bool, List, Some, [], false, nat_le, true, ℕ, ◌++◌, ◌+◌, ◌∷◌}
-use Rattle.std.specs.Str.{IsCharBoundary, IsUtf8}
-use Rattle.std.proofs.lemmas.Bool.{and_parts, cases_Bool, false≢true}
-use Rattle.std.proofs.lemmas.Bool.Decides.{nat_tests}
-use Rattle.yaml_chars.specs.Breaks.{no_break}
-use Rattle.yaml_chars.specs.Classes.{line_break, white}
-use Rattle.yaml_chars.specs.Places.{between, rest}
-use Rattle.yaml_chars.proofs.Places.{between-append, same_place}
-use Rattle.yaml_grammar.specs.BlockScalars.{spaces_before}
-use Rattle.yaml_grammar.specs.FlowNodes.{Flow, flow_text, short_key}
-use Rattle.yaml_grammar.specs.FlowScalars.{FlowContext}
-use Rattle.yaml_grammar.specs.Separation.{LineEnd, comments_text}
-use Rattle.std.specs.List.{list_all}
-use Rattle.yaml_grammar.specs.Texts.{byte_len, first, is_empty, starts_line}
-use Rattle.yaml_recognizers.specs.Comments.{all_comments}
-use Rattle.yaml_recognizers.specs.Prefixes.{drop_while, take_while}
-use Rattle.yaml_recognizers.specs.Recognizers.{flow_node_at}
-use Rattle.yaml_recognizers.proofs.Separation.CommentsSound.{all_sound}
-use Rattle.yaml_recognizers.proofs.Flow.FlowNodesFound.{stands}
-use Rattle.yaml_recognizers.proofs.Basics.Prefixes.{take_while_every}
-use Rattle.yaml_recognizers.proofs.Flow.OneLineText.{unbroken}
-use Rattle.yaml_events.specs.EventPlaces.{line_starts}
-use Rattle.yaml_scan.specs.ScanPlaces.{AreSpaces, AreTaken}
+use Rattle.yaml_block.proofs.Prelude.{IsCharBoundary, IsUtf8, and_parts, cases_Bool, false≢true, nat_tests, no_break, line_break, white}
+use Rattle.yaml_block.proofs.Prelude.{between, rest, between-append, same_place, Flow, flow_text, short_key, FlowContext, LineEnd}
+use Rattle.yaml_block.proofs.Prelude.{comments_text, list_all, byte_len, first, is_empty, starts_line, all_comments, drop_while, take_while}
+use Rattle.yaml_block.proofs.Prelude.{flow_node_at, all_sound, stands, take_while_every, unbroken, line_starts, AreSpaces, AreTaken}
 use Rattle.yaml_block.proofs.BlockSigns.{untabbed, white_starts}
 use Rattle.yaml_block.proofs.TextPlaces.{between_is, comments_unmarked, spelled, starts_over, white_inside, white_spelled}
 
@@ -102,10 +84,6 @@ comments_to bs at start bol u b d e =
     )
 
 -- ---- spaces
-
--- spaces up to a place are counted
-pub spaces_to : (bs : List ℕ) (at end : ℕ) → AreSpaces bs at end → at + spaces_before (rest bs at) ≡ end
-spaces_to bs at end s = omega (arith, s.counts, s.above)
 
 -- if the whitespace ends where the spaces do, there is no TAB
 pub no_tab : (bs : List ℕ) (at sp lead : ℕ) → AreSpaces bs at sp → WhiteTo bs at lead → sp ≡ lead

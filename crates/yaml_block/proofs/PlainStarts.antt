@@ -1,21 +1,12 @@
 -- What a plain scalar starts with.
 use Rattle.std.proofs.Common.{inl, inr, refl, subst, sym, ◌∙◌, ◌≡◌}
 use Rattle.std.specs.Prelude.{Bool, List, Some, [], false, true, ℕ, ◌&&◌, ◌==◌, ◌∷◌}
-use Rattle.std.proofs.lemmas.Bool.{and_parts, cases_Bool, cases_eq, false≢true, ne_eqb}
-use Rattle.yaml_chars.specs.Places.{rest}
-use Rattle.yaml_grammar.specs.Events.{plain_style}
-use Rattle.yaml_grammar.specs.FlowScalars.{FlowContext, Scalar, plain_first, style_of}
-use Rattle.yaml_grammar.specs.Texts.{first, no_marker}
-use Rattle.yaml_recognizers.specs.Ends.{solid}
-use Rattle.yaml_recognizers.specs.FlowScalars.{read_scalar}
-use Rattle.yaml_recognizers.specs.PlainScalars.{read_plain}
-use Rattle.yaml_recognizers.proofs.Basics.Reading.{chosen, none_some}
-use Rattle.yaml_recognizers.proofs.Basics.Solid.{plain_solid}
+use Rattle.yaml_block.proofs.Prelude.{and_parts, cases_Bool, cases_eq, false≢true, ne_eqb, rest, plain_style, FlowContext, plain_first}
+use Rattle.yaml_block.proofs.Prelude.{first, no_marker, solid, read_scalar, read_plain, chosen, none_some, plain_solid, line_starts}
+use Rattle.yaml_block.proofs.Prelude.{ScalarAt, double_there, single_there}
+use Rattle.yaml_grammar.specs.FlowScalars.{Scalar, style_of}
 use Rattle.yaml_recognizers.proofs.Scalars.FlowScalars.{complete}
 use Rattle.yaml_recognizers.proofs.Scalars.WholeScalars.{whole_stands}
-use Rattle.yaml_events.specs.EventPlaces.{line_starts}
-use Rattle.yaml_flow_scalars.specs.Standing.{ScalarAt}
-use Rattle.yaml_flow.proofs.ScalarKinds.{double_there, single_there}
 
 -- The text starts with neither whitespace, a break or `#`, nor with an opening bracket.
 pub record PlainStart (text : List ℕ) : Type 0 where

@@ -2,35 +2,21 @@
 -- a value that is left out.
 use Rattle.std.proofs.Common.{ap, arith, inl, inr, refl, sym, ◌∙◌, ◌≡◌, ◌⊎◌, ◌≤◌}
 use Rattle.std.specs.Prelude.{Bool, List, None, Some, [], false, nat_le, not, suc, true, zero, ℕ, ◌&&◌, ◌++◌, ◌+◌, ◌∷◌}
-use Rattle.std.proofs.lemmas.Bool.{and_from, and_left, and_right, false≢true, le-leb, not_from_false, not_from_true}
-use Rattle.yaml_chars.specs.Classes.{white}
-use Rattle.yaml_chars.specs.Places.{rest}
-use Rattle.yaml_grammar.specs.BlockNodes.{Indented, omitted}
-use Rattle.yaml_grammar.specs.BlockScalars.{past_spaces, spaces_before}
-use Rattle.yaml_grammar.specs.Events.{Event, omitted_at, seq_start}
-use Rattle.yaml_grammar.specs.Separation.{LineEnd, comments_text, inline}
-use Rattle.yaml_grammar.specs.Texts.{byte_len, first, is_empty, spaces, starts_line}
-use Rattle.yaml_recognizers.specs.BlockFrames.{BlockFrame, key_asked, key_on_line, on_sign_line, plug, unwind}
-use Rattle.yaml_recognizers.specs.BlockFrames.{waits_item, waits_key, waits_value}
-use Rattle.yaml_recognizers.specs.BlockNodes.{node_below}
-use Rattle.yaml_recognizers.specs.BlockScalars.{read_block}
-use Rattle.yaml_recognizers.specs.Comments.{all_comments, closes_line}
-use Rattle.yaml_recognizers.specs.Ends.{block_node_stops}
-use Rattle.yaml_recognizers.specs.Prefixes.{drop_while, past, sign, take_while}
-use Rattle.yaml_recognizers.specs.Reading.{Read, on}
-use Rattle.yaml_recognizers.specs.Recognizers.{block_indented_at, block_items_at, block_key_in, block_pairs_at, flow_leaf_at}
-use Rattle.yaml_recognizers.proofs.Block.BlockFrames.{asked_for_nothing, items_open, sequence_on_sign_line, unwind_none}
-use Rattle.yaml_recognizers.proofs.Meanings.Steps.{node_steps}
-use Rattle.yaml_events.specs.EventPlaces.{line_starts}
-use Rattle.yaml_block.specs.declared.line_sign.Sign.{Sign}
+use Rattle.yaml_block.proofs.Prelude.{and_from, and_left, and_right, false≢true, le-leb, not_from_false, not_from_true, white, rest}
+use Rattle.yaml_block.proofs.Prelude.{Indented, omitted, past_spaces, spaces_before, omitted_at, seq_start, LineEnd, comments_text, inline}
+use Rattle.yaml_block.proofs.Prelude.{byte_len, first, is_empty, spaces, starts_line, BlockFrame, key_asked, key_on_line, on_sign_line}
+use Rattle.yaml_block.proofs.Prelude.{plug, unwind, waits_item, waits_key, waits_value, node_below, read_block, all_comments, closes_line}
+use Rattle.yaml_block.proofs.Prelude.{block_node_stops, drop_while, past, sign, take_while, Read, on, block_indented_at, block_items_at}
+use Rattle.yaml_block.proofs.Prelude.{block_key_in, block_pairs_at, flow_leaf_at, asked_for_nothing, items_open, sequence_on_sign_line}
+use Rattle.yaml_block.proofs.Prelude.{unwind_none, node_steps, line_starts}
+use Rattle.yaml_grammar.specs.Events.{Event}
+use Rattle.yaml_block.proofs.BlockSigns.{node_on_lines as node_after_lines}
+use Rattle.yaml_block.specs.{declared.line_sign.Sign.Sign, declared.frame.Waits.TheVariants.Key, Signs.is_colon, Signs.is_shallow}
 use Rattle.yaml_block.specs.declared.line_sign.Sign.TheVariants.{Asked, Colon, Dash}
-use Rattle.yaml_block.specs.declared.frame.Waits.TheVariants.{Key}
 use Rattle.yaml_block.specs.BlockParts.{as_part, part_at, part_after_sign}
 use Rattle.yaml_block.specs.Frames.{AfterSign, AtLeaf, AtLine, AtNodeLine, Awaits, Seated, events_in, fits_frame, part_after, waits_of}
-use Rattle.yaml_block.specs.Signs.{is_colon, is_shallow}
-use Rattle.yaml_block.proofs.BlockSigns.{compact_or_leaf, leaf_on_sign_line, node_on_lines as node_after_lines}
-use Rattle.yaml_block.proofs.BlockSigns.{nothing_on_sign_line, omitted_after, unclosed_goes_on, untabbed}
-use Rattle.yaml_block.proofs.BlockSigns.{untabbed_taken}
+use Rattle.yaml_block.proofs.BlockSigns.{compact_or_leaf, leaf_on_sign_line, nothing_on_sign_line, omitted_after, unclosed_goes_on}
+use Rattle.yaml_block.proofs.BlockSigns.{untabbed, untabbed_taken}
 
 -- after a sign, by what may be there
 after_is : (before : Sign) (k : ℕ) (t : List ℕ) → part_after before k t ≡ part_after_sign (not (is_colon before))

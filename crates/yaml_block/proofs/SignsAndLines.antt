@@ -1,67 +1,34 @@
 -- The part after a sign, and a node at the start of a line: what each step of the code leads to.
 use Rattle.std.proofs.Common.{◌≡◌, refl, sym, ◌∙◌, ap, subst, arith, ℕ, ◌+◌, ◌-◌, ◌*◌, ◌<◌, ◌≤◌, length, Ok, Err, inl, inr, add-one}
-use Rattle.std.specs.Prelude.{Bool, true, false, not, suc, ◌&&◌, ◌||◌, ◌⊎◌, List, [], ◌∷◌, ◌++◌, Option, Some, None}
-use Rattle.std.specs.Prelude.{Result, IfErr, IfOk, OnOk, nat_le, if◌then◌else◌, slice_index}
-use Rattle.std.specs.Str.{IsUtf8, IsCharBoundary}
-use Rattle.std.proofs.lemmas.Bool.{cases_lt, false≢true, cases_Bool, and_left, and_right}
-use Rattle.std.proofs.lemmas.Bool.Decides.{nat_tests}
-use Rattle.yaml_chars.specs.Classes.{white}
-use Rattle.yaml_chars.specs.Places.{rest, IsRun}
-use Rattle.yaml_grammar.specs.BlockScalars.{past_spaces, spaces_before}
-use Rattle.yaml_grammar.specs.Events as grammar
-use Rattle.yaml_grammar.specs.Separation.{LineEnd, Sep, comments_text, sep_text}
-use Rattle.yaml_grammar.specs.BlockNodes.{items, pairs}
-use Rattle.yaml_grammar.specs.Texts.{byte_len, first, is_empty, starts_line}
-use Rattle.yaml_recognizers.specs.BlockNodes.{flow_with, leaf_at, opens_pair, sep_at}
-use Rattle.yaml_recognizers.specs.BlockScalars.{read_block}
-use Rattle.yaml_recognizers.specs.Comments.{all_comments, closes_line, more_comments, read_line_end}
-use Rattle.yaml_recognizers.specs.Recognizers.{block_items_at, block_key_in, block_node_at, block_pairs_at, flow_leaf_at}
-use Rattle.yaml_recognizers.proofs.Block.BlockFrames.{unwind_none}
-use Rattle.yaml_recognizers.proofs.Separation.CommentsDepth.{comments_step}
-use Rattle.yaml_recognizers.proofs.Meanings.Steps.{node_steps}
-use Rattle.yaml_chars.proofs.Places.{rest-end}
-use Rattle.yaml_recognizers.specs.Ends.{block_node_stops}
-use Rattle.yaml_recognizers.specs.Prefixes.{drop_while, sign, take_while}
-use Rattle.yaml_recognizers.specs.Reading.{Read, on}
-use Rattle.yaml_grammar.specs.BlockNodes.{Indented}
-use Rattle.yaml_recognizers.specs.BlockFrames.{Sits, on_sign_line, BlockFrame, waits_item, waits_key, unwind}
-use Rattle.yaml_events.specs.Borrowed.{BorrowsPlain}
-use Rattle.yaml_events.specs.Meant.{event_of}
-use Rattle.yaml_events.specs.EventPlaces.{line_starts}
+use Rattle.std.specs.Prelude.{Bool, true, false, not, suc, ◌&&◌, ◌||◌, ◌⊎◌, List, [], ◌∷◌, ◌++◌, Option, Some, None, Result, IfErr, IfOk}
+use Rattle.std.specs.Prelude.{OnOk, nat_le, if◌then◌else◌, slice_index}
+use Rattle.yaml_block.proofs.Prelude.{IsUtf8, IsCharBoundary, cases_lt, false≢true, cases_Bool, and_left, and_right, nat_tests, white, rest}
+use Rattle.yaml_block.proofs.Prelude.{IsRun, past_spaces, spaces_before, LineEnd, Sep, comments_text, sep_text, items, pairs, byte_len}
+use Rattle.yaml_block.proofs.Prelude.{first, is_empty, starts_line, flow_with, leaf_at, opens_pair, sep_at, read_block, all_comments}
+use Rattle.yaml_block.proofs.Prelude.{closes_line, more_comments, read_line_end, block_items_at, block_key_in, block_node_at}
+use Rattle.yaml_block.proofs.Prelude.{block_pairs_at, flow_leaf_at, unwind_none, comments_step, node_steps, rest-end, block_node_stops}
+use Rattle.yaml_block.proofs.Prelude.{drop_while, sign, take_while, Read, on, Indented, Sits, on_sign_line, BlockFrame, waits_item}
+use Rattle.yaml_block.proofs.Prelude.{waits_key, unwind, BorrowsPlain, event_of, line_starts, Event, SeqStart, MapStart, ScanFault}
+use Rattle.yaml_block.proofs.Prelude.{faults_so, ok_so, AreSpaces, AreTaken, IsLineEnd, IsSolidLine}
 use Rattle.yaml_events.specs.declared.context.BlockContext.{BlockContext}
-use Rattle.yaml_events.specs.declared.event.Event.{Event}
-use Rattle.yaml_events.specs.declared.event.Event.TheVariants.{SeqStart, MapStart}
-use Rattle.yaml_events.specs.declared.fault.ScanFault.{ScanFault}
-use Rattle.yaml_scan.proofs.Outcomes.{faults_so, ok_so}
-use Rattle.yaml_scan.specs.ScanPlaces.{AreSpaces, AreTaken}
-use Rattle.yaml_scan.specs.Lines.{IsLineEnd, IsSolidLine}
 use Rattle.yaml_scan.specs.declared.lines.Line.{Line}
-use Rattle.yaml_block.specs.BlockParts.{as_part}
-use Rattle.yaml_block.specs.Frames.{AfterSign, AtLeaf, AtLine, AtNodeLine, AtNode, waits_of}
-use Rattle.yaml_block.specs.Signs.{is_colon}
 use Rattle.yaml_block.specs.Signs.{is_shallow as is_shallow_after}
-use Rattle.yaml_block.specs.States.{Before, BeforePart, BeforeLeaf, BeforeNodeLine, BeforeNode, Leads, Fails, FailsBy}
-use Rattle.yaml_block.specs.States.{Holds, Stack, GoesOn, IsAfterSign, Onward}
+use Rattle.yaml_block.specs.{BlockParts.as_part, Signs.is_colon, declared.indentation.Indentation.Indentation, declared.frame.Leaf.Leaf}
+use Rattle.yaml_block.specs.{declared.frame.Next.Next, declared.line_sign.Sign.Sign, declared.reader.Reader.Reader}
+use Rattle.yaml_block.specs.Frames.{AfterSign, AtLeaf, AtLine, AtNodeLine, AtNode, waits_of}
+use Rattle.yaml_block.specs.States.{Before, BeforePart, BeforeLeaf, BeforeNodeLine, BeforeNode, Leads, Fails, FailsBy, Holds, Stack, GoesOn}
+use Rattle.yaml_block.specs.States.{IsAfterSign, Onward}
 use Rattle.yaml_block.specs.Lines.{IsLine, is_shallow}
-use Rattle.yaml_block.specs.declared.indentation.Indentation.{Indentation}
-use Rattle.yaml_block.specs.declared.frame.Leaf.{Leaf}
-use Rattle.yaml_block.specs.declared.frame.Next.{Next}
-use Rattle.yaml_block.specs.declared.frame.Next.TheVariants as next
-use Rattle.yaml_block.specs.declared.line_sign.Sign.{Sign}
 use Rattle.yaml_block.specs.declared.line_sign.Sign.TheVariants.{Dash, Asked}
 use Rattle.yaml_block.specs.declared.frame.Waits.TheVariants.{Item, Key}
-use Rattle.yaml_block.specs.declared.reader.Reader.{Reader}
-use Rattle.yaml_block.proofs.Stacks.{appended_one, opened}
-use Rattle.yaml_block.proofs.PlaceSteps.{WhiteTo, white_to, comments_to}
-use Rattle.yaml_block.proofs.TextPlaces.{IsPastSign, white_spelled}
-use Rattle.yaml_block.proofs.BlockLeaves.{no_leaf_unsolid}
-use Rattle.yaml_block.proofs.BlockLines.{no_comments}
-use Rattle.yaml_block.proofs.BlockSigns.{no_pair_there, white_after_spaces}
-use Rattle.yaml_block.proofs.UnwindSteps.{left_out}
+use Rattle.yaml_block.proofs.{Stacks.appended_one, Stacks.opened, PlaceSteps.WhiteTo, PlaceSteps.white_to, PlaceSteps.comments_to}
+use Rattle.yaml_block.proofs.{TextPlaces.IsPastSign, TextPlaces.white_spelled, BlockLeaves.no_leaf_unsolid, BlockLines.no_comments}
+use Rattle.yaml_block.proofs.{BlockSigns.no_pair_there, BlockSigns.white_after_spaces, UnwindSteps.left_out, LeafSteps.asked_pair}
 use Rattle.yaml_block.proofs.SignSteps.{compact_leaf, compact_sequence, no_white, node_on_lines, omits_value, sign_leaf}
-use Rattle.yaml_block.proofs.LeafSteps.{asked_pair}
-use Rattle.yaml_block.proofs.NodeSteps.{line_leaf, line_leaf_after_tab, line_leaf_alone, line_too_shallow, node_line}
-use Rattle.yaml_block.proofs.NodeSteps.{node_no_white, node_on_line, sequence_opens}
+use Rattle.yaml_block.proofs.NodeSteps.{line_leaf, line_leaf_after_tab, line_leaf_alone, line_too_shallow, node_line, node_no_white}
+use Rattle.yaml_block.proofs.NodeSteps.{node_on_line, sequence_opens}
+use Rattle.yaml_grammar.specs.Events as grammar
+use Rattle.yaml_block.specs.declared.frame.Next.TheVariants as next
 
 -- ---- what a callee leads to, from another state
 

@@ -1,22 +1,14 @@
 -- The events that a step appends, and the stack of open collections.
 use Rattle.std.proofs.Common.{◌≡◌, refl, sym, ◌∙◌, ap, subst, arith, ℕ, ◌-◌, length, append_assoc}
 use Rattle.std.specs.Prelude.{List, [], ◌∷◌, ◌++◌, slice_index_or}
-use Rattle.std.proofs.lemmas.List.{append-nil}
-use Rattle.std.specs.List.{All, insert}
-use Rattle.std.proofs.lemmas.List.{map-append, length-append}
+use Rattle.yaml_block.proofs.Prelude.{append-nil, All, insert, map-append, length-append, BlockFrame, BorrowsPlain, event_of, events_of}
+use Rattle.yaml_block.proofs.Prelude.{Event, MapStart, Appended}
 use Rattle.std.proofs.lemmas.List.Elements.{All-append, All-nil}
 use Rattle.std.proofs.lemmas.List.Edits.{insert-append_right}
-use Rattle.yaml_grammar.specs.Events as grammar
-use Rattle.yaml_recognizers.specs.BlockFrames.{BlockFrame}
-use Rattle.yaml_events.specs.Borrowed.{BorrowsPlain}
-use Rattle.yaml_events.specs.Meant.{event_of, events_of}
-use Rattle.yaml_events.specs.declared.event.Event.{Event}
-use Rattle.yaml_events.specs.declared.event.Event.TheVariants.{MapStart}
 use Rattle.yaml_flow.proofs.Stacks.{snoc_same}
-use Rattle.yaml_flow.specs.FlowNodes.{Appended}
+use Rattle.yaml_block.specs.{declared.frame.Collection.Collection, declared.reader.Reader.Reader}
 use Rattle.yaml_block.specs.States.{Grown, Holds, Keeps, Stack}
-use Rattle.yaml_block.specs.declared.frame.Collection.{Collection}
-use Rattle.yaml_block.specs.declared.reader.Reader.{Reader}
+use Rattle.yaml_grammar.specs.Events as grammar
 
 -- ---- events
 

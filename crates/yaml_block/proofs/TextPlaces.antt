@@ -1,30 +1,16 @@
 -- Places of a text, from the characters that are between two of them.
 use Rattle.std.proofs.Common.{ap, arith, get_or, inl, inr, length, length-append, length-drop, refl, sym, ◌<◌, ◌∙◌, ◌≡◌, ◌⊎◌}
 use Rattle.std.specs.Prelude.{Bool, List, None, [], drop, false, suc, true, zero, ℕ, ◌++◌, ◌+◌, ◌==◌, ◌∷◌}
-use Rattle.std.specs.Str.{IsCharBoundary, IsUtf8}
+use Rattle.yaml_block.proofs.Prelude.{IsCharBoundary, IsUtf8, and_parts, cases_Bool, cases_lt, false≢true, nat_tests, append_cancel_right}
+use Rattle.yaml_block.proofs.Prelude.{line_break, white, between, rest, between-append, char_at, encodes-rest, rest-ascii, rest-between}
+use Rattle.yaml_block.proofs.Prelude.{rest-end, past_spaces, spaces_before, LineEnd, comments_text, list_all, byte_len, first, is_empty}
+use Rattle.yaml_block.proofs.Prelude.{spaces, starts_line, all_comments, more_comments, read_line_end, drop_while, past, sign, take_while}
+use Rattle.yaml_block.proofs.Prelude.{comments_step, all_sound, spaces_split, take_while_every, take_while_split, starts_joined, sign_head}
+use Rattle.yaml_block.proofs.Prelude.{line_starts, without_mark}
 use Rattle.std.specs.Char.{len_utf8}
 use lib.Utf8.{encode, encodes}
-use Rattle.std.proofs.lemmas.Bool.{and_parts, cases_Bool, cases_lt, false≢true}
-use Rattle.std.proofs.lemmas.Bool.Decides.{nat_tests}
-use Rattle.std.proofs.lemmas.List.{append_cancel_right}
 use Rattle.std.proofs.lemmas.Str.{IsCharBoundary-after_ascii, IsCharBoundary-start, encodes-append, length-encode}
-use Rattle.yaml_chars.specs.Classes.{line_break, white}
-use Rattle.yaml_chars.specs.Places.{between, rest}
-use Rattle.yaml_chars.proofs.Places.{between-append, char_at, encodes-rest, rest-ascii, rest-between, rest-end}
-use Rattle.yaml_grammar.specs.BlockScalars.{past_spaces, spaces_before}
-use Rattle.yaml_grammar.specs.Separation.{LineEnd, comments_text}
-use Rattle.std.specs.List.{list_all}
-use Rattle.yaml_grammar.specs.Texts.{byte_len, first, is_empty, spaces, starts_line}
-use Rattle.yaml_recognizers.specs.Comments.{all_comments, more_comments, read_line_end}
-use Rattle.yaml_recognizers.specs.Prefixes.{drop_while, past, sign, take_while}
-use Rattle.yaml_recognizers.proofs.Separation.CommentsDepth.{comments_step}
-use Rattle.yaml_recognizers.proofs.Separation.CommentsSound.{all_sound}
-use Rattle.yaml_recognizers.proofs.Basics.Prefixes.{spaces_split, take_while_every, take_while_split}
-use Rattle.yaml_recognizers.proofs.Basics.LineStarts.{starts_joined}
-use Rattle.yaml_recognizers.proofs.Basics.Solid.{sign_head}
-use Rattle.yaml_events.specs.EventPlaces.{line_starts, without_mark}
-use Rattle.yaml_block.proofs.BlockLines.{spaces_start}
-use Rattle.yaml_block.proofs.BlockSigns.{white_starts}
+use Rattle.yaml_block.proofs.{BlockLines.spaces_start, BlockSigns.white_starts}
 
 -- a byte order mark
 abbrev pub order_mark : ℕ → Bool

@@ -1,42 +1,22 @@
 -- The steps of `unwind`: a collection goes on at the line after its part, or it ends.
 use Rattle.std.proofs.Common.{◌≡◌, refl, sym, ◌∙◌, ap, subst, arith, ℕ, ◌+◌, ◌-◌, ◌*◌, ◌<◌, ◌≤◌, length}
 use Rattle.std.specs.Prelude.{true, false, not, ◌&&◌, ◌==◌, List, [], ◌∷◌, ◌++◌, Option, Some, None}
-use Rattle.std.specs.Str.{IsUtf8}
-use Rattle.std.proofs.lemmas.Bool.{and_parts, eqb-true, false≢true}
-use Rattle.yaml_grammar.specs.Texts.{is_empty}
-use Rattle.yaml_block.proofs.TextPlaces.{pair_starts}
-use Rattle.yaml_chars.specs.Classes.{line_break}
-use Rattle.yaml_chars.specs.Places.{rest}
-use Rattle.yaml_grammar.specs.BlockScalars.{past_spaces, spaces_before}
-use Rattle.yaml_grammar.specs.Events as grammar
-use Rattle.yaml_grammar.specs.BlockNodes.{Indented}
-use Rattle.yaml_recognizers.specs.Ends.{block_node_stops}
-use Rattle.yaml_recognizers.specs.Prefixes.{sign}
-use Rattle.yaml_recognizers.specs.Reading.{Read}
-use Rattle.yaml_recognizers.specs.BlockFrames.{BlockFrame, waits_item, waits_key, waits_value, key_asked}
-use Rattle.yaml_events.specs.Meant.{event_of}
-use Rattle.yaml_events.specs.EventPlaces.{line_starts}
-use Rattle.yaml_events.specs.Borrowed.{BorrowsPlain}
-use Rattle.yaml_events.specs.declared.event.Event.{Event}
-use Rattle.yaml_events.specs.declared.event.Event.TheVariants.{SeqEnd, MapEnd}
+use Rattle.yaml_block.proofs.Prelude.{IsUtf8, and_parts, eqb-true, false≢true, is_empty, line_break, rest, past_spaces, spaces_before}
+use Rattle.yaml_block.proofs.Prelude.{Indented, block_node_stops, sign, Read, BlockFrame, waits_item, waits_key, waits_value, key_asked}
+use Rattle.yaml_block.proofs.Prelude.{event_of, line_starts, BorrowsPlain, Event, SeqEnd, MapEnd, Appended}
 use Rattle.yaml_scan.specs.declared.lines.Line.{Line}
-use Rattle.yaml_flow.specs.FlowNodes.{Appended}
+use Rattle.yaml_block.specs.{Lines.IsLine, declared.frame.Next.Next, declared.frame.Collection.Collection}
+use Rattle.yaml_block.specs.{declared.next_line.NextLine.NextLine, declared.line_sign.Sign.Sign, declared.line_sign.Sign.TheVariants.Dash}
+use Rattle.yaml_block.specs.{declared.line_sign.Sign.TheVariants.Asked, declared.frame.Waits.Waits, declared.reader.Reader.Reader}
 use Rattle.yaml_block.specs.Frames.{AfterSign, AtLine, AfterPair, waits_of, indent_of}
 use Rattle.yaml_block.specs.States.{Holds, Stack, GoesOn, Onward}
-use Rattle.yaml_block.specs.Lines.{IsLine}
 use Rattle.yaml_block.specs.Turns.{IsPart, ItemRead, KeyRead, PairRead, PartRead, Turns, StillPart, Unwound}
-use Rattle.yaml_block.specs.declared.frame.Next.{Next}
-use Rattle.yaml_block.specs.declared.frame.Collection.{Collection}
-use Rattle.yaml_block.specs.declared.next_line.NextLine.{NextLine}
-use Rattle.yaml_block.specs.declared.frame.Next.TheVariants as next
-use Rattle.yaml_block.specs.declared.line_sign.Sign.{Sign}
-use Rattle.yaml_block.specs.declared.line_sign.Sign.TheVariants.{Dash, Asked}
-use Rattle.yaml_block.specs.declared.frame.Waits.{Waits}
 use Rattle.yaml_block.specs.declared.frame.Waits.TheVariants.{Item, Key, Value}
-use Rattle.yaml_block.specs.declared.reader.Reader.{Reader}
+use Rattle.yaml_block.proofs.TextPlaces.{pair_starts, IsPastSign, past_sign}
 use Rattle.yaml_block.proofs.Stacks.{Popped, appended_one, emptied, opened, popped}
-use Rattle.yaml_block.proofs.TextPlaces.{IsPastSign, past_sign}
 use Rattle.yaml_block.proofs.Unwinding.{item_goes_on, sequence_ends, value_opens, key_alone, value_read, pair_goes_on, mapping_ends}
+use Rattle.yaml_grammar.specs.Events as grammar
+use Rattle.yaml_block.specs.declared.frame.Next.TheVariants as next
 
 -- a sign is on the line, after as many spaces
 pub record SignHere (bs : List ℕ) (line : Line) (k x : ℕ) : Type 0 where

@@ -2,40 +2,24 @@
 -- of the collection around it.
 use Rattle.std.proofs.Common.{ap, append-nil, append_assoc, arith, refl, subst, sym, ◌∙◌, ◌≡◌}
 use Rattle.std.specs.Prelude.{Bool, List, Some, [], codes, false, not, true, ℕ, ◌&&◌, ◌++◌, ◌+◌, ◌==◌, ◌∷◌}
-use Rattle.std.proofs.lemmas.Bool.{eq-eqb, false≢true, not-true}
-use Rattle.yaml_chars.specs.Places.{rest}
-use Rattle.yaml_grammar.specs.BlockNodes.{Indented, Items, Node, Pair, Pairs, asked, asked_alone, compact_items}
-use Rattle.yaml_grammar.specs.BlockNodes.{compact_pairs, indented_end, indented_events, indented_text, item}
-use Rattle.yaml_grammar.specs.BlockNodes.{items_end, items_events, items_text, keyed, keyed_alone, node, node_events}
-use Rattle.yaml_grammar.specs.BlockNodes.{node_text, omitted, pair, pair_end, pair_events, pair_text, pairs_end}
-use Rattle.yaml_grammar.specs.BlockNodes.{pairs_events, pairs_text}
-use Rattle.yaml_grammar.specs.BlockScalars.{past_spaces, spaces_before}
-use Rattle.yaml_grammar.specs.Events.{Event, as_map, as_seq, map_end, map_start, omitted_at, seq_end, seq_start}
-use Rattle.yaml_grammar.specs.FlowNodes.{flow_text}
-use Rattle.yaml_grammar.specs.Separation.{LineEnd, comments_text}
-use Rattle.yaml_grammar.specs.Texts.{byte_len, spaces}
-use Rattle.yaml_recognizers.specs.BlockFrames.{BlockFrame, PairKey, Sits, close_pairs, items_part, joined_items}
-use Rattle.yaml_recognizers.specs.BlockFrames.{joined_pairs, key_asked, key_on_line, on_lines, on_sign_line}
-use Rattle.yaml_recognizers.specs.BlockFrames.{pair_with, pairs_after, pairs_part, plug, unwind, waits_item}
-use Rattle.yaml_recognizers.specs.BlockFrames.{waits_key, waits_value}
-use Rattle.yaml_recognizers.specs.Ends.{block_node_stops}
-use Rattle.yaml_recognizers.specs.Prefixes.{past, sign}
-use Rattle.yaml_recognizers.specs.Reading.{Read, on}
-use Rattle.yaml_recognizers.specs.Recognizers.{block_indented_at, block_node_at, block_pairs_at}
-use Rattle.yaml_recognizers.proofs.Block.BlockFrames.{asked_for_alone, item_last, item_next, pair_last, pair_next}
+use Rattle.yaml_block.proofs.Prelude.{eq-eqb, false≢true, not-true, rest, Indented, Items, Node, Pair, Pairs, asked, asked_alone}
+use Rattle.yaml_block.proofs.Prelude.{compact_items, compact_pairs, indented_end, indented_events, indented_text, item, items_end}
+use Rattle.yaml_block.proofs.Prelude.{items_events, items_text, keyed, keyed_alone, node, node_events, node_text, omitted, pair, pair_end}
+use Rattle.yaml_block.proofs.Prelude.{pair_events, pair_text, pairs_end, pairs_events, pairs_text, past_spaces, spaces_before, as_map}
+use Rattle.yaml_block.proofs.Prelude.{as_seq, map_end, map_start, omitted_at, seq_end, seq_start, flow_text, LineEnd, comments_text}
+use Rattle.yaml_block.proofs.Prelude.{byte_len, spaces, BlockFrame, PairKey, Sits, close_pairs, items_part, joined_items, joined_pairs}
+use Rattle.yaml_block.proofs.Prelude.{key_asked, key_on_line, on_lines, on_sign_line, pair_with, pairs_after, pairs_part, plug, unwind}
+use Rattle.yaml_block.proofs.Prelude.{waits_item, waits_key, waits_value, block_node_stops, past, sign, Read, on, block_indented_at}
+use Rattle.yaml_block.proofs.Prelude.{block_node_at, block_pairs_at, asked_for_alone, item_last, item_next, pair_last, pair_next}
+use Rattle.yaml_block.proofs.Prelude.{done_items_end, done_items_events, done_pairs_end, done_pairs_events, item_place, items_end_last}
+use Rattle.yaml_block.proofs.Prelude.{items_prefix, pair_place, pairs_end_last, pairs_prefix, byte_len_joined, on_parts, some_parts}
+use Rattle.yaml_block.proofs.Prelude.{line_starts}
+use Rattle.yaml_grammar.specs.Events.{Event}
 use Rattle.yaml_recognizers.proofs.Block.BlockFrames.{value_opens as value_next}
-use Rattle.yaml_recognizers.proofs.Meanings.EventPrefixes.{done_items_end, done_items_events, done_pairs_end}
-use Rattle.yaml_recognizers.proofs.Meanings.EventPrefixes.{done_pairs_events, item_place, items_end_last}
-use Rattle.yaml_recognizers.proofs.Meanings.EventPrefixes.{items_prefix, pair_place, pairs_end_last, pairs_prefix}
-use Rattle.yaml_recognizers.proofs.Basics.LineStarts.{byte_len_joined}
-use Rattle.yaml_recognizers.proofs.Basics.Reading.{on_parts, some_parts}
-use Rattle.yaml_events.specs.EventPlaces.{line_starts}
-use Rattle.yaml_block.specs.declared.line_sign.Sign.TheVariants.{Asked, Dash}
-use Rattle.yaml_block.specs.BlockParts.{as_part}
-use Rattle.yaml_block.specs.Frames.{AfterPair, AfterSign, AtLine, AtPair, Seated, events_in, fits_frame, fits_frames}
-use Rattle.yaml_block.specs.Frames.{inner_indent, key_events, place_in, sits_place, value_place}
-use Rattle.yaml_block.proofs.LeafSteps.{node_fits_frames}
-use Rattle.yaml_block.proofs.SignSteps.{byte_len_spaces}
+use Rattle.yaml_block.specs.{declared.line_sign.Sign.TheVariants.Asked, declared.line_sign.Sign.TheVariants.Dash, BlockParts.as_part}
+use Rattle.yaml_block.specs.Frames.{AfterPair, AfterSign, AtLine, AtPair, Seated, events_in, fits_frame, fits_frames, inner_indent}
+use Rattle.yaml_block.specs.Frames.{key_events, place_in, sits_place, value_place}
+use Rattle.yaml_block.proofs.{LeafSteps.node_fits_frames, SignSteps.byte_len_spaces}
 
 -- ---- one more item, one more pair
 

@@ -1,30 +1,19 @@
 -- The state of the scanner of block nodes: the open collections around a place, what is read of each, and their events
 -- so far.
 use Rattle.std.specs.Prelude.{◌≡◌, ℕ, ◌+◌, Bool, true, false, not, ◌||◌, ◌==◌, List, [], ◌∷◌, ◌++◌, Option, Some, None}
-use Rattle.yaml_chars.specs.Places.{rest}
-use Rattle.yaml_grammar.specs.Texts.{is_empty, starts_line, byte_len}
-use Rattle.yaml_grammar.specs.Separation.{LineEnd, comments_text, Sep, sep_text}
-use Rattle.yaml_grammar.specs.FlowNodes.{Flow, flow_text, flow_events}
-use Rattle.yaml_grammar.specs.FlowScalars.{block_key}
-use Rattle.yaml_grammar.specs.BlockNodes.{Pair, Indented, compact_items, compact_pairs, node, omitted, is_omitted}
-use Rattle.yaml_grammar.specs.BlockNodes.{indented_text, indented_end, indented_events, pair_text, pair_end}
-use Rattle.yaml_grammar.specs.BlockNodes.{pair_events}
-use Rattle.yaml_grammar.specs.Events.{Event, seq_start, map_start}
-use Rattle.yaml_recognizers.specs.Reading.{Read}
-use Rattle.yaml_recognizers.specs.BlockNodes.{node_below}
-use Rattle.yaml_recognizers.specs.BlockScalars.{read_block}
-use Rattle.yaml_recognizers.specs.Recognizers.{block_key_in, flow_leaf_at, flow_node_at, block_node_at}
-use Rattle.yaml_recognizers.specs.Recognizers.{block_items_at, block_pairs_at, block_indented_at}
-use Rattle.yaml_recognizers.specs.BlockFrames.{Sits, on_sign_line, on_lines, PairKey, key_asked, key_on_line}
-use Rattle.yaml_recognizers.specs.BlockFrames.{BlockFrame, waits_item, waits_key, waits_value, close_pairs}
-use Rattle.yaml_recognizers.specs.BlockFrames.{pairs_after, keyed_part, unwind}
+use Rattle.yaml_block.specs.Prelude.{rest, is_empty, starts_line, byte_len, LineEnd, comments_text, Sep, sep_text, Flow}
+use Rattle.yaml_block.specs.Prelude.{flow_text, flow_events, block_key, Pair, Indented, compact_items, compact_pairs}
+use Rattle.yaml_block.specs.Prelude.{node, omitted, is_omitted, indented_text, indented_end, indented_events, pair_text}
+use Rattle.yaml_block.specs.Prelude.{pair_end, pair_events, seq_start, map_start, Read, node_below, read_block}
+use Rattle.yaml_block.specs.Prelude.{block_key_in, flow_leaf_at, flow_node_at, block_node_at, block_items_at}
+use Rattle.yaml_block.specs.Prelude.{block_pairs_at, block_indented_at, Sits, on_sign_line, on_lines, PairKey}
+use Rattle.yaml_block.specs.Prelude.{key_asked, key_on_line, BlockFrame, waits_item, waits_key, waits_value}
+use Rattle.yaml_block.specs.Prelude.{close_pairs, pairs_after, keyed_part, unwind, line_starts}
+use Rattle.yaml_grammar.specs.Events.{Event}
 use Rattle.yaml_recognizers.proofs.Meanings.EventPrefixes.{done_items_end, done_items_events, done_pairs_end, done_pairs_events}
-use Rattle.yaml_events.specs.EventPlaces.{line_starts}
-use Rattle.yaml_block.specs.Signs.{is_colon}
+use Rattle.yaml_block.specs.{Signs.is_colon, declared.frame.Waits.Waits, declared.line_sign.Sign.Sign}
 use Rattle.yaml_block.specs.BlockParts.{as_part, part_at}
-use Rattle.yaml_block.specs.declared.frame.Waits.{Waits}
 use Rattle.yaml_block.specs.declared.frame.Waits.TheVariants.{Item, Key, Value}
-use Rattle.yaml_block.specs.declared.line_sign.Sign.{Sign}
 use Rattle.yaml_block.specs.declared.line_sign.Sign.TheVariants.{Dash, Asked, Colon}
 
 -- ---- frames

@@ -1,3 +1,4 @@
+pub mod Prelude
 pub mod BlockParts
 pub mod Frames
 pub mod States

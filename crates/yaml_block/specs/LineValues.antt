@@ -1,18 +1,9 @@
 -- The value of a pair where it is the rest of its line (YAML 1.2.2, 8.2.2).
 use Rattle.std.specs.Prelude.{◌≡◌, ℕ, ◌+◌, ◌<◌, nat_le, true, false, List, length}
-use Rattle.std.specs.Str.{IsCharBoundary}
+use Rattle.yaml_block.specs.Prelude.{IsCharBoundary, rest, between, colon, plain_style, key_limit, FlowContext, outer}
+use Rattle.yaml_block.specs.Prelude.{all_comments, closes_line, sign, line_starts, AreTaken, unbroken_between}
+use Rattle.yaml_block.specs.Prelude.{IsLineStart, IsSolidLine, IsFirstLine}
 use Rattle.yaml_chars.specs.Classes.{white}
-use Rattle.yaml_chars.specs.Places.{rest, between}
-use Rattle.yaml_chars.specs.Signs.{colon}
-use Rattle.yaml_grammar.specs.Events.{plain_style}
-use Rattle.yaml_grammar.specs.FlowNodes.{key_limit}
-use Rattle.yaml_grammar.specs.FlowScalars.{FlowContext, outer}
-use Rattle.yaml_recognizers.specs.Comments.{all_comments, closes_line}
-use Rattle.yaml_recognizers.specs.Prefixes.{sign}
-use Rattle.yaml_events.specs.EventPlaces.{line_starts}
-use Rattle.yaml_scan.specs.ScanPlaces.{AreTaken, unbroken_between}
-use Rattle.yaml_scan.specs.Lines.{IsLineStart, IsSolidLine}
-use Rattle.yaml_flow_scalars.specs.PlainPlaces.{IsFirstLine}
 use Rattle.yaml_flow_scalars.specs.Standing.{ScalarAt}
 use Rattle.yaml_block.specs.declared.line_value.LineValue.{LineValue}
 

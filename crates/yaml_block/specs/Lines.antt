@@ -1,12 +1,8 @@
 -- Lines of a text, and how deep the nodes on them are.
 use Rattle.std.specs.Prelude.{◌≡◌, ℕ, suc, Bool, true, false, not, nat_le, List, if◌then◌else◌}
-use Rattle.std.specs.Str.{IsCharBoundary}
-use Rattle.yaml_chars.specs.Places.{rest}
-use Rattle.yaml_recognizers.specs.CanonicalComments.{is_line_end}
+use Rattle.yaml_block.specs.Prelude.{IsCharBoundary, rest, is_line_end, AreSpaces, IsLineStart}
 use Rattle.yaml_events.specs.declared.context.BlockContext.{BlockContext}
 use Rattle.yaml_events.specs.declared.context.BlockContext.TheVariants.{Bin, Bout}
-use Rattle.yaml_scan.specs.ScanPlaces.{AreSpaces}
-use Rattle.yaml_scan.specs.Lines.{IsLineStart}
 use Rattle.yaml_scan.specs.declared.lines.Line.{Line}
 use Rattle.yaml_block.specs.declared.next_line.NextLine.{NextLine}
 

@@ -1,28 +1,16 @@
 -- The reader's own state, in terms of what is read of the open collections, and what a step of it leads to.
-use Rattle.std.specs.Prelude.{◌≡◌, ℕ, ◌+◌, ◌-◌, ◌*◌, ◌<◌, ◌≤◌, Bool, false, ◌&&◌, nat_le, List, [], ◌∷◌, ◌++◌, length, None, if◌then◌else◌}
-use Rattle.std.specs.Str.{IsCharBoundary}
-use Rattle.yaml_chars.specs.Places.{between}
-use Rattle.yaml_grammar.specs.Events as grammar
-use Rattle.yaml_grammar.specs.BlockNodes.{Indented}
-use Rattle.yaml_grammar.specs.FlowNodes.{key_limit}
-use Rattle.yaml_recognizers.specs.Reading.{Read}
-use Rattle.yaml_recognizers.specs.BlockFrames.{BlockFrame}
-use Rattle.yaml_events.specs.EventPlaces.{line_starts, Refuses}
+use Rattle.std.specs.Prelude.{◌≡◌, ℕ, ◌+◌, ◌-◌, ◌*◌, ◌<◌, ◌≤◌, Bool, false, ◌&&◌, nat_le, List, [], ◌∷◌, ◌++◌, length}
+use Rattle.std.specs.Prelude.{None, if◌then◌else◌}
+use Rattle.yaml_block.specs.Prelude.{IsCharBoundary, between, Indented, key_limit, Read, BlockFrame, line_starts}
+use Rattle.yaml_block.specs.Prelude.{Refuses, Event, unbroken_between, Appended}
 use Rattle.yaml_events.specs.declared.fault.ScanFault.{ScanFault}
-use Rattle.yaml_events.specs.declared.event.Event.{Event}
-use Rattle.yaml_scan.specs.ScanPlaces.{unbroken_between}
-use Rattle.yaml_flow.specs.FlowNodes.{Appended}
-use Rattle.yaml_block.specs.Lines.{is_shallow, IsNextLine}
+use Rattle.yaml_block.specs.{Lines.is_shallow, Lines.IsNextLine, declared.frame.Waits.Waits}
+use Rattle.yaml_block.specs.{declared.frame.Waits.TheVariants.Value, declared.line_sign.Sign.Sign}
+use Rattle.yaml_block.specs.{declared.frame.Collection.Collection, declared.indentation.Indentation.Indentation}
+use Rattle.yaml_block.specs.{declared.frame.Leaf.Leaf, declared.frame.Next.Next, declared.reader.Reader.Reader}
 use Rattle.yaml_block.specs.Frames.{waits_of, indent_of, AfterSign, AtColon, AtPair, AtLine, AtNode, AtNodeLine, AtLeaf}
-use Rattle.yaml_block.specs.declared.frame.Waits.{Waits}
-use Rattle.yaml_block.specs.declared.frame.Waits.TheVariants.{Value}
-use Rattle.yaml_block.specs.declared.line_sign.Sign.{Sign}
-use Rattle.yaml_block.specs.declared.frame.Collection.{Collection}
-use Rattle.yaml_block.specs.declared.indentation.Indentation.{Indentation}
-use Rattle.yaml_block.specs.declared.frame.Leaf.{Leaf}
-use Rattle.yaml_block.specs.declared.frame.Next.{Next}
+use Rattle.yaml_grammar.specs.Events as grammar
 use Rattle.yaml_block.specs.declared.frame.Next.TheVariants as next
-use Rattle.yaml_block.specs.declared.reader.Reader.{Reader}
 
 -- The node from `at` to `end`, with its `:` at `colon`, is on one line, and short enough for a key (8.2.2): the `:`
 -- follows after at most 1,024 characters.

@@ -1,9 +1,6 @@
 // A block scalar in a block node (YAML 1.2.2, 8.1 and 8.2.3).
 ghost use Rattle.std.specs.Prelude.{◌≡◌, ◌*◌, ◌-◌, ◌^◌, ◌≤◌, true, IfOk, IfErr, length};
-ghost use Rattle.std.specs.Str.{IsCharBoundary};
-ghost use Rattle.yaml_chars.specs.Places.{rest};
-ghost use Rattle.yaml_grammar.specs.Texts.{first};
-ghost use Rattle.yaml_recognizers.specs.BlockNodes.{bar};
+ghost use Rattle.yaml_block.specs.Prelude.{IsCharBoundary, rest, first, bar};
 ghost use Rattle.yaml_block.specs.States.{Grown, Onward, Leads, FailsBy, BeforeLeaf};
 
 use crate::frame::{Leaf, Next};

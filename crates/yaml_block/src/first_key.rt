@@ -1,10 +1,6 @@
 // The first key of a mapping where it is a plain scalar on one line (YAML 1.2.2, 8.2.2).
 ghost use Rattle.std.specs.Prelude.{◌≡◌, ◌*◌, ◌-◌, ◌<◌, ◌≤◌, ◌&&◌, nat_le, Some, IfOk, IfErr, length};
-ghost use Rattle.std.specs.Str.{IsCharBoundary};
-ghost use Rattle.yaml_chars.specs.Places.{between, rest};
-ghost use Rattle.yaml_chars.specs.Signs.{colon};
-ghost use Rattle.yaml_grammar.specs.FlowNodes.{key_limit};
-ghost use Rattle.yaml_recognizers.specs.Prefixes.{sign};
+ghost use Rattle.yaml_block.specs.Prelude.{IsCharBoundary, between, rest, colon, key_limit, sign};
 ghost use Rattle.yaml_block.specs.LineValues.{IsFirstKey};
 ghost use Rattle.yaml_block.specs.States.{Grown, Onward, Leads, FailsBy, BeforeLeaf};
 

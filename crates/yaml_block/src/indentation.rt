@@ -1,8 +1,6 @@
 // How deep a node on a line of its own is.
 ghost use Rattle.std.specs.Prelude.{◌≡◌, ◌-◌, ◌&&◌};
-ghost use Rattle.yaml_chars.specs.Places.{rest};
-ghost use Rattle.yaml_chars.specs.Signs.{dash};
-ghost use Rattle.yaml_recognizers.specs.Prefixes.{sign};
+ghost use Rattle.yaml_block.specs.Prelude.{rest, dash, sign};
 ghost use Rattle.yaml_block.specs.Lines.{is_deep, IsLine};
 
 use yaml_events::BlockContext;

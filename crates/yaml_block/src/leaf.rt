@@ -1,12 +1,7 @@
 // A scalar, a flow collection, or the first pair of a mapping (YAML 1.2.2, 8.2.2 and 8.2.3).
-ghost use Rattle.std.specs.Prelude.{◌≡◌, ◌*◌, ◌+◌, ◌-◌, ◌^◌, ◌<◌, ◌≤◌, true, false, [], ◌∷◌, ◌++◌, ◌⊎◌, Some, None, IfSome, IfOk, IfErr, OnOk, length};
-ghost use Rattle.std.specs.Str.{IsCharBoundary};
-ghost use Rattle.yaml_chars.specs.Places.{rest};
-ghost use Rattle.yaml_chars.specs.Signs.{question};
-ghost use Rattle.yaml_grammar.specs.Texts.{first};
-ghost use Rattle.yaml_recognizers.specs.BlockNodes.{bar};
-ghost use Rattle.yaml_recognizers.specs.Prefixes.{sign};
-ghost use Rattle.yaml_events.specs.EventPlaces.{Refuses};
+ghost use Rattle.std.specs.Prelude.{◌≡◌, ◌*◌, ◌+◌, ◌-◌, ◌^◌, ◌<◌, ◌≤◌, true, false, [], ◌∷◌, ◌++◌, ◌⊎◌, Some, None};
+ghost use Rattle.std.specs.Prelude.{IfSome, IfOk, IfErr, OnOk, length};
+ghost use Rattle.yaml_block.specs.Prelude.{IsCharBoundary, rest, question, first, bar, sign, Refuses};
 ghost use Rattle.yaml_block.specs.LineValues.{IsRestOfLine};
 ghost use Rattle.yaml_block.specs.States.{fits_as_key, IsOpened, Grown, Onward, Leads, FailsBy, BeforeLeaf};
 

@@ -1,10 +1,6 @@
 // A node at the start of a line (YAML 1.2.2, 8.2.3).
 ghost use Rattle.std.specs.Prelude.{◌≡◌, ◌*◌, ◌+◌, ◌-◌, ◌^◌, ◌<◌, ◌≤◌, false, [], ◌∷◌, ◌++◌, IfOk, IfErr, OnOk, length};
-ghost use Rattle.yaml_chars.specs.Places.{rest};
-ghost use Rattle.yaml_recognizers.specs.CanonicalComments.{is_line_end};
-ghost use Rattle.yaml_recognizers.specs.Prefixes.{sign};
-ghost use Rattle.yaml_events.specs.EventPlaces.{Refuses};
-ghost use Rattle.yaml_chars.specs.Signs.{dash};
+ghost use Rattle.yaml_block.specs.Prelude.{rest, is_line_end, sign, Refuses, dash};
 ghost use Rattle.yaml_block.specs.States.{IsOpened, Grown, Onward, Leads, FailsBy, BeforeNodeLine};
 ghost use Rattle.yaml_block.specs.Lines.{IsLine};
 

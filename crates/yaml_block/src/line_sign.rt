@@ -1,8 +1,6 @@
 // A sign of a collection: `-`, `?` or `:` (YAML 1.2.2, 8.2.1 and 8.2.2).
 ghost use Rattle.std.specs.Prelude.{◌≡◌, suc, false, not};
-ghost use Rattle.yaml_chars.specs.Places.{rest};
-ghost use Rattle.yaml_recognizers.specs.CanonicalComments.{is_line_end};
-ghost use Rattle.yaml_recognizers.specs.Ends.{block_node_stops};
+ghost use Rattle.yaml_block.specs.Prelude.{rest, is_line_end, block_node_stops};
 ghost use Rattle.yaml_block.specs.Lines.{IsLine, is_shallow};
 ghost use Rattle.yaml_block.specs.Signs.{is_colon, is_shallow as is_shallow_after};
 

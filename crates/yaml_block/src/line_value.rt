@@ -1,15 +1,11 @@
 // The value of a pair where it is the rest of its line (YAML 1.2.2, 8.2.2).
 ghost use Rattle.std.specs.Prelude.{◌≡◌, ℕ, ◌*◌, ◌+◌, ◌-◌, ◌≤◌, true, IfOk, IfErr, IfSome, OnOk, length};
-ghost use Rattle.std.specs.Str.{IsCharBoundary};
-ghost use Rattle.yaml_chars.specs.Places.{rest};
+ghost use Rattle.yaml_block.specs.Prelude.{IsCharBoundary, rest, Refuses, FlowNodeRead, IsFirstLine};
+ghost use Rattle.yaml_block.specs.LineValues.{IsLeadIn, IsLineValue, IsPlainLine, IsRestOfLine};
+ghost use Rattle.yaml_block.specs.States.{Grown, Onward, Leads, BeforeLineValue};
 ghost use Rattle.yaml_chars.specs.Signs as signs;
 ghost use Rattle.yaml_grammar.specs.FlowScalars as flow;
 ghost use Rattle.yaml_recognizers.specs.Prefixes as prefixes;
-ghost use Rattle.yaml_events.specs.EventPlaces.{Refuses};
-ghost use Rattle.yaml_flow.specs.FlowNodes.{FlowNodeRead};
-ghost use Rattle.yaml_flow_scalars.specs.PlainPlaces.{IsFirstLine};
-ghost use Rattle.yaml_block.specs.LineValues.{IsLeadIn, IsLineValue, IsPlainLine, IsRestOfLine};
-ghost use Rattle.yaml_block.specs.States.{Grown, Onward, Leads, BeforeLineValue};
 
 use crate::frame::Next;
 use crate::next_line::NextLine;

@@ -1,10 +1,8 @@
 // The line after a part, and whether a collection goes on there.
 ghost use Rattle.std.specs.Prelude.{◌≡◌, ◌<◌, ◌==◌, ◌&&◌, not, false};
-ghost use Rattle.yaml_chars.specs.Places.{rest};
-ghost use Rattle.yaml_grammar.specs.BlockScalars.{past_spaces, spaces_before};
-ghost use Rattle.yaml_recognizers.specs.Prefixes as prefixes;
-ghost use Rattle.yaml_recognizers.specs.Ends.{block_node_stops};
+ghost use Rattle.yaml_block.specs.Prelude.{rest, past_spaces, spaces_before, block_node_stops};
 ghost use Rattle.yaml_block.specs.Lines.{IsLine, IsNextLine};
+ghost use Rattle.yaml_recognizers.specs.Prefixes as prefixes;
 
 use yaml_scan::{Line, is_marker, sign_at};
 

@@ -1,8 +1,6 @@
 // A whole block node.
 ghost use Rattle.std.specs.Prelude.{◌≡◌, ◌*◌, ◌-◌, ◌^◌, ◌<◌, ◌≤◌, ◌≤ℤ◌, negsuc, [], true, IfOk, IfErr, length};
-ghost use Rattle.std.specs.Str.{IsCharBoundary};
-ghost use Rattle.yaml_events.specs.EventPlaces.{Refuses, line_starts};
-ghost use Rattle.yaml_block_scalars.specs.Meant.{least_indent};
+ghost use Rattle.yaml_block.specs.Prelude.{IsCharBoundary, Refuses, line_starts, least_indent};
 ghost use Rattle.yaml_block.specs.Found.{NoBlockNodeFound, NoBlockNodeAt, BlockNodeRead, BlockNodeIs};
 ghost use Rattle.yaml_block.specs.States.{Grown, Onward, Leads, FailsBy, BeforeNode};
 ghost use Rattle.yaml_block.specs.Lines.{is_shallow};

@@ -1,10 +1,6 @@
 // Further pairs of a mapping (YAML 1.2.2, 8.2.2).
 ghost use Rattle.std.specs.Prelude.{◌≡◌, ◌*◌, ◌+◌, ◌-◌, ◌<◌, nat_le, true, IfOk, IfErr, IfSome, length};
-ghost use Rattle.std.specs.Str.{IsCharBoundary};
-ghost use Rattle.yaml_chars.specs.Places.{between, rest};
-ghost use Rattle.yaml_chars.specs.Signs.{colon};
-ghost use Rattle.yaml_grammar.specs.FlowNodes.{key_limit};
-ghost use Rattle.yaml_recognizers.specs.Prefixes.{sign};
+ghost use Rattle.yaml_block.specs.Prelude.{IsCharBoundary, between, rest, colon, key_limit, sign};
 ghost use Rattle.yaml_block.specs.LineValues.{IsLeadIn, IsLineValue};
 ghost use Rattle.yaml_block.specs.States.{Grown, IsPairPlace, Onward, Leads, FailsBy, BeforePair, BeforeColon};
 

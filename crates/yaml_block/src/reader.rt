@@ -1,10 +1,9 @@
 // A block node that is being read.
 ghost use Rattle.std.specs.Prelude.{◌≡◌, ◌≤◌, List, ◌++◌, [], ◌∷◌, length, insert, IfErr, OnErr, OnOk, MatchBool};
+ghost use Rattle.yaml_block.specs.Prelude.{Refuses, BlockFrame};
 ghost use Rattle.std.specs.declared.borrow.CowStr.TheVariants.{Borrowed};
 ghost use Rattle.yaml_events.specs.declared.event.Event.TheVariants.{MapStart, Scalar};
-ghost use Rattle.yaml_events.specs.EventPlaces.{Refuses};
 ghost use Rattle.yaml_events.specs.Omitted.{AppendsOmitted};
-ghost use Rattle.yaml_recognizers.specs.BlockFrames.{BlockFrame};
 ghost use Rattle.yaml_block.specs.Frames.{waits_of};
 ghost use Rattle.yaml_block.specs.States.{IsOpened, Grown, Stack};
 

@@ -1,6 +1,6 @@
 // Why no block node is at a place. No contract names the reason: it is shown to users, and tested.
 ghost use Rattle.std.specs.Prelude.{◌≡◌};
-ghost use Rattle.std.specs.Str.{IsCharBoundary};
+ghost use Rattle.yaml_block.specs.Prelude.{IsCharBoundary};
 
 use yaml_chars::{next_char, ns};
 use yaml_events::{ScanFault, Why};

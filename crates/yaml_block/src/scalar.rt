@@ -1,15 +1,9 @@
 // A block scalar in a block node (YAML 1.2.2, 8.1 and 8.2.3).
 ghost use Rattle.std.specs.Prelude.{◌≡◌, ◌^◌, ◌≤◌, ◌≤ℤ◌, negsuc, IfOk, IfErr};
+ghost use Rattle.yaml_block.specs.Prelude.{IsCharBoundary, rest, first, bar, Refuses, least_indent, IsLineStart};
 ghost use Rattle.std.specs.Cow.{cow_str_bytes};
-ghost use Rattle.std.specs.Str.{IsCharBoundary};
-ghost use Rattle.yaml_chars.specs.Places.{rest};
-ghost use Rattle.yaml_grammar.specs.Texts.{first};
-ghost use Rattle.yaml_recognizers.specs.BlockNodes.{bar};
 ghost use Rattle.yaml_recognizers.specs.BlockScalarFacts.{NoBody};
-ghost use Rattle.yaml_events.specs.EventPlaces.{Refuses};
 ghost use Rattle.yaml_block_scalars.specs.Found.{IsBodyAt};
-ghost use Rattle.yaml_block_scalars.specs.Meant.{least_indent};
-ghost use Rattle.yaml_scan.specs.Lines.{IsLineStart};
 ghost use Rattle.yaml_block.specs.Bodies.{IsBlockStyle, IsAfterScalar};
 
 use crate::next_line::NextLine;

@@ -1,8 +1,6 @@
 // The part after a sign of a collection: `-`, `?` or `:` (YAML 1.2.2, 8.2.1 and 8.2.2).
 ghost use Rattle.std.specs.Prelude.{◌≡◌, ◌*◌, ◌+◌, ◌-◌, ◌^◌, ◌<◌, true, false, IfOk, IfErr, length};
-ghost use Rattle.yaml_chars.specs.Places.{rest};
-ghost use Rattle.yaml_recognizers.specs.Comments.{all_comments, closes_line};
-ghost use Rattle.yaml_scan.specs.Lines.{IsLineStart, IsSolidLine};
+ghost use Rattle.yaml_block.specs.Prelude.{rest, all_comments, closes_line, IsLineStart, IsSolidLine};
 ghost use Rattle.yaml_block.specs.States.{Grown, IsAfterSign, Onward, Leads, FailsBy, BeforePart};
 
 use crate::frame::{Leaf, Next};

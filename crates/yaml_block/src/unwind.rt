@@ -1,6 +1,6 @@
 // The line after a part: which of the open collections goes on there.
 ghost use Rattle.std.specs.Prelude.{◌<◌, IfOk, IfErr};
-ghost use Rattle.yaml_events.specs.EventPlaces.{Refuses};
+ghost use Rattle.yaml_block.specs.Prelude.{Refuses};
 ghost use Rattle.yaml_block.specs.States.{Grown};
 ghost use Rattle.yaml_block.specs.Lines.{IsNextLine};
 ghost use Rattle.yaml_block.specs.Turns.{MayGoOn, Unwinds, IsTurn, PairRead, PartRead};

@@ -1,26 +1,14 @@
 -- The lines of a scalar, with the empty lines before them, and its whole body.
-use Rattle.std.proofs.Common.{◌≡◌, ℕ, Bool, true, false, List, [], ◌∷◌, ◌++◌, Option, Some, None, refl, ap, sym, ◌∙◌}
-use Rattle.std.proofs.Common.{subst, arith, length, drop}
+use Rattle.std.proofs.Common.{◌≡◌, ℕ, Bool, true, false, List, [], ◌∷◌, ◌++◌, Option, Some, None, refl, ap, sym, ◌∙◌, subst, arith, length}
+use Rattle.std.proofs.Common.{drop}
 use Rattle.std.specs.Prelude.{◌&&◌, ◌==◌, slice_range}
-use Rattle.std.specs.Str.{IsUtf8, chars}
-use Rattle.std.proofs.lemmas.Bool.{and_right, false≢true}
-use Rattle.std.proofs.lemmas.Str.{chars-nil}
-use Rattle.yaml_chars.specs.Places.{between, rest}
-use Rattle.yaml_chars.proofs.Places.{between-append}
-use Rattle.yaml_grammar.specs.BlockScalars.{Chomping, strip, clip, keep, BlockEmptyLine, TextLine, block_value}
-use Rattle.yaml_grammar.specs.BlockScalars.{trailing_line_feeds, goes_on, value_without_lines, text_value, Body}
-use Rattle.yaml_grammar.specs.FlowScalars.{line_feeds}
-use Rattle.yaml_grammar.specs.Texts.{begins, is_empty}
-use Rattle.yaml_recognizers.proofs.BlockScalars.BlockScalarFacts.{body_found, body_is, no_body}
-use Rattle.yaml_recognizers.proofs.BlockScalars.BlockScalarSteps.{lines_step}
-use Rattle.yaml_recognizers.proofs.Basics.Reading.{on_parts, some_parts}
-use Rattle.yaml_recognizers.specs.BlockScalars.{body_at, find_indent, empties_at, lines_at, read_body, read_text_line}
-use Rattle.yaml_recognizers.specs.BlockScalarFacts.{BodyStands, IsBody, NoBody}
-use Rattle.yaml_recognizers.specs.Reading.{Read, on}
-use Rattle.yaml_block_scalars.specs.declared.line.Line.{Line}
-use Rattle.yaml_block_scalars.specs.Found.{AreLines, ArePiece}
+use Rattle.yaml_block_scalars.proofs.Prelude.{IsUtf8, chars, and_right, false≢true, chars-nil, between, rest, between-append, Chomping}
+use Rattle.yaml_block_scalars.proofs.Prelude.{strip, clip, keep, BlockEmptyLine, TextLine, block_value, trailing_line_feeds, goes_on}
+use Rattle.yaml_block_scalars.proofs.Prelude.{value_without_lines, text_value, Body, line_feeds, begins, is_empty, body_found, body_is}
+use Rattle.yaml_block_scalars.proofs.Prelude.{no_body, lines_step, on_parts, some_parts, body_at, find_indent, empties_at, lines_at}
+use Rattle.yaml_block_scalars.proofs.Prelude.{read_body, read_text_line, BodyStands, IsBody, NoBody, Read, on}
+use Rattle.yaml_block_scalars.specs.{declared.line.Line.Line, Found.AreLines, Found.ArePiece, Pieces.is_one_piece, Pieces.text_after}
 use Rattle.yaml_block_scalars.specs.Lines.{AreEmpties, ArePushed, IsLine, IsNoPiece, IsPastEmpties, IsPiece, value_from}
-use Rattle.yaml_block_scalars.specs.Pieces.{is_one_piece, text_after}
 use Rattle.yaml_block_scalars.proofs.Values.{chars_feeds}
 
 -- ---- one piece

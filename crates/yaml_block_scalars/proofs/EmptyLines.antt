@@ -1,21 +1,12 @@
 -- Lines of spaces, by the places where they end.
-use Rattle.std.proofs.Common.{◌≡◌, ℕ, suc, ◌+◌, ◌-◌, ◌<◌, ◌≤◌, Bool, true, false, List, [], ◌∷◌, None, refl, ap, sym}
-use Rattle.std.proofs.Common.{◌∙◌, subst, arith, length}
+use Rattle.std.proofs.Common.{◌≡◌, ℕ, suc, ◌+◌, ◌-◌, ◌<◌, ◌≤◌, Bool, true, false, List, [], ◌∷◌, None, refl, ap, sym, ◌∙◌, subst, arith}
+use Rattle.std.proofs.Common.{length}
 use Rattle.std.specs.Prelude.{max, is_some}
-use Rattle.std.specs.Str.{IsUtf8, IsCharBoundary}
-use Rattle.std.proofs.lemmas.Bool.{and_left, and_right, le-leb, lt-leb}
-use Rattle.yaml_chars.specs.Classes.{line_break}
-use Rattle.yaml_chars.specs.Places.{rest}
-use Rattle.yaml_grammar.specs.BlockScalars.{BlockEmptyLine, spaces_before, widest}
-use Rattle.yaml_grammar.specs.Texts.{first}
-use Rattle.yaml_recognizers.proofs.BlockScalars.BlockScalarSteps.{empties_step, empties_stop}
+use Rattle.yaml_block_scalars.proofs.Prelude.{IsUtf8, IsCharBoundary, and_left, and_right, le-leb, lt-leb, line_break, rest, BlockEmptyLine}
+use Rattle.yaml_block_scalars.proofs.Prelude.{spaces_before, widest, first, empties_step, empties_stop, empties_of_sound, at_most}
+use Rattle.yaml_block_scalars.proofs.Prelude.{all_empties, empties_at, empties_of, read_break, AreSpaces, IsBreak}
 use Rattle.yaml_recognizers.proofs.Basics.Breaks.{break_some}
-use Rattle.yaml_recognizers.proofs.BlockScalars.EmptyLines.{empties_of_sound}
-use Rattle.yaml_recognizers.proofs.Basics.Spaces.{at_most}
-use Rattle.yaml_recognizers.specs.BlockScalars.{all_empties, empties_at, empties_of}
-use Rattle.yaml_recognizers.specs.Comments.{read_break}
 use Rattle.yaml_block_scalars.specs.Lines.{AreEmpties, AreLeading, IsPastEmpties}
-use Rattle.yaml_scan.specs.ScanPlaces.{AreSpaces, IsBreak}
 
 -- ---- one of them
 

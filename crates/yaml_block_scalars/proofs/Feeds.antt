@@ -1,16 +1,8 @@
 -- Line feeds at a place.
 use Rattle.std.proofs.Common.{◌≡◌, ℕ, zero, suc, ◌+◌, ◌-◌, ◌<◌, ◌≤◌, false, List, [], ◌∷◌, ◌++◌, refl, ap, sym, ◌∙◌, arith, length, get_or}
 use Rattle.std.specs.Prelude.{◌==◌}
-use Rattle.std.specs.Str.{IsUtf8, IsCharBoundary}
-use Rattle.std.proofs.lemmas.Bool.{and_left, ne_eqb}
-use Rattle.std.proofs.lemmas.Bool.Decides.{nat_tests}
-use Rattle.std.proofs.lemmas.List.{append_cancel_right}
-use Rattle.yaml_chars.specs.Places.{between, rest}
-use Rattle.yaml_chars.proofs.Places.{rest-between}
-use Rattle.yaml_chars.proofs.Runs.{IsBlind}
-use Rattle.yaml_grammar.specs.FlowScalars.{line_feeds}
-use Rattle.yaml_grammar.specs.Texts.{begins, first}
-use Rattle.yaml_scan.proofs.ByteRuns.{ascii_prefix, first_at_end, first_there}
+use Rattle.yaml_block_scalars.proofs.Prelude.{IsUtf8, IsCharBoundary, and_left, ne_eqb, nat_tests, append_cancel_right, between, rest}
+use Rattle.yaml_block_scalars.proofs.Prelude.{rest-between, IsBlind, line_feeds, begins, first, ascii_prefix, first_at_end, first_there}
 use Rattle.yaml_block_scalars.specs.Lines.{AreFeeds}
 
 blind-feed : IsBlind (λ c. c == 10)

@@ -1,26 +1,14 @@
 -- The first line of a block scalar, by what is at its places.
-use Rattle.std.proofs.Common.{◌≡◌, ℕ, ◌+◌, ◌-◌, ◌<◌, ◌≤◌, ◌⊎◌, Bool, true, false, List, [], ◌∷◌, Option, Some, None}
-use Rattle.std.proofs.Common.{refl, ap, sym, ◌∙◌, arith, length, inl, inr, get_or}
+use Rattle.std.proofs.Common.{◌≡◌, ℕ, ◌+◌, ◌-◌, ◌<◌, ◌≤◌, ◌⊎◌, Bool, true, false, List, [], ◌∷◌, Option, Some, None, refl, ap, sym, ◌∙◌}
+use Rattle.std.proofs.Common.{arith, length, inl, inr, get_or}
 use Rattle.std.specs.Prelude.{◌||◌, ◌==◌, cond, IfNone, IfSome}
+use Rattle.yaml_block_scalars.proofs.Prelude.{IsUtf8, IsCharBoundary, and_from, cond-true, cond-false, le-leb, false≢true, nat_tests}
+use Rattle.yaml_block_scalars.proofs.Prelude.{in_range, rest, char_at, rest-end, IsBlind, Chomping, strip, clip, keep, Header, LineEnd}
+use Rattle.yaml_block_scalars.proofs.Prelude.{first, header_is, no_header, IsHeader, NoHeader, read_digit, read_mark, after_digit}
+use Rattle.yaml_block_scalars.proofs.Prelude.{read_header, read_header_end, read_line_end, Read, on, IsLineEnd, ascii_prefix, first_at_end}
+use Rattle.yaml_block_scalars.proofs.Prelude.{first_there}
 use Rattle.std.specs.Char.{len_utf8}
-use Rattle.std.specs.Str.{IsUtf8, IsCharBoundary}
-use Rattle.std.proofs.lemmas.Bool.{and_from, cond-true, cond-false, le-leb, false≢true}
-use Rattle.std.proofs.lemmas.Bool.Decides.{nat_tests}
-use Rattle.yaml_chars.specs.Classes.{in_range}
-use Rattle.yaml_chars.specs.Places.{rest}
-use Rattle.yaml_chars.proofs.Places.{char_at, rest-end}
-use Rattle.yaml_chars.proofs.Runs.{IsBlind}
-use Rattle.yaml_grammar.specs.BlockScalars.{Chomping, strip, clip, keep, Header}
-use Rattle.yaml_grammar.specs.Separation.{LineEnd}
-use Rattle.yaml_grammar.specs.Texts.{first}
-use Rattle.yaml_recognizers.proofs.BlockScalars.BlockScalarFacts.{header_is, no_header}
-use Rattle.yaml_recognizers.specs.BlockScalarFacts.{IsHeader, NoHeader}
-use Rattle.yaml_recognizers.specs.BlockScalars.{read_digit, read_mark, after_digit, read_header, read_header_end}
-use Rattle.yaml_recognizers.specs.Comments.{read_line_end}
-use Rattle.yaml_recognizers.specs.Reading.{Read, on}
 use Rattle.yaml_block_scalars.specs.HeaderPlaces.{AreSigns, IsDigit, IsHeaderEnd, IsMark}
-use Rattle.yaml_scan.specs.Lines.{IsLineEnd}
-use Rattle.yaml_scan.proofs.ByteRuns.{ascii_prefix, first_at_end, first_there}
 
 -- ---- the digit
 

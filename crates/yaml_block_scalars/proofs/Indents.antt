@@ -1,17 +1,10 @@
 -- The indentation that lines set, by the places of the lines of spaces and of the first other line.
 use Rattle.std.proofs.Common.{◌≡◌, ℕ, ◌-◌, ◌<◌, ◌≤◌, true, false, List, Option, Some, None, ap, ◌∙◌, arith, length}
 use Rattle.std.specs.Prelude.{◌&&◌, ◌||◌, max, not, nat_le, nat_lt, if◌then◌else◌}
-use Rattle.std.specs.Str.{IsUtf8}
-use Rattle.std.proofs.lemmas.Bool.{and_from, and_left, and_right, cond-true, cond-false, le-leb, le-ltb, lt-leb}
-use Rattle.std.proofs.lemmas.Bool.{lt-ltb, or_from, or_left, or_right}
-use Rattle.yaml_chars.specs.Classes.{nb}
-use Rattle.yaml_chars.specs.Places.{rest}
-use Rattle.yaml_chars.proofs.Places.{char_at, rest-end}
-use Rattle.yaml_grammar.specs.BlockScalars.{last_spaces, past_spaces, sets_none, spaces_before}
-use Rattle.yaml_grammar.specs.Texts.{first, is_empty, marker}
-use Rattle.yaml_recognizers.specs.BlockScalars.{all_empties, find_indent}
+use Rattle.yaml_block_scalars.proofs.Prelude.{IsUtf8, and_from, and_left, and_right, cond-true, cond-false, le-leb, le-ltb, lt-leb, lt-ltb}
+use Rattle.yaml_block_scalars.proofs.Prelude.{or_from, or_left, or_right, nb, rest, char_at, rest-end, last_spaces, past_spaces, sets_none}
+use Rattle.yaml_block_scalars.proofs.Prelude.{spaces_before, first, is_empty, marker, all_empties, find_indent, AreSpaces, IsNb}
 use Rattle.yaml_block_scalars.specs.Lines.{AreLeading}
-use Rattle.yaml_scan.specs.ScanPlaces.{AreSpaces, IsNb}
 
 -- by the widest line of spaces and what comes after all of them
 indent_by : ℕ → ℕ → List ℕ → Option ℕ

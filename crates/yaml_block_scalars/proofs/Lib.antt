@@ -1,3 +1,4 @@
+pub mod Prelude
 pub mod FirstLines
 pub mod EmptyLines
 pub mod Indents

@@ -1,24 +1,14 @@
 -- A line starts after a header, and after the body of a scalar, or the text ends there.
 use Rattle.std.proofs.Common.{◌≡◌, refl, sym, ◌∙◌, ap, arith, inl, inr}
 use Rattle.std.specs.Prelude.{ℕ, ◌≤◌, Bool, true, false, ◌⊎◌, ◌==◌, List, [], ◌∷◌, ◌++◌, Option, Some, None}
-use Rattle.std.specs.Str.{IsUtf8, IsCharBoundary}
-use Rattle.std.proofs.lemmas.Bool.{and_parts, cond_both, false≢true, not-true}
-use Rattle.std.proofs.lemmas.List.{append_cancel_right}
-use Rattle.std.proofs.lemmas.Str.{IsCharBoundary-start}
-use Rattle.yaml_chars.specs.Classes.{line_break}
-use Rattle.yaml_chars.specs.Places.{rest, between}
-use Rattle.yaml_chars.proofs.Places.{between-append, rest-between}
-use Rattle.yaml_events.specs.EventPlaces.{line_starts, without_mark}
-use Rattle.yaml_grammar.specs.BlockScalars.{Body, BlockEmptyLine, TextLine, body_text, block_empty_text}
-use Rattle.yaml_grammar.specs.BlockScalars.{block_empties_text, goes_on, text_line_fits, text_line_text}
-use Rattle.yaml_grammar.specs.BlockScalars.{text_lines_fit, text_lines_text}
-use Rattle.yaml_grammar.specs.Separation.{Break, break_text, cr, cr_lf, lf, stop_fits}
-use Rattle.yaml_grammar.specs.Texts.{is_empty, optional, spaces, starts_line}
-use Rattle.yaml_recognizers.specs.BlockScalarFacts.{BodyStands}
+use Rattle.yaml_block_scalars.proofs.Prelude.{IsUtf8, IsCharBoundary, and_parts, cond_both, false≢true, append_cancel_right}
+use Rattle.yaml_block_scalars.proofs.Prelude.{IsCharBoundary-start, line_break, rest, between, between-append, rest-between, line_starts}
+use Rattle.yaml_block_scalars.proofs.Prelude.{without_mark, Body, BlockEmptyLine, TextLine, body_text, block_empty_text, block_empties_text}
+use Rattle.yaml_block_scalars.proofs.Prelude.{text_line_fits, text_line_text, text_lines_fit, text_lines_text, Break, break_text, cr, cr_lf}
+use Rattle.yaml_block_scalars.proofs.Prelude.{lf, stop_fits, is_empty, optional, spaces, starts_line, BodyStands, IsLineStart}
 use Rattle.yaml_recognizers.proofs.Basics.LineStarts.{starts_joined}
 use Rattle.yaml_block_scalars.specs.declared.parts.Header.{Header as ScannedHeader}
 use Rattle.yaml_block_scalars.specs.Found.{IsBodyAt}
-use Rattle.yaml_scan.specs.Lines.{IsLineStart}
 
 -- ---- texts: a line starts after xs, or nothing comes after it
 
@@ -119,8 +109,3 @@ body_ends m folded header text at value end u b h (inr none) =
     inr (nil_after (body_text h.means.body) (rest text end) (sym h.means.stands.spells ∙ none))
 
 -- ---- what comes after the body
-
--- the line after a body is neither a text line of its indentation nor an empty one
-pub body_stops : (digit : Option ℕ) (m : ℕ) (text : List ℕ) (body : Body) (after : List ℕ)
-    → BodyStands digit m text body after → goes_on body.indent after ≡ false
-body_stops digit m text body after stands = not-true (goes_on body.indent after) (and_parts _ _ stands.fits).1

@@ -1,31 +1,18 @@
 -- Text lines, by the places where they start and end.
-use Rattle.std.proofs.Common.{◌≡◌, ℕ, ◌+◌, ◌-◌, ◌<◌, ◌≤◌, true, false, List, [], ◌∷◌, Option, Some, ◌++◌, refl, ap}
-use Rattle.std.proofs.Common.{sym, ◌∙◌, append_assoc, arith, inl, inr}
+use Rattle.std.proofs.Common.{◌≡◌, ℕ, ◌+◌, ◌-◌, ◌<◌, ◌≤◌, true, false, List, [], ◌∷◌, Option, Some, ◌++◌, refl, ap, sym, ◌∙◌, append_assoc}
+use Rattle.std.proofs.Common.{arith, inl, inr}
 use Rattle.std.specs.Prelude.{◌&&◌, ◌==◌, not, nat_lt}
-use Rattle.std.specs.Str.{IsUtf8, IsCharBoundary}
-use Rattle.std.proofs.lemmas.Bool.{and_from, and_left, and_right, cases_Bool, cases_lt, cond-true, cond-false, eq-eqb}
-use Rattle.std.proofs.lemmas.Bool.{false≢true, le-ltb, lt-ltb, ne_eqb, or_from, or_left, or_right}
-use Rattle.yaml_chars.specs.Classes.{nb, white}
-use Rattle.yaml_chars.specs.Places.{between, rest}
+use Rattle.yaml_block_scalars.proofs.Prelude.{IsUtf8, IsCharBoundary, and_from, and_left, and_right, cases_Bool, cases_lt, cond-true}
+use Rattle.yaml_block_scalars.proofs.Prelude.{cond-false, eq-eqb, false≢true, le-ltb, lt-ltb, ne_eqb, or_from, or_left, or_right, nb, white}
+use Rattle.yaml_block_scalars.proofs.Prelude.{between, rest, between-nil, TextLine, block_empties_text, goes_on, past_spaces, spaces_before}
+use Rattle.yaml_block_scalars.proofs.Prelude.{Break, break_text, first, marker, no_marker, optional, lines_step, empties_of_sound, sound_is}
+use Rattle.yaml_block_scalars.proofs.Prelude.{at_most, goes_on_text, empties_at, lines_at, read_text_line, read_stop, Read, on, AreSpaces}
+use Rattle.yaml_block_scalars.proofs.Prelude.{AreTaken, IsStop, spaces_dropped_at}
 use Rattle.yaml_chars.proofs.Classes.{white_is_nb}
-use Rattle.yaml_chars.proofs.Places.{between-nil}
-use Rattle.yaml_grammar.specs.BlockScalars.{TextLine, block_empties_text, goes_on, past_spaces, spaces_before}
-use Rattle.yaml_grammar.specs.Separation.{Break, break_text}
-use Rattle.yaml_grammar.specs.Texts.{first, marker, no_marker, optional}
-use Rattle.yaml_recognizers.proofs.BlockScalars.BlockScalarSteps.{lines_step}
 use Rattle.yaml_recognizers.proofs.Separation.CommentsSound.{StopOf, stop_sound}
-use Rattle.yaml_recognizers.proofs.BlockScalars.EmptyLines.{empties_of_sound}
-use Rattle.yaml_recognizers.proofs.Basics.Reading.{sound_is}
-use Rattle.yaml_recognizers.proofs.Basics.Spaces.{at_most, goes_on_text}
-use Rattle.yaml_recognizers.specs.BlockScalars.{empties_at, lines_at, read_text_line}
-use Rattle.yaml_recognizers.specs.Comments.{read_stop}
 use Rattle.yaml_recognizers.specs.Prefixes.{drop_while, take_while}
-use Rattle.yaml_recognizers.specs.Reading.{Read, on}
-use Rattle.yaml_block_scalars.specs.declared.line.Line.{Line}
-use Rattle.yaml_block_scalars.specs.Lines.{AreEmpties, IsLine, IsPastEmpties, IsTextStart}
-use Rattle.yaml_scan.specs.ScanPlaces.{AreSpaces, AreTaken, IsStop}
+use Rattle.yaml_block_scalars.specs.{declared.line.Line.Line, Lines.AreEmpties, Lines.IsLine, Lines.IsPastEmpties, Lines.IsTextStart}
 use Rattle.yaml_block_scalars.proofs.EmptyLines.{empties_past}
-use Rattle.yaml_scan.proofs.ByteRuns.{spaces_dropped_at}
 
 -- ---- where a line goes on
 

@@ -1,17 +1,10 @@
 -- The value of lines, a line at a time.
-use Rattle.std.proofs.Common.{◌≡◌, ℕ, zero, suc, ◌≤◌, Bool, List, [], ◌∷◌, ◌++◌, Some, None, refl, ap, sym, ◌∙◌}
-use Rattle.std.proofs.Common.{arith, length, append_assoc, slice_range}
+use Rattle.std.proofs.Common.{◌≡◌, ℕ, zero, suc, ◌≤◌, Bool, List, [], ◌∷◌, ◌++◌, Some, None, refl, ap, sym, ◌∙◌, arith, length}
+use Rattle.std.proofs.Common.{append_assoc, slice_range}
 use Rattle.std.specs.Prelude.{◌||◌, not}
-use Rattle.std.specs.Str.{IsAscii, IsUtf8, chars}
-use Rattle.std.proofs.lemmas.Bool.{cond_both}
-use Rattle.std.proofs.lemmas.Str.{chars-append, chars-IsAscii}
-use Rattle.yaml_chars.specs.Classes.{white}
-use Rattle.yaml_chars.specs.Places.{between, rest}
-use Rattle.yaml_grammar.specs.BlockScalars.{Chomping, TextLine, between_lines, trailing_line_feeds, text_value}
-use Rattle.yaml_grammar.specs.FlowScalars.{folded_break, line_feeds}
-use Rattle.yaml_grammar.specs.Texts.{first}
-use Rattle.yaml_recognizers.specs.BlockScalars.{lines_at}
-use Rattle.yaml_recognizers.specs.Reading.{Read, on}
+use Rattle.yaml_block_scalars.proofs.Prelude.{IsAscii, IsUtf8, chars, cond_both, chars-append, chars-IsAscii, white, between, rest}
+use Rattle.yaml_block_scalars.proofs.Prelude.{Chomping, TextLine, between_lines, trailing_line_feeds, text_value, folded_break, line_feeds}
+use Rattle.yaml_block_scalars.proofs.Prelude.{first, lines_at, Read, on}
 use Rattle.yaml_block_scalars.specs.declared.line.Line.{Line}
 use Rattle.yaml_block_scalars.specs.Lines.{ArePushed, Describes, IsLine, IsPlaced, value_from}
 

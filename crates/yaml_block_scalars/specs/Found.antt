@@ -1,15 +1,9 @@
 -- What the scanner finds at a place.
 use Rattle.std.specs.Prelude.{◌≡◌, ℕ, ◌≤◌, Bool, true, List, Some}
-use Rattle.std.specs.Str.{IsCharBoundary, chars}
-use Rattle.yaml_chars.specs.Places.{rest}
-use Rattle.yaml_grammar.specs.BlockScalars.{Body, BlockEmptyLine, TextLine, block_value}
+use Rattle.yaml_block_scalars.specs.Prelude.{IsCharBoundary, chars, rest, Body, BlockEmptyLine, TextLine, block_value}
+use Rattle.yaml_block_scalars.specs.Prelude.{empties_at, lines_at, IsHeader, IsBody, BodyStands, on}
+use Rattle.yaml_block_scalars.specs.{Meant.chomping_of, Pieces.is_one_piece, declared.parts.Header.Header}
 use Rattle.yaml_grammar.specs.BlockScalars as grammar
-use Rattle.yaml_recognizers.specs.BlockScalars.{empties_at, lines_at}
-use Rattle.yaml_recognizers.specs.BlockScalarFacts.{IsHeader, IsBody, BodyStands}
-use Rattle.yaml_recognizers.specs.Reading.{on}
-use Rattle.yaml_block_scalars.specs.Meant.{chomping_of}
-use Rattle.yaml_block_scalars.specs.Pieces.{is_one_piece}
-use Rattle.yaml_block_scalars.specs.declared.parts.Header.{Header}
 
 -- the header at a place, up to a later one
 pub record IsHeaderAt (text : List ℕ) (at : ℕ) (header : Header) (end : ℕ) : Type 0 where

@@ -1,11 +1,7 @@
 -- What is at a place of a header, in terms of the recognizers: places count the text's bytes.
 use Rattle.std.specs.Prelude.{◌≡◌, ℕ, ◌≤◌, Bool, true, List, Option, Some}
-use Rattle.std.specs.Str.{IsCharBoundary}
-use Rattle.yaml_chars.specs.Places.{rest}
-use Rattle.yaml_grammar.specs.Separation.{LineEnd}
-use Rattle.yaml_grammar.specs.BlockScalars.{Chomping, digit_fits}
-use Rattle.yaml_recognizers.specs.BlockScalars.{read_digit, read_mark, after_digit, header_at, read_header_end}
-use Rattle.yaml_scan.specs.Lines.{IsLineStart}
+use Rattle.yaml_block_scalars.specs.Prelude.{IsCharBoundary, rest, LineEnd, Chomping, digit_fits, read_digit, read_mark}
+use Rattle.yaml_block_scalars.specs.Prelude.{after_digit, header_at, read_header_end, IsLineStart}
 
 -- a header's digit, which may be missing
 pub record IsDigit (text : List ℕ) (at : ℕ) (digit : Option ℕ) (end : ℕ) : Type 0 where

@@ -1,3 +1,4 @@
+pub mod Prelude
 pub mod Meant
 pub mod Pieces
 pub mod HeaderPlaces

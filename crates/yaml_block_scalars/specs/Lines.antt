@@ -1,16 +1,11 @@
 -- The lines of a block scalar at places of a text, in terms of the recognizers.
-use Rattle.std.specs.Prelude.{◌≡◌, ℕ, ◌+◌, ◌<◌, ◌≤◌, Bool, true, false, ◌&&◌, nat_le, List, [], ◌∷◌, ◌++◌, length, drop, Some, is_some}
-use Rattle.std.specs.Str.{IsCharBoundary, chars}
+use Rattle.std.specs.Prelude.{◌≡◌, ℕ, ◌+◌, ◌<◌, ◌≤◌, Bool, true, false, ◌&&◌, nat_le, List, [], ◌∷◌, ◌++◌, length, drop}
+use Rattle.std.specs.Prelude.{Some, is_some}
+use Rattle.yaml_block_scalars.specs.Prelude.{IsCharBoundary, chars, rest, between, Chomping, BlockEmptyLine, TextLine}
+use Rattle.yaml_block_scalars.specs.Prelude.{trailing_line_feeds, goes_on, spaces_before, past_spaces, text_value}
+use Rattle.yaml_block_scalars.specs.Prelude.{widest, line_feeds, first, all_empties, empties_at, lines_at, Read, on}
 use Rattle.yaml_chars.specs.Classes.{white, line_break}
-use Rattle.yaml_chars.specs.Places.{rest, between}
-use Rattle.yaml_grammar.specs.BlockScalars.{Chomping, BlockEmptyLine, TextLine, trailing_line_feeds, goes_on}
-use Rattle.yaml_grammar.specs.BlockScalars.{spaces_before, past_spaces, text_value, widest}
-use Rattle.yaml_grammar.specs.FlowScalars.{line_feeds}
-use Rattle.yaml_grammar.specs.Texts.{first}
-use Rattle.yaml_recognizers.specs.BlockScalars.{all_empties, empties_at, lines_at}
-use Rattle.yaml_recognizers.specs.Reading.{Read, on}
-use Rattle.yaml_block_scalars.specs.Pieces.{is_one_piece, text_after}
-use Rattle.yaml_block_scalars.specs.declared.line.Line.{Line}
+use Rattle.yaml_block_scalars.specs.{Pieces.is_one_piece, Pieces.text_after, declared.line.Line.Line}
 
 -- no empty line of the indentation q is at the start
 abbrev pub IsPastEmpties : ℕ → List ℕ → Type 0

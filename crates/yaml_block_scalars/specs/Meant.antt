@@ -1,10 +1,9 @@
 -- What the types of src/ mean in the grammar.
 use Rattle.std.specs.Prelude.{ℕ, ◌+◌, ℤ, pos, negsuc, Bool, true, false}
-use Rattle.yaml_grammar.specs.BlockScalars as grammar
-use Rattle.yaml_block_scalars.specs.declared.parts.Chomping.{Chomping}
+use Rattle.yaml_block_scalars.specs.{declared.parts.Chomping.Chomping, declared.scalar.Form.Form}
 use Rattle.yaml_block_scalars.specs.declared.parts.Chomping.TheVariants.{Strip, Clip, Keep}
-use Rattle.yaml_block_scalars.specs.declared.scalar.Form.{Form}
 use Rattle.yaml_block_scalars.specs.declared.scalar.Form.TheVariants.{Literal, Folded}
+use Rattle.yaml_grammar.specs.BlockScalars as grammar
 
 -- the chomping that the code's value means
 abbrev pub chomping_of : Chomping → grammar.Chomping

@@ -1,14 +1,9 @@
 // The first line of a block scalar.
 ghost use Rattle.std.specs.Prelude.{◌≡◌, ◌≢◌, ◌≤◌, None, IsTrue, IfOk, IfErr, IfSome, IfNone};
-ghost use Rattle.std.specs.Str.{IsCharBoundary};
-ghost use Rattle.yaml_chars.specs.Places.{rest};
-ghost use Rattle.yaml_events.specs.EventPlaces.{Refuses};
-ghost use Rattle.yaml_grammar.specs.BlockScalars.{digit_fits};
-ghost use Rattle.yaml_recognizers.specs.BlockScalars.{read_digit, read_mark, read_header_end};
-ghost use Rattle.yaml_recognizers.specs.BlockScalarFacts.{NoHeader};
+ghost use Rattle.yaml_block_scalars.specs.Prelude.{IsCharBoundary, rest, Refuses, digit_fits, read_digit, read_mark};
+ghost use Rattle.yaml_block_scalars.specs.Prelude.{read_header_end, NoHeader, IsLineStart};
 ghost use Rattle.yaml_block_scalars.specs.Found.{IsHeaderAt};
 ghost use Rattle.yaml_block_scalars.specs.Meant.{chomping_of};
-ghost use Rattle.yaml_scan.specs.Lines.{IsLineStart};
 ghost use Rattle.yaml_block_scalars.specs.HeaderPlaces.{IsDigit, IsMark, AreSigns, IsHeaderEnd};
 
 use crate::parts::{Chomping, Header};

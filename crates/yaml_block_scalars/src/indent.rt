@@ -1,9 +1,6 @@
 // The indentation of a block scalar without a digit (YAML 1.2.2, 8.1.1.1).
 ghost use Rattle.std.specs.Prelude.{◌≡◌, None, Some, IfOk, IfErr};
-ghost use Rattle.std.specs.Str.{IsCharBoundary};
-ghost use Rattle.yaml_chars.specs.Places.{rest};
-ghost use Rattle.yaml_events.specs.EventPlaces.{Refuses};
-ghost use Rattle.yaml_recognizers.specs.BlockScalars.{find_indent};
+ghost use Rattle.yaml_block_scalars.specs.Prelude.{IsCharBoundary, rest, Refuses, find_indent};
 ghost use Rattle.yaml_block_scalars.specs.Lines.{AreLeading};
 
 use yaml_events::{ScanFault, Why};

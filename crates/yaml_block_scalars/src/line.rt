@@ -1,10 +1,6 @@
 // The lines of a block scalar at an indentation.
 ghost use Rattle.std.specs.Prelude.{◌≡◌, false, [], None, Some, IfSome, IfNone, IfOk, IfErr};
-ghost use Rattle.std.specs.Str.{IsCharBoundary};
-ghost use Rattle.yaml_chars.specs.Places.{rest};
-ghost use Rattle.yaml_events.specs.EventPlaces.{Refuses};
-ghost use Rattle.yaml_grammar.specs.BlockScalars.{goes_on};
-ghost use Rattle.yaml_recognizers.specs.BlockScalars.{lines_at};
+ghost use Rattle.yaml_block_scalars.specs.Prelude.{IsCharBoundary, rest, Refuses, goes_on, lines_at};
 ghost use Rattle.yaml_block_scalars.specs.Lines.{IsPastEmpties, AreEmpties, IsTextStart, IsLine};
 
 use yaml_events::{ScanFault, Why};

@@ -1,16 +1,11 @@
 // Block scalars after their headers.
-ghost use Rattle.std.specs.Prelude.{◌≡◌, ◌≤◌, ◌^◌, ◌≤ℤ◌, negsuc, true, false, [], None, Some, IfOk, IfErr, IfSome, IfNone, length, string_bytes};
-ghost use Rattle.std.specs.Cow.{cow_str_bytes, IsBorrowedStr};
-ghost use Rattle.std.specs.Str.{IsCharBoundary, chars};
-ghost use Rattle.yaml_chars.specs.Places.{rest};
-ghost use Rattle.yaml_events.specs.EventPlaces.{Refuses};
-ghost use Rattle.yaml_grammar.specs.FlowScalars.{line_feeds};
-ghost use Rattle.yaml_grammar.specs.Texts.{begins};
-ghost use Rattle.yaml_recognizers.specs.BlockScalars.{find_indent, empties_at, lines_at};
-ghost use Rattle.yaml_recognizers.specs.BlockScalarFacts.{NoBody};
+ghost use Rattle.std.specs.Prelude.{◌≡◌, ◌≤◌, ◌^◌, ◌≤ℤ◌, negsuc, true, false, [], None, Some, IfOk, IfErr, IfSome};
+ghost use Rattle.std.specs.Prelude.{IfNone, length, string_bytes};
+ghost use Rattle.yaml_block_scalars.specs.Prelude.{cow_str_bytes, IsBorrowedStr, IsCharBoundary, chars, rest, Refuses};
+ghost use Rattle.yaml_block_scalars.specs.Prelude.{line_feeds, begins, find_indent, empties_at, lines_at, NoBody};
+ghost use Rattle.yaml_block_scalars.specs.Prelude.{IsLineStart};
 ghost use Rattle.yaml_block_scalars.specs.Found.{IsBodyAt, IsPieceAt, AreLines, ArePiece};
 ghost use Rattle.yaml_block_scalars.specs.Lines.{AreFeeds, IsPlaced, IsPiece, IsNoPiece, ArePushed};
-ghost use Rattle.yaml_scan.specs.Lines.{IsLineStart};
 ghost use Rattle.yaml_block_scalars.specs.Meant.{chomping_of, is_folded, least_indent};
 
 use crate::indent::detected;

@@ -1,9 +1,7 @@
 // The value of a block scalar (YAML 1.2.2, 8.1.1.2, 8.1.2 and 8.1.3).
 ghost use Rattle.std.specs.Prelude.{◌≡◌, ◌<◌, ◌++◌, true, IfOk, OnOk, string_bytes};
-ghost use Rattle.std.specs.Cow.{cow_str_bytes, IsBorrowedStr};
-ghost use Rattle.yaml_grammar.specs.BlockScalars.{TextLine, between_lines, trailing_line_feeds, value_without_lines};
-ghost use Rattle.yaml_grammar.specs.FlowScalars.{line_feeds};
-ghost use Rattle.yaml_grammar.specs.Texts.{is_empty};
+ghost use Rattle.yaml_block_scalars.specs.Prelude.{cow_str_bytes, IsBorrowedStr, TextLine, between_lines};
+ghost use Rattle.yaml_block_scalars.specs.Prelude.{trailing_line_feeds, value_without_lines, line_feeds, is_empty};
 ghost use Rattle.yaml_block_scalars.specs.Lines.{Describes};
 ghost use Rattle.yaml_block_scalars.specs.Meant.{chomping_of};
 

@@ -1,9 +1,9 @@
 -- A break in the bytes of a text is one in its characters.
-use Rattle.std.proofs.Common.{◌≡◌, ℕ, ◌+◌, ◌-◌, ◌<◌, ◌≤◌, true, List, ◌∷◌, Some, None, refl, ap, sym, ◌∙◌, subst}
+use Rattle.std.proofs.Common.{◌≡◌, ℕ, ◌+◌, ◌-◌, ◌<◌, ◌≤◌, true, List, ◌∷◌, Some, None, ap, sym, ◌∙◌, subst}
 use Rattle.std.proofs.Common.{arith, length, inl, inr, get_or, take, drop, drop-drop, length-drop, slice_range}
 use Rattle.std.proofs.Common.{slice_index, slice_get}
 use Rattle.std.specs.Str.{IsUtf8, IsCharBoundary, chars}
-use Rattle.std.proofs.lemmas.Bool.{cases_lt, not_from_false, not-true, false_from_ne_true, false≢true}
+use Rattle.std.proofs.lemmas.Bool.{cases_lt, not_from_false, false_from_ne_true}
 use Rattle.std.proofs.lemmas.List.{get_or_default, get_or-take, get_or-drop, length-take, take_rest}
 use Rattle.std.proofs.lemmas.Option.{slice_get-get_or}
 use Rattle.std.proofs.lemmas.Str.{IsUtf8-drop, IsUtf8-between, IsCharBoundary-before_ascii, IsCharBoundary-after_ascii}
@@ -136,63 +136,3 @@ pub bytes_from : (text bytes : List ℕ) (i : ℕ) → bytes ≡ text → take (
 bytes_from text bytes i e = take_rest bytes i ∙ ap (drop i) e
 
 -- ---- there is one answer
-
--- a break begins with one of its bytes
-pub break_begins : (text : List ℕ) (len : ℕ) (after : List ℕ) → StartsWithBreak text len after
-    → (c : ℕ) × (cs : List ℕ) × (text ≡ c ∷ cs) × (line_break c ≡ true)
-break_begins text len after (cr_lf e size) = (13, 10 ∷ after, e, refl)
-break_begins text len after (lf e size) = (10, after, e, refl)
-break_begins text len after (cr e alone size) = (13, after, e, refl)
-
--- CR is not LF
-cr_is_no_lf : ◌≡◌ {A = ℕ} 13 10 → ⊥
-cr_is_no_lf h = omega (arith, h)
-
--- one break alone comes before a text
-pub same_break : (text : List ℕ) (len other : ℕ) (after rest : List ℕ) → StartsWithBreak text len after
-    → StartsWithBreak text other rest → (len ≡ other) × (after ≡ rest)
-same_break text len other after rest (cr_lf e m) (cr_lf f n) = (m ∙ sym n, cc)
-same_break text len other after rest (cr_lf e m) (lf f n) = absurd (cr_is_no_lf cc)
-same_break text len other after rest (cr_lf e m) (cr f alone n) =
-    absurd (alone (let h : rest ≡ 10 ∷ after = cc in ap (λ (x : List ℕ). slice_get x 0) h))
-same_break text len other after rest (lf e m) (cr_lf f n) = absurd (cr_is_no_lf cc)
-same_break text len other after rest (lf e m) (lf f n) = (m ∙ sym n, cc)
-same_break text len other after rest (lf e m) (cr f alone n) = absurd (cr_is_no_lf cc)
-same_break text len other after rest (cr e alone m) (cr_lf f n) =
-    absurd (alone (let h : after ≡ 10 ∷ rest = cc in ap (λ (x : List ℕ). slice_get x 0) h))
-same_break text len other after rest (cr e alone m) (lf f n) = absurd (cr_is_no_lf cc)
-same_break text len other after rest (cr e alone m) (cr f also n) = (m ∙ sym n, cc)
-
--- a byte of a break at the place itself is where the next break starts, and no next break starts after one
-pub starts_by : (text : List ℕ) (at start len k : ℕ) → IsNextBreak text at start len → at ≤ k → k < length text
-    → line_break (slice_index text k) ≡ true → start ≤ k
-starts_by text at start len k h above within is_break = elim (cases_lt k start) [
-  | inl before ↦ (let size : k - at < length (slice_range text at start) =
-      omega (arith, length-take (start - at) (drop at text), length-drop at text) in
-      let there : get_or (slice_range text at start) (k - at) 0 ≡ get_or text k 0 =
-      get_or-take (start - at) (drop at text) (k - at) 0 (omega arith) ∙ get_or-drop at text (k - at) 0
-      ∙ ap (λ x. get_or text x 0) (let e : at + (k - at) ≡ k = omega arith in e) in
-      absurd (false≢true (sym (not-true _ (h.none_before (k - at) 0 size)) ∙ ap line_break there ∙ is_break)))
-  | inr after ↦ after
-]
-
--- the byte at a break is LF or CR
-break_byte : (text : List ℕ) (at start len : ℕ) → IsNextBreak text at start len
-    → (start < length text) × (line_break (slice_index text start) ≡ true)
-break_byte text at start len h =
-    let first = break_begins (drop start text) len (drop (start + len) text) h.break in
-    let there = byte_there text first.1 start first.0 first.2 in
-    (there.0, ap line_break there.1 ∙ first.3)
-
--- a place has one next break
-pub same_next_break : (text : List ℕ) (at start other len more : ℕ) → IsNextBreak text at start len
-    → IsNextBreak text at other more → (start ≡ other) × (len ≡ more)
-same_next_break text at start other len more h g =
-    let one = break_byte text at start len h in
-    let two = break_byte text at other more g in
-    let below : start ≤ other = starts_by text at start len other h g.above two.0 two.1 in
-    let above : other ≤ start = starts_by text at other more start g h.above one.0 one.1 in
-    let same : start ≡ other = omega arith in
-    let also : StartsWithBreak (drop start text) more (drop (start + more) text) =
-    subst (λ x. StartsWithBreak (drop x text) more (drop (x + more) text)) (sym same) g.break in
-    (same, (same_break (drop start text) len more (drop (start + len) text) (drop (start + more) text) h.break also).0)

@@ -7,7 +7,7 @@ use Rattle.std.specs.Char.{len_utf8}
 use Rattle.std.specs.List.{list_all}
 use Rattle.std.specs.Str.{IsUtf8, IsCharBoundary, chars}
 use Rattle.std.proofs.lemmas.Bool.{cases_lt, and_parts, and_from, le-leb, or_left, or_right}
-use Rattle.std.proofs.lemmas.List.{drop_more, drop_all, drop_at, take_at, take_rest, get_or-drop, append_cancel_right}
+use Rattle.std.proofs.lemmas.List.{drop_more, drop_all, drop_at, take_at, get_or-drop, append_cancel_right}
 use Rattle.std.proofs.lemmas.Str.{chars-nil, chars-encodes, encodes-chars, encodes-append, scalars-chars}
 use Rattle.std.proofs.lemmas.Str.{chars-append, chars_past_char, cons_from_encodes, drop_past_char, IsUtf8-drop}
 use Rattle.std.proofs.lemmas.Str.{IsUtf8-between, encode_ascii, length-encode, len_utf8_bounds, byte_from_char}
@@ -45,14 +45,6 @@ same_place bs i j u b d e =
     omega (arith, length-drop i bs, length-drop j bs, ap length same, b.0, d.0)
 
 -- ---- the characters between two places
-
--- the bytes up to the end are the bytes from the place on
-pub slice_range-end : (bs : List ℕ) (i : ℕ) → slice_range bs i (length bs) ≡ drop i bs
-slice_range-end bs i = take_rest bs i
-
--- the characters up to the end are those from the place on
-pub between-end : (bs : List ℕ) (i : ℕ) → between bs i (length bs) ≡ rest bs i
-between-end bs i = ap chars (take_rest bs i)
 
 -- between a place and itself there is nothing
 pub between-nil : (bs : List ℕ) (i : ℕ) → between bs i i ≡ []

@@ -1,5 +1,5 @@
 -- A test of each byte is one of each character, where it does not tell characters from 128 on apart.
-use Rattle.std.proofs.Common.{◌≡◌, ℕ, zero, suc, ◌+◌, ◌-◌, ◌<◌, ◌≤◌, Bool, true, false, not, ◌&&◌, ◌||◌, List, []}
+use Rattle.std.proofs.Common.{◌≡◌, ℕ, zero, suc, ◌+◌, ◌-◌, ◌<◌, ◌≤◌, Bool, true, false, not, ◌||◌, List, []}
 use Rattle.std.proofs.Common.{◌∷◌, ◌++◌, refl, ap, sym, ◌∙◌, subst, arith, length, inl, inr, get_or, drop}
 use Rattle.std.proofs.Common.{length-append, length-drop, append-nil, slice_range, slice_index, ltb, ltb-true}
 use lib.Utf8.{encodes, encode, scalar, scalars, scalar_cases}
@@ -13,7 +13,7 @@ use Rattle.std.proofs.lemmas.List.Sums.{AllPass-from_list_all}
 use Rattle.std.proofs.lemmas.Str.{chars-encodes, encodes-chars, scalars-chars, IsUtf8-between, encode_ascii}
 use Rattle.std.proofs.lemmas.Str.{byte_from_char, char_from_byte, length-encode, len_utf8_bounds}
 use Rattle.std.proofs.lemmas.Str.{IsCharBoundary-before_ascii, IsCharBoundary-after_ascii, IsCharBoundary-end}
-use Rattle.yaml_chars.specs.Classes.{nb_json, line_break, white, space, indicator, flow_indicator}
+use Rattle.yaml_chars.specs.Classes.{line_break, white, space}
 use Rattle.yaml_chars.specs.Breaks.{no_break}
 use Rattle.yaml_chars.specs.Places.{rest, between, IsRun}
 use Rattle.yaml_chars.proofs.Places.{IsCharAt, char_at, rest-end}
@@ -38,25 +38,9 @@ blind-line_break c h l = grind (arith, nat_tests)
 pub blind-no_break : IsBlind no_break
 blind-no_break c h l = grind (arith, nat_tests)
 
--- nor that for nb-json
-pub blind-nb_json : IsBlind nb_json
-blind-nb_json c h l = grind (arith, nat_tests)
-
--- nor that for indicators
-pub blind-indicator : IsBlind indicator
-blind-indicator c h l = grind (arith, nat_tests)
-
--- nor that for flow indicators
-pub blind-flow_indicator : IsBlind flow_indicator
-blind-flow_indicator c h l = grind (arith, nat_tests)
-
 -- nor does the negation of such a test
 pub blind-not : (test : ℕ → Bool) → IsBlind test → IsBlind (λ c. not (test c))
 blind-not test h c high fits = ap not (h c high fits)
-
--- nor do two such tests together
-pub blind-and : (one other : ℕ → Bool) → IsBlind one → IsBlind other → IsBlind (λ c. one c && other c)
-blind-and one other h g c high fits = ap (λ x. x && other c) (h c high fits) ∙ ap (λ x. one 128 && x) (g c high fits)
 
 -- nor does one of two such tests
 pub blind-or : (one other : ℕ → Bool) → IsBlind one → IsBlind other → IsBlind (λ c. one c || other c)

@@ -1,24 +1,16 @@
 -- What one step's edit does to the length of a node.
-use Rattle.std.proofs.Common.{◌≡◌, ℕ, zero, suc, ◌+◌, ◌-◌, ◌*◌, ◌<◌, ◌==◌, Bool, true, false, if◌then◌else◌, List}
-use Rattle.std.proofs.Common.{codes, Option, Some, None, option_map, Ok, Err, refl, sym, ap, subst, ◌∙◌, arith}
-use Rattle.std.proofs.lemmas.Bool.Decides.{nat_tests}
-use Rattle.yaml_grammar.specs.Texts.{byte_len, spaces, same_text}
-use Rattle.yaml_grammar.specs.Trees.{Tree, text, sequence, mapping, Elements, no_element, element, Members, no_member, member}
-use Rattle.yaml_grammar.specs.Style.{key_lines, elements_at, elements_after, lines_after_dash, members_at}
-use Rattle.yaml_grammar.specs.Style.{members_after, value_at, style_text}
-use Rattle.yaml_writer.specs.Sizes.{length_at, element_size, value_size}
-use Rattle.yaml_writer.specs.declared.size.Size.{Size}
-use Rattle.yaml_writer.proofs.SizeLaws.{three, four, spaces_bytes, key_law, element_law, value_law}
+use Rattle.std.proofs.Common.{◌≡◌, ℕ, zero, suc, ◌+◌, ◌-◌, ◌*◌, ◌<◌, ◌==◌, Bool, true, false, if◌then◌else◌, List, codes, Option, Some}
+use Rattle.std.proofs.Common.{None, option_map, Ok, Err, refl, sym, ap, subst, ◌∙◌, arith}
+use Rattle.yaml_config.proofs.Prelude.{nat_tests, byte_len, spaces, same_text, Tree, text, sequence, mapping, Elements, no_element, element}
+use Rattle.yaml_config.proofs.Prelude.{Members, no_member, member, key_lines, elements_at, elements_after, lines_after_dash, members_at}
+use Rattle.yaml_config.proofs.Prelude.{members_after, value_at, style_text, length_at, element_size, value_size, Size, three, four}
+use Rattle.yaml_config.proofs.Prelude.{spaces_bytes, key_law, element_law, value_law, Index, number, after_last, no_index, index_of}
+use Rattle.yaml_config.proofs.Prelude.{at_index, present, put_element, cut_element, push_element, value_of, put_member, cut_member, child}
+use Rattle.yaml_config.proofs.Prelude.{put, cut, Miss, Absent, option_map-Some, present-Ok}
 use Rattle.yaml_data.proofs.CharacterLemmas.{same_text-true}
-use Rattle.tree_path.specs.Paths.{Index, number, after_last, no_index, index_of, at_index, present}
-use Rattle.tree_path.specs.Paths.{element_at as child_at, put_element, cut_element, push_element, value_of}
-use Rattle.tree_path.specs.Paths.{put_member, cut_member, child, put, cut}
+use Rattle.tree_path.specs.Paths.{element_at as child_at}
+use Rattle.yaml_config.specs.{declared.change.Slot.Slot, declared.change.Slot.TheVariants.Value, declared.change.Slot.TheVariants.Element}
 use Rattle.yaml_config.specs.Changes.{IsCollection, node_at, node_length, slot_in, child_size, element_row, member_row, growth, first_row}
-use Rattle.yaml_config.specs.declared.change.Slot.{Slot}
-use Rattle.yaml_config.specs.declared.change.Slot.TheVariants.{Value, Element}
-use Rattle.tree_path.specs.declared.place.Miss.{Miss}
-use Rattle.tree_path.specs.declared.place.Miss.TheVariants.{Absent}
-use Rattle.tree_path.proofs.StepLaws.{option_map-Some, present-Ok}
 
 -- ---- a node in its slot
 

@@ -1,17 +1,13 @@
 -- The depth of a tree after an edit: a value that is set is one level deeper than its path has steps.
-use Rattle.std.proofs.Common.{◌≡◌, ℕ, zero, suc, ◌+◌, ◌<◌, ◌≤◌, max, min, nat_le, Bool, true, false, if◌then◌else◌}
-use Rattle.std.proofs.Common.{List, [], ◌∷◌, length, Some, option_map, Ok, Err, ap, arith}
-use Rattle.std.proofs.lemmas.Bool.Decides.{nat_tests}
-use Rattle.yaml_grammar.specs.Texts.{same_text}
+use Rattle.std.proofs.Common.{◌≡◌, ℕ, zero, suc, ◌+◌, ◌<◌, ◌≤◌, max, min, nat_le, Bool, true, false, if◌then◌else◌, List, [], ◌∷◌, length}
+use Rattle.std.proofs.Common.{Some, option_map, Ok, Err, ap, arith}
+use Rattle.yaml_config.proofs.Prelude.{nat_tests, same_text, Tree, text, sequence, mapping, Elements, no_element, element, Members}
+use Rattle.yaml_config.proofs.Prelude.{no_member, member, depth, elements_depth, members_depth, Index, number, after_last, no_index}
+use Rattle.yaml_config.proofs.Prelude.{index_of, at_index, put_element, cut_element, push_element, value_of, put_member, cut_member, child}
+use Rattle.yaml_config.proofs.Prelude.{put, cut, at_step, edit_from, set, delete, Absent, option_map-Some, present-Ok, at_step-Ok}
+use Rattle.yaml_config.proofs.Prelude.{and_then-Ok, same_Ok}
+use Rattle.tree_path.specs.Paths.{element_at as child_at}
 use Rattle.yaml_config.specs.Limits.{config_limits}
-use Rattle.yaml_grammar.specs.Trees.{Tree, text, sequence, mapping, Elements, no_element, element, Members, no_member}
-use Rattle.yaml_grammar.specs.Trees.{member, depth, elements_depth, members_depth}
-use Rattle.tree_path.specs.Paths.{Index, number, after_last, no_index, index_of, at_index, element_at as child_at}
-use Rattle.tree_path.specs.Paths.{put_element, cut_element, push_element, value_of, put_member, cut_member, child}
-use Rattle.tree_path.specs.Paths.{put, cut, at_step, edit_from, set, delete}
-use Rattle.tree_path.specs.declared.place.Miss.TheVariants.{Absent}
-use Rattle.tree_path.proofs.StepLaws.{option_map-Some, present-Ok}
-use Rattle.tree_path.proofs.EditLaws.{at_step-Ok, and_then-Ok, same_Ok}
 
 -- a collection with a value of the depth v in it is this deep, where it was so deep before
 pub record Deepens (old v new : ℕ) : Type 0 where

@@ -1,3 +1,4 @@
+pub mod Prelude
 pub mod ChangeLaws
 pub mod DepthLemmas
 pub mod Located

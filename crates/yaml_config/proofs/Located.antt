@@ -1,24 +1,15 @@
 -- The length of a whole tree after an edit at the end of a path, from that of the node that is edited.
-use Rattle.std.proofs.Common.{◌≡◌, ℕ, zero, suc, ◌+◌, ◌*◌, ◌^◌, ◌<◌, ◌≤◌, Bool, true, false, if◌then◌else◌, List, []}
-use Rattle.std.proofs.Common.{◌∷◌, ◌++◌, length, codes, Some, Result, Ok, Err, refl, sym, ap, subst, ◌∙◌, add-zero}
-use Rattle.std.proofs.Common.{arith}
+use Rattle.std.proofs.Common.{◌≡◌, ℕ, zero, suc, ◌+◌, ◌*◌, ◌^◌, ◌<◌, ◌≤◌, Bool, true, false, if◌then◌else◌, List, [], ◌∷◌, ◌++◌, length}
+use Rattle.std.proofs.Common.{codes, Some, Result, Ok, Err, refl, sym, ap, subst, ◌∙◌, add-zero, arith}
+use Rattle.yaml_config.proofs.Prelude.{byte_len, same_text, spaces, Tree, text, sequence, mapping, Elements, no_element, element, Members}
+use Rattle.yaml_config.proofs.Prelude.{no_member, member, depth, elements_depth, members_depth, key_lines, elements_at, elements_after}
+use Rattle.yaml_config.proofs.Prelude.{lines_after_dash, members_at, members_after, value_at, style_text, three, elements_law, members_law}
+use Rattle.yaml_config.proofs.Prelude.{Index, number, after_last, no_index, index_of, at_index, value_of, child, refusal, at_step, at_from}
+use Rattle.yaml_config.proofs.Prelude.{Miss, Absent, present-Ok, put-there, edit_path, edit_path-step}
 use Rattle.std.proofs.Math.Nat.{mul-le-mul_left, mul-le-mul_right}
-use Rattle.yaml_grammar.specs.Texts.{byte_len, same_text, spaces}
-use Rattle.yaml_grammar.specs.Trees.{Tree, text, sequence, mapping, Elements, no_element, element, Members, no_member}
-use Rattle.yaml_grammar.specs.Trees.{member, depth, elements_depth, members_depth}
-use Rattle.yaml_grammar.specs.Style.{key_lines, elements_at, elements_after, lines_after_dash, members_at}
-use Rattle.yaml_grammar.specs.Style.{members_after, value_at, style_text}
-use Rattle.yaml_writer.proofs.SizeLaws.{three, elements_law, members_law}
-use Rattle.tree_path.specs.Paths.{Index, number, after_last, no_index, index_of, at_index, element_at as child_at}
-use Rattle.tree_path.specs.Paths.{value_of, child, refusal, at_step, at_from}
+use Rattle.tree_path.specs.Paths.{element_at as child_at}
+use Rattle.yaml_config.specs.{declared.change.Change.Change, declared.change.Slot.Slot, declared.change.Slot.TheVariants.Value}
 use Rattle.yaml_config.specs.Changes.{IsCollection, Changes, ChangesSmall, node_length, slot_in, Located, shifted_change}
-use Rattle.yaml_config.specs.declared.change.Change.{Change}
-use Rattle.yaml_config.specs.declared.change.Slot.{Slot}
-use Rattle.yaml_config.specs.declared.change.Slot.TheVariants.{Value}
-use Rattle.tree_path.specs.declared.place.Miss.{Miss}
-use Rattle.tree_path.specs.declared.place.Miss.TheVariants.{Absent}
-use Rattle.tree_path.proofs.StepLaws.{present-Ok, put-there}
-use Rattle.tree_path.proofs.Descents.{edit_path, edit_path-step}
 use Rattle.yaml_config.proofs.ChangeLaws.{put-leads, put-collection, style-node, node-value}
 
 -- ---- down a path

@@ -1,20 +1,10 @@
 -- What a plan of an edit knows of its tokens: all but the last one lead to the node that the edit changes.
 use Rattle.std.proofs.Common.{◌≡◌, ℕ, ◌+◌, ◌*◌, ◌≤◌, List, [], ◌∷◌, ◌++◌, length, Global, sym, ap, subst, ◌∙◌, arith}
-use Rattle.std.specs.Cow.{cow_str_bytes}
+use Rattle.yaml_config.proofs.Prelude.{cow_str_bytes, IsLastAndRest, chars, style_text, byte_len, Tree, depth, texts, texts-append}
 use Rattle.std.specs.declared.borrow.CowStr.{CowStr}
-use Rattle.std.specs.List.{IsLastAndRest}
-use Rattle.std.specs.Str.{chars}
 use Rattle.std.proofs.lemmas.List.{length-map}
-use Rattle.yaml_grammar.specs.Style.{style_text}
-use Rattle.yaml_grammar.specs.Texts.{byte_len}
-use Rattle.yaml_grammar.specs.Trees.{Tree, depth}
-use Rattle.yaml_config.specs.Kept.{IsKept, own_limits}
-use Rattle.yaml_config.specs.Changes.{Changes, Located, shifted_change}
-use Rattle.json_pointer.specs.Tokens.{texts}
-use Rattle.yaml_config.specs.declared.change.Change.{Change}
-use Rattle.yaml_config.specs.declared.change.Slot.{Slot}
-use Rattle.yaml_config.specs.declared.change.Slot.TheVariants.{Value}
-use Rattle.tree_path.proofs.Descents.{texts-append}
+use Rattle.yaml_config.specs.{Kept.IsKept, Kept.own_limits, Changes.Changes, Changes.Located, Changes.shifted_change}
+use Rattle.yaml_config.specs.{declared.change.Change.Change, declared.change.Slot.Slot, declared.change.Slot.TheVariants.Value}
 use Rattle.yaml_config.proofs.Located.{Located-within}
 
 -- the tokens split into the last one and those before it, as texts

@@ -1,14 +1,8 @@
 -- The size of a tree in each context, and its length in the one style.
-use Rattle.std.proofs.Common.{◌≡◌, ℕ, zero, suc, ◌*◌, ◌^◌, ◌<◌, ◌≤◌, ap, arith}
-use Rattle.yaml_grammar.specs.Style.{style_text}
-use Rattle.yaml_grammar.specs.Texts.{byte_len}
-use Rattle.yaml_grammar.specs.Trees.{Tree}
-use Rattle.yaml_writer.specs.Sizes.{element_size, value_size}
-use Rattle.yaml_writer.specs.declared.size.Size.{Size}
+use Rattle.std.proofs.Common.{◌≡◌, ◌^◌, ◌<◌, ◌≤◌, ap, arith}
+use Rattle.yaml_config.proofs.Prelude.{style_text, byte_len, Tree, element_size, value_size, Size}
 use Rattle.yaml_writer.proofs.SizeBounds.{element_bound, element_small, value_bound, value_small}
-use Rattle.yaml_config.specs.Changes.{child_size}
-use Rattle.yaml_config.specs.Kept.{own_limits}
-use Rattle.yaml_config.specs.declared.change.Slot.{Slot}
+use Rattle.yaml_config.specs.{Changes.child_size, Kept.own_limits, declared.change.Slot.Slot}
 use Rattle.yaml_config.specs.declared.change.Slot.TheVariants.{Value, Element}
 
 -- the numbers of a size
@@ -33,10 +27,3 @@ value-fits t size long is =
 pub child-fits : (slot : Slot) (t : Tree) (size : Size) → byte_len (style_text t) ≤ own_limits.style → size ≡ child_size slot t → Fits size
 child-fits Value t size long is = value-fits t size long is
 child-fits Element t size long is = element-fits t size long is
-
--- two spaces a line at most
-pub twice_at_most : (i n : ℕ) → i ≤ 2 → i * n ≤ 2 * n
-twice_at_most zero n h = omega arith
-twice_at_most (suc zero) n h = omega arith
-twice_at_most (suc (suc zero)) n h = omega arith
-twice_at_most (suc (suc (suc i))) n h = absurd (omega arith)

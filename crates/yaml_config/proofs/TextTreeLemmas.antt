@@ -1,15 +1,11 @@
 -- Each text of a tree is a text.
 use Rattle.std.proofs.Common.{◌≡◌, ℕ, ◌<◌, ◌≤◌, ◌⊎◌, true, List, [], ◌∷◌, map, refl, sym, subst, arith}
+use Rattle.yaml_config.proofs.Prelude.{nat_tests, scalars-chars, chars, IsUtf8, list_all, IsText, IsTextTree, AreTextElements}
+use Rattle.yaml_config.proofs.Prelude.{AreTextMembers, Pair, tree_of, level, elements_from, members_from}
 use Rattle.std.proofs.lemmas.Bool.{and_parts, and_from}
-use Rattle.std.proofs.lemmas.Bool.Decides.{nat_tests}
-use Rattle.std.proofs.lemmas.Str.{scalars-chars}
 use Rattle.std.proofs.Math.Utf8.{scalar, scalars, scalar_cases}
-use Rattle.std.specs.Str.{chars, IsUtf8}
-use Rattle.std.specs.List.{list_all}
-use Rattle.yaml_grammar.specs.Texts.{IsText}
-use Rattle.yaml_grammar.specs.Trees.{Tree as Seen, IsTextTree, AreTextElements, AreTextMembers}
+use Rattle.yaml_grammar.specs.Trees.{Tree as Seen}
 use Rattle.yaml_chars.specs.Classes.{code_point}
-use Rattle.yaml_data.specs.Seen.{Pair, tree_of, level, elements_from, members_from}
 use Rattle.yaml_data.specs.TextBytes.{text_bytes}
 use Rattle.yaml_data.specs.declared.text.Text.{Text}
 use Rattle.yaml_data.specs.declared.tree.Tree.{Tree}

@@ -1,9 +1,6 @@
 -- Edits inside a configuration.
 use Rattle.std.specs.Prelude.{ℕ, List, Result}
-use Rattle.yaml_grammar.specs.Trees.{Tree}
-use Rattle.yaml_data.specs.Seen.{tree_of}
-use Rattle.tree_path.specs.Paths.{set, delete}
-use Rattle.json_pointer.specs.declared.fault.PathFault.{PathFault}
+use Rattle.yaml_config.specs.Prelude.{Tree, tree_of, set, delete, PathFault}
 use Rattle.yaml_config.specs.declared.edit.Edit.{Edit}
 use Rattle.yaml_config.specs.declared.edit.Edit.TheVariants.{Set, Delete}
 

@@ -1,14 +1,11 @@
 -- Which trees are within limits, and the faults of the others.
 use Rattle.std.specs.Prelude.{◌≡◌, ◌<◌, ◌≤◌, IsTrue, false}
-use Rattle.yaml_grammar.specs.Reads as grammar
-use Rattle.yaml_grammar.specs.Reads.{Good}
-use Rattle.yaml_grammar.specs.Style.{style_text}
-use Rattle.yaml_grammar.specs.Texts.{byte_len}
-use Rattle.yaml_grammar.specs.Trees.{Tree, depth, distinct}
-pub use Rattle.yaml_data.specs.OwnLimits.{own_limits}
-use Rattle.yaml_config.specs.declared.limits.Limits.{Limits}
+use Rattle.yaml_config.specs.Prelude.{Good, style_text, byte_len, Tree, depth, distinct}
 use Rattle.yaml_events.specs.declared.read_fault.ReadFault.{ReadFault}
 use Rattle.yaml_events.specs.declared.read_fault.ReadFault.TheVariants.{KeyTwice, TooDeep, LargeInStyle, OutOfMemory}
+use Rattle.yaml_config.specs.declared.limits.Limits.{Limits}
+use Rattle.yaml_grammar.specs.Reads as grammar
+pub use Rattle.yaml_data.specs.OwnLimits.{own_limits}
 
 -- limits of the code as the grammar's
 abbrev pub limits_of : Limits → grammar.Limits

@@ -1,3 +1,4 @@
+pub mod Prelude
 pub mod Changes
 pub mod Edits
 pub mod Kept

@@ -1,12 +1,7 @@
 // How an edit changes the length of a tree in the one style.
 ghost use Rattle.std.specs.Prelude.{◌≡◌, ◌+◌, ◌*◌, ◌^◌, ◌<◌, ◌≤◌};
-ghost use Rattle.std.specs.Str.{chars};
-ghost use Rattle.yaml_grammar.specs.Texts.{byte_len};
-ghost use Rattle.yaml_grammar.specs.Trees.{depth};
-ghost use Rattle.yaml_grammar.specs.Style.{style_text};
-ghost use Rattle.yaml_data.specs.OwnLimits.{own_limits};
-ghost use Rattle.yaml_data.specs.Seen.{tree_of};
-ghost use Rattle.yaml_writer.specs.Sizes.{element_size, length_at};
+ghost use Rattle.yaml_config.specs.Prelude.{chars, byte_len, depth, style_text, own_limits, tree_of, element_size};
+ghost use Rattle.yaml_config.specs.Prelude.{length_at};
 ghost use Rattle.yaml_config.specs.Changes.{growth, reversed_change, shifted_change, shifted_size, slot_in, first_row, child_size, row_of_element, row_of_member};
 
 use yaml_data::Tree;

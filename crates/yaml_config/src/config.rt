@@ -1,15 +1,9 @@
 // A tree that is good to keep.
 ghost use Rattle.std.specs.Prelude.{◌≡◌, ◌+◌, ◌*◌, ◌^◌, ◌<◌, ◌≤◌, true, [], Ok, Err, IfOk, IfErr, IfSome};
-ghost use Rattle.yaml_grammar.specs.Reads.{Good};
-ghost use Rattle.yaml_grammar.specs.Style.{lines_after_dash, style_text};
-ghost use Rattle.yaml_grammar.specs.Texts.{byte_len};
-ghost use Rattle.yaml_grammar.specs.Trees.{depth, distinct, text};
+ghost use Rattle.yaml_config.specs.Prelude.{Good, lines_after_dash, style_text, byte_len, depth, distinct, text};
+ghost use Rattle.yaml_config.specs.Prelude.{tree_of, element_size, indented, at, Indexes};
 ghost use Rattle.yaml_config.specs.Changes.{child_size};
 ghost use Rattle.yaml_config.specs.Kept.{IsKept, IsFirstFault, own_limits, limits_of};
-ghost use Rattle.yaml_data.specs.Seen.{tree_of};
-ghost use Rattle.yaml_writer.specs.Sizes.{element_size, indented};
-ghost use Rattle.tree_path.specs.Paths.{at};
-ghost use Rattle.tree_path.specs.Tables.{Indexes};
 
 use crate::change::Slot;
 use crate::limits::Limits;

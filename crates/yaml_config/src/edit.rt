@@ -1,16 +1,12 @@
 // Edits inside a configuration, planned and made.
-ghost use Rattle.std.specs.Prelude.{◌≡◌, ◌⊎◌, ◌<◌, ◌≤◌, true, Ok, Err, OnOk, OnErr, IfOk, IfErr, IfSome, length, nat_le};
-ghost use Rattle.yaml_grammar.specs.Reads.{Good};
-ghost use Rattle.yaml_grammar.specs.Texts.{byte_len};
-ghost use Rattle.yaml_grammar.specs.Trees.{Tree as Meant, depth, distinct};
-ghost use Rattle.yaml_grammar.specs.Style.{style_text};
-ghost use Rattle.yaml_data.specs.Seen.{tree_of};
+ghost use Rattle.std.specs.Prelude.{◌≡◌, ◌⊎◌, ◌<◌, ◌≤◌, true, Ok, Err, OnOk, OnErr, IfOk, IfErr, IfSome, length};
+ghost use Rattle.std.specs.Prelude.{nat_le};
+ghost use Rattle.yaml_config.specs.Prelude.{Good, byte_len, depth, distinct, style_text, tree_of, ArePlaces, Indexes};
+ghost use Rattle.yaml_config.specs.Prelude.{PathFault};
+ghost use Rattle.yaml_grammar.specs.Trees.{Tree as Meant};
 ghost use Rattle.yaml_config.specs.Changes.{Changes};
-ghost use Rattle.tree_path.specs.Steps.{ArePlaces};
-ghost use Rattle.tree_path.specs.Tables.{Indexes};
 ghost use Rattle.yaml_config.specs.Edits.{tree_after_edit};
 ghost use Rattle.yaml_config.specs.Limits.{config_limits};
-ghost use Rattle.json_pointer.specs.declared.fault.PathFault.{PathFault};
 
 use crate::change::Slot;
 use crate::config::Config;

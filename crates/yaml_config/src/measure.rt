@@ -1,16 +1,10 @@
 // Lengths after edits, found without making the edits.
 ghost use Rattle.std.specs.Prelude.{◌≡◌, ◌⊎◌, ◌<◌, ◌≤◌, Ok, Err, IfOk, IfErr, length};
-ghost use Rattle.std.specs.Str.{chars};
-ghost use Rattle.yaml_grammar.specs.Texts.{byte_len};
-ghost use Rattle.yaml_grammar.specs.Trees.{Tree as Meant, depth};
-ghost use Rattle.yaml_grammar.specs.Style.{style_text};
+ghost use Rattle.yaml_config.specs.Prelude.{chars, byte_len, depth, style_text, own_limits, tree_of, element_size, at};
+ghost use Rattle.yaml_config.specs.Prelude.{set, delete, child, put, cut, key_in, ArePlaces, Knows, KnowsWay};
+ghost use Rattle.yaml_grammar.specs.Trees.{Tree as Meant};
 ghost use Rattle.yaml_config.specs.Kept.{IsKept};
-ghost use Rattle.yaml_data.specs.OwnLimits.{own_limits};
-ghost use Rattle.yaml_data.specs.Seen.{tree_of};
-ghost use Rattle.yaml_writer.specs.Sizes.{element_size};
 ghost use Rattle.yaml_config.specs.Changes.{Changes, ChangesSmall, Located};
-ghost use Rattle.tree_path.specs.Paths.{at, set, delete, child, put, cut, key_in};
-ghost use Rattle.tree_path.specs.Steps.{ArePlaces, Knows, KnowsWay};
 ghost use Rattle.json_pointer.specs.Tokens.{texts};
 
 use crate::change::{Change, Slot, element_row, growth, member_row};

@@ -1,14 +1,11 @@
 -- Tests of a text's characters, and texts that are ASCII.
-use Rattle.std.proofs.Common.{◌≡◌, ℕ, zero, suc, ◌<◌, nat_lt, Bool, true, false, ◌&&◌, ◌||◌, ◌==◌, List, [], ◌∷◌}
-use Rattle.std.proofs.Common.{◌++◌, length, drop, encode_utf8, encode_utf8_all, IsUtf8, IsAscii, zero-add, subst}
-use Rattle.std.proofs.Common.{refl, sym, ap, ap₂, ◌∙◌, arith}
+use Rattle.std.proofs.Common.{◌≡◌, ℕ, zero, suc, ◌<◌, nat_lt, Bool, true, false, ◌&&◌, ◌||◌, ◌==◌, List, [], ◌∷◌, ◌++◌, length, drop}
+use Rattle.std.proofs.Common.{encode_utf8, encode_utf8_all, IsUtf8, IsAscii, zero-add, subst, refl, sym, ap, ap₂, ◌∙◌, arith}
+use Rattle.yaml_data.proofs.Prelude.{nat_tests, chars-IsAscii, chars-nil, encodes-chars, encodes-IsAscii, IsCharBoundary-past_char}
+use Rattle.yaml_data.proofs.Prelude.{drop_past_char, list_all, list_any, chars, IsCharBoundary}
 use Rattle.std.proofs.lemmas.Bool.{and_parts, and_from, eqb-true, eq-eqb, ltb-true}
-use Rattle.std.proofs.lemmas.Bool.Decides.{nat_tests}
-use Rattle.std.proofs.lemmas.Str.{chars-IsAscii, chars-nil, encodes-chars, encodes-IsAscii, IsCharBoundary-past_char, drop_past_char}
 use Rattle.std.specs.Char.{len_utf8}
 use Rattle.std.specs.Bool.{Decides}
-use Rattle.std.specs.List.{list_all, list_any}
-use Rattle.std.specs.Str.{chars, IsCharBoundary}
 use Rattle.yaml_chars.specs.Classes.{is_in}
 use Rattle.yaml_grammar.specs.Texts.{same_text}
 

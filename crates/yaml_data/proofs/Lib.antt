@@ -1,3 +1,4 @@
+pub mod Prelude
 pub mod DepthTests
 pub mod Examples
 pub mod KeyLemmas

@@ -1,10 +1,8 @@
 -- Each text is UTF-8.
 use Rattle.std.proofs.Common.{take, IsUtf8}
-use Rattle.std.proofs.lemmas.Str.{IsUtf8-had, IsUtf8-string_bytes}
-use Rattle.yaml_data.specs.TextBytes.{node_bytes, text_bytes}
-use Rattle.yaml_data.specs.declared.text.Node.{Node}
+use Rattle.yaml_data.proofs.Prelude.{IsUtf8-had, IsUtf8-string_bytes}
+use Rattle.yaml_data.specs.{TextBytes.node_bytes, TextBytes.text_bytes, declared.text.Node.Node, declared.text.Text.Text}
 use Rattle.yaml_data.specs.declared.text.Node.TheVariants as node
-use Rattle.yaml_data.specs.declared.text.Text.{Text}
 
 IsUtf8-node_bytes : (n : Node) → IsUtf8 (node_bytes n)
 IsUtf8-node_bytes (node.Short s) = IsUtf8-had (take s.len s.bytes) s.utf8

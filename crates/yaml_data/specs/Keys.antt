@@ -3,11 +3,9 @@ use Rattle.std.specs.Prelude.{ℕ, ◌+◌, Bool, true, not, ◌&&◌, List, [],
 use Rattle.yaml_grammar.specs.Trees.{Tree, text, sequence, mapping, Elements, no_element, element, Members, no_member}
 use Rattle.yaml_grammar.specs.Trees.{member, has_key, distinct, elements_distinct}
 use Rattle.std.specs.Str.{chars}
-use Rattle.yaml_data.specs.Seen.{elements_of, members_of}
-use Rattle.yaml_data.specs.TextBytes.{text_bytes}
-use Rattle.yaml_data.specs.declared.keys.Level.{Level}
-use Rattle.yaml_data.specs.declared.keys.Level.TheVariants as levels
 use Rattle.yaml_data.specs.declared.text.Text.{Text as Words}
+use Rattle.yaml_data.specs.{Seen.elements_of, Seen.members_of, TextBytes.text_bytes, declared.keys.Level.Level}
+use Rattle.yaml_data.specs.declared.keys.Level.TheVariants as levels
 
 -- the tree in place of a value that is not kept
 abbrev pub nothing : Tree

@@ -1,11 +1,9 @@
 -- What a tree of src/ is in the grammar: the same, with texts as code points.
 use Rattle.std.specs.Prelude.{List, [], ◌∷◌, map}
 use Rattle.std.specs.Str.{chars}
-use Rattle.yaml_grammar.specs.Trees as grammar
-use Rattle.yaml_data.specs.TextBytes.{text_bytes}
-use Rattle.yaml_data.specs.declared.text.Text.{Text}
+use Rattle.yaml_data.specs.{TextBytes.text_bytes, declared.text.Text.Text, declared.tree.Tree.TheOpen.Tree-F}
 use Rattle.yaml_data.specs.declared.tree.Tree.{Tree, fold-Tree}
-use Rattle.yaml_data.specs.declared.tree.Tree.TheOpen.{Tree-F}
+use Rattle.yaml_grammar.specs.Trees as grammar
 
 -- a member of a mapping: its key and its value
 abbrev pub Pair : Type 0

@@ -1,9 +1,7 @@
 -- The bytes of a text.
 use Rattle.std.specs.Prelude.{ℕ, List, take, string_bytes}
-use Rattle.yaml_data.specs.declared.short.Short.{Short}
-use Rattle.yaml_data.specs.declared.text.Node.{Node}
+use Rattle.yaml_data.specs.{declared.short.Short.Short, declared.text.Node.Node, declared.text.Text.Text}
 use Rattle.yaml_data.specs.declared.text.Node.TheVariants as node
-use Rattle.yaml_data.specs.declared.text.Text.{Text}
 
 -- of a text that is stored in the value itself
 abbrev pub short_bytes : Short → List ℕ

@@ -1,17 +1,11 @@
 -- Where the first closing of the bytes that are held and those that come is: its line is begun at the end of those that
 -- are held, or comes after a line feed of those that come.
-use Rattle.std.proofs.Common.{◌≡◌, ℕ, zero, suc, ◌+◌, ◌-◌, ◌<◌, ◌≤◌, true, List, [], ◌∷◌, ◌++◌, length, take, drop}
-use Rattle.std.proofs.Common.{refl, ap, sym, ◌∙◌, subst, arith, inl, inr, append_assoc, length-append, length-drop}
-use Rattle.std.proofs.Common.{take-append-drop, length-take-le}
+use Rattle.std.proofs.Common.{◌≡◌, ℕ, zero, suc, ◌+◌, ◌-◌, ◌<◌, ◌≤◌, true, List, [], ◌∷◌, ◌++◌, length, take, drop, refl, ap, sym, ◌∙◌}
+use Rattle.std.proofs.Common.{subst, arith, inl, inr, append_assoc, length-append, length-drop, take-append-drop, length-take-le}
 use Rattle.std.specs.Prelude.{◌⊎◌, IsTrue, Some, slice_get, nat_eq}
-use Rattle.std.proofs.lemmas.Bool.{cases_lt, cases_order}
-use Rattle.std.proofs.lemmas.List.{drop-append-le, take-append-le, append-nil}
-use Rattle.std.proofs.Math.Seq.{take-append-add, take-append_seam, drop-append_seam}
-use Rattle.memchr.specs.Find.{OccursAt}
-use Rattle.memchr.proofs.lemmas.MatchLemmas.{OccursAt-split, OccursAt-from_part}
-use Rattle.yaml_grammar.specs.Closings.{ends_line, ClosesAt}
-use Rattle.yaml_docs.specs.Cutting.{Unclosed, Takes}
-use Rattle.yaml_docs.specs.LineBegun.{IsBegun, Completes}
+use Rattle.yaml_docs.proofs.Prelude.{cases_lt, cases_order, drop-append-le, take-append-le, append-nil, take-append-add, take-append_seam}
+use Rattle.yaml_docs.proofs.Prelude.{drop-append_seam, OccursAt, OccursAt-split, OccursAt-from_part, ends_line, ClosesAt}
+use Rattle.yaml_docs.specs.{Cutting.Unclosed, Cutting.Takes, LineBegun.IsBegun, LineBegun.Completes}
 use Rattle.yaml_docs.proofs.ClosingLines.{closing_line, line_and_closing_line, line_after, last_byte, last_of, lies_within}
 
 -- ---- closings of a prefix

@@ -1,32 +1,18 @@
 -- The `%YAML` directive at a place of a text, from its parts.
 use Rattle.std.proofs.Common.{ap, append_assoc, arith, refl, sym, ◌∙◌, ◌≡◌}
 use Rattle.std.specs.Prelude.{Bool, IfSome, List, None, Option, Some, [], codes, drop, false, true, ℕ, ◌++◌, ◌+◌, ◌∷◌}
-use Rattle.std.specs.Str.{IsCharBoundary, IsUtf8}
-use Rattle.std.proofs.lemmas.Str.{len_utf8_bounds}
+use Rattle.yaml_docs.proofs.Prelude.{IsCharBoundary, IsUtf8, len_utf8_bounds, between, rest, Node, LineEnd, comments_text, directed}
+use Rattle.yaml_docs.proofs.Prelude.{directive_text, Version, yaml_1_1, yaml_1_2, version_text, begins, byte_len, is_empty, all_comments}
+use Rattle.yaml_docs.proofs.Prelude.{closes_line, Read, on, directed_with, read_directed, read_explicit, read_version, all_sound}
+use Rattle.yaml_docs.proofs.Prelude.{begins_split, IsLineStart, IsSolidLine, Line}
 use Rattle.yaml_chars.specs.Classes.{white}
-use Rattle.yaml_chars.specs.Places.{between, rest}
-use Rattle.yaml_grammar.specs.BlockNodes.{Node}
-use Rattle.yaml_grammar.specs.Separation.{LineEnd, comments_text}
-use Rattle.yaml_grammar.specs.Streams.{directed, directive_text, Version, yaml_1_1, yaml_1_2, version_text}
-use Rattle.yaml_grammar.specs.Texts.{begins, byte_len, is_empty}
-use Rattle.yaml_recognizers.specs.Comments.{all_comments, closes_line}
 use Rattle.yaml_recognizers.specs.Prefixes.{drop_while, take_while}
-use Rattle.yaml_recognizers.specs.Reading.{Read, on}
-use Rattle.yaml_recognizers.specs.Streams.{directed_with, read_directed, read_explicit, read_version}
-use Rattle.yaml_recognizers.proofs.Separation.CommentsSound.{all_sound}
 use Rattle.yaml_recognizers.proofs.Basics.Prefixes.{take_while_split}
-use Rattle.yaml_recognizers.proofs.Documents.StreamsComplete.{begins_split}
-use Rattle.yaml_scan.specs.Lines.{IsLineStart, IsSolidLine}
 use Rattle.yaml_scan.specs.ScanPlaces.{AreTaken}
-use Rattle.yaml_scan.specs.declared.lines.Line.{Line}
 use Rattle.yaml_docs.specs.Directives.{IsDirective, IsVersion, NoDirective}
 use Rattle.yaml_docs.proofs.TextPlaces.{StandsUpTo, place_after, spelled_end}
 
 -- ---- the recognizer of directives by its parts
-
--- a text that doesn't start with `%YAML` has no directive
-pub no_percent : (text : List ℕ) → begins (codes "%YAML") text ≡ false → NoDirective text
-no_percent text h = λ node_at. rw h refl
 
 no_blank : (text : List ℕ) → begins (codes "%YAML") text ≡ true → is_empty (take_while white (drop 5 text)) ≡ true → NoDirective text
 no_blank text h e = λ node_at. rw (h, e) refl

@@ -1,43 +1,23 @@
 -- Documents at a place of a text, from what is there.
 use Rattle.std.proofs.Common.{ap, arith, refl, subst, sym, ◌<◌, ◌∙◌, ◌≡◌}
 use Rattle.std.specs.Prelude.{Bool, List, None, Some, [], codes, drop, false, length, nat_lt, true, ℕ, ◌&&◌, ◌++◌, ◌+◌, ◌∷◌}
-use Rattle.std.specs.Str.{IsCharBoundary, IsUtf8}
-use Rattle.std.proofs.lemmas.Bool.{and_from, and_parts}
-use Rattle.std.proofs.lemmas.Bool.Decides.{nat_tests}
-use Rattle.yaml_chars.specs.Places.{rest}
-use Rattle.yaml_chars.proofs.Places.{char_at}
-use Rattle.yaml_grammar.specs.BlockNodes.{Node, node_events}
+use Rattle.yaml_docs.proofs.Prelude.{IsCharBoundary, IsUtf8, and_from, and_parts, nat_tests, rest, char_at, Node, node_events, as_document}
+use Rattle.yaml_docs.proofs.Prelude.{document_end, omitted_style, scalar_event, LineEnd, Document, Explicit, bare, content, directed}
+use Rattle.yaml_docs.proofs.Prelude.{explicit, explicit_events, nothing, is_empty, marker, BorrowsPlain, event_of, line_starts, Event}
+use Rattle.yaml_docs.proofs.Prelude.{is_line_end, document, suffix, all_comments, closes_line, Read, on, document_node_at, explicit_with}
+use Rattle.yaml_docs.proofs.Prelude.{marker_of, read_directed, read_explicit, suffix_with, begins_split, starts_after, Line, BlockNodeRead}
+use Rattle.yaml_docs.proofs.Prelude.{appended_none, appended_one, appended_then}
 use Rattle.yaml_grammar.specs.BlockScalars.{spaces_before}
-use Rattle.yaml_grammar.specs.Events as grammar
-use Rattle.yaml_grammar.specs.Events.{as_document, document_end, omitted_style, scalar_event}
-use Rattle.yaml_grammar.specs.Separation.{LineEnd}
-use Rattle.yaml_grammar.specs.Streams.{Document, Explicit, bare, content, directed, explicit, explicit_events, nothing}
-use Rattle.yaml_grammar.specs.Texts.{is_empty, marker}
-use Rattle.yaml_events.specs.Borrowed.{BorrowsPlain}
-use Rattle.yaml_events.specs.Meant.{event_of}
-use Rattle.yaml_events.specs.EventPlaces.{line_starts}
-use Rattle.yaml_events.specs.declared.event.Event.{Event}
 use Rattle.yaml_events.specs.declared.event.Event.TheVariants.{DocEnd, DocStart}
 use Rattle.yaml_recognizers.specs.BlockNodes.{omits}
-use Rattle.yaml_recognizers.specs.CanonicalComments.{is_line_end}
-use Rattle.yaml_recognizers.specs.CanonicalStreams.{document, suffix}
-use Rattle.yaml_recognizers.specs.Comments.{all_comments, closes_line}
 use Rattle.yaml_recognizers.specs.Ends.{block_node_stops}
-use Rattle.yaml_recognizers.specs.Reading.{Read, on}
-use Rattle.yaml_recognizers.specs.Recognizers.{document_node_at}
-use Rattle.yaml_recognizers.specs.Streams.{explicit_with, marker_of, read_directed, read_explicit, suffix_with}
-use Rattle.yaml_recognizers.proofs.Documents.StreamsBegin.{marked}
-use Rattle.yaml_recognizers.proofs.Documents.StreamsComplete.{begins_split}
-use Rattle.yaml_scan.proofs.LineStarts.{starts_after}
-use Rattle.yaml_scan.specs.declared.lines.Line.{Line}
-use Rattle.yaml_docs.specs.Directives.{IsDirective}
-use Rattle.yaml_docs.specs.Documents.{DocumentRead, ExplicitNodeRead, ExplicitRead, IsOmitted, SuffixRead, after_dashes}
-use Rattle.yaml_block.specs.Found.{BlockNodeRead}
 use Rattle.yaml_flow.specs.FlowNodes.{Appended}
-use Rattle.yaml_flow.proofs.Appends.{appended_none, appended_one, appended_then}
-use Rattle.yaml_docs.specs.Sections.{SectionRead, read_as}
-use Rattle.yaml_docs.specs.declared.documents.Section.TheVariants.{Suffix, Explicit as ExplicitSection, Directed, Bare}
+use Rattle.yaml_docs.specs.declared.documents.Section.TheVariants.{Explicit as ExplicitSection}
+use Rattle.yaml_docs.specs.{Directives.IsDirective, Sections.SectionRead, Sections.read_as}
+use Rattle.yaml_docs.specs.Documents.{DocumentRead, ExplicitNodeRead, ExplicitRead, IsOmitted, SuffixRead, after_dashes}
+use Rattle.yaml_docs.specs.declared.documents.Section.TheVariants.{Suffix, Directed, Bare}
 use Rattle.yaml_docs.proofs.TextPlaces.{StandsUpTo, place_after}
+use Rattle.yaml_grammar.specs.Events as grammar
 
 -- ---- markers
 
@@ -90,10 +70,6 @@ no_fewer n = grind (arith, nat_tests)
 pub omits_at_end : (c : List LineEnd × List ℕ) → closes_line c ≡ true → c.1 ≡ [] → omits 0 false c ≡ true
 omits_at_end c h e = and_from _ _ h (subst (λ (t : List ℕ). block_node_stops 0 false t ≡ true) (sym e) refl)
 
--- so it is at a marker
-pub omits_at_marker : (c : List LineEnd × List ℕ) → closes_line c ≡ true → marker c.1 ≡ true → omits 0 false c ≡ true
-omits_at_marker c h e = and_from _ _ h (marked 0 false c.1 e)
-
 no_end : (t : List ℕ) → is_empty t ≡ false → marker t ≡ false → is_line_end t ≡ false → block_node_stops 0 false t ≡ false
 no_end t e m l = rw (e, m, l, no_fewer (spaces_before t)) refl
 
@@ -106,10 +82,6 @@ pub no_omission : (c : List LineEnd × List ℕ) (after : List ℕ) → c.1 ≡ 
     → marker after ≡ false → is_line_end after ≡ false → omits 0 false c ≡ false
 no_omission c after e some m l = not_both (closes_line c) (block_node_stops 0 false c.1)
     (ap (block_node_stops 0 false) e ∙ no_end after some m l)
-
--- nor if the line of the `---` goes on
-pub no_closed_line : (c : List LineEnd × List ℕ) → closes_line c ≡ false → omits 0 false c ≡ false
-no_closed_line c h = rw h refl
 
 -- ---- the node after a `---`
 

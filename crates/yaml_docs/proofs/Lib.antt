@@ -1,3 +1,4 @@
+pub mod Prelude
 pub mod ClosingLines
 pub mod SectionSteps
 pub mod SectionCases

@@ -1,19 +1,9 @@
 -- The place after a byte order mark at the start of a text.
 use Rattle.std.proofs.Common.{ap, arith, inl, inr, refl, subst, sym, ◌∙◌, ◌≡◌}
 use Rattle.std.specs.Prelude.{List, None, Option, Some, [], false, true, ℕ, ◌==◌, ◌∷◌}
-use Rattle.std.specs.Str.{IsUtf8, chars}
-use Rattle.std.proofs.lemmas.Bool.{cases_Bool, eqb-true}
-use Rattle.std.proofs.lemmas.Str.{IsCharBoundary-start}
-use Rattle.yaml_chars.specs.Places.{rest}
-use Rattle.yaml_grammar.specs.Texts.{first, starts_line}
-use Rattle.yaml_events.specs.EventPlaces.{without_mark}
-use Rattle.yaml_recognizers.specs.CanonicalStreams.{Section}
-use Rattle.yaml_recognizers.specs.Recognizers.{sections_at}
-use Rattle.yaml_recognizers.specs.Streams.{order_mark, with_mark}
-use Rattle.yaml_recognizers.proofs.Meanings.Steps.{stream_steps}
-use Rattle.yaml_scan.proofs.LineStarts.{starts_at_beginning}
-use Rattle.yaml_docs.specs.Documents.{IsMarkEnd}
-use Rattle.yaml_docs.specs.Sections.{flat_meaning, sections_meaning, stream_meaning}
+use Rattle.yaml_docs.proofs.Prelude.{IsUtf8, chars, cases_Bool, eqb-true, IsCharBoundary-start, rest, first, starts_line, without_mark}
+use Rattle.yaml_docs.proofs.Prelude.{Section, sections_at, order_mark, with_mark, stream_steps, starts_at_beginning}
+use Rattle.yaml_docs.specs.{Documents.IsMarkEnd, Sections.flat_meaning, Sections.sections_meaning, Sections.stream_meaning}
 use Rattle.yaml_docs.proofs.TextPlaces.{StandsUpTo, place_after}
 
 unmarked_meaning : (ps : Option (List Section)) → flat_meaning (with_mark false ps) ≡ sections_meaning 0 ps

@@ -1,35 +1,18 @@
 -- Each node of a presentation of a whole text is at its place in the bytes of the text.
 use Rattle.std.proofs.Common.{ap, append_assoc, refl, subst, sym, zero-add, ◌∙◌, ◌≡◌}
 use Rattle.std.specs.Prelude.{Bool, List, None, Option, Some, [], drop, false, true, ℕ, ◌++◌, ◌+◌, ◌∷◌, if◌then◌else◌}
-use Rattle.std.specs.List.{All}
-use Rattle.std.specs.Str.{IsCharBoundary, IsUtf8, chars}
-use Rattle.std.proofs.lemmas.List.{append_cancel_right}
-use Rattle.std.proofs.lemmas.Str.{IsCharBoundary-start}
-use Rattle.yaml_chars.specs.Places.{rest}
-use Rattle.yaml_chars.proofs.Places.{rest-start}
-use Rattle.yaml_grammar.specs.BlockNodes.{node_text}
+use Rattle.yaml_docs.proofs.Prelude.{All, IsCharBoundary, IsUtf8, chars, append_cancel_right, IsCharBoundary-start, rest, rest-start}
+use Rattle.yaml_docs.proofs.Prelude.{node_text, Presents, Stream, mark_text, stream_text, byte_len, first, starts_line, read_block}
+use Rattle.yaml_docs.proofs.Prelude.{FlatStream, Section, read_scalar, stream_at, sections_at, order_mark, with_mark, blocks_read}
+use Rattle.yaml_docs.proofs.Prelude.{form_found, stream_steps, reads_scalars, line_starts, without_mark}
 use Rattle.yaml_grammar.specs.FlowNodes.{flow_text}
-use Rattle.yaml_grammar.specs.Reads.{Presents}
-use Rattle.yaml_grammar.specs.Streams.{Stream, mark_text, stream_text}
-use Rattle.yaml_grammar.specs.Texts.{byte_len, first, starts_line}
-use Rattle.yaml_recognizers.specs.BlockScalars.{read_block}
-use Rattle.yaml_recognizers.specs.CanonicalStreams.{FlatStream}
-use Rattle.yaml_recognizers.specs.CanonicalStreams.{Section}
-use Rattle.yaml_recognizers.specs.FlowScalars.{read_scalar}
 use Rattle.yaml_recognizers.specs.NodePlaces.{NodePlace, NodeSpelled, NodeStands, NodeStarts, SpelledAt, StartsAt}
 use Rattle.yaml_recognizers.specs.NodePlaces.{block_at, flow_at, stream_places}
-use Rattle.yaml_recognizers.specs.Recognizers.{stream_at, sections_at}
 use Rattle.yaml_recognizers.specs.StandingNodes.{BlockNodeStands, FlowNodeStands}
-use Rattle.yaml_recognizers.specs.Streams.{order_mark, with_mark}
-use Rattle.yaml_recognizers.proofs.BlockScalars.BlockScalarFacts.{blocks_read}
 use Rattle.yaml_recognizers.proofs.Documents.StreamsForm.{stream_form}
-use Rattle.yaml_recognizers.proofs.Meanings.Meaning.{form_found}
 use Rattle.yaml_recognizers.proofs.Meanings.NodePlaces.{stream_stand}
 use Rattle.yaml_recognizers.proofs.Meanings.NodesSpelled.{stream_spelled}
 use Rattle.yaml_recognizers.proofs.Meanings.NodesStart.{stream_starts}
-use Rattle.yaml_recognizers.proofs.Meanings.Steps.{stream_steps}
-use Rattle.yaml_recognizers.proofs.Scalars.ScalarsInNodes.{reads_scalars}
-use Rattle.yaml_events.specs.EventPlaces.{line_starts, without_mark}
 use Rattle.yaml_docs.specs.NodesInBytes.{NodeIsAt}
 use Rattle.yaml_docs.proofs.TextPlaces.{StandsUpTo, place_after}
 

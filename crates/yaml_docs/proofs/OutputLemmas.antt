@@ -1,8 +1,7 @@
 -- Bytes that go out part by part.
 use Rattle.std.proofs.Common.{◌≡◌, sym, ◌∙◌, ap, arith, append_assoc, take-append-drop}
 use Rattle.std.specs.Prelude.{ℕ, ◌+◌, List, ◌++◌, take, drop, Option, Some, None}
-use Rattle.std.specs.Io.KnownBytes.{Appends}
-use Rattle.std.proofs.lemmas.List.{take-take, drop-take}
+use Rattle.yaml_docs.proofs.Prelude.{Appends, take-take, drop-take}
 
 take-more : (bytes : List ℕ) (done n : ℕ) → take done bytes ++ take n (drop done bytes) ≡ take (done + n) bytes
 take-more bytes done n =

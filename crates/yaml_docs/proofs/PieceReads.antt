@@ -1,23 +1,16 @@
 -- Reading on to the next piece.
-use Rattle.std.proofs.Common.{◌≡◌, ℕ, ◌+◌, ◌-◌, ◌≤◌, ◌<◌, Bool, true, false, List, [], ◌∷◌, ◌++◌, length, take, drop}
-use Rattle.std.proofs.Common.{refl, sym, ap, ◌∙◌, subst, arith, append_assoc, length-append, length-drop}
-use Rattle.std.proofs.Common.{take-append-drop, length-take-le}
+use Rattle.std.proofs.Common.{◌≡◌, ℕ, ◌+◌, ◌-◌, ◌≤◌, ◌<◌, Bool, true, false, List, [], ◌++◌, length, take, drop, refl, sym, ap, ◌∙◌, subst}
+use Rattle.std.proofs.Common.{arith, append_assoc, length-append, length-drop, take-append-drop, length-take-le}
 use Rattle.std.specs.Prelude.{Option, Result, Ok, Err, slice_range}
-use Rattle.std.specs.Io.KnownBytes.{Consumes}
+use Rattle.yaml_docs.proofs.Prelude.{Consumes, append-nil, drop-drop, drop-take, take_all, ClosesAt, ClosesOnce}
 use Rattle.std.proofs.KnownBytes.{Consumes-nil, Consumes-trans}
-use Rattle.std.proofs.lemmas.List.{append-nil, drop-drop, drop-take, take_all}
-use Rattle.yaml_grammar.specs.Closings.{ClosesAt, ClosesOnce}
-use Rattle.yaml_docs.specs.Cutting as cutting
+use Rattle.yaml_docs.specs.{declared.cutter.Fed.Fed, declared.pieces.Pieces.Pieces, declared.pieces.PiecesFault.PiecesFault}
 use Rattle.yaml_docs.specs.Cutting.{Held, Unclosed, Takes, Overfeeds}
-use Rattle.yaml_docs.specs.declared.cutter.Fed.{Fed}
-use Rattle.yaml_docs.proofs.ClosingLines.{lies_within}
-use Rattle.yaml_docs.proofs.CutLines.{closes-shorter}
-use Rattle.yaml_docs.specs.PieceReading.{piece_limit, input_limit, ahead, piece_or_rest, IsSound, IsOverlong, Feeds}
-use Rattle.yaml_docs.specs.PieceReading.{Fills, Advances, FeedsAll, FillsSome, FillsNone, FillsBeyond, FeedsPiece}
-use Rattle.yaml_docs.specs.PieceReading.{AdvancesToPiece, AdvancesToEnd, FailsToRead, FindsTooLong, FindsInputLong}
-use Rattle.yaml_docs.specs.PieceReading.{RunsOutOfMemory, HasPieceAhead, AdvancesWithin, AdvancesAhead}
-use Rattle.yaml_docs.specs.declared.pieces.Pieces.{Pieces}
-use Rattle.yaml_docs.specs.declared.pieces.PiecesFault.{PiecesFault}
+use Rattle.yaml_docs.specs.PieceReading.{piece_limit, input_limit, ahead, piece_or_rest, IsSound, IsOverlong, Feeds, Fills, Advances}
+use Rattle.yaml_docs.specs.PieceReading.{FeedsAll, FillsSome, FillsNone, FillsBeyond, FeedsPiece, AdvancesToPiece, AdvancesToEnd}
+use Rattle.yaml_docs.specs.PieceReading.{FailsToRead, FindsTooLong, FindsInputLong, HasPieceAhead, AdvancesWithin, AdvancesAhead}
+use Rattle.yaml_docs.proofs.{ClosingLines.lies_within, CutLines.closes-shorter}
+use Rattle.yaml_docs.specs.Cutting as cutting
 use Rattle.yaml_docs.specs.declared.pieces.PiecesFault.TheVariants as fault
 
 -- an empty text contains no closing line
@@ -64,14 +57,6 @@ range-split xs start end taken le within few =
     ∙ ap (λ l. take taken (slice_range xs start end) ++ l)
     (ap (λ k. drop taken (take k (drop start xs))) n ∙ drop-take taken (end - (start + taken)) (drop start xs)
     ∙ ap (take (end - (start + taken))) (drop-drop taken start xs))
-
--- an empty range has no elements
-pub range-all : (xs : List ℕ) (start end : ℕ) → end ≤ length xs → length (slice_range xs start end) ≡ 0 → slice_range xs start end ≡ []
-range-all xs start end within none = length-none (slice_range xs start end) none
-  where
-    length-none : (l : List ℕ) → length l ≡ 0 → l ≡ []
-    length-none [] e = refl
-    length-none (x ∷ l) e = absurd (omega arith)
 
 -- ---- taking in what was read
 
@@ -242,10 +227,6 @@ module _ (longest most : ℕ) (given mid left : Option (List ℕ)) (old now fed 
   -- where a piece is too long, `TooLong` is right
   pub too-long : SoFar given mid old now → IsOverlong longest (piece_or_rest now ++ ahead now) → FindsTooLong longest given mid old
   too-long s over = record { more = s.more; taken = s.taken; overlong = subst (λ l. IsOverlong longest l) (sym s.joined) over }
-
-  -- where memory runs out, some bytes were taken from the reader
-  pub out-of-memory : SoFar given mid old now → RunsOutOfMemory given mid
-  out-of-memory s = record { more = s.more; taken = s.taken }
 
 -- ---- the next piece without a read
 

@@ -1,27 +1,16 @@
 -- What bytes read as, from what the recognizer of streams finds in their characters.
 use Rattle.std.proofs.Common.{ap, refl, subst, sym, ◌∙◌, ◌≡◌}
 use Rattle.std.specs.Prelude.{List, None, Option, Some, length, ℕ}
-use Rattle.std.specs.Str.{IsUtf8, chars}
-use Rattle.yaml_chars.proofs.Places.{code_points-chars}
+use Rattle.yaml_docs.proofs.Prelude.{IsUtf8, chars, code_points-chars, Reads, stream_events, IsText, byte_len, read_block, FlatStream}
+use Rattle.yaml_docs.proofs.Prelude.{flat_events, read_scalar, stream_at, blocks_read, reading_found, text_reads, reads_scalars}
 use Rattle.yaml_grammar.specs.Events.{Event}
-use Rattle.yaml_grammar.specs.Reads.{Reads}
-use Rattle.yaml_grammar.specs.Streams.{stream_events}
-use Rattle.yaml_grammar.specs.Texts.{IsText, byte_len}
-use Rattle.yaml_recognizers.specs.BlockScalars.{read_block}
-use Rattle.yaml_recognizers.specs.CanonicalStreams.{FlatStream, flat_events}
-use Rattle.yaml_recognizers.specs.FlowScalars.{read_scalar}
 use Rattle.yaml_recognizers.specs.Ranges.{RangesInOrder}
-use Rattle.yaml_recognizers.specs.Recognizers.{stream_at}
-use Rattle.yaml_recognizers.proofs.BlockScalars.BlockScalarFacts.{blocks_read}
-use Rattle.yaml_recognizers.proofs.Meanings.Meaning.{reading_found, text_reads}
 use Rattle.yaml_recognizers.proofs.Meanings.Ranges.{stream_ranges}
-use Rattle.yaml_recognizers.proofs.Scalars.ScalarsInNodes.{reads_scalars}
-use Rattle.yaml_docs.specs.Sections.{flat_meaning, stream_meaning}
-use Rattle.yaml_docs.specs.Reading.{IsShortText, IsSyntax, RefusesBytes}
 use Rattle.yaml_events.specs.declared.read_fault.ReadFault.{ReadFault}
 use Rattle.yaml_events.specs.declared.read_fault.ReadFault.TheVariants.{TooLong, NotUtf8, Syntax, Documents}
 use Rattle.yaml_events.specs.declared.read_fault.ReadFault.TheVariants.{KeyNotText, KeyTwice, TooDeep, LargeInStyle}
 use Rattle.yaml_events.specs.declared.read_fault.ReadFault.TheVariants.{OutOfMemory}
+use Rattle.yaml_docs.specs.{Sections.flat_meaning, Sections.stream_meaning, Reading.IsShortText, Reading.IsSyntax, Reading.RefusesBytes}
 use Rattle.yaml_docs.proofs.TextPlaces.{byte_len-chars}
 
 -- the characters of UTF-8 are a text

@@ -1,20 +1,11 @@
 -- What a section at the start of a text adds to the meaning of the sections from there on.
 use Rattle.std.proofs.Common.{ap, refl, subst, sym, ◌∙◌, ◌≡◌, ◌≤◌}
 use Rattle.std.specs.Prelude.{Bool, List, None, Option, Some, [], false, length, true, ℕ, ◌++◌, ◌+◌, ◌∷◌}
-use Rattle.yaml_grammar.specs.Texts.{byte_len, is_empty, starts_line}
-use Rattle.yaml_recognizers.specs.BlockScalars.{read_block}
-use Rattle.yaml_recognizers.specs.CanonicalStreams.{Section, opens, section_events, section_text}
-use Rattle.yaml_recognizers.specs.FlowScalars.{read_scalar}
-use Rattle.yaml_recognizers.specs.Recognizers.{document_node_at, section_at, sections_at}
-use Rattle.yaml_recognizers.specs.Streams.{section_and}
+use Rattle.yaml_docs.proofs.Prelude.{byte_len, is_empty, starts_line, read_block, Section, opens, section_events, section_text, read_scalar}
+use Rattle.yaml_docs.proofs.Prelude.{document_node_at, section_at, sections_at, section_and, blocks_read, line_not_end, line_or_end, Sound}
+use Rattle.yaml_docs.proofs.Prelude.{sound_is, reads_scalars, sections_steps, section_long, section_some}
 use Rattle.yaml_recognizers.proofs.Block.BlockNodesSound.{NodeOf}
 use Rattle.yaml_recognizers.proofs.Block.BlockNodesWhole.{whole_node_sound}
-use Rattle.yaml_recognizers.proofs.BlockScalars.BlockScalarFacts.{blocks_read}
-use Rattle.yaml_recognizers.proofs.Basics.LineStarts.{line_not_end, line_or_end}
-use Rattle.yaml_recognizers.proofs.Basics.Reading.{Sound, sound_is}
-use Rattle.yaml_recognizers.proofs.Scalars.ScalarsInNodes.{reads_scalars}
-use Rattle.yaml_recognizers.proofs.Meanings.Steps.{sections_steps}
-use Rattle.yaml_recognizers.proofs.Documents.StreamsComplete.{section_long, section_some}
 use Rattle.yaml_recognizers.proofs.Documents.StreamsSound.{SectionOf, section_sound}
 use Rattle.yaml_docs.specs.Sections.{and_then, sections_meaning}
 

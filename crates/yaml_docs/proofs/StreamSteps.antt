@@ -1,43 +1,26 @@
 -- Reading a stream from one place to the next: the events so far, and those of the sections that are left.
 use Rattle.std.proofs.Common.{ap, append-nil, append_assoc, arith, inl, inr, length, refl, subst, sym, ◌<◌, ◌∙◌, ◌≡◌, ◌≤◌}
+use Rattle.std.specs.Prelude.{All, Bool, List, None, Option, Some, [], drop, false, true, ℕ, ◌++◌, ◌+◌, ◌∷◌}
+use Rattle.yaml_docs.proofs.Prelude.{IsUtf8, chars, cases_lt, false≢true, or_left, or_right, len_utf8_bounds, between, rest, rest-end}
+use Rattle.yaml_docs.proofs.Prelude.{LineEnd, comments_text, line_end_text, bare, explicit, byte_len, first, is_empty, starts_line}
+use Rattle.yaml_docs.proofs.Prelude.{BorrowsPlain, events_of, line_starts, Event, line, opens, section_events, section_text, is_line_end}
+use Rattle.yaml_docs.proofs.Prelude.{all_comments, closes_line, more_comments, read_line_end, Read, document_node_at, section_at}
+use Rattle.yaml_docs.proofs.Prelude.{sections_at, order_mark, read_directed, read_explicit, read_section, LineOf, all_sound, line_is_end}
+use Rattle.yaml_docs.proofs.Prelude.{line_sound, byte_len_joined, line_or_end, chosen, none_some, on_parts, some_parts, sound_is}
+use Rattle.yaml_docs.proofs.Prelude.{IsLineStart, IsSolidLine, Line, appended_means}
 use Rattle.std.proofs.Math.Nat.{add-zero}
 use Rattle.std.proofs.Math.Logic.{◌⊎◌}
-use Rattle.std.specs.Prelude.{All, Bool, List, None, Option, Some, [], drop, false, true, ℕ, ◌++◌, ◌+◌, ◌∷◌}
-use Rattle.std.specs.Str.{IsUtf8, chars}
-use Rattle.std.proofs.lemmas.Bool.{cases_lt, false≢true, or_left, or_right}
-use Rattle.std.proofs.lemmas.List.Elements.{All-append, All-nil}
-use Rattle.std.proofs.lemmas.Str.{len_utf8_bounds}
-use Rattle.yaml_chars.specs.Places.{between, rest}
-use Rattle.yaml_chars.proofs.Places.{rest-end}
-use Rattle.yaml_grammar.specs.Events as grammar
-use Rattle.yaml_grammar.specs.Separation.{LineEnd, comments_text, line_end_text}
-use Rattle.yaml_grammar.specs.Streams.{bare, explicit}
-use Rattle.yaml_grammar.specs.Texts.{byte_len, first, is_empty, starts_line}
-use Rattle.yaml_events.specs.Borrowed.{BorrowsPlain}
-use Rattle.yaml_events.specs.Meant.{events_of}
-use Rattle.yaml_events.specs.EventPlaces.{line_starts}
-use Rattle.yaml_events.specs.declared.event.Event.{Event}
-use Rattle.yaml_recognizers.specs.CanonicalStreams.{line, opens, section_events, section_text}
-use Rattle.yaml_recognizers.specs.CanonicalStreams as flat
-use Rattle.yaml_recognizers.specs.CanonicalComments.{is_line_end}
-use Rattle.yaml_recognizers.specs.Comments.{all_comments, closes_line, more_comments, read_line_end}
-use Rattle.yaml_recognizers.specs.Reading.{Read}
-use Rattle.yaml_recognizers.specs.Recognizers.{document_node_at, section_at, sections_at}
-use Rattle.yaml_recognizers.specs.Streams.{order_mark, read_directed, read_explicit, read_section}
+use Rattle.std.proofs.lemmas.List.Elements.{All-append}
 use Rattle.yaml_recognizers.proofs.Separation.CommentsDepth.{comments_step}
-use Rattle.yaml_recognizers.proofs.Separation.CommentsSound.{LineOf, all_sound, line_is_end, line_sound}
-use Rattle.yaml_recognizers.proofs.Basics.LineStarts.{byte_len_joined, line_or_end, line_starts as line_start}
-use Rattle.yaml_recognizers.proofs.Basics.Reading.{chosen, none_some, on_parts, some_parts, sound_is}
-use Rattle.yaml_scan.specs.Lines.{IsLineStart, IsSolidLine}
-use Rattle.yaml_scan.specs.declared.lines.Line.{Line}
-use Rattle.yaml_flow.proofs.Appends.{appended_means}
-use Rattle.yaml_docs.specs.Documents.{IsMarkEnd}
-use Rattle.yaml_docs.specs.Sections.{BeginsSection, SectionRead, ReadUpTo, and_then, ends_document, meaning_from}
-use Rattle.yaml_docs.specs.Sections.{sections_meaning, read_as, stream_meaning}
+use Rattle.yaml_recognizers.proofs.Basics.LineStarts.{line_starts as line_start}
+use Rattle.yaml_docs.specs.Sections.{BeginsSection, SectionRead, ReadUpTo, and_then, ends_document, meaning_from, sections_meaning, read_as}
+use Rattle.yaml_docs.specs.Sections.{stream_meaning}
 use Rattle.yaml_docs.specs.declared.documents.Section.{Section}
 use Rattle.yaml_docs.specs.declared.documents.Section.TheVariants.{Suffix, Explicit, Directed, Bare}
 use Rattle.yaml_docs.proofs.SectionSteps.{no_more_sections, no_section, section_filled, section_spells, section_step}
 use Rattle.yaml_docs.proofs.TextPlaces.{between_is, spelled_end, starts_between}
+use Rattle.yaml_grammar.specs.Events as grammar
+use Rattle.yaml_recognizers.specs.CanonicalStreams as flat
 
 -- ---- lines of white space and comments
 
@@ -224,14 +207,3 @@ pub no_meaning : (bs : List ℕ) (opened : Bool) (at : ℕ) (events : List Event
 no_meaning bs opened at events r n h = r.reads
     ∙ ap (λ (m : Option (List flat.Section)). and_then (events_of events) (sections_meaning at m))
     (no_section opened (rest bs at) n h)
-
--- after the byte order mark nothing is read yet
-pub mark_passed : (bs : List ℕ) (at : ℕ) → IsMarkEnd bs at → ReadUpTo bs true at []
-mark_passed bs at m =
-    record {
-      boundary = m.boundary;
-      starts = m.starts;
-      unmarked = m.unmarked;
-      reads = m.reads ∙ sym (nothing_more (meaning_from true bs at));
-      borrows = All-nil (BorrowsPlain bs);
-    }

@@ -1,17 +1,11 @@
 -- Places of a text by what is between them.
 use Rattle.std.proofs.Common.{ap, arith, inl, inr, length, length-append, length-drop, refl, subst, sym, ◌<◌, ◌∙◌, ◌≡◌, ◌≤◌}
-use Rattle.std.proofs.Math.Logic.{◌⊎◌}
 use Rattle.std.specs.Prelude.{List, [], drop, false, true, ℕ, ◌++◌, ◌+◌, ◌==◌, ◌∷◌}
+use Rattle.yaml_docs.proofs.Prelude.{IsCharBoundary, IsUtf8, chars, cases_Bool, false≢true, IsCharBoundary-start, length-encode, between}
+use Rattle.yaml_docs.proofs.Prelude.{rest, IsSplit, between-append, encodes-rest, rest-between, same_place, split_at, byte_len, first}
+use Rattle.yaml_docs.proofs.Prelude.{is_empty, starts_line, line_starts, without_mark, order_mark, byte_len_joined, starts_joined}
+use Rattle.std.proofs.Math.Logic.{◌⊎◌}
 use lib.Utf8.{encode, encodes}
-use Rattle.std.specs.Str.{IsCharBoundary, IsUtf8, chars}
-use Rattle.std.proofs.lemmas.Bool.{cases_Bool, false≢true}
-use Rattle.std.proofs.lemmas.Str.{IsCharBoundary-start, length-encode}
-use Rattle.yaml_chars.specs.Places.{between, rest}
-use Rattle.yaml_chars.proofs.Places.{IsSplit, between-append, encodes-rest, rest-between, same_place, split_at}
-use Rattle.yaml_grammar.specs.Texts.{byte_len, first, is_empty, starts_line}
-use Rattle.yaml_events.specs.EventPlaces.{line_starts, without_mark}
-use Rattle.yaml_recognizers.specs.Streams.{order_mark}
-use Rattle.yaml_recognizers.proofs.Basics.LineStarts.{byte_len_joined, starts_joined}
 
 -- ---- lengths in bytes
 

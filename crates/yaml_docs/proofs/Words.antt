@@ -1,13 +1,10 @@
 -- Words of ASCII characters at a place of a text.
 use Rattle.std.proofs.Common.{ap, arith, inl, inr, length, refl, sym, ◌∙◌, ◌≡◌}
 use Rattle.std.specs.Prelude.{Bool, List, [], drop, nat_lt, suc, true, zero, ℕ, ◌++◌, ◌==◌, ◌∷◌}
+use Rattle.yaml_docs.proofs.Prelude.{IsAscii, IsUtf8, chars, and_from, and_parts, cases_Bool, false≢true, ltb-true, IsUtf8-from_ascii}
+use Rattle.yaml_docs.proofs.Prelude.{chars-IsAscii, chars-append, encodes-IsAscii, encodes-append, encodes-chars, list_all, begins}
+use Rattle.yaml_docs.proofs.Prelude.{begins_split}
 use lib.Utf8.{encodes}
-use Rattle.std.specs.Str.{IsAscii, IsUtf8, chars}
-use Rattle.std.proofs.lemmas.Bool.{and_from, and_parts, cases_Bool, false≢true, ltb-true}
-use Rattle.std.proofs.lemmas.Str.{IsUtf8-from_ascii, chars-IsAscii, chars-append, encodes-IsAscii, encodes-append, encodes-chars}
-use Rattle.std.specs.List.{list_all}
-use Rattle.yaml_grammar.specs.Texts.{begins}
-use Rattle.yaml_recognizers.proofs.Documents.StreamsComplete.{begins_split}
 
 -- a word of characters below 128 is ASCII
 pub is_ascii : (word : List ℕ) → list_all (λ c. nat_lt c 128) word ≡ true → IsAscii word

@@ -1,8 +1,8 @@
 -- Cutting bytes that come in parts after each closing line.
 use Rattle.std.specs.Prelude.{◌≡◌, ℕ, ◌+◌, ◌≤◌, Bool, true, false, List, ◌++◌, length, take}
-use Rattle.std.specs.Coded.{Coded, code_by, coded×, coded_ℕ, coded_list}
 use Rattle.std.proofs.Common.{refl}
-use Rattle.yaml_grammar.specs.Closings.{ClosesAt, ClosesOnce}
+use Rattle.yaml_docs.specs.Prelude.{ClosesAt, ClosesOnce}
+use Rattle.std.specs.Coded.{Coded, code_by, coded×, coded_ℕ, coded_list}
 use Rattle.yaml_docs.specs.declared.cutter.Fed.{Fed}
 
 -- what a cutter holds, and the most bytes that it may hold

@@ -1,15 +1,8 @@
 -- The `%YAML` directive at a place of a text.
 use Rattle.std.specs.Prelude.{◌≡◌, ℕ, ◌+◌, Bool, false, List, ◌++◌, Some, None, codes}
-use Rattle.std.specs.Str.{IsCharBoundary}
-use Rattle.yaml_chars.specs.Places.{rest}
-use Rattle.yaml_grammar.specs.BlockNodes.{Node}
-use Rattle.yaml_grammar.specs.Separation.{LineEnd}
-use Rattle.yaml_grammar.specs.Streams.{directed, directive_text, Version, version_text}
-use Rattle.yaml_grammar.specs.Texts.{byte_len}
-use Rattle.yaml_recognizers.specs.Comments.{all_comments}
-use Rattle.yaml_recognizers.specs.Reading.{Read, on}
-use Rattle.yaml_recognizers.specs.Streams.{directed_with, read_directed, read_explicit}
-use Rattle.yaml_scan.specs.Lines.{IsLineStart}
+use Rattle.yaml_docs.specs.Prelude.{IsCharBoundary, rest, Node, LineEnd, directed, directive_text, Version}
+use Rattle.yaml_docs.specs.Prelude.{version_text, byte_len, all_comments, Read, on, directed_with, read_directed}
+use Rattle.yaml_docs.specs.Prelude.{read_explicit, IsLineStart}
 use Rattle.yaml_scan.specs.declared.lines.Line.{Line}
 
 -- `%YAML`, whitespace and a version, from a place up to another

@@ -1,23 +1,13 @@
 -- Documents of a stream at places of a text.
 use Rattle.std.specs.Prelude.{◌≡◌, ℕ, ◌<◌, true, false, List, Some, None, drop}
+use Rattle.yaml_docs.specs.Prelude.{IsCharBoundary, chars, rest, node_events, Document, Explicit, content, nothing}
+use Rattle.yaml_docs.specs.Prelude.{document_events, explicit_events, first, LineEnd, Event, omits, suffix}
+use Rattle.yaml_docs.specs.Prelude.{all_comments, document_node_at, explicit_with, order_mark, suffix_with}
+use Rattle.yaml_docs.specs.Prelude.{read_directed, read_explicit, IsLineStart, Appended}
 use Rattle.std.proofs.Math.Logic.{◌⊎◌}
-use Rattle.std.specs.Str.{IsCharBoundary, chars}
-use Rattle.yaml_chars.specs.Places.{rest}
-use Rattle.yaml_grammar.specs.BlockNodes.{node_events}
-use Rattle.yaml_grammar.specs.Events as grammar
 use Rattle.yaml_grammar.specs.Events.{omitted_at}
-use Rattle.yaml_grammar.specs.Streams.{Document, Explicit, content, nothing, document_events, explicit_events}
-use Rattle.yaml_grammar.specs.Texts.{first}
-use Rattle.yaml_grammar.specs.Separation.{LineEnd}
-use Rattle.yaml_events.specs.declared.event.Event.{Event}
-use Rattle.yaml_recognizers.specs.BlockNodes.{omits}
-use Rattle.yaml_recognizers.specs.CanonicalStreams.{suffix}
-use Rattle.yaml_recognizers.specs.Comments.{all_comments}
-use Rattle.yaml_recognizers.specs.Recognizers.{document_node_at}
-use Rattle.yaml_recognizers.specs.Streams.{explicit_with, order_mark, suffix_with, read_directed, read_explicit}
-use Rattle.yaml_scan.specs.Lines.{IsLineStart}
-use Rattle.yaml_flow.specs.FlowNodes.{Appended}
 use Rattle.yaml_docs.specs.Sections.{meaning_from, stream_meaning}
+use Rattle.yaml_grammar.specs.Events as grammar
 
 -- the place after a byte order mark at the start of a text, or its start
 pub record IsMarkEnd (text : List ℕ) (end : ℕ) : Type 0 where

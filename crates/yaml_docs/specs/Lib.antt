@@ -1,3 +1,4 @@
+pub mod Prelude
 pub mod NextClosing
 pub mod Reading
 pub mod Sections

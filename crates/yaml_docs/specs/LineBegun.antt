@@ -1,6 +1,6 @@
 -- A closing line that is begun at the end of bytes.
 use Rattle.std.specs.Prelude.{◌≡◌, ◌≤◌, ℕ, List, ◌++◌, take, drop, codes, IsTrue}
-use Rattle.yaml_grammar.specs.Closings.{ends_line}
+use Rattle.yaml_docs.specs.Prelude.{ends_line}
 
 -- the last bytes are this number of dots, at most three, and a line starts before them
 pub record IsBegun (held : List ℕ) (dots : ℕ) : Type 0 where

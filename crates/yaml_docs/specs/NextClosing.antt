@@ -1,6 +1,6 @@
 -- The next closing after a place.
 use Rattle.std.specs.Prelude.{ℕ, ◌<◌, ◌≤◌, List, length, take, IsTrue}
-use Rattle.yaml_grammar.specs.Closings.{ends_line, ClosesAt}
+use Rattle.yaml_docs.specs.Prelude.{ends_line, ClosesAt}
 
 -- the place is just after a closing line and after `at`, and is the first such place
 pub record IsNextClosing (bytes : List ℕ) (at place : ℕ) : Type 0 where

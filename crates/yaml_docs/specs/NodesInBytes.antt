@@ -1,13 +1,8 @@
 -- The nodes of a presentation of a whole text, at their places in its bytes.
 use Rattle.std.specs.Prelude.{ℕ, List}
-use Rattle.std.specs.List.{All}
-use Rattle.std.specs.Str.{IsCharBoundary, IsUtf8, chars}
-use Rattle.yaml_chars.specs.Places.{rest}
-use Rattle.yaml_grammar.specs.Reads.{Presents}
-use Rattle.yaml_grammar.specs.Streams.{Stream}
+use Rattle.yaml_docs.specs.Prelude.{All, IsCharBoundary, IsUtf8, chars, rest, Presents, Stream, line_starts}
 use Rattle.yaml_recognizers.specs.NodePlaces.{NodePlace, flow_at, block_at, stream_places}
 use Rattle.yaml_recognizers.specs.StandingNodes.{FlowNodeStands, BlockNodeStands}
-use Rattle.yaml_events.specs.EventPlaces.{line_starts}
 
 -- the node is at its place in the bytes, and what comes after it there ends it
 abbrev pub NodeIsAt : List ℕ → NodePlace → Type 0

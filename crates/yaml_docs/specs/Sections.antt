@@ -1,25 +1,14 @@
 -- What the sections of a stream mean: those of a whole text, and those from a place on.
 use Rattle.std.specs.Prelude.{◌≡◌, ℕ, ◌<◌, Bool, true, false, List, ◌++◌, Option, Some, None, drop, All}
+use Rattle.yaml_docs.specs.Prelude.{IsCharBoundary, chars, rest, bare, explicit, first, BorrowsPlain, events_of, Event}
+use Rattle.yaml_docs.specs.Prelude.{FlatStream, section_events, sections_events, flat_events, all_comments, Read, on}
+use Rattle.yaml_docs.specs.Prelude.{document_node_at, section_at, sections_at, stream_at, dash, dot, marker_of}
+use Rattle.yaml_docs.specs.Prelude.{order_mark, read_directed, read_explicit, suffix_with, IsLineStart, Appended}
 use Rattle.std.proofs.Math.Logic.{◌⊎◌}
-use Rattle.std.specs.Str.{IsCharBoundary, chars}
-use Rattle.yaml_chars.specs.Places.{rest}
-use Rattle.yaml_grammar.specs.Events as grammar
-use Rattle.yaml_grammar.specs.Streams.{bare, explicit}
-use Rattle.yaml_grammar.specs.Texts.{first}
-use Rattle.yaml_events.specs.Borrowed.{BorrowsPlain}
-use Rattle.yaml_events.specs.Meant.{events_of}
-use Rattle.yaml_events.specs.declared.event.Event.{Event}
-use Rattle.yaml_recognizers.specs.CanonicalStreams as flat
-use Rattle.yaml_recognizers.specs.CanonicalStreams.{FlatStream, section_events, sections_events, flat_events}
-use Rattle.yaml_recognizers.specs.Comments.{all_comments}
-use Rattle.yaml_recognizers.specs.Reading.{Read, on}
-use Rattle.yaml_recognizers.specs.Recognizers.{document_node_at, section_at, sections_at, stream_at}
-use Rattle.yaml_chars.specs.Signs.{dash, dot}
-use Rattle.yaml_recognizers.specs.Streams.{marker_of, order_mark, read_directed, read_explicit, suffix_with}
-use Rattle.yaml_scan.specs.Lines.{IsLineStart}
-use Rattle.yaml_flow.specs.FlowNodes.{Appended}
 use Rattle.yaml_docs.specs.declared.documents.Section.{Section}
 use Rattle.yaml_docs.specs.declared.documents.Section.TheVariants.{Suffix, Explicit, Directed, Bare}
+use Rattle.yaml_grammar.specs.Events as grammar
+use Rattle.yaml_recognizers.specs.CanonicalStreams as flat
 
 -- what the sections from a place on mean, if there are any
 abbrev pub sections_meaning : ℕ → Option (List flat.Section) → Option (List grammar.Event)

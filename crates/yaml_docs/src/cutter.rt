@@ -1,6 +1,6 @@
 // Cutting bytes that come in parts after each closing line.
 ghost use Rattle.std.specs.Prelude.{◌≡◌, ◌≤◌, ◌+◌, ℕ, true, [], IfOk, IfErr, IfSome, IfNone, Err, length};
-ghost use Rattle.yaml_grammar.specs.Closings.{ends_line};
+ghost use Rattle.yaml_docs.specs.Prelude.{ends_line};
 ghost use Rattle.yaml_docs.specs.Cutting.{Held, Unclosed, Takes, Feeds, Overfeeds};
 ghost use Rattle.yaml_docs.specs.LineBegun.{IsBegun, Completes};
 

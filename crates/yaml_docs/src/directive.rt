@@ -1,9 +1,6 @@
 // The `%YAML` directive (YAML 1.2.2, 6.8.1).
 ghost use Rattle.std.specs.Prelude.{◌≡◌, nat_lt, true, Some, None, IfSome, IfNone};
-ghost use Rattle.std.specs.Str.{IsCharBoundary};
-ghost use Rattle.yaml_chars.specs.Places.{rest};
-ghost use Rattle.std.specs.List.{list_all};
-ghost use Rattle.yaml_grammar.specs.Texts.{begins};
+ghost use Rattle.yaml_docs.specs.Prelude.{IsCharBoundary, rest, list_all, begins};
 ghost use Rattle.yaml_docs.specs.Directives.{IsDirective, NoDirective, IsVersion};
 
 use yaml_scan::{Line, line_after, white_end};

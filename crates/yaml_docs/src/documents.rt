@@ -1,16 +1,8 @@
 // The documents of a stream (YAML 1.2.2, 6.8 and chapter 9).
 ghost use Rattle.std.specs.Prelude.{All, ◌≡◌, true, false, Some, None, IfOk, IfErr, IfSome, IfNone};
-ghost use Rattle.std.specs.Str.{IsCharBoundary, chars};
-ghost use Rattle.yaml_chars.specs.Places.{rest};
-ghost use Rattle.yaml_events.specs.Borrowed.{BorrowsPlain};
-ghost use Rattle.yaml_events.specs.Meant.{events_of};
-ghost use Rattle.yaml_events.specs.EventPlaces.{line_starts, Refuses};
-ghost use Rattle.yaml_recognizers.specs.BlockNodes.{omits};
+ghost use Rattle.yaml_docs.specs.Prelude.{IsCharBoundary, chars, rest, BorrowsPlain, events_of, line_starts, Refuses};
+ghost use Rattle.yaml_docs.specs.Prelude.{omits, all_comments, section_at, dash, dot, marker_of};
 ghost use Rattle.yaml_recognizers.specs.CanonicalComments.{is_line_end};
-ghost use Rattle.yaml_recognizers.specs.Comments.{all_comments};
-ghost use Rattle.yaml_recognizers.specs.Recognizers.{section_at};
-ghost use Rattle.yaml_chars.specs.Signs.{dash, dot};
-ghost use Rattle.yaml_recognizers.specs.Streams.{marker_of};
 ghost use Rattle.yaml_docs.specs.Documents.{ExplicitRead, NoExplicit, DocumentRead, NoDirected};
 ghost use Rattle.yaml_docs.specs.Documents.{IsMarkEnd, IsOmitted, SuffixRead, NoSuffix, ExplicitNodeRead, NoExplicitNode};
 ghost use Rattle.yaml_docs.specs.Sections.{Begins, BeginsSection, SectionRead, ends_document, read_as, stream_meaning};

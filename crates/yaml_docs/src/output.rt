@@ -1,6 +1,6 @@
 // Writing bytes, part by part.
 ghost use Rattle.std.specs.Prelude.{◌<◌, OnOk, IfErr, length, take};
-ghost use Rattle.std.specs.Io.KnownBytes.{Appends};
+ghost use Rattle.yaml_docs.specs.Prelude.{Appends};
 
 use std::io::Write;
 

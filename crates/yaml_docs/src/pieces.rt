@@ -1,6 +1,6 @@
 // A reader's bytes, cut into pieces as they are read.
 ghost use Rattle.std.specs.Prelude.{◌≡◌, ◌≤◌, ◌↔◌, ℕ, true, [], IfOk, length, take};
-ghost use Rattle.std.specs.Io.KnownBytes.{ReadConsumes};
+ghost use Rattle.yaml_docs.specs.Prelude.{ReadConsumes};
 ghost use Rattle.yaml_docs.specs.Cutting.{Unclosed};
 ghost use Rattle.yaml_docs.specs.PieceReading.{Advances, AdvancesAhead, Feeds, Fills, HasPieceAhead, IsSound, ahead, bytes_read, input_limit, piece_limit, piece_or_rest};
 

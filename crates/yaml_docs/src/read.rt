@@ -1,9 +1,6 @@
 // Reading bytes as a stream of documents.
 ghost use Rattle.std.specs.Prelude.{All, ◌≡◌, ◌<◌, ◌≤◌, ◌↔◌, Err, IfOk, IfErr, length};
-ghost use Rattle.std.specs.Str.{IsUtf8};
-ghost use Rattle.std.specs.Str.Lossy.{utf8_valid_len};
-ghost use Rattle.yaml_events.specs.Borrowed.{BorrowsPlain};
-ghost use Rattle.yaml_events.specs.Meant.{events_of};
+ghost use Rattle.yaml_docs.specs.Prelude.{IsUtf8, utf8_valid_len, BorrowsPlain, events_of};
 ghost use Rattle.yaml_recognizers.specs.Ranges.{RangesInOrder};
 ghost use Rattle.yaml_docs.specs.Reading.{ReadsAs, RefusesBytes, IsSyntax};
 

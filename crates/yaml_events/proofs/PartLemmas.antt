@@ -1,6 +1,6 @@
 -- The events that parts stand for, as the parts grow and shrink.
-use Rattle.std.proofs.Common.{◌≡◌, ℕ, ◌≤◌, List, [], ◌∷◌, ◌++◌, length, take, drop, refl, ap, sym, ◌∙◌, subst, arith, Bor}
-use Rattle.std.proofs.Common.{length-append, length-drop}
+use Rattle.std.proofs.Common.{◌≡◌, ℕ, ◌≤◌, List, [], ◌∷◌, ◌++◌, length, take, drop, refl, ap, sym, ◌∙◌, subst, arith, Bor, length-append}
+use Rattle.std.proofs.Common.{length-drop}
 use Rattle.std.proofs.lemmas.List.{append-nil, drop-append-le, length-take-le, take-append-drop}
 use Rattle.std.proofs.lemmas.List.Sums.{sum_by-append, sum_by-cons, sum_by-take-le}
 use Rattle.std.proofs.Math.Seq.{take-append_seam, drop-append_seam}
@@ -8,18 +8,13 @@ use Rattle.std.specs.List.{sum_by, insert}
 use Rattle.std.specs.Str.{chars}
 use Rattle.std.proofs.lemmas.Str.{chars-nil}
 use Rattle.yaml_grammar.specs.Events.{omitted_style, scalar_event}
-use Rattle.yaml_events.specs.Omitted.{AppendsOmitted}
-use Rattle.yaml_events.specs.Parts.{kind_of, borrowed_of, others_of, borrows, omits, has_other, stored_event}
-use Rattle.yaml_events.specs.Parts.{borrowed_event, omitted_event, event_at, events_in, Fits}
-use Rattle.yaml_events.specs.declared.event.Event.{Event}
-use Rattle.yaml_events.specs.declared.event.Event.TheVariants.{MapStart}
-use Rattle.yaml_events.specs.declared.event.Style.{Style}
+use Rattle.yaml_events.specs.{Omitted.AppendsOmitted, declared.event.Event.Event, declared.event.Event.TheVariants.MapStart}
+use Rattle.yaml_events.specs.{declared.event.Style.Style, declared.parts.Kind.Kind, declared.parts.BorrowedScalar.BorrowedScalar}
+use Rattle.yaml_events.specs.{declared.parts.OtherScalar.OtherScalar, declared.parts.Stored.Stored}
+use Rattle.yaml_events.specs.Parts.{kind_of, borrowed_of, others_of, borrows, omits, has_other, stored_event, borrowed_event, omitted_event}
+use Rattle.yaml_events.specs.Parts.{event_at, events_in, Fits}
 use Rattle.yaml_events.specs.declared.parts.Edge.TheVariants as edge
-use Rattle.yaml_events.specs.declared.parts.Kind.{Kind}
 use Rattle.yaml_events.specs.declared.parts.Kind.TheVariants as kind
-use Rattle.yaml_events.specs.declared.parts.BorrowedScalar.{BorrowedScalar}
-use Rattle.yaml_events.specs.declared.parts.OtherScalar.{OtherScalar}
-use Rattle.yaml_events.specs.declared.parts.Stored.{Stored}
 use Rattle.yaml_events.specs.declared.parts.Stored.TheVariants as stored
 
 -- ---- each kind is an event
@@ -113,12 +108,6 @@ events-push_borrowed empty ks bs us os style b fits =
     ≡ events_in empty ks bs us os ++ borrowed_event style b ∷ []) (append-nil os)
     (events-push empty ks bs us os (stored.Borrowed style b) fits)
 
-pub fits-push_borrowed : (ks : List Kind) (bs : List BorrowedScalar) (us : List ℕ) (os : List OtherScalar) (style : Style)
-    (b : BorrowedScalar) → Fits ks bs us os → Fits (ks ++ kind.Borrowed style ∷ []) (bs ++ b ∷ []) us os
-fits-push_borrowed ks bs us os style b fits =
-    subst (λ l. Fits (ks ++ kind.Borrowed style ∷ []) (bs ++ b ∷ []) us l) (append-nil os)
-    (fits-push ks bs us os (stored.Borrowed style b) fits)
-
 -- ---- an omitted value more
 
 pub events-push_omitted : (empty : Bor (List ℕ)) (ks : List Kind) (bs : List BorrowedScalar) (us : List ℕ)
@@ -130,14 +119,6 @@ events-push_omitted empty ks bs us os at fits =
     (subst (λ l. events_in empty (ks ++ kind.Omitted ∷ []) (bs ++ []) (us ++ at ∷ []) l
     ≡ events_in empty ks bs us os ++ omitted_event empty at ∷ []) (append-nil os)
     (events-append empty ks (kind.Omitted ∷ []) bs [] us (at ∷ []) os [] fits))
-
-pub fits-push_omitted : (ks : List Kind) (bs : List BorrowedScalar) (us : List ℕ) (os : List OtherScalar) (at : ℕ)
-    → Fits ks bs us os → Fits (ks ++ kind.Omitted ∷ []) bs (us ++ at ∷ []) os
-fits-push_omitted ks bs us os at fits = (
-  omega (arith, sum_by-append borrows ks (kind.Omitted ∷ []), fits.0),
-  omega (arith, sum_by-append omits ks (kind.Omitted ∷ []), length-append us (at ∷ []), fits.1),
-  omega (arith, sum_by-append has_other ks (kind.Omitted ∷ []), fits.2),
-)
 
 pub appends_omitted : (empty : Bor (List ℕ)) (at : ℕ) (old new : List Event) → empty.now ≡ []
     → new ≡ old ++ omitted_event empty at ∷ [] → AppendsOmitted at old new

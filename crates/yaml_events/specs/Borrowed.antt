@@ -4,7 +4,8 @@ use Rattle.std.specs.Cow.{IsBorrowedStr, cow_str_bytes}
 use Rattle.std.specs.declared.borrow.CowStr.{CowStr}
 use Rattle.yaml_chars.specs.Breaks.{NoBreak}
 use Rattle.yaml_events.specs.declared.event.Event.{Event}
-use Rattle.yaml_events.specs.declared.event.Event.TheVariants.{DocStart, DocEnd, SeqStart, SeqEnd, MapStart, MapEnd, Scalar}
+use Rattle.yaml_events.specs.declared.event.Event.TheVariants.{DocStart, DocEnd, SeqStart, SeqEnd, MapStart, MapEnd}
+use Rattle.yaml_events.specs.declared.event.Event.TheVariants.{Scalar}
 use Rattle.yaml_events.specs.declared.event.Style.TheVariants.{Plain, Single, Double, Literal, Folded, Omitted}
 
 -- Where no break is between the two places, the value is borrowed, and it is what is between them.

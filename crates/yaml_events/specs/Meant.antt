@@ -2,16 +2,15 @@
 use Rattle.std.specs.Prelude.{List, map}
 use Rattle.std.specs.Str.{chars}
 use Rattle.std.specs.Cow.{cow_str_bytes}
+use Rattle.yaml_events.specs.{declared.event.Style.Style, declared.event.Event.Event, declared.event.EventRef.EventRef}
+use Rattle.yaml_events.specs.{declared.context.FlowContext.FlowContext}
+use Rattle.yaml_events.specs.declared.event.Style.TheVariants.{Plain, Single, Double, Literal, Folded, Omitted}
+use Rattle.yaml_events.specs.declared.event.Event.TheVariants.{DocStart, DocEnd, SeqStart, SeqEnd, MapStart, MapEnd}
+use Rattle.yaml_events.specs.declared.event.Event.TheVariants.{Scalar}
+use Rattle.yaml_events.specs.declared.context.FlowContext.TheVariants.{Outer, Inner, BlockKey, FlowKey}
 use Rattle.yaml_grammar.specs.Events as grammar
 use Rattle.yaml_grammar.specs.FlowScalars as flow
-use Rattle.yaml_events.specs.declared.event.Style.{Style}
-use Rattle.yaml_events.specs.declared.event.Style.TheVariants.{Plain, Single, Double, Literal, Folded, Omitted}
-use Rattle.yaml_events.specs.declared.event.Event.{Event}
-use Rattle.yaml_events.specs.declared.event.Event.TheVariants.{DocStart, DocEnd, SeqStart, SeqEnd, MapStart, MapEnd, Scalar}
-use Rattle.yaml_events.specs.declared.event.EventRef.{EventRef}
 use Rattle.yaml_events.specs.declared.event.EventRef.TheVariants as ref
-use Rattle.yaml_events.specs.declared.context.FlowContext.{FlowContext}
-use Rattle.yaml_events.specs.declared.context.FlowContext.TheVariants.{Outer, Inner, BlockKey, FlowKey}
 
 -- the style that the code's value means
 abbrev pub style_of : Style → grammar.Style

@@ -1,9 +1,9 @@
 // A list of events that grows.
 ghost use Rattle.std.specs.Prelude.{◌≡◌, ◌≤◌, ◌<◌, ◌^◌, List, [], ◌∷◌, ◌++◌, length, take, insert, OnOk, OnErr, IfErr};
 ghost use Rattle.std.specs.declared.borrow.CowStr.TheVariants.{Borrowed};
-ghost use Rattle.yaml_events.specs.declared.event.Event;
 ghost use Rattle.yaml_events.specs.Meant.{events_of};
 ghost use Rattle.yaml_events.specs.Omitted.{AppendsOmitted};
+ghost use Rattle.yaml_events.specs.declared.event.Event;
 
 use crate::event::{Event, Span, Style};
 use crate::iter::{EventIntoIter, EventIter};

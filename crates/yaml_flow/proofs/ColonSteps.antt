@@ -1,42 +1,21 @@
 -- One step of the scanner of flow collections at the `:` after a key, and after it.
 use Rattle.std.proofs.Common.{◌≡◌, ap, append_assoc, arith, inl, inr, length, refl, subst, sym, ◌∙◌, ℕ, ◌+◌, ◌≤◌}
 use Rattle.std.specs.Prelude.{Bool, true, false, ◌&&◌, nat_le, insert, List, ◌∷◌, ◌++◌, Option, Some, None}
-use Rattle.std.specs.Str.{IsUtf8, IsCharBoundary}
-use Rattle.std.proofs.lemmas.Bool.{and_parts, cases_Bool, false≢true}
-use Rattle.std.proofs.lemmas.List.{append-nil}
-use Rattle.yaml_chars.specs.Places.{rest, between}
-use Rattle.yaml_grammar.specs.Events.{Event, map_start, omitted_at}
-use Rattle.yaml_grammar.specs.FlowNodes.{Flow, entry, Value, absent, empty, given, is_plain, asked_text, flow_events, flow_text}
-use Rattle.yaml_grammar.specs.FlowScalars.{FlowContext, flow_key, one_line}
-use Rattle.yaml_grammar.specs.Separation.{Sep, gap_text}
-use Rattle.yaml_grammar.specs.Texts.{byte_len, starts_line}
-use Rattle.yaml_events.specs.declared.event.Event.TheVariants.{MapStart}
-use Rattle.yaml_events.specs.EventPlaces.{line_starts}
-use Rattle.yaml_recognizers.specs.Ends.{is_colon}
-use Rattle.yaml_recognizers.specs.FlowFrames.{FlowPart, first_node, asked_key, pair_value, Bracket, OpenFlow}
-use Rattle.yaml_recognizers.specs.FlowFrames.{close_with, entries_of, entry_of}
-use Rattle.yaml_recognizers.specs.FlowNodes.{key_is_short}
-use Rattle.yaml_recognizers.specs.Prefixes.{past}
-use Rattle.yaml_recognizers.specs.Gaps.{GapRead, read_gap}
-use Rattle.yaml_recognizers.specs.OneLine.{widens}
-use Rattle.yaml_recognizers.specs.Reading.{on}
-use Rattle.yaml_recognizers.specs.Recognizers.{StandsFlow, flow_node_at, flow_value_at}
-use Rattle.yaml_recognizers.proofs.Flow.FlowNodesFound.{stands}
-use Rattle.yaml_recognizers.proofs.Separation.GapsSound.{gap_sound}
-use Rattle.yaml_flow.specs.declared.collection.NodeEnd.{NodeEnd}
-use Rattle.yaml_flow.specs.declared.collection.Open.{Open}
+use Rattle.yaml_flow.proofs.Prelude.{IsUtf8, IsCharBoundary, and_parts, cases_Bool, false≢true, append-nil, rest, between, Event, map_start}
+use Rattle.yaml_flow.proofs.Prelude.{omitted_at, Flow, entry, Value, absent, empty, given, is_plain, asked_text, flow_events, flow_text}
+use Rattle.yaml_flow.proofs.Prelude.{FlowContext, flow_key, one_line, Sep, gap_text, byte_len, starts_line, MapStart, line_starts, is_colon}
+use Rattle.yaml_flow.proofs.Prelude.{FlowPart, first_node, asked_key, pair_value, Bracket, OpenFlow, close_with, entries_of, entry_of}
+use Rattle.yaml_flow.proofs.Prelude.{key_is_short, past, GapRead, read_gap, widens, on, StandsFlow, flow_node_at, flow_value_at, stands}
+use Rattle.yaml_flow.proofs.Prelude.{gap_sound, IsSign, NoGap}
 use Rattle.yaml_flow.specs.declared.collection.Part.TheVariants.{Value as ValuePart}
-use Rattle.yaml_flow.specs.FlowNodes.{Appended}
-use Rattle.yaml_scan.proofs.ByteSigns.{IsSign}
-use Rattle.yaml_flow.specs.Frames.{AtColon, AtNode, BeganPair, Collection, EntryRead, EventList, NoPair, NodeRead}
-use Rattle.yaml_flow.specs.Frames.{PartFits, Passes, SameLine, bracket_prefix, ends_plain, entry_start, fits_single}
-use Rattle.yaml_flow.specs.Frames.{frame_prefix, in_sequence, is_first, is_single, pair_end, pair_start, part_prefix}
-use Rattle.yaml_flow.specs.Frames.{part_of}
-use Rattle.yaml_scan.specs.Gaps.{NoGap}
+use Rattle.yaml_flow.specs.{declared.collection.NodeEnd.NodeEnd, declared.collection.Open.Open, FlowNodes.Appended}
+use Rattle.yaml_flow.specs.Frames.{AtColon, AtNode, BeganPair, Collection, EntryRead, EventList, NoPair, NodeRead, PartFits, Passes}
+use Rattle.yaml_flow.specs.Frames.{SameLine, bracket_prefix, ends_plain, entry_start, fits_single, frame_prefix, in_sequence, is_first}
+use Rattle.yaml_flow.specs.Frames.{is_single, pair_end, pair_start, part_prefix, part_of}
 use Rattle.yaml_flow.proofs.Appends.{appended_as, appended_between, appended_then, appended_to}
 use Rattle.yaml_flow.proofs.EntryEvents.{empty_length, entry_length, pair_events, with_colon}
-use Rattle.yaml_flow.proofs.FlowSteps.{Dead, ask_of, bol_of, dead, is_value, keyed, keyed_fits, keyed_refused}
-use Rattle.yaml_flow.proofs.FlowSteps.{made_dead, plug_key, value_entry, waits_value}
+use Rattle.yaml_flow.proofs.FlowSteps.{Dead, ask_of, bol_of, dead, is_value, keyed, keyed_fits, keyed_refused, made_dead, plug_key}
+use Rattle.yaml_flow.proofs.FlowSteps.{value_entry, waits_value}
 use Rattle.yaml_flow.proofs.PairKeys.{fits_line, key_fits, left_out, no_value, value_given, value_left_out}
 use Rattle.yaml_flow.proofs.NodeSteps.{key_start, no_value_part, node_length, plugged, single_is}
 use Rattle.yaml_flow.proofs.Signs.{between_after}

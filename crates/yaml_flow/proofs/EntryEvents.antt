@@ -1,24 +1,14 @@
 -- The events of an entry, and of a collection, by the parts that are read.
 use Rattle.std.proofs.Common.{◌≡◌, ap, append_assoc, refl, sym, ◌∙◌, ℕ, ◌+◌}
 use Rattle.std.specs.Prelude.{Bool, true, false, List, [], ◌∷◌, ◌++◌, Option, Some, None, if◌then◌else◌}
-use Rattle.std.proofs.lemmas.Bool.{false≢true}
-use Rattle.std.proofs.lemmas.List.{append-nil}
-use Rattle.yaml_grammar.specs.Events.{Event, map_start, map_end}
-use Rattle.yaml_grammar.specs.FlowNodes.{Flow, Value, absent, empty, given, entry, Entries, flow_text, flow_events}
-use Rattle.yaml_grammar.specs.FlowNodes.{value_text, value_events, entry_text, entry_events, entries_events}
-use Rattle.yaml_grammar.specs.FlowNodes.{asked_text, has_colon, is_pair}
-use Rattle.yaml_grammar.specs.Separation.{Sep, gap_text}
-use Rattle.yaml_grammar.specs.Texts.{byte_len}
-use Rattle.yaml_recognizers.specs.FlowFrames.{Bracket, DoneEntry, entries_onto, collection_of}
+use Rattle.yaml_flow.proofs.Prelude.{false≢true, append-nil, Event, map_start, map_end, Flow, Value, absent, empty, given, entry, Entries}
+use Rattle.yaml_flow.proofs.Prelude.{flow_text, flow_events, value_text, value_events, entry_text, entry_events, entries_events, asked_text}
+use Rattle.yaml_flow.proofs.Prelude.{has_colon, is_pair, Sep, gap_text, byte_len, Bracket, DoneEntry, entries_onto, collection_of}
 use Rattle.yaml_recognizers.proofs.Meanings.EventPrefixes.{done_end, done_events, done_place, entries_prefix}
 use Rattle.yaml_recognizers.proofs.Basics.LineStarts.{byte_len_joined}
 use Rattle.yaml_flow.specs.Frames.{bracket_start, bracket_end, bracket_prefix, entries_start, entry_start, pair_start, pair_end}
 
 -- ---- an entry
-
--- an entry of a sequence without a `:`
-pub alone_events : (key : Flow) (at : ℕ) → entry_events (entry None key absent) true at ≡ flow_events key (at + byte_len (asked_text None))
-alone_events key at = refl
 
 -- a pair, or an entry of a mapping
 pub pair_events : (in_seq : Bool) (ask : Option Sep) (key : Flow) (v : Value) (at : ℕ) → (in_seq ≡ true → is_pair ask v ≡ true)

@@ -1,38 +1,20 @@
 -- One step of the scanner of flow collections: from what comes before it to what comes after it.
 use Rattle.std.proofs.Common.{◌≡◌, ap, arith, eq-eqb, refl, subst, sym, ◌∙◌, ℕ, ◌+◌, ◌<◌, append_assoc}
 use Rattle.std.specs.Prelude.{Bool, true, false, ◌==◌, nat_lt, is_some, List, [], ◌∷◌, ◌++◌, Option, Some, None}
-use Rattle.std.proofs.lemmas.Bool.{false≢true}
-use Rattle.std.proofs.lemmas.Bool.Decides.{nat_tests}
-use Rattle.std.proofs.lemmas.List.{append-nil}
-use Rattle.yaml_chars.specs.Places.{rest}
-use Rattle.yaml_grammar.specs.FlowNodes.{Flow, Entries, Entry, entry, Value, absent, given, none, last, is_plain}
-use Rattle.yaml_grammar.specs.FlowNodes.{scalar, asked_text, entry_text, entries_events}
-use Rattle.yaml_grammar.specs.FlowScalars.{FlowContext, outer, inner, block_key, flow_key, in_flow, one_line}
-use Rattle.yaml_grammar.specs.Separation.{Sep, gap_text}
-use Rattle.yaml_grammar.specs.Texts.{byte_len, first, starts_line}
-use Rattle.yaml_events.specs.EventPlaces.{line_starts}
-use Rattle.yaml_recognizers.specs.Ends.{is_colon}
-use Rattle.yaml_recognizers.specs.FlowFrames.{FlowPart, first_node, asked_key, pair_value, Bracket, DoneEntry}
-use Rattle.yaml_recognizers.specs.FlowFrames.{OpenFlow, closer, close_with, collection_of, entries_of, entry_of}
-use Rattle.yaml_recognizers.specs.FlowFrames.{entries_onto, plug}
-use Rattle.yaml_recognizers.specs.FlowNodes.{is_asked, key_is_short, entry_if_short}
-use Rattle.yaml_recognizers.specs.FlowScalars.{read_scalar}
-use Rattle.yaml_recognizers.specs.Prefixes.{past}
-use Rattle.yaml_recognizers.specs.Gaps.{GapRead, read_gap}
-use Rattle.yaml_recognizers.specs.PlainScalars.{read_plain}
-use Rattle.yaml_recognizers.specs.Reading.{Read, read_closing, if_fits, on}
-use Rattle.yaml_recognizers.specs.Recognizers.{flow_node_at, flow_entries_at, flow_value_at}
-use Rattle.yaml_recognizers.proofs.Flow.FlowFrames.{asked_for_nothing, comma_after, entry_begins, entry_is_asked}
-use Rattle.yaml_recognizers.proofs.Flow.FlowFrames.{is_scalar, last_entry, no_entry, opens_map, opens_seq}
+use Rattle.yaml_flow.proofs.Prelude.{false≢true, nat_tests, append-nil, rest, Flow, Entries, Entry, entry, Value, absent, given, none, last}
+use Rattle.yaml_flow.proofs.Prelude.{is_plain, scalar, asked_text, entry_text, entries_events, FlowContext, outer, inner, block_key}
+use Rattle.yaml_flow.proofs.Prelude.{flow_key, in_flow, one_line, Sep, gap_text, byte_len, first, starts_line, line_starts, is_colon}
+use Rattle.yaml_flow.proofs.Prelude.{FlowPart, first_node, asked_key, pair_value, Bracket, DoneEntry, OpenFlow, closer, close_with}
+use Rattle.yaml_flow.proofs.Prelude.{collection_of, entries_of, entry_of, entries_onto, plug, is_asked, key_is_short, entry_if_short}
+use Rattle.yaml_flow.proofs.Prelude.{read_scalar, past, GapRead, read_gap, read_plain, Read, read_closing, if_fits, on, flow_node_at}
+use Rattle.yaml_flow.proofs.Prelude.{flow_entries_at, flow_value_at, asked_for_nothing, comma_after, entry_begins, entry_is_asked}
+use Rattle.yaml_flow.proofs.Prelude.{is_scalar, last_entry, no_entry, opens_map, opens_seq, IsSign, NoGap, stuck, used_up}
 use Rattle.yaml_recognizers.proofs.Flow.StuckGaps.{blank, no_colon, no_node}
-use Rattle.yaml_flow.specs.declared.collection.Open.{Open}
+use Rattle.yaml_flow.specs.{declared.collection.Open.Open, FlowNodes.Appended}
 use Rattle.yaml_flow.specs.declared.collection.Part.TheVariants.{First, Asked}
-use Rattle.yaml_flow.specs.FlowNodes.{Appended}
-use Rattle.yaml_scan.proofs.ByteSigns.{IsSign}
-use Rattle.yaml_flow.specs.Frames.{AfterQuestion, AtEntry, AtNode, BeforeGap, Collection, EntryRead, EventList}
-use Rattle.yaml_flow.specs.Frames.{IsBracket, Passes, WholeRead, bracket_end, bracket_prefix, bracket_start}
-use Rattle.yaml_flow.specs.Frames.{entries_start, entry_start, in_sequence, pair_start}
-use Rattle.yaml_scan.specs.Gaps.{NoGap, stuck, used_up}
+use Rattle.yaml_flow.specs.Frames.{AfterQuestion, AtEntry, AtNode, BeforeGap, Collection, EntryRead, EventList, IsBracket, Passes}
+use Rattle.yaml_flow.specs.Frames.{WholeRead, bracket_end, bracket_prefix, bracket_start, entries_start, entry_start, in_sequence}
+use Rattle.yaml_flow.specs.Frames.{pair_start}
 use Rattle.yaml_flow.proofs.Appends.{appended_as, appended_then}
 use Rattle.yaml_flow.proofs.EntryEvents.{collection_events, done_end_more, done_more}
 

@@ -1,19 +1,11 @@
 -- The gap at a place, by what its scanner says.
 use Rattle.std.proofs.Common.{◌≡◌, ap, arith, inl, inr, refl, sym, ◌∙◌, ℕ, ◌≤◌, ◌<◌}
 use Rattle.std.specs.Prelude.{Bool, true, false, not, List, ◌++◌}
-use Rattle.std.specs.Str.{IsUtf8, IsCharBoundary}
-use Rattle.std.proofs.lemmas.Bool.{cases_lt, false≢true}
-use Rattle.yaml_chars.specs.Places.{rest}
-use Rattle.yaml_grammar.specs.FlowScalars.{FlowContext, one_line}
-use Rattle.yaml_grammar.specs.Separation.{gap_text}
-use Rattle.yaml_recognizers.specs.Gaps.{GapRead}
-use Rattle.yaml_recognizers.proofs.Separation.GapsSound.{gap_sound}
-use Rattle.yaml_scan.specs.Gaps.{IsGap}
-use Rattle.yaml_scan.specs.ScanPlaces.{unbroken_between}
+use Rattle.yaml_flow.proofs.Prelude.{IsUtf8, IsCharBoundary, cases_lt, false≢true, rest, FlowContext, one_line, gap_text, GapRead}
+use Rattle.yaml_flow.proofs.Prelude.{gap_sound, IsGap, unbroken_between}
 use Rattle.yaml_scan.specs.declared.gap.Gap.{Gap}
 use Rattle.yaml_flow.specs.Frames.{LineMoves, Passes}
-use Rattle.yaml_flow.proofs.SameLines.{line_follows, line_stays, unbroken_here}
-use Rattle.yaml_flow.proofs.Signs.{place_after}
+use Rattle.yaml_flow.proofs.{SameLines.line_follows, SameLines.line_stays, SameLines.unbroken_here, Signs.place_after}
 
 -- no break over the lines means that all is on one
 pub unbroken_by : (over whole : Bool) → over ≡ not whole → over ≡ false → whole ≡ true

@@ -1,18 +1,10 @@
 -- How the start of the reader's line moves.
 use Rattle.std.proofs.Common.{◌≡◌, refl, sym, ◌∙◌, ap, arith, ℕ, ◌+◌, ◌<◌, ◌≤◌}
 use Rattle.std.specs.Prelude.{Bool, true, false, ◌&&◌, nat_le, List}
-use Rattle.std.specs.Str.{IsUtf8, IsCharBoundary}
-use Rattle.std.proofs.lemmas.Bool.Decides.{nat_tests}
+use Rattle.yaml_flow.proofs.Prelude.{IsUtf8, IsCharBoundary, nat_tests, line_break, between, between-append, between-nil, list_all}
+use Rattle.yaml_flow.proofs.Prelude.{unbroken_joined, closer, IsSign, unbroken_between}
 use Rattle.yaml_chars.specs.Breaks.{no_break}
-use Rattle.yaml_chars.specs.Classes.{line_break}
-use Rattle.yaml_chars.specs.Places.{between}
-use Rattle.yaml_chars.proofs.Places.{between-append, between-nil}
-use Rattle.std.specs.List.{list_all}
-use Rattle.yaml_recognizers.proofs.Flow.OneLineText.{unbroken_joined}
-use Rattle.yaml_recognizers.specs.FlowFrames.{closer}
-use Rattle.yaml_scan.proofs.ByteSigns.{IsSign}
 use Rattle.yaml_flow.specs.Frames.{IsBracket, LineMoves, SameLine}
-use Rattle.yaml_scan.specs.ScanPlaces.{unbroken_between}
 use Rattle.yaml_flow.proofs.Signs.{one_sign}
 
 -- no break between two places means none in either part

@@ -1,30 +1,17 @@
 -- A flow scalar by its first character.
 use Rattle.std.proofs.Common.{◌≡◌, ap, refl, sym, ◌∙◌, ℕ, inl, inr}
 use Rattle.std.specs.Prelude.{Bool, true, false, ◌==◌, ◌&&◌, List, [], ◌∷◌, length, None, Some, drop}
-use Rattle.std.specs.Cow.{cow_str_bytes, IsBorrowedStr}
-use Rattle.std.specs.Str.{chars}
-use Rattle.std.proofs.lemmas.Bool.{false≢true}
-use Rattle.yaml_chars.specs.Places.{rest}
-use Rattle.yaml_grammar.specs.Events as grammar
-use Rattle.yaml_grammar.specs.FlowScalars as flow
-use Rattle.yaml_grammar.specs.Texts.{first, no_marker}
-use Rattle.yaml_events.specs.Borrowed.{BorrowsPlain}
-use Rattle.yaml_events.specs.Meant.{style_of}
-use Rattle.yaml_events.specs.EventPlaces.{line_starts}
-use Rattle.yaml_flow_scalars.specs.Standing.{ScalarAt, NoScalarAt}
-use Rattle.yaml_recognizers.specs.FlowScalars.{read_scalar}
-use Rattle.yaml_recognizers.specs.Prefixes.{past}
-use Rattle.yaml_recognizers.specs.PlainScalars.{read_plain, read_run, plain_lines_at}
+use Rattle.yaml_flow.proofs.Prelude.{cow_str_bytes, IsBorrowedStr, chars, false≢true, rest, first, no_marker, BorrowsPlain, style_of}
+use Rattle.yaml_flow.proofs.Prelude.{line_starts, ScalarAt, NoScalarAt, read_scalar, past, read_plain, read_run, plain_lines_at, Read}
+use Rattle.yaml_flow.proofs.Prelude.{chosen, none_some, on_parts, some_parts, unbroken_between}
 use Rattle.yaml_recognizers.specs.QuotedScalars.{double_closes, read_double, read_item, read_quoted, read_single}
 use Rattle.yaml_recognizers.specs.QuotedScalars.{read_single_one, single_closes}
-use Rattle.yaml_recognizers.specs.Reading.{Read}
 use Rattle.yaml_recognizers.proofs.Scalars.FlowScalars.{complete, sound}
 use Rattle.yaml_recognizers.proofs.Basics.Prefixes.{head_is}
-use Rattle.yaml_recognizers.proofs.Basics.Reading.{chosen, none_some, on_parts, some_parts}
 use Rattle.yaml_recognizers.proofs.Scalars.WholeScalars.{stands_whole, whole_stands}
-use Rattle.yaml_scan.specs.ScanPlaces.{unbroken_between}
-use Rattle.yaml_flow.specs.declared.scalar.FlowScalar.{FlowScalar}
-use Rattle.yaml_flow.specs.Scalars.{FlowScalarRead, scalar_event_at}
+use Rattle.yaml_flow.specs.{declared.scalar.FlowScalar.FlowScalar, Scalars.FlowScalarRead, Scalars.scalar_event_at}
+use Rattle.yaml_grammar.specs.Events as grammar
+use Rattle.yaml_grammar.specs.FlowScalars as flow
 
 double_head : (n : ℕ) (c : flow.FlowContext) (bol : Bool) (xs : List ℕ) (s : flow.Scalar) (after : List ℕ)
     → read_scalar n c bol (34 ∷ xs) ≡ Some (s, after)

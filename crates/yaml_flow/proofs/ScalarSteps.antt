@@ -1,27 +1,14 @@
 -- A scalar as a node.
 use Rattle.std.proofs.Common.{◌≡◌, ap, refl, subst, sym, ◌∙◌, ℕ, ◌+◌, length}
 use Rattle.std.specs.Prelude.{false, ◌==◌, List, [], ◌∷◌, ◌++◌, None, Some}
-use Rattle.std.specs.Cow.{cow_str_bytes}
-use Rattle.std.specs.Str.{IsUtf8, IsCharBoundary, chars}
-use Rattle.yaml_chars.specs.Places.{rest}
-use Rattle.yaml_grammar.specs.Events as grammar
-use Rattle.yaml_grammar.specs.FlowNodes.{flow_events, is_plain, scalar}
-use Rattle.yaml_grammar.specs.FlowScalars as flow
-use Rattle.yaml_grammar.specs.Texts.{byte_len, first}
-use Rattle.yaml_events.specs.Meant.{style_of}
-use Rattle.yaml_events.specs.EventPlaces.{line_starts}
-use Rattle.yaml_recognizers.specs.Reading.{on}
-use Rattle.yaml_recognizers.specs.FlowScalars.{read_scalar}
-use Rattle.yaml_recognizers.specs.Recognizers.{flow_node_at}
-use Rattle.yaml_recognizers.proofs.Flow.FlowFrames.{is_scalar}
-use Rattle.yaml_flow.specs.declared.collection.NodeEnd.{NodeEnd}
-use Rattle.yaml_flow.specs.declared.collection.Open.{Open}
-use Rattle.yaml_flow.specs.declared.scalar.FlowScalar.{FlowScalar}
-use Rattle.yaml_flow.specs.Scalars.{FlowScalarRead, scalar_event_at}
-use Rattle.yaml_flow.specs.FlowNodes.{Appended, FlowNodeRead}
+use Rattle.yaml_flow.proofs.Prelude.{cow_str_bytes, IsUtf8, IsCharBoundary, chars, rest, flow_events, is_plain, scalar, byte_len, first}
+use Rattle.yaml_flow.proofs.Prelude.{style_of, line_starts, on, read_scalar, flow_node_at, is_scalar}
+use Rattle.yaml_flow.specs.{declared.collection.NodeEnd.NodeEnd, declared.collection.Open.Open, declared.scalar.FlowScalar.FlowScalar}
+use Rattle.yaml_flow.specs.{Scalars.FlowScalarRead, Scalars.scalar_event_at, FlowNodes.Appended, FlowNodes.FlowNodeRead}
 use Rattle.yaml_flow.specs.Frames.{AtNode, Collection, EventList, NodeRead, ends_plain, is_plain_style}
-use Rattle.yaml_flow.proofs.Appends.{appended_one}
-use Rattle.yaml_flow.proofs.NodeSteps.{node_length}
+use Rattle.yaml_flow.proofs.{Appends.appended_one, NodeSteps.node_length}
+use Rattle.yaml_grammar.specs.Events as grammar
+use Rattle.yaml_grammar.specs.FlowScalars as flow
 
 plain_by_style : (s : flow.Scalar) → is_plain (scalar s) ≡ is_plain_style (flow.style_of s)
 plain_by_style (flow.plain prefix more) = refl

@@ -1,20 +1,11 @@
 -- Signs at a place of a text, and the places after what is there.
 use Rattle.std.proofs.Common.{◌≡◌, refl, sym, ◌∙◌, ap, arith, ℕ, ◌+◌, ◌<◌, ◌≤◌, length}
 use Rattle.std.specs.Prelude.{Bool, true, false, ◌==◌, List, [], ◌∷◌, ◌++◌}
-use Rattle.std.specs.Str.{IsUtf8, IsCharBoundary}
-use Rattle.std.specs.Char.{len_utf8}
+use Rattle.yaml_flow.proofs.Prelude.{IsUtf8, IsCharBoundary, len_utf8, append_cancel_right, length-append, line_break, rest, between}
+use Rattle.yaml_flow.proofs.Prelude.{rest-between, same_place, split_at, FlowContext, safe, byte_len, first, line_starts, closer, is_asked}
+use Rattle.yaml_flow.proofs.Prelude.{IsSign, sign_there}
 use Rattle.std.proofs.Math.Utf8.{encode, encodes}
-use Rattle.std.proofs.lemmas.List.{append_cancel_right, length-append}
 use Rattle.std.proofs.lemmas.Str.{length-encode}
-use Rattle.yaml_chars.specs.Classes.{line_break}
-use Rattle.yaml_chars.specs.Places.{rest, between}
-use Rattle.yaml_chars.proofs.Places.{rest-between, same_place, split_at}
-use Rattle.yaml_grammar.specs.FlowScalars.{FlowContext, safe}
-use Rattle.yaml_grammar.specs.Texts.{byte_len, first}
-use Rattle.yaml_events.specs.EventPlaces.{line_starts}
-use Rattle.yaml_recognizers.specs.FlowFrames.{closer}
-use Rattle.yaml_recognizers.specs.FlowNodes.{is_asked}
-use Rattle.yaml_scan.proofs.ByteSigns.{IsSign, sign_there}
 use Rattle.yaml_scan.proofs.LineStarts.{starts_after_sign}
 use Rattle.yaml_flow.specs.Frames.{IsBracket, opener}
 

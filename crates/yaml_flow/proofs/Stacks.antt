@@ -1,26 +1,14 @@
 -- The loop over open brackets: what is popped, what is left at the end, and what stays.
-use Rattle.std.proofs.Common.{◌≡◌, refl, sym, ◌∙◌, ap, subst, arith, ℕ, ◌+◌, ◌≤◌, length, append_assoc}
+use Rattle.std.proofs.Common.{◌≡◌, refl, sym, ◌∙◌, ap, subst, arith, ℕ, ◌+◌, ◌≤◌, length, append_assoc, inl, inr}
 use Rattle.std.specs.Prelude.{true, false, List, [], ◌∷◌, ◌++◌, take, Some, None}
-use Rattle.std.specs.List.{All}
-use Rattle.std.specs.Str.{IsCharBoundary}
-use Rattle.std.proofs.lemmas.List.{append-nil, length-append, take-append-le}
-use Rattle.std.proofs.lemmas.List.Elements.{All-push, All-same, All-weaker, All-pop}
-use Rattle.std.proofs.Common.{inl, inr}
-use Rattle.yaml_chars.specs.Places.{rest}
-use Rattle.yaml_grammar.specs.FlowNodes.{flow_events}
-use Rattle.yaml_grammar.specs.FlowScalars.{FlowContext, outer, inner, block_key, flow_key, in_flow}
-use Rattle.yaml_events.specs.EventPlaces.{line_starts}
-use Rattle.yaml_recognizers.specs.OneLine.{widens}
-use Rattle.yaml_recognizers.specs.Reading.{on}
-use Rattle.yaml_recognizers.specs.Recognizers.{flow_node_at}
-use Rattle.yaml_recognizers.specs.FlowFrames.{plug}
-use Rattle.yaml_flow.specs.declared.collection.NodeEnd.TheVariants.{Delimited}
-use Rattle.yaml_flow.specs.declared.collection.Open.{Open}
-use Rattle.yaml_flow.specs.declared.collection.Next.{Next}
+use Rattle.yaml_flow.proofs.Prelude.{All, IsCharBoundary, append-nil, length-append, take-append-le, All-push, All-same, All-weaker}
+use Rattle.yaml_flow.proofs.Prelude.{All-pop, rest, flow_events, FlowContext, outer, inner, block_key, flow_key, in_flow, line_starts}
+use Rattle.yaml_flow.proofs.Prelude.{widens, on, flow_node_at, plug}
+use Rattle.yaml_flow.specs.{declared.collection.NodeEnd.TheVariants.Delimited, declared.collection.Open.Open, declared.collection.Next.Next}
+use Rattle.yaml_flow.specs.{FlowNodes.Appended}
 use Rattle.yaml_flow.specs.declared.collection.Next.TheVariants.{Entry, Node, AfterEntry, Closed}
-use Rattle.yaml_flow.specs.FlowNodes.{Appended}
-use Rattle.yaml_flow.specs.Frames.{Around, AtNode, Collection, EventList, Kept, LineMoves, NodeRead, Onward, Pushes}
-use Rattle.yaml_flow.specs.Frames.{SameLine, Stack, Stands, Started, Waits, WholeRead, place_of}
+use Rattle.yaml_flow.specs.Frames.{Around, AtNode, Collection, EventList, Kept, LineMoves, NodeRead, Onward, Pushes, SameLine, Stack}
+use Rattle.yaml_flow.specs.Frames.{Stands, Started, Waits, WholeRead, place_of}
 use Rattle.yaml_flow.proofs.SameLines.{same_line_here}
 
 -- equal lists have the same last element, and are equal before it

@@ -1,18 +1,11 @@
 -- What the scanners of flow nodes find at a place of a text, which counts bytes from 0, and the events that they
 -- append.
 use Rattle.std.specs.Prelude.{◌≡◌, ℕ, ◌<◌, ◌≤◌, false, List, ◌++◌, length, Some, None}
+use Rattle.yaml_flow.specs.Prelude.{IsCharBoundary, rest, Flow, flow_events, Event, events_of, line_starts}
+use Rattle.yaml_flow.specs.Prelude.{flow_node_at, IsFlowNode, BorrowsPlain}
 use Rattle.std.specs.List.{All}
-use Rattle.std.specs.Str.{IsCharBoundary}
-use Rattle.yaml_chars.specs.Places.{rest}
 use Rattle.yaml_grammar.specs.Events as grammar
-use Rattle.yaml_grammar.specs.FlowNodes.{Flow, flow_events}
 use Rattle.yaml_grammar.specs.FlowScalars as flow
-use Rattle.yaml_events.specs.declared.event.Event.{Event}
-use Rattle.yaml_events.specs.Meant.{events_of}
-use Rattle.yaml_events.specs.EventPlaces.{line_starts}
-use Rattle.yaml_recognizers.specs.Recognizers.{flow_node_at}
-use Rattle.yaml_recognizers.specs.StandingNodes.{IsFlowNode}
-use Rattle.yaml_events.specs.Borrowed.{BorrowsPlain}
 
 -- The new list is the old one and then events with this meaning, of which each plain scalar on one line borrows its
 -- value.

@@ -1,43 +1,30 @@
 -- How far the scanner of flow collections is: what is read, what is still to be read, and the events so far.
-use Rattle.std.specs.Prelude.{◌≡◌, ℕ, ◌+◌, ◌-◌, ◌*◌, ◌≤◌, ◌==◌, Bool, true, false, ◌&&◌, nat_le, nat_lt, List, []}
-use Rattle.std.specs.Prelude.{◌∷◌, ◌++◌, length, take, insert, Option, Some, is_some}
-use Rattle.std.specs.Str.{IsCharBoundary}
-use Rattle.yaml_chars.specs.Places.{rest, between}
+use Rattle.std.specs.Prelude.{◌≡◌, ℕ, ◌+◌, ◌-◌, ◌*◌, ◌≤◌, ◌==◌, Bool, true, false, ◌&&◌, nat_le, nat_lt, List, [], ◌∷◌}
+use Rattle.std.specs.Prelude.{◌++◌, length, take, insert, Option, Some, is_some}
+use Rattle.yaml_flow.specs.Prelude.{IsCharBoundary, rest, between, Flow, flow_text, flow_events, entry_text}
+use Rattle.yaml_flow.specs.Prelude.{entry_events, asked_text, is_plain, key_limit, FlowContext, one_line, byte_len}
+use Rattle.yaml_flow.specs.Prelude.{starts_line, line_starts, is_colon, FlowPart, first_node, asked_key, pair_value}
+use Rattle.yaml_flow.specs.Prelude.{Bracket, OpenFlow, closer, close_with, entries_of, plug, key_is_short}
+use Rattle.yaml_flow.specs.Prelude.{entry_if_short, flow_node_at, flow_entries_at, flow_value_at, MapStart, first}
+use Rattle.yaml_flow.specs.Prelude.{is_asked, unbroken_between, question, open_bracket, open_brace}
 use Rattle.yaml_grammar.specs.Events.{Event, seq_start, seq_end, map_start, map_end}
-use Rattle.yaml_grammar.specs.FlowNodes as nodes
-use Rattle.yaml_grammar.specs.FlowNodes.{Flow, flow_text, flow_events, entry_text, entry_events, asked_text, is_plain, key_limit}
-use Rattle.yaml_grammar.specs.FlowScalars.{FlowContext, one_line}
 use Rattle.yaml_grammar.specs.Separation.{Sep, gap_text}
-use Rattle.yaml_grammar.specs.Texts.{byte_len, starts_line}
 use Rattle.yaml_events.specs.declared.event.Event.{Event as ListedEvent}
-use Rattle.yaml_events.specs.EventPlaces.{line_starts}
-use Rattle.yaml_recognizers.specs.Ends.{is_colon}
-use Rattle.yaml_recognizers.specs.FlowFrames.{FlowPart, first_node, asked_key, pair_value, Bracket, OpenFlow, closer}
-use Rattle.yaml_recognizers.specs.FlowFrames.{close_with, entries_of, plug}
-use Rattle.yaml_recognizers.specs.FlowNodes.{key_is_short, entry_if_short}
 use Rattle.yaml_recognizers.specs.Gaps.{read_gap}
 use Rattle.yaml_recognizers.specs.Reading.{Read, on}
-use Rattle.yaml_recognizers.specs.Recognizers.{flow_node_at, flow_entries_at, flow_value_at}
 use Rattle.yaml_recognizers.proofs.Meanings.EventPrefixes.{done_end, done_events}
-use Rattle.yaml_events.specs.declared.event.Event.TheVariants.{MapStart}
 use Rattle.std.proofs.Math.Logic.{◌⊎◌}
-use Rattle.yaml_grammar.specs.Events as grammar
 use Rattle.yaml_grammar.specs.Events.{omitted_at}
-use Rattle.yaml_grammar.specs.Texts.{first}
-use Rattle.yaml_recognizers.specs.FlowNodes.{is_asked}
-use Rattle.yaml_flow.specs.FlowNodes.{Appended}
-use Rattle.yaml_scan.specs.ScanPlaces.{unbroken_between}
-use Rattle.yaml_chars.specs.Signs.{question, open_bracket, open_brace}
 use Rattle.yaml_scan.proofs.ByteSigns.{IsSign}
-use Rattle.yaml_flow.specs.declared.collection.BracketKind.{BracketKind}
+use Rattle.yaml_flow.specs.{FlowNodes.Appended, declared.collection.BracketKind.BracketKind}
+use Rattle.yaml_flow.specs.{declared.collection.NodeEnd.NodeEnd, declared.collection.Part.Part}
+use Rattle.yaml_flow.specs.{declared.collection.Open.Open, declared.collection.Next.Next}
 use Rattle.yaml_flow.specs.declared.collection.BracketKind.TheVariants.{Sequence, Mapping}
-use Rattle.yaml_flow.specs.declared.collection.NodeEnd.{NodeEnd}
 use Rattle.yaml_flow.specs.declared.collection.NodeEnd.TheVariants.{Plain, Delimited}
-use Rattle.yaml_flow.specs.declared.collection.Part.{Part}
 use Rattle.yaml_flow.specs.declared.collection.Part.TheVariants.{First, Asked, Value}
-use Rattle.yaml_flow.specs.declared.collection.Open.{Open}
-use Rattle.yaml_flow.specs.declared.collection.Next.{Next}
 use Rattle.yaml_flow.specs.declared.collection.Next.TheVariants.{Entry, Node, AfterEntry, Closed}
+use Rattle.yaml_grammar.specs.FlowNodes as nodes
+use Rattle.yaml_grammar.specs.Events as grammar
 
 -- ---- the code's types
 

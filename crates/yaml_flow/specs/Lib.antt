@@ -1,3 +1,4 @@
+pub mod Prelude
 pub mod FlowNodes
 pub mod Frames
 pub mod Scalars

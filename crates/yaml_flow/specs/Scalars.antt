@@ -1,17 +1,10 @@
 -- The flow scalar at a place of a text, which counts bytes from 0.
 use Rattle.std.specs.Prelude.{◌≡◌, ℕ, ◌<◌, ◌≤◌, false, true, List, length, Some, None}
-use Rattle.std.specs.Cow.{cow_str_bytes, IsBorrowedStr}
-use Rattle.std.specs.Str.{IsCharBoundary, chars}
-use Rattle.yaml_chars.specs.Places.{rest}
-use Rattle.yaml_grammar.specs.FlowScalars as flow
-use Rattle.yaml_events.specs.declared.event.Event.{Event}
-use Rattle.yaml_events.specs.declared.event.Event.TheVariants.{Scalar}
-use Rattle.yaml_events.specs.Meant.{style_of}
-use Rattle.yaml_events.specs.EventPlaces.{line_starts}
+use Rattle.yaml_flow.specs.Prelude.{cow_str_bytes, IsBorrowedStr, IsCharBoundary, chars, rest, Event, Scalar, style_of}
+use Rattle.yaml_flow.specs.Prelude.{line_starts, BorrowsPlain, unbroken_between}
 use Rattle.yaml_recognizers.specs.FlowScalars.{read_scalar}
-use Rattle.yaml_events.specs.Borrowed.{BorrowsPlain}
-use Rattle.yaml_scan.specs.ScanPlaces.{unbroken_between}
 use Rattle.yaml_flow.specs.declared.scalar.FlowScalar.{FlowScalar}
+use Rattle.yaml_grammar.specs.FlowScalars as flow
 
 -- the event of a flow scalar that starts at the place
 abbrev pub scalar_event_at : ℕ → FlowScalar → Event

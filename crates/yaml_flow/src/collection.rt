@@ -1,16 +1,10 @@
 // Flow collections, read with an explicit stack of open brackets (YAML 1.2.2, 7.4).
-ghost use Rattle.std.specs.Prelude.{◌≡◌, ℕ, Bool, ◌+◌, ◌-◌, ◌*◌, ◌==◌, ◌<◌, ◌≤◌, false, List, ◌++◌, [], ◌∷◌, Some, None, length, IfOk, IfErr, OnOk, IfSome, IfNone};
-ghost use Rattle.std.specs.Str.{IsCharBoundary};
-ghost use Rattle.yaml_chars.specs.Places.{rest};
-ghost use Rattle.yaml_chars.specs.Signs.{open_brace, open_bracket};
-ghost use Rattle.yaml_grammar.specs.Texts.{first};
-ghost use Rattle.yaml_grammar.specs.FlowScalars.{in_flow};
-ghost use Rattle.yaml_events.specs.Meant.{context_of, event_of, style_of};
-ghost use Rattle.yaml_events.specs.EventPlaces.{line_starts, Refuses};
-ghost use Rattle.yaml_recognizers.specs.FlowFrames.{closer};
+ghost use Rattle.std.specs.Prelude.{◌≡◌, ℕ, Bool, ◌+◌, ◌-◌, ◌*◌, ◌==◌, ◌<◌, ◌≤◌, false, List, ◌++◌, [], ◌∷◌, Some};
+ghost use Rattle.std.specs.Prelude.{None, length, IfOk, IfErr, OnOk, IfSome, IfNone};
+ghost use Rattle.yaml_flow.specs.Prelude.{IsCharBoundary, rest, open_brace, open_bracket, first, in_flow, context_of};
+ghost use Rattle.yaml_flow.specs.Prelude.{event_of, style_of, line_starts, Refuses, closer, BorrowsPlain};
 ghost use Rattle.yaml_flow.specs.FlowNodes.{Appended, FlowNodeRead, NoFlowNodeFound};
 ghost use Rattle.yaml_flow.specs.Frames.{Collection, Stack, Stands, Waits, AfterQuestion, AtEntry, EventList, Kept, Pushes, ends_plain, is_plain_style, AtNode, EntryRead, BeforeGap, IsBracket, LineMoves, Onward, Passes, bracket_start, bracket_end, in_sequence, steps_left, pair_start, place_of};
-ghost use Rattle.yaml_events.specs.Borrowed.{BorrowsPlain};
 ghost use Rattle.yaml_scan.specs.Gaps.{NoGap};
 
 use crate::pair::plug;

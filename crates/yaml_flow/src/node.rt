@@ -1,12 +1,7 @@
 // Flow nodes.
 ghost use Rattle.std.specs.Prelude.{◌≡◌, ℕ, ◌==◌, false, [], ◌∷◌, ◌++◌, IfOk, IfErr};
-ghost use Rattle.std.specs.Str.{IsCharBoundary};
-ghost use Rattle.yaml_chars.specs.Places.{rest};
-ghost use Rattle.yaml_chars.specs.Signs.{open_brace, open_bracket};
-ghost use Rattle.yaml_grammar.specs.Texts.{first};
-ghost use Rattle.yaml_events.specs.Meant.{context_of};
-ghost use Rattle.yaml_events.specs.EventPlaces.{line_starts, Refuses};
-ghost use Rattle.yaml_recognizers.specs.StandingNodes.{NoFlowNode};
+ghost use Rattle.yaml_flow.specs.Prelude.{IsCharBoundary, rest, open_brace, open_bracket, first, context_of};
+ghost use Rattle.yaml_flow.specs.Prelude.{line_starts, Refuses, NoFlowNode};
 ghost use Rattle.yaml_flow.specs.FlowNodes.{FlowNodeRead, FlowNodeIs, NoFlowNodeFound};
 ghost use Rattle.yaml_flow.specs.Frames.{Kept};
 ghost use Rattle.yaml_flow.specs.Scalars.{scalar_event_at};

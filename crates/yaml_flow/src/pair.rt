@@ -1,18 +1,12 @@
 // What follows a node of a flow collection: its entry ends, or a `:` makes it a key (YAML 1.2.2, 7.4.2).
-ghost use Rattle.std.specs.Prelude.{◌≡◌, ℕ, ◌+◌, ◌-◌, ◌*◌, ◌==◌, true, false, not, ◌&&◌, ◌||◌, ◌<◌, ◌≤◌, nat_lt, nat_le, List, ◌++◌, length, None, IfOk, IfErr, OnOk};
-ghost use Rattle.std.specs.Str.{IsCharBoundary};
-ghost use Rattle.yaml_chars.specs.Places.{rest};
-ghost use Rattle.yaml_chars.specs.Signs;
-ghost use Rattle.yaml_grammar.specs.Texts.{first};
-ghost use Rattle.yaml_grammar.specs.FlowScalars.{in_flow};
-ghost use Rattle.yaml_grammar.specs.FlowNodes.{Flow, flow_text, short_key};
-ghost use Rattle.yaml_events.specs.Meant.{context_of};
-ghost use Rattle.yaml_events.specs.EventPlaces.{line_starts, Refuses};
-ghost use Rattle.yaml_recognizers.specs.Ends.{is_colon};
-ghost use Rattle.yaml_recognizers.specs.FlowNodes.{ends_entry};
+ghost use Rattle.std.specs.Prelude.{◌≡◌, ℕ, ◌+◌, ◌-◌, ◌*◌, ◌==◌, true, false, not, ◌&&◌, ◌||◌, ◌<◌, ◌≤◌, nat_lt};
+ghost use Rattle.std.specs.Prelude.{nat_le, List, ◌++◌, length, None, IfOk, IfErr, OnOk};
+ghost use Rattle.yaml_flow.specs.Prelude.{IsCharBoundary, rest, first, in_flow, Flow, flow_text, short_key, context_of};
+ghost use Rattle.yaml_flow.specs.Prelude.{line_starts, Refuses, is_colon, ends_entry};
 ghost use Rattle.yaml_flow.specs.FlowNodes.{Appended};
 ghost use Rattle.yaml_flow.specs.Frames.{Collection, Stands, NodeRead, AtColon, BeganPair, Kept, NoPair, absent_events, in_sequence, is_single, is_value, LineMoves, Onward, SameLine, ends_plain, steps_left, pair_end, place_of};
 ghost use Rattle.yaml_flow.specs.declared.collection.Next.TheVariants.{AfterEntry};
+ghost use Rattle.yaml_chars.specs.Signs;
 
 use crate::collection::{BracketKind, Next, NodeEnd, Open, Part, Setting, fault, pass_gap};
 use crate::push::{insert_map_start, push, push_omitted};

@@ -1,9 +1,8 @@
 // Appending and inserting events, with the fault of a scanner.
 ghost use Rattle.std.specs.Prelude.{◌≡◌, ℕ, ◌≤◌, [], ◌∷◌, ◌++◌, length, insert, OnOk, IfErr};
-ghost use Rattle.yaml_events.specs.EventPlaces.{Refuses};
+ghost use Rattle.yaml_flow.specs.Prelude.{Refuses, MapStart, Scalar};
 ghost use Rattle.yaml_events.specs.Omitted.{AppendsOmitted};
 ghost use Rattle.std.specs.declared.borrow.CowStr.TheVariants.{Borrowed};
-ghost use Rattle.yaml_events.specs.declared.event.Event.TheVariants.{MapStart, Scalar};
 ghost use Rattle.yaml_flow.specs.Frames.{Kept};
 ghost use Rattle.yaml_flow.specs.Scalars.{scalar_event_at};
 

@@ -1,6 +1,6 @@
 // Why no flow collection is at a place. No contract names the reason or the place: they are shown to users, and tested.
 ghost use Rattle.std.specs.Prelude.{◌≡◌};
-ghost use Rattle.std.specs.Str.{IsCharBoundary};
+ghost use Rattle.yaml_flow.specs.Prelude.{IsCharBoundary};
 
 use crate::collection::{Open, Part, fault};
 use crate::pair::entry_ends;

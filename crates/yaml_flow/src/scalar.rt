@@ -1,11 +1,7 @@
 // The flow scalar at a place.
 ghost use Rattle.std.specs.Prelude.{◌≡◌, ◌≤◌, true, not, IfOk, IfErr, IfSome};
-ghost use Rattle.std.specs.Cow.{IsBorrowedStr};
-ghost use Rattle.std.specs.Str.{IsCharBoundary};
-ghost use Rattle.yaml_events.specs.Meant.{context_of};
-ghost use Rattle.yaml_events.specs.EventPlaces.{Refuses};
+ghost use Rattle.yaml_flow.specs.Prelude.{IsBorrowedStr, IsCharBoundary, context_of, Refuses, unbroken_between};
 ghost use Rattle.yaml_flow.specs.Scalars.{FlowScalarRead, NoFlowScalar};
-ghost use Rattle.yaml_scan.specs.ScanPlaces.{unbroken_between};
 
 use std::alloc::Global;
 use std::borrow::CowStr;

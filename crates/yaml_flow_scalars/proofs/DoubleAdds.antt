@@ -1,41 +1,22 @@
 -- What the scanner of double-quoted scalars adds to its value, a run of characters, an escape or a join at a time, and
 -- that it refuses rightly.
-use Rattle.std.proofs.Common.{◌≡◌, ℕ, zero, suc, ◌+◌, ◌<◌, Bool, true, false, ◌&&◌, List, [], ◌∷◌, ◌++◌, refl, ap}
-use Rattle.std.proofs.Common.{sym, ◌∙◌, subst, arith, length, inl, inr, get_or, append-nil, append_assoc, Some, None}
+use Rattle.std.proofs.Common.{◌≡◌, ℕ, zero, suc, ◌+◌, ◌<◌, Bool, true, false, ◌&&◌, List, [], ◌∷◌, ◌++◌, refl, ap, sym, ◌∙◌, subst, arith}
+use Rattle.std.proofs.Common.{length, inl, inr, get_or, append-nil, append_assoc, Some, None}
 use Rattle.std.specs.Prelude.{◌==◌, is_some, if◌then◌else◌, slice_range}
-use Rattle.std.specs.Char.{encode_utf8}
-use Rattle.std.specs.List.{list_all}
-use Rattle.std.specs.Str.{IsUtf8, IsCharBoundary, chars}
-use Rattle.std.proofs.lemmas.Bool.{cases_lt, and_parts, and_from, and_left, false≢true, cond-true, cond-false, ne_eqb}
-use Rattle.std.proofs.lemmas.Bool.Decides.{nat_tests}
+use Rattle.yaml_flow_scalars.proofs.Prelude.{encode_utf8, list_all, IsUtf8, IsCharBoundary, chars, cases_lt, and_parts, and_from, and_left}
+use Rattle.yaml_flow_scalars.proofs.Prelude.{false≢true, cond-true, cond-false, ne_eqb, nat_tests, list_all-from_AllPass, chars-nil}
+use Rattle.yaml_flow_scalars.proofs.Prelude.{chars-append, chars-encodes, white, line_break, rest, between, IsRun, IsCharAt, char_at}
+use Rattle.yaml_flow_scalars.proofs.Prelude.{rest-end, rest-between, between-append, run_stops, first, Break, lf, cr, cr_lf, break_text}
+use Rattle.yaml_flow_scalars.proofs.Prelude.{FlowContext, one_line, line_feeds, folded_break, read_break, past, Read, Join, at_break}
+use Rattle.yaml_flow_scalars.proofs.Prelude.{read_join, read_held, read_item, double_closes, with_prefix, join_value, white_at_break}
+use Rattle.yaml_flow_scalars.proofs.Prelude.{no_white_at_break, BreakOf, break_sound, break_some, unbroken, sound_is, unescaped_read}
+use Rattle.yaml_flow_scalars.proofs.Prelude.{step_escaped, no_break}
 use Rattle.std.proofs.lemmas.List.Folds.{list_all-append}
-use Rattle.std.proofs.lemmas.List.Sums.{list_all-from_AllPass}
-use Rattle.std.proofs.lemmas.Str.{chars-nil, chars-append, chars-encodes}
-use Rattle.yaml_chars.specs.Classes.{white, line_break}
-use Rattle.yaml_chars.specs.Places.{rest, between, IsRun}
-use Rattle.yaml_chars.proofs.Places.{IsCharAt, char_at, rest-end, rest-between, between-append}
-use Rattle.yaml_chars.proofs.Runs.{run_stops}
-use Rattle.yaml_grammar.specs.Texts.{first}
-use Rattle.yaml_grammar.specs.Separation.{Break, lf, cr, cr_lf, break_text}
-use Rattle.yaml_grammar.specs.FlowScalars.{FlowContext, one_line, line_feeds, folded_break}
-use Rattle.yaml_recognizers.specs.Comments.{read_break}
-use Rattle.yaml_recognizers.specs.Prefixes.{past}
-use Rattle.yaml_recognizers.specs.Reading.{Read}
-use Rattle.yaml_recognizers.specs.Joins.{Join, at_break, read_join}
-use Rattle.yaml_recognizers.specs.QuotedScalars.{read_held, read_item, double_closes}
-use Rattle.yaml_recognizers.specs.QuotedSteps.{with_prefix, join_value}
-use Rattle.yaml_recognizers.proofs.Basics.Blanks.{white_at_break, no_white_at_break}
-use Rattle.yaml_recognizers.proofs.Basics.Breaks.{BreakOf, break_sound, break_some, unbroken}
-use Rattle.yaml_recognizers.proofs.Basics.Reading.{sound_is}
-use Rattle.yaml_recognizers.proofs.Scalars.Joins.{unescaped_read}
-use Rattle.yaml_recognizers.proofs.Scalars.JoinSteps.{step_escaped, no_break}
 use Rattle.yaml_flow_scalars.specs.Folds.{IsWhiteStart, IsFold, NoFold}
 use Rattle.yaml_flow_scalars.specs.DoubleScan.{double_value, raw_char, Adds, EscapeAt, NoEscapeAt, BeginsJoin, JoinsAt, NoJoinAt}
-use Rattle.yaml_flow_scalars.proofs.FoldSteps.{fold_solid}
-use Rattle.yaml_flow_scalars.proofs.DoublePlaces.{blind-raw_char, byte_read}
-use Rattle.yaml_flow_scalars.proofs.DoubleReads.{with_prefix-nil, raw_no_white, escaped_break, run_read, item_read}
-use Rattle.yaml_flow_scalars.proofs.DoubleReads.{quote_read, end_read, stray_read, key_read, no_join_read, join_read}
-use Rattle.yaml_flow_scalars.proofs.DoubleReads.{twice_read}
+use Rattle.yaml_flow_scalars.proofs.{FoldSteps.fold_solid, DoublePlaces.blind-raw_char, DoublePlaces.byte_read}
+use Rattle.yaml_flow_scalars.proofs.DoubleReads.{with_prefix-nil, raw_no_white, escaped_break, run_read, item_read, quote_read, end_read}
+use Rattle.yaml_flow_scalars.proofs.DoubleReads.{stray_read, key_read, no_join_read, join_read, twice_read}
 
 -- ---- characters
 

@@ -1,26 +1,13 @@
 -- A double-quoted scalar at a place of a text: where there is one, where there is none, and which are borrowed.
-use Rattle.std.proofs.Common.{◌≡◌, ℕ, ◌+◌, ◌-◌, ◌<◌, ◌≤◌, true, false, List, [], ◌∷◌, refl, ap, sym, ◌∙◌, subst}
-use Rattle.std.proofs.Common.{arith, length, inl, inr, get_or, drop, length-take, length-drop, Some, None}
+use Rattle.std.proofs.Common.{◌≡◌, ℕ, ◌+◌, ◌-◌, ◌<◌, ◌≤◌, true, false, List, [], ◌∷◌, refl, ap, sym, ◌∙◌, subst, arith, length, inl, inr}
+use Rattle.std.proofs.Common.{get_or, drop, length-take, length-drop, Some, None}
 use Rattle.std.specs.Prelude.{◌==◌, slice_range}
-use Rattle.std.specs.List.{AllPass}
-use Rattle.std.specs.Str.{IsUtf8, IsCharBoundary, chars}
-use Rattle.std.proofs.lemmas.Bool.{cases_lt, not-true, or_parts, eqb-false}
-use Rattle.std.proofs.lemmas.List.{get_or-take, get_or-drop}
-use Rattle.std.proofs.lemmas.Str.{IsUtf8-nil}
-use Rattle.yaml_chars.specs.Classes.{line_break}
-use Rattle.yaml_chars.specs.Places.{rest, IsRun}
-use Rattle.yaml_chars.proofs.Places.{char_at, rest-end}
-use Rattle.yaml_chars.proofs.Runs.{blind-line_break, test-char_at}
-use Rattle.yaml_grammar.specs.Texts.{first}
-use Rattle.yaml_grammar.specs.Events.{double_style}
-use Rattle.yaml_grammar.specs.FlowScalars.{FlowContext}
-use Rattle.yaml_recognizers.specs.Joins.{at_break}
-use Rattle.yaml_recognizers.specs.WholeScalars.{IsScalar, NoScalar}
-use Rattle.yaml_recognizers.proofs.Basics.Reading.{none_some}
-use Rattle.yaml_events.specs.EventPlaces.{line_starts}
-use Rattle.yaml_flow_scalars.specs.Standing.{ScalarAt, NoScalarAt}
+use Rattle.yaml_flow_scalars.proofs.Prelude.{AllPass, IsUtf8, IsCharBoundary, chars, cases_lt, not-true, or_parts, eqb-false, get_or-take}
+use Rattle.yaml_flow_scalars.proofs.Prelude.{get_or-drop, IsUtf8-nil, line_break, rest, IsRun, char_at, rest-end, blind-line_break}
+use Rattle.yaml_flow_scalars.proofs.Prelude.{test-char_at, first, double_style, FlowContext, at_break, IsScalar, NoScalar, none_some}
+use Rattle.yaml_flow_scalars.proofs.Prelude.{line_starts}
+use Rattle.yaml_flow_scalars.specs.{Standing.ScalarAt, Standing.NoScalarAt, DoubleBorrowed.is_verbatim}
 use Rattle.yaml_flow_scalars.specs.DoubleScan.{double_value, raw_char, ClosesAt}
-use Rattle.yaml_flow_scalars.specs.DoubleBorrowed.{is_verbatim}
 use Rattle.yaml_flow_scalars.proofs.DoublePlaces.{byte_read}
 use Rattle.yaml_flow_scalars.proofs.DoubleReads.{double_found, double_missing, double_quoted_first}
 use Rattle.yaml_flow_scalars.proofs.DoubleAdds.{no_char, run_adds, run_stray, closes}

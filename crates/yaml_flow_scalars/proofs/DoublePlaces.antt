@@ -1,32 +1,20 @@
 -- What the bytes of a text say of the characters there, for the scanner of double-quoted scalars.
-use Rattle.std.proofs.Common.{◌≡◌, ℕ, suc, ◌+◌, ◌-◌, ◌*◌, ◌^◌, ◌<◌, ◌≤◌, Bool, true, false, ◌&&◌, List, [], ◌∷◌, ◌++◌}
-use Rattle.std.proofs.Common.{refl, ap, sym, ◌∙◌, subst, arith, length, inl, inr, get_or, take, drop, length-append}
-use Rattle.std.proofs.Common.{length-take, Some, None}
+use Rattle.std.proofs.Common.{◌≡◌, ℕ, suc, ◌+◌, ◌-◌, ◌*◌, ◌^◌, ◌<◌, ◌≤◌, Bool, true, false, ◌&&◌, List, [], ◌∷◌, ◌++◌, refl, ap, sym, ◌∙◌}
+use Rattle.std.proofs.Common.{subst, arith, length, inl, inr, get_or, take, drop, length-append, length-take, Some, None}
 use Rattle.std.specs.Prelude.{◌==◌, IfSome, IfNone, Option, is_some, codes, if◌then◌else◌}
+use Rattle.yaml_flow_scalars.proofs.Prelude.{OutOfScalarRange, len_utf8, IsUtf8, IsCharBoundary, take-append_seam, drop-append_seam}
+use Rattle.yaml_flow_scalars.proofs.Prelude.{take-append-add, and_parts, and_from, and_left, and_right, false≢true, cases_Bool, cond-true}
+use Rattle.yaml_flow_scalars.proofs.Prelude.{cond-false, eq-eqb, ne_eqb, nat_tests, IsCharBoundary-after_ascii, line_break, is_in}
+use Rattle.yaml_flow_scalars.proofs.Prelude.{code_point, rest, between, IsRun, char_at, rest-ascii, rest-end, rest-between}
+use Rattle.yaml_flow_scalars.proofs.Prelude.{code_point-scalar, between-nil, between-push_ascii, IsBlind, test-char_at, list_all, first}
+use Rattle.yaml_flow_scalars.proofs.Prelude.{escape, hex_digit, digit_of, hex_value, digits_after, quoted_char_fits, escaped_char}
+use Rattle.yaml_flow_scalars.proofs.Prelude.{read_item, read_number, break_some, read_break, IsBreak, is_sign, double_quoted}
+use Rattle.yaml_flow_scalars.proofs.Prelude.{ascii_at_beginning, sign_there}
 use lib.Utf8.{low_scalar}
-use Rattle.std.specs.Char.{IsScalar, OutOfScalarRange, len_utf8}
-use Rattle.std.specs.Str.{IsUtf8, IsCharBoundary}
+use Rattle.std.specs.Char.{IsScalar}
 use Rattle.std.proofs.Math.Nat.{pow-le-pow_right}
-use Rattle.std.proofs.Math.Seq.{take-append_seam, drop-append_seam, take-append-add}
 use Rattle.std.proofs.lemmas.Grind.{pow_more}
-use Rattle.std.proofs.lemmas.Bool.{and_parts, and_from, and_left, and_right, false≢true, cases_Bool, cond-true, cond-false, eq-eqb, ne_eqb}
-use Rattle.std.proofs.lemmas.Bool.Decides.{nat_tests}
-use Rattle.std.proofs.lemmas.Str.{IsCharBoundary-after_ascii}
-use Rattle.yaml_chars.specs.Classes.{line_break, is_in, code_point}
-use Rattle.yaml_chars.specs.Places.{rest, between, IsRun}
-use Rattle.yaml_chars.proofs.Places.{char_at, rest-ascii, rest-end, rest-between, code_point-scalar, between-nil, between-push_ascii}
-use Rattle.yaml_chars.proofs.Runs.{IsBlind, test-char_at}
-use Rattle.std.specs.List.{list_all}
-use Rattle.yaml_grammar.specs.Texts.{first}
-use Rattle.yaml_grammar.specs.FlowScalars.{escape, number as counted, hex_digit, digit_of, hex_value, digits_after}
-use Rattle.yaml_grammar.specs.FlowScalars.{quoted_char_fits, escaped_char}
-use Rattle.yaml_recognizers.specs.QuotedScalars.{read_item, read_number}
-use Rattle.yaml_recognizers.proofs.Basics.Breaks.{break_some}
-use Rattle.yaml_recognizers.specs.Comments.{read_break}
-use Rattle.yaml_scan.specs.ScanPlaces.{IsBreak, is_sign}
-use Rattle.yaml_scan.specs.Classes.{double_quoted}
-use Rattle.yaml_scan.proofs.ByteRuns.{ascii_at_beginning}
-use Rattle.yaml_scan.proofs.ByteSigns.{sign_there}
+use Rattle.yaml_grammar.specs.FlowScalars.{number as counted}
 use Rattle.yaml_flow_scalars.specs.DoubleScan.{raw_char, EscapeAt, NoEscapeAt, IsEscape, IsDigit, digits_at, IsNumberAt}
 
 -- ---- tests that do not tell characters from 128 on apart

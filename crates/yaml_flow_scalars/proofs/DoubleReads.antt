@@ -2,31 +2,17 @@
 -- the closing quote.
 use Rattle.std.proofs.Common.{◌≡◌, refl, sym, ◌∙◌, ap, inl, inr, subst, arith}
 use Rattle.std.specs.Prelude.{ℕ, Bool, true, false, ◌&&◌, ◌==◌, List, [], ◌∷◌, ◌++◌, flat_map, map, Some, None}
-use Rattle.std.specs.List.{list_all}
-use Rattle.std.proofs.lemmas.Bool.{and_parts, and_left, or_cases, false≢true, cond-true, cond-false, cases_Bool, eqb-true}
-use Rattle.std.proofs.lemmas.Bool.Decides.{nat_tests}
-use Rattle.yaml_chars.specs.Classes.{white, line_break}
-use Rattle.yaml_grammar.specs.Texts.{first}
-use Rattle.yaml_grammar.specs.Events.{double_style}
-use Rattle.yaml_grammar.specs.FlowScalars.{FlowContext, one_line, Line, QuotedChar, raw, Scalar, plain, single}
-use Rattle.yaml_grammar.specs.FlowScalars.{double, style_of, quoted_char_text, quoted_char_fits, is_blank_char}
-use Rattle.yaml_grammar.specs.FlowScalars.{quoted_char_value, double_kind, ends, values, flow_fold}
-use Rattle.yaml_recognizers.specs.Prefixes.{past, take_while, drop_while}
-use Rattle.yaml_recognizers.specs.Reading.{Read, on}
-use Rattle.yaml_recognizers.specs.Joins.{Join, at_break, after_blank, read_join}
-use Rattle.yaml_recognizers.specs.QuotedScalars.{read_held, read_quoted, read_item, double_closes, read_double}
-use Rattle.yaml_recognizers.specs.QuotedSteps.{read_after_join, quoted_value, with_prefix, join_value, with_join}
-use Rattle.yaml_recognizers.specs.FlowScalars.{read_scalar}
-use Rattle.yaml_recognizers.specs.WholeScalars.{StandsWhole, IsScalar, NoScalar}
-use Rattle.yaml_recognizers.proofs.Basics.Blanks.{no_white_at_break}
-use Rattle.yaml_recognizers.proofs.Basics.Breaks.{unbroken}
-use Rattle.yaml_recognizers.proofs.Basics.Reading.{none_some, some_parts}
-use Rattle.yaml_recognizers.proofs.Scalars.JoinSteps.{no_break}
+use Rattle.yaml_flow_scalars.proofs.Prelude.{list_all, and_parts, and_left, or_cases, false≢true, cond-true, cond-false, cases_Bool}
+use Rattle.yaml_flow_scalars.proofs.Prelude.{eqb-true, nat_tests, white, line_break, first, double_style, FlowContext, one_line, Line}
+use Rattle.yaml_flow_scalars.proofs.Prelude.{QuotedChar, raw, Scalar, plain, single, double, style_of, quoted_char_text, quoted_char_fits}
+use Rattle.yaml_flow_scalars.proofs.Prelude.{is_blank_char, quoted_char_value, double_kind, ends, values, flow_fold, past, take_while}
+use Rattle.yaml_flow_scalars.proofs.Prelude.{drop_while, Read, on, Join, at_break, after_blank, read_join, read_held, read_quoted}
+use Rattle.yaml_flow_scalars.proofs.Prelude.{read_item, double_closes, read_double, read_after_join, quoted_value, with_prefix, join_value}
+use Rattle.yaml_flow_scalars.proofs.Prelude.{with_join, read_scalar, StandsWhole, IsScalar, NoScalar, no_white_at_break, unbroken}
+use Rattle.yaml_flow_scalars.proofs.Prelude.{none_some, some_parts, no_break, value_of_thing, value_of_things, value_of_join, step_thing}
+use Rattle.yaml_flow_scalars.proofs.Prelude.{step_things, step_close, step_fault, step_key, step_join, after_thing, after_close}
+use Rattle.yaml_flow_scalars.proofs.Prelude.{after_fault, is_scalar, no_scalar}
 use Rattle.yaml_recognizers.proofs.Scalars.DoubleScalars.{double_readable}
-use Rattle.yaml_recognizers.proofs.Scalars.QuotedSteps.{value_of_thing, value_of_things, value_of_join, step_thing}
-use Rattle.yaml_recognizers.proofs.Scalars.QuotedSteps.{step_things, step_close, step_fault, step_key, step_join}
-use Rattle.yaml_recognizers.proofs.Scalars.QuotedSteps.{after_thing, after_close, after_fault}
-use Rattle.yaml_recognizers.proofs.Scalars.WholeScalars.{is_scalar, no_scalar}
 use Rattle.yaml_flow_scalars.specs.DoubleScan.{double_value, raw_char, BeginsJoin}
 
 -- ---- values with a start

@@ -1,37 +1,18 @@
 -- Folds: from the places that the code finds to what the recognizer of joins reads.
 use Rattle.std.proofs.Common.{◌≡◌, ◌<◌, ◌≤◌, ◌⊎◌, ◌∙◌, sym, ap, append_assoc, subst, refl, inl, inr, arith}
-use Rattle.std.specs.Prelude.{ℕ, zero, suc, ◌+◌, ◌-◌, Bool, true, false, cond, not, ◌&&◌, ◌||◌, ◌==◌, is_some, List}
-use Rattle.std.specs.Prelude.{[], ◌∷◌, ◌++◌, length, Some, None}
-use Rattle.std.specs.List.{list_all}
-use Rattle.std.specs.Str.{IsUtf8, IsCharBoundary}
-use Rattle.std.proofs.lemmas.Bool.{and_from, and_left, and_parts, and_right, or_left, or_right, or_from, cases_Bool}
-use Rattle.std.proofs.lemmas.Bool.Decides.{nat_tests}
-use Rattle.std.proofs.lemmas.Bool.{cases_lt, cond_both, cond-false, false≢true, not_from_false}
-use Rattle.std.proofs.lemmas.List.{drop_more}
-use Rattle.std.proofs.lemmas.List.Sums.{list_all-from_AllPass}
-use Rattle.yaml_chars.specs.Classes.{line_break, space, white}
-use Rattle.yaml_chars.specs.Places.{rest, between, IsRun}
+use Rattle.std.specs.Prelude.{ℕ, zero, suc, ◌+◌, ◌-◌, Bool, true, false, cond, not, ◌&&◌, ◌||◌, ◌==◌, is_some, List, [], ◌∷◌, ◌++◌, length}
+use Rattle.std.specs.Prelude.{Some, None}
+use Rattle.yaml_flow_scalars.proofs.Prelude.{list_all, IsUtf8, IsCharBoundary, and_from, and_left, and_parts, and_right, or_left, or_right}
+use Rattle.yaml_flow_scalars.proofs.Prelude.{or_from, cases_Bool, nat_tests, cases_lt, cond_both, cond-false, false≢true, not_from_false}
+use Rattle.yaml_flow_scalars.proofs.Prelude.{drop_more, list_all-from_AllPass, line_break, space, white, rest, between, IsRun, rest-between}
+use Rattle.yaml_flow_scalars.proofs.Prelude.{rest-end, IsBlind, blind-white, FlowEmptyLine, Break, indents, begins, first, marker}
+use Rattle.yaml_flow_scalars.proofs.Prelude.{no_marker, spaces, read_break, drop_while, take_while, Join, at_break, after_blank, read_empty}
+use Rattle.yaml_flow_scalars.proofs.Prelude.{with_lead, Read, all_of, drop_while_first, no_white_at_break, break_some, drop_while_all}
+use Rattle.yaml_flow_scalars.proofs.Prelude.{take_while_all, Passed, no_lead, passed_all, passed_more, step_break, step_lead, empty_shrinks}
+use Rattle.yaml_flow_scalars.proofs.Prelude.{chosen, none_some, on_parts, some_parts, AreSpaces, IsBreak, first-rest, spaces_there}
 use Rattle.yaml_chars.proofs.Classes.{line_break_no_white}
-use Rattle.yaml_chars.proofs.Places.{rest-between, rest-end}
-use Rattle.yaml_chars.proofs.Runs.{IsBlind, blind-white}
-use Rattle.yaml_grammar.specs.FlowScalars.{FlowEmptyLine}
-use Rattle.yaml_grammar.specs.Separation.{Break, indents}
-use Rattle.yaml_grammar.specs.Texts.{begins, first, marker, no_marker, spaces}
-use Rattle.yaml_recognizers.specs.Comments.{read_break}
-use Rattle.yaml_recognizers.specs.Prefixes.{drop_while, take_while}
-use Rattle.yaml_recognizers.specs.Joins.{Join, at_break, after_blank, read_empty, with_lead}
-use Rattle.yaml_recognizers.specs.Reading.{Read}
-use Rattle.yaml_recognizers.specs.Repeated.{all_of}
-use Rattle.yaml_recognizers.proofs.Basics.Blanks.{drop_while_first, no_white_at_break}
-use Rattle.yaml_recognizers.proofs.Basics.Breaks.{break_some}
-use Rattle.yaml_recognizers.proofs.Basics.Prefixes.{drop_while_all, take_while_all}
-use Rattle.yaml_recognizers.proofs.Scalars.JoinSteps.{Passed, no_lead, passed_all, passed_more, passed_none, step_break, step_lead}
-use Rattle.yaml_recognizers.proofs.Scalars.Joins.{empty_shrinks}
-use Rattle.yaml_recognizers.proofs.Basics.Reading.{chosen, none_some, on_parts, some_parts}
 use Rattle.yaml_recognizers.proofs.Basics.Repeated.{repeated_end}
 use Rattle.yaml_flow_scalars.specs.Folds.{IsFold, IsPrefix, NoFold}
-use Rattle.yaml_scan.specs.ScanPlaces.{AreSpaces, IsBreak}
-use Rattle.yaml_scan.proofs.ByteRuns.{first-rest, spaces_there}
 
 -- ---- runs
 
@@ -240,21 +221,6 @@ pub record Folding (n : ℕ) (text : List ℕ) (at line empties : ℕ) : Type 0 
   pub lines : List FlowEmptyLine
   pub count : length lines ≡ empties
   pub passed : Passed n start lines (rest text line)
-
--- a fold starts with a break
-pub folding_begins : (n : ℕ) (text : List ℕ) (at line : ℕ) → IsBreak text at line → Folding n text at line 0
-folding_begins n text at line b =
-    let above = b.above in
-    record {
-      above = omega arith;
-      boundary = b.boundary;
-      stop = b.break;
-      start = rest text line;
-      broken = b.reads;
-      lines = [];
-      count = refl;
-      passed = passed_none n (rest text line);
-    }
 
 length-more : (es : List FlowEmptyLine) (e : FlowEmptyLine) → length (es ++ e ∷ []) ≡ length es + 1
 length-more [] e = refl

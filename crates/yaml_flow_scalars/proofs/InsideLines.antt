@@ -1,23 +1,12 @@
 -- A flow scalar ends inside a line: its last character is neither a break nor a byte order mark.
 use Rattle.std.proofs.Common.{◌≡◌, refl, sym, ◌∙◌, ap, append-nil, arith}
 use Rattle.std.specs.Prelude.{ℕ, Bool, true, false, not, ◌&&◌, ◌||◌, ◌==◌, List, [], ◌∷◌, ◌++◌, codes, flat_map}
-use Rattle.std.specs.Str.{IsUtf8, IsCharBoundary}
-use Rattle.std.proofs.lemmas.Bool.{and_parts, cond_both, false≢true}
-use Rattle.std.proofs.lemmas.Bool.Decides.{nat_tests}
-use Rattle.std.proofs.lemmas.List.{append_cancel_right}
-use Rattle.std.proofs.lemmas.Str.{IsCharBoundary-start}
-use Rattle.yaml_chars.specs.Classes.{line_break, ns, white}
-use Rattle.yaml_chars.specs.Places.{rest, between}
-use Rattle.yaml_chars.proofs.Places.{between-append, rest-between}
-use Rattle.yaml_events.specs.EventPlaces.{line_starts, without_mark}
-use Rattle.yaml_grammar.specs.Events.{Style}
-use Rattle.yaml_grammar.specs.FlowScalars.{FlowContext, outer, inner, block_key, flow_key, Line, Scalar, plain}
-use Rattle.yaml_grammar.specs.FlowScalars.{single, double, ends, plain_next, plain_run, plain_line, plain_more}
-use Rattle.yaml_grammar.specs.FlowScalars.{plain_lines, plain_kind, plain_text, single_text, quoted_char_text}
-use Rattle.yaml_grammar.specs.FlowScalars.{line_text, lines_text, join_text, flow_empties_text, lines_after}
-use Rattle.yaml_grammar.specs.FlowScalars.{scalar_text, scalar_fits}
-use Rattle.yaml_grammar.specs.Texts.{starts_line}
-use Rattle.yaml_recognizers.proofs.Scalars.PlainScalars.{plain_texts}
+use Rattle.yaml_flow_scalars.proofs.Prelude.{IsUtf8, IsCharBoundary, and_parts, cond_both, false≢true, nat_tests, append_cancel_right}
+use Rattle.yaml_flow_scalars.proofs.Prelude.{IsCharBoundary-start, line_break, ns, white, rest, between, between-append, rest-between}
+use Rattle.yaml_flow_scalars.proofs.Prelude.{line_starts, without_mark, Style, FlowContext, outer, inner, block_key, flow_key, Line, Scalar}
+use Rattle.yaml_flow_scalars.proofs.Prelude.{plain, single, double, ends, plain_next, plain_run, plain_line, plain_more, plain_lines}
+use Rattle.yaml_flow_scalars.proofs.Prelude.{plain_kind, plain_text, single_text, quoted_char_text, line_text, lines_text, join_text}
+use Rattle.yaml_flow_scalars.proofs.Prelude.{flow_empties_text, lines_after, scalar_text, scalar_fits, starts_line, plain_texts}
 use Rattle.yaml_flow_scalars.specs.Standing.{ScalarAt}
 
 -- neither a break nor a byte order mark

@@ -1,3 +1,4 @@
+pub mod Prelude
 pub mod FoldSteps
 pub mod WhiteEnds
 pub mod Results

@@ -1,31 +1,17 @@
 -- From the places of a plain scalar's lines to the scalar that is there.
 use Rattle.std.proofs.Common.{◌≡◌, refl, sym, ◌∙◌, ap, subst, arith, length, length-drop, ℕ, ◌+◌, ◌-◌, ◌<◌, ◌≤◌, get_or}
 use Rattle.std.specs.Prelude.{Bool, true, false, List, [], ◌∷◌, ◌++◌, drop, flat_map, slice_range, slice_index, Some, None}
-use Rattle.std.specs.Str.{IsUtf8, IsCharBoundary}
-use Rattle.std.proofs.lemmas.Bool.{and_from, and_parts, false≢true, not-true}
-use Rattle.std.proofs.lemmas.List.{append_cancel_right, get_or-take, get_or-drop, length-take}
-use Rattle.std.proofs.Math.Seq.{drop-append_seam}
-use Rattle.yaml_chars.specs.Breaks.{NoBreak, no_break}
-use Rattle.yaml_chars.specs.Classes.{line_break, ns}
-use Rattle.yaml_chars.specs.Places.{rest, between}
-use Rattle.yaml_chars.proofs.Places.{rest-between}
-use Rattle.yaml_grammar.specs.Events.{plain_style}
-use Rattle.std.specs.List.{list_all}
-use Rattle.yaml_grammar.specs.Texts.{no_marker}
-use Rattle.yaml_grammar.specs.FlowScalars.{FlowContext, Line, plain, single, double, plain_first, char_value, line_value}
-use Rattle.yaml_events.specs.EventPlaces.{line_starts}
-use Rattle.yaml_recognizers.specs.FlowScalars.{Stands, scalar_ends}
-use Rattle.yaml_recognizers.specs.WholeScalars.{IsScalar}
-use Rattle.yaml_recognizers.specs.PlainScalars.{read_run, read_plain, with_lines, plain_lines_at}
-use Rattle.yaml_recognizers.proofs.Basics.Reading.{none_some, sound_is}
+use Rattle.yaml_flow_scalars.proofs.Prelude.{IsUtf8, IsCharBoundary, and_from, and_parts, false≢true, not-true, append_cancel_right}
+use Rattle.yaml_flow_scalars.proofs.Prelude.{get_or-take, get_or-drop, length-take, drop-append_seam, NoBreak, line_break, ns, rest}
+use Rattle.yaml_flow_scalars.proofs.Prelude.{between, rest-between, plain_style, list_all, no_marker, FlowContext, Line, plain, single}
+use Rattle.yaml_flow_scalars.proofs.Prelude.{double, plain_first, char_value, line_value, line_starts, Stands, scalar_ends, IsScalar}
+use Rattle.yaml_flow_scalars.proofs.Prelude.{read_run, read_plain, with_lines, plain_lines_at, none_some, sound_is, plain_read, plain_sound}
+use Rattle.yaml_flow_scalars.proofs.Prelude.{step_begin, no_begin, is_scalar, whole_stands}
+use Rattle.yaml_chars.specs.Breaks.{no_break}
 use Rattle.yaml_recognizers.proofs.Scalars.FlowScalars.{complete}
-use Rattle.yaml_recognizers.proofs.Scalars.PlainScalars.{plain_read, plain_sound}
-use Rattle.yaml_recognizers.proofs.Scalars.PlainSteps.{step_begin, no_begin}
-use Rattle.yaml_recognizers.proofs.Scalars.WholeScalars.{is_scalar, whole_stands}
 use Rattle.yaml_flow_scalars.specs.PlainPlaces.{begins_plain, BeginsPlain, NoPlainBegins, IsPlainRun, IsNextLine, lines_value}
 use Rattle.yaml_flow_scalars.specs.Standing.{ScalarAt, NoScalarAt}
-use Rattle.yaml_flow_scalars.proofs.PlainLines.{values_are}
-use Rattle.yaml_flow_scalars.proofs.Unbroken.{ns_unbroken, run_unbroken}
+use Rattle.yaml_flow_scalars.proofs.{PlainLines.values_are, Unbroken.ns_unbroken, Unbroken.run_unbroken}
 
 -- ---- found
 

@@ -1,30 +1,16 @@
 -- Lines of a plain scalar at places of a text: what the recognizer reads from where they begin and end.
 use Rattle.std.proofs.Common.{◌≡◌, refl, sym, ◌∙◌, ap, append_assoc, append-nil, arith, length, inl, inr, ℕ, zero, suc, ◌<◌, get_or}
 use Rattle.std.specs.Prelude.{true, false, cond, List, [], ◌∷◌, ◌++◌, drop, flat_map, replicate, slice_range, slice_index, Some, None}
-use Rattle.std.specs.Str.{IsUtf8, IsCharBoundary, chars}
-use Rattle.std.proofs.lemmas.Bool.{cases_Bool, cond-false}
-use Rattle.std.proofs.lemmas.List.{drop_more}
-use Rattle.std.proofs.lemmas.Str.{chars-append, chars-IsAscii}
-use Rattle.std.proofs.Math.Seq.{drop-append_seam}
-use Rattle.yaml_chars.specs.Classes.{line_break, white}
-use Rattle.yaml_chars.specs.Places.{rest, between, IsRun}
-use Rattle.yaml_chars.proofs.Places.{rest-between, between-nil}
-use Rattle.yaml_chars.proofs.Runs.{blind-white, blind-line_break}
-use Rattle.yaml_grammar.specs.Texts.{first, is_empty}
-use Rattle.yaml_grammar.specs.FlowScalars.{FlowContext, one_line, Line, line_value, char_value, values, folded_break, line_feeds}
-use Rattle.yaml_recognizers.specs.Prefixes.{take_while, drop_while}
-use Rattle.yaml_recognizers.specs.Joins.{Join, line_of, read_join, after_blank}
-use Rattle.yaml_recognizers.specs.PlainScalars.{with_run, read_plain_line, plain_lines_at}
-use Rattle.yaml_recognizers.proofs.Basics.Breaks.{unbroken}
-use Rattle.yaml_recognizers.proofs.Basics.Prefixes.{take_while_all, drop_while_all}
-use Rattle.yaml_recognizers.proofs.Scalars.JoinSteps.{no_break}
-use Rattle.yaml_recognizers.proofs.Scalars.PlainSteps.{line_after_join, no_line_no_join, lines_of_key, no_more_lines, one_more_line}
-use Rattle.yaml_recognizers.proofs.Basics.Reading.{none_some}
-use Rattle.yaml_scan.proofs.ByteRuns.{first-rest}
-use Rattle.yaml_flow_scalars.proofs.FoldSteps.{run_every, run_first}
-use Rattle.yaml_flow_scalars.proofs.PlainPieces.{between_some}
+use Rattle.yaml_flow_scalars.proofs.Prelude.{IsUtf8, IsCharBoundary, chars, cases_Bool, cond-false, drop_more, chars-append, chars-IsAscii}
+use Rattle.yaml_flow_scalars.proofs.Prelude.{drop-append_seam, line_break, white, rest, between, IsRun, rest-between, between-nil}
+use Rattle.yaml_flow_scalars.proofs.Prelude.{blind-white, blind-line_break, first, is_empty, FlowContext, one_line, Line, line_value}
+use Rattle.yaml_flow_scalars.proofs.Prelude.{char_value, values, folded_break, line_feeds, take_while, drop_while, Join, line_of, read_join}
+use Rattle.yaml_flow_scalars.proofs.Prelude.{after_blank, with_run, read_plain_line, plain_lines_at, unbroken, take_while_all}
+use Rattle.yaml_flow_scalars.proofs.Prelude.{drop_while_all, no_break, line_after_join, no_line_no_join, lines_of_key, no_more_lines}
+use Rattle.yaml_flow_scalars.proofs.Prelude.{one_more_line, none_some, first-rest}
 use Rattle.yaml_flow_scalars.specs.Folds.{IsFold, NoFold}
 use Rattle.yaml_flow_scalars.specs.PlainPlaces.{IsPlainRun, IsNextLine, NoNextLine, lines_value}
+use Rattle.yaml_flow_scalars.proofs.{FoldSteps.run_every, FoldSteps.run_first, PlainPieces.between_some}
 
 -- ---- the end of a line
 

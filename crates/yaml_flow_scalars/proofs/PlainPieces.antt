@@ -2,24 +2,14 @@
 -- characters.
 use Rattle.std.proofs.Common.{◌≡◌, refl, sym, ◌∙◌, ap, append_assoc, append-nil, arith, length, length-drop, inl, inr, ℕ, ◌-◌, ◌<◌, ◌≤◌}
 use Rattle.std.specs.Prelude.{Bool, true, false, cond, not, ◌&&◌, ◌||◌, ◌==◌, nat_lt, List, [], ◌∷◌, ◌++◌, drop, slice_range, codes}
+use Rattle.yaml_flow_scalars.proofs.Prelude.{list_all, IsUtf8, IsCharBoundary, and_parts, cases_lt, false≢true, eqb-true, nat_tests}
+use Rattle.yaml_flow_scalars.proofs.Prelude.{append_cancel_right, length-take, is_in, ns, white, rest, between, IsRun, rest-between}
+use Rattle.yaml_flow_scalars.proofs.Prelude.{between-append, between-nil, encodes-between, blind-white, first, is_empty, FlowContext, outer}
+use Rattle.yaml_flow_scalars.proofs.Prelude.{inner, block_key, flow_key, safe, plain_next, read_run, last_of, no_run, no_run_at_end}
+use Rattle.yaml_flow_scalars.proofs.Prelude.{step_char, step_white, stop_white, simple}
 use lib.Utf8.{encodes}
-use Rattle.std.specs.List.{list_all}
-use Rattle.std.specs.Str.{IsUtf8, IsCharBoundary}
-use Rattle.std.proofs.lemmas.Bool.{and_parts, cases_lt, false≢true, eqb-true}
-use Rattle.std.proofs.lemmas.Bool.Decides.{nat_tests}
-use Rattle.std.proofs.lemmas.List.{append_cancel_right, length-take}
-use Rattle.yaml_chars.specs.Classes.{is_in, ns, white}
-use Rattle.yaml_chars.specs.Places.{rest, between, IsRun}
-use Rattle.yaml_chars.proofs.Places.{rest-between, between-append, between-nil, encodes-between}
-use Rattle.yaml_chars.proofs.Runs.{blind-white}
-use Rattle.yaml_grammar.specs.Texts.{first, is_empty}
-use Rattle.yaml_grammar.specs.FlowScalars.{FlowContext, outer, inner, block_key, flow_key, safe, plain_next}
-use Rattle.yaml_recognizers.specs.PlainScalars.{read_run, last_of}
-use Rattle.yaml_recognizers.proofs.Scalars.PlainRuns.{no_run, no_run_at_end}
-use Rattle.yaml_recognizers.proofs.Scalars.PlainSteps.{step_char, step_white, stop_white}
-use Rattle.yaml_flow_scalars.proofs.FoldSteps.{run_every, run_first}
-use Rattle.yaml_scan.specs.Classes.{simple}
 use Rattle.yaml_flow_scalars.specs.PlainPlaces.{goes_on_plain, IsPlainPiece, NoPlainPiece, IsPlainRun}
+use Rattle.yaml_flow_scalars.proofs.FoldSteps.{run_every, run_first}
 
 -- ---- the character before
 

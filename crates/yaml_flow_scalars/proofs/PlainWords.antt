@@ -1,24 +1,12 @@
 -- Words on a line of a plain scalar: white space, and ASCII characters that are plain wherever they are.
 use Rattle.std.proofs.Common.{◌≡◌, refl, sym, ◌∙◌, ap, subst, append_assoc, arith, length, inl, inr, ℕ, ◌+◌, ◌<◌, ◌≤◌, get_or}
 use Rattle.std.specs.Prelude.{Bool, true, false, not, ◌&&◌, ◌||◌, ◌==◌, nat_lt, List, [], ◌∷◌, ◌++◌, slice_index}
-use Rattle.std.specs.List.{list_all}
-use Rattle.std.specs.Str.{IsUtf8, IsCharBoundary}
-use Rattle.std.proofs.lemmas.Bool.{and_from, and_parts, cases_Bool, cases_lt, false≢true, ne_eqb, or_parts}
-use Rattle.std.proofs.lemmas.Bool.Decides.{nat_tests}
-use Rattle.std.proofs.lemmas.List.Sums.{AllPass-from_list_all, list_all-from_AllPass}
-use Rattle.std.proofs.lemmas.Str.{IsCharBoundary-before_ascii}
-use Rattle.yaml_chars.specs.Classes.{indicator, ns, white}
-use Rattle.yaml_chars.specs.Places.{rest, between, IsRun}
-use Rattle.yaml_chars.proofs.Places.{between-append, rest-ascii, rest-between, rest-end}
-use Rattle.yaml_chars.proofs.Runs.{IsBlind}
-use Rattle.yaml_grammar.specs.Texts.{first, is_empty, marker, no_marker}
-use Rattle.yaml_grammar.specs.FlowScalars.{FlowContext, ends, plain_first, plain_next, safe}
-use Rattle.yaml_events.specs.EventPlaces.{line_starts}
-use Rattle.yaml_recognizers.specs.PlainScalars.{read_run}
-use Rattle.yaml_recognizers.proofs.Scalars.PlainRuns.{unplain}
-use Rattle.yaml_recognizers.proofs.Scalars.PlainSteps.{step_char, step_white}
-use Rattle.yaml_scan.specs.Classes.{simple, word}
-use Rattle.yaml_scan.proofs.ByteRuns.{ascii_at_beginning, ascii_prefix}
+use Rattle.yaml_flow_scalars.proofs.Prelude.{list_all, IsUtf8, IsCharBoundary, and_from, and_parts, cases_Bool, cases_lt, false≢true}
+use Rattle.yaml_flow_scalars.proofs.Prelude.{ne_eqb, or_parts, nat_tests, AllPass-from_list_all, list_all-from_AllPass}
+use Rattle.yaml_flow_scalars.proofs.Prelude.{IsCharBoundary-before_ascii, indicator, ns, white, rest, between, IsRun, between-append}
+use Rattle.yaml_flow_scalars.proofs.Prelude.{rest-ascii, rest-between, rest-end, IsBlind, first, is_empty, marker, no_marker, FlowContext}
+use Rattle.yaml_flow_scalars.proofs.Prelude.{ends, plain_first, plain_next, safe, line_starts, read_run, unplain, step_char, step_white}
+use Rattle.yaml_flow_scalars.proofs.Prelude.{simple, word, ascii_at_beginning, ascii_prefix}
 use Rattle.yaml_flow_scalars.specs.Folds.{IsWhiteStart}
 use Rattle.yaml_flow_scalars.specs.PlainPlaces.{goes_on_plain, letter_or_digit, BeginsPlain, IsPlainPiece, NoPlainPiece}
 use Rattle.yaml_flow_scalars.proofs.PlainPieces.{before_of, between_some, one_goes_on, one_piece, simple_is_plain, GoesOn}
@@ -89,10 +77,6 @@ solid_word c x h w = by_cases (simple c x) (white x) h w
     by_cases : (s w : Bool) → s || w ≡ true → w ≡ false → s ≡ true
     by_cases true w h k = refl
     by_cases false w h k = absurd (false≢true (sym k ∙ h))
-
-some_prefix : (xs ys : List ℕ) → is_empty xs ≡ false → is_empty (xs ++ ys) ≡ false
-some_prefix [] ys h = absurd (false≢true (sym h))
-some_prefix (x ∷ xs) ys h = refl
 
 -- words that end with no white space are read, and the run goes on after them
 words_go_on : (c : FlowContext) (before last : ℕ) (xs after : List ℕ) → list_all (word c) xs ≡ true

@@ -1,39 +1,22 @@
 -- Runs, quotes and folds between single quotes, from the places that the code finds to what is read there.
 use Rattle.std.proofs.Common.{◌≡◌, ◌<◌, ◌≤◌, ◌∙◌, sym, ap, subst, refl, inl, inr, arith, append_assoc, length-drop}
-use Rattle.std.specs.Prelude.{ℕ, zero, suc, ◌+◌, ◌-◌, Bool, true, false, is_some, List, [], ◌∷◌, ◌++◌, length, Some}
-use Rattle.std.specs.Prelude.{None, slice_index, slice_range, drop}
-use Rattle.std.specs.List.{AllPass, list_all}
-use Rattle.std.specs.Str.{IsAscii, IsUtf8, IsCharBoundary, chars}
-use Rattle.std.proofs.lemmas.Bool.{cases_Bool, cases_lt, and_from, and_parts, cond-false, eqb-true, false≢true, not_from_true, or_right}
-use Rattle.std.proofs.lemmas.Bool.Decides.{nat_tests}
-use Rattle.std.proofs.lemmas.List.{drop_all, drop_more, get_or-drop, get_or-take, length-take}
-use Rattle.std.proofs.lemmas.Str.{chars-append, chars-IsAscii, chars-nil, IsCharBoundary-after_ascii}
-use Rattle.yaml_chars.specs.Classes.{line_break}
-use Rattle.yaml_chars.specs.Places.{rest, between, IsRun}
-use Rattle.yaml_chars.proofs.Places.{between-append, between-push_ascii, rest-ascii, rest-between}
-use Rattle.yaml_chars.proofs.Runs.{IsBlind, blind-line_break}
-use Rattle.yaml_events.specs.EventPlaces.{line_starts}
-use Rattle.yaml_grammar.specs.Events.{single_style}
-use Rattle.yaml_grammar.specs.FlowScalars.{FlowContext, Line, Scalar, char_value, flow_fold, folded_break, line_feeds, one_line, single}
-use Rattle.yaml_grammar.specs.Texts.{first}
-use Rattle.yaml_recognizers.specs.Comments.{read_break}
-use Rattle.yaml_recognizers.specs.Joins.{Join, after_blank, with_lead, read_empty}
-use Rattle.yaml_recognizers.specs.FlowScalars.{read_scalar}
-use Rattle.yaml_recognizers.specs.QuotedScalars.{quote, read_quoted, read_single, read_single_one, single_closes}
-use Rattle.yaml_recognizers.specs.QuotedSteps.{join_value, quoted_value, with_prefix}
-use Rattle.yaml_recognizers.specs.Reading.{Read, on}
-use Rattle.yaml_recognizers.specs.Repeated.{all_of}
-use Rattle.yaml_recognizers.proofs.Basics.Breaks.{break_some}
-use Rattle.yaml_recognizers.proofs.Basics.Reading.{none_some, on_parts, some_parts}
-use Rattle.yaml_recognizers.proofs.Scalars.WholeScalars.{is_scalar, no_scalar}
-use Rattle.yaml_recognizers.specs.WholeScalars.{IsScalar}
-use Rattle.yaml_flow_scalars.specs.Folds.{IsWhiteStart, IsFold}
-use Rattle.yaml_flow_scalars.specs.Standing.{NoScalarAt, ScalarAt}
+use Rattle.std.specs.Prelude.{ℕ, zero, suc, ◌+◌, ◌-◌, Bool, true, false, is_some, List, [], ◌∷◌, ◌++◌, length, Some, None, slice_index}
+use Rattle.std.specs.Prelude.{slice_range, drop}
+use Rattle.yaml_flow_scalars.proofs.Prelude.{AllPass, list_all, IsAscii, IsUtf8, IsCharBoundary, chars, cases_Bool, cases_lt, and_from}
+use Rattle.yaml_flow_scalars.proofs.Prelude.{and_parts, cond-false, eqb-true, false≢true, not_from_true, or_right, nat_tests, drop_all}
+use Rattle.yaml_flow_scalars.proofs.Prelude.{drop_more, get_or-drop, get_or-take, length-take, chars-append, chars-IsAscii, chars-nil}
+use Rattle.yaml_flow_scalars.proofs.Prelude.{IsCharBoundary-after_ascii, line_break, rest, between, IsRun, between-append}
+use Rattle.yaml_flow_scalars.proofs.Prelude.{between-push_ascii, rest-ascii, rest-between, IsBlind, blind-line_break, line_starts}
+use Rattle.yaml_flow_scalars.proofs.Prelude.{single_style, FlowContext, Line, Scalar, char_value, flow_fold, folded_break, line_feeds}
+use Rattle.yaml_flow_scalars.proofs.Prelude.{one_line, single, first, read_break, Join, after_blank, with_lead, read_empty, read_scalar}
+use Rattle.yaml_flow_scalars.proofs.Prelude.{quote, read_quoted, read_single, read_single_one, single_closes, join_value, quoted_value}
+use Rattle.yaml_flow_scalars.proofs.Prelude.{with_prefix, Read, on, all_of, break_some, none_some, on_parts, some_parts, is_scalar}
+use Rattle.yaml_flow_scalars.proofs.Prelude.{no_scalar, IsScalar, first-rest}
+use Rattle.yaml_flow_scalars.specs.{Folds.IsWhiteStart, Folds.IsFold, Standing.NoScalarAt, Standing.ScalarAt}
 use Rattle.yaml_flow_scalars.specs.SingleScalars.{content, is_unchanged, read_inside, IsInside, NoFoldIn}
-use Rattle.yaml_scan.proofs.ByteRuns.{first-rest}
 use Rattle.yaml_flow_scalars.proofs.FoldSteps.{fold_solid, run_every, run_first}
-use Rattle.yaml_flow_scalars.proofs.SingleSteps.{inside_close, inside_control, inside_fold, inside_no_fold}
-use Rattle.yaml_flow_scalars.proofs.SingleSteps.{inside_pair, with_prefix-append, with_prefix-nil}
+use Rattle.yaml_flow_scalars.proofs.SingleSteps.{inside_close, inside_control, inside_fold, inside_no_fold, inside_pair, with_prefix-append}
+use Rattle.yaml_flow_scalars.proofs.SingleSteps.{with_prefix-nil}
 
 -- the test for a quote doesn't distinguish characters from 128 on
 pub blind-quote : IsBlind quote

@@ -1,24 +1,14 @@
 -- What is read between single quotes, over characters: by runs, pairs of quotes and folds, up to the closing quote.
 use Rattle.std.proofs.Common.{◌≡◌, ◌⊎◌, ◌∙◌, sym, ap, refl, inl, inr, arith, append_assoc, append-nil}
 use Rattle.std.specs.Prelude.{ℕ, true, false, not, List, [], ◌∷◌, ◌++◌, flat_map, codes, Some, None}
-use Rattle.std.specs.List.{list_all}
-use Rattle.std.proofs.lemmas.Bool.{and_from, and_left, and_parts, cases_Bool, cond-false, false≢true, not-true}
-use Rattle.std.proofs.lemmas.Bool.Decides.{nat_tests}
-use Rattle.yaml_chars.specs.Classes.{line_break, nb_json, white}
-use Rattle.yaml_grammar.specs.FlowScalars.{FlowContext, Line, char_value, ends, one_line, single_kind, single_text, values}
-use Rattle.yaml_grammar.specs.Texts.{first}
-use Rattle.yaml_recognizers.specs.Prefixes.{drop_while, take_while}
-use Rattle.yaml_recognizers.specs.Joins.{Join, at_break, after_blank, read_join}
-use Rattle.yaml_recognizers.specs.QuotedScalars.{quote, read_held, read_quoted, read_single_one, single_closes}
-use Rattle.yaml_recognizers.specs.QuotedSteps.{join_value, quoted_value, read_after_join, with_prefix, with_join}
-use Rattle.yaml_recognizers.specs.Reading.{Read}
-use Rattle.yaml_recognizers.proofs.Basics.Blanks.{white_at_break}
-use Rattle.yaml_recognizers.proofs.Basics.Breaks.{unbroken}
-use Rattle.yaml_recognizers.proofs.Basics.Prefixes.{drop_while_all, take_while_all}
-use Rattle.yaml_recognizers.proofs.Scalars.JoinSteps.{no_break}
-use Rattle.yaml_recognizers.proofs.Scalars.QuotedSteps.{after_close, after_fault, after_thing, step_close, step_fault}
-use Rattle.yaml_recognizers.proofs.Scalars.QuotedSteps.{step_join, step_key, step_thing, step_things, value_of_join}
-use Rattle.yaml_recognizers.proofs.Scalars.QuotedSteps.{value_of_thing, value_of_things}
+use Rattle.yaml_flow_scalars.proofs.Prelude.{list_all, and_from, and_left, and_parts, cases_Bool, cond-false, false≢true, not-true}
+use Rattle.yaml_flow_scalars.proofs.Prelude.{nat_tests, line_break, nb_json, white, FlowContext, Line, char_value, ends, one_line}
+use Rattle.yaml_flow_scalars.proofs.Prelude.{single_kind, single_text, values, first, drop_while, take_while, Join, at_break, after_blank}
+use Rattle.yaml_flow_scalars.proofs.Prelude.{read_join, quote, read_held, read_quoted, read_single_one, single_closes, join_value}
+use Rattle.yaml_flow_scalars.proofs.Prelude.{quoted_value, read_after_join, with_prefix, with_join, Read, white_at_break, unbroken}
+use Rattle.yaml_flow_scalars.proofs.Prelude.{drop_while_all, take_while_all, no_break, after_close, after_fault, after_thing, step_close}
+use Rattle.yaml_flow_scalars.proofs.Prelude.{step_fault, step_join, step_key, step_thing, step_things, value_of_join, value_of_thing}
+use Rattle.yaml_flow_scalars.proofs.Prelude.{value_of_things}
 use Rattle.yaml_recognizers.proofs.Scalars.SingleScalars.{single_readable}
 use Rattle.yaml_flow_scalars.specs.SingleScalars.{content, read_inside}
 

@@ -1,21 +1,11 @@
 -- Scalars on one line: no break is in them.
 use Rattle.std.proofs.Common.{◌≡◌, refl, ◌∙◌, ap, arith}
 use Rattle.std.specs.Prelude.{ℕ, ◌+◌, ◌<◌, Bool, true, false, ◌&&◌, ◌||◌, List, [], ◌∷◌, ◌++◌, length, slice_index, not}
-use Rattle.std.specs.Str.{IsUtf8, IsCharBoundary}
-use Rattle.std.proofs.lemmas.Bool.{and_from, and_parts, cond_both, false≢true, not_from_false}
-use Rattle.std.proofs.lemmas.Bool.Decides.{nat_tests}
-use Rattle.std.proofs.lemmas.List.Sums.{list_all-from_AllPass}
+use Rattle.yaml_flow_scalars.proofs.Prelude.{IsUtf8, IsCharBoundary, and_from, and_parts, cond_both, false≢true, not_from_false, nat_tests}
+use Rattle.yaml_flow_scalars.proofs.Prelude.{list_all-from_AllPass, ns, white, between, IsRun, between-ascii, between-push_ascii}
+use Rattle.yaml_flow_scalars.proofs.Prelude.{FlowContext, plain_next, list_all, is_empty, read_run, plain_unbroken}
 use Rattle.yaml_chars.specs.Breaks.{no_break}
-use Rattle.yaml_chars.specs.Classes.{ns, white}
-use Rattle.yaml_chars.specs.Places.{between, IsRun}
-use Rattle.yaml_chars.proofs.Places.{between-ascii, between-push_ascii}
-use Rattle.yaml_grammar.specs.FlowScalars.{FlowContext, plain_next}
-use Rattle.std.specs.List.{list_all}
-use Rattle.yaml_grammar.specs.Texts.{is_empty}
-use Rattle.yaml_recognizers.specs.PlainScalars.{read_run}
-use Rattle.yaml_recognizers.proofs.Scalars.PlainRuns.{plain_unbroken}
-use Rattle.yaml_flow_scalars.specs.DoubleScan.{raw_char}
-use Rattle.yaml_flow_scalars.specs.SingleScalars.{content}
+use Rattle.yaml_flow_scalars.specs.{DoubleScan.raw_char, SingleScalars.content}
 
 -- ---- plain
 

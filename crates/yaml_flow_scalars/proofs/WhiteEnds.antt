@@ -1,15 +1,8 @@
 -- Where the white at the end of a piece of a text starts.
-use Rattle.std.proofs.Common.{◌≡◌, ℕ, ◌-◌, ◌<◌, ◌≤◌, Bool, true, false, List, [], ◌∷◌, ◌++◌, refl, ap, ◌∙◌, subst}
-use Rattle.std.proofs.Common.{arith, inl, inr, get_or, slice_index}
-use Rattle.std.specs.Str.{IsUtf8, IsCharBoundary}
-use Rattle.std.proofs.lemmas.Bool.{cases_lt}
-use Rattle.std.proofs.lemmas.Bool.Decides.{nat_tests}
-use Rattle.std.proofs.lemmas.Str.{IsCharBoundary-before_ascii}
-use Rattle.yaml_chars.specs.Classes.{white}
-use Rattle.yaml_chars.specs.Places.{between}
-use Rattle.yaml_chars.proofs.Places.{between-nil}
-use Rattle.yaml_chars.proofs.Runs.{blind-white, test-between, last_char, test-last_char}
-use Rattle.yaml_grammar.specs.FlowScalars.{ends}
+use Rattle.std.proofs.Common.{◌≡◌, ℕ, ◌-◌, ◌<◌, ◌≤◌, Bool, true, false, List, [], ◌∷◌, ◌++◌, refl, ap, ◌∙◌, subst, arith, inl, inr, get_or}
+use Rattle.std.proofs.Common.{slice_index}
+use Rattle.yaml_flow_scalars.proofs.Prelude.{IsUtf8, IsCharBoundary, cases_lt, nat_tests, IsCharBoundary-before_ascii, white, between}
+use Rattle.yaml_flow_scalars.proofs.Prelude.{between-nil, blind-white, test-between, last_char, test-last_char, ends}
 use Rattle.yaml_flow_scalars.specs.Folds.{IsWhiteStart}
 
 ends-last : (p : ℕ → Bool) (prefix : List ℕ) (c : ℕ) → ends p (prefix ++ c ∷ []) ≡ p c

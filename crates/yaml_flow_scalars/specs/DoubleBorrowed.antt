@@ -1,10 +1,6 @@
 -- Which double-quoted scalars are borrowed from their text.
 use Rattle.std.specs.Prelude.{◌≡◌, ℕ, ◌+◌, ◌-◌, Bool, not, ◌||◌, ◌==◌, List, slice_range}
-use Rattle.std.specs.List.{AllPass}
-use Rattle.std.specs.Cow.{cow_str_bytes, IsBorrowedStr}
-use Rattle.std.specs.declared.borrow.CowStr.{CowStr}
-use Rattle.yaml_chars.specs.Classes.{line_break}
-use Rattle.yaml_chars.specs.Signs.{backslash}
+use Rattle.yaml_flow_scalars.specs.Prelude.{AllPass, cow_str_bytes, IsBorrowedStr, CowStr, line_break, backslash}
 
 -- what is between the quotes of a scalar from one place to another
 abbrev pub between_quotes : List ℕ → ℕ → ℕ → List ℕ

@@ -1,3 +1,4 @@
+pub mod Prelude
 pub mod Standing
 pub mod Folds
 pub mod PlainPlaces

@@ -1,15 +1,8 @@
 -- Scalars in single quotes: what is between the quotes at a place of a text, and what of it a value borrows.
 use Rattle.std.specs.Prelude.{◌≡◌, ℕ, ◌<◌, Bool, true, false, not, ◌&&◌, ◌||◌, ◌⊎◌, List, Some, slice_range}
-use Rattle.std.specs.Cow.{cow_str_bytes, IsBorrowedStr}
-use Rattle.std.specs.List.{AllPass}
-use Rattle.std.specs.Str.{IsCharBoundary}
-use Rattle.std.specs.declared.borrow.CowStr.{CowStr}
-use Rattle.yaml_chars.specs.Classes.{nb_json, line_break}
-use Rattle.yaml_chars.specs.Places.{rest}
-use Rattle.yaml_grammar.specs.FlowScalars.{FlowContext, char_value, one_line}
-use Rattle.yaml_recognizers.specs.Reading.{Read}
-use Rattle.yaml_recognizers.specs.QuotedScalars.{quote, read_quoted, read_single_one, single_closes}
-use Rattle.yaml_recognizers.specs.QuotedSteps.{quoted_value}
+use Rattle.yaml_flow_scalars.specs.Prelude.{cow_str_bytes, IsBorrowedStr, AllPass, IsCharBoundary, CowStr, nb_json}
+use Rattle.yaml_flow_scalars.specs.Prelude.{line_break, rest, FlowContext, char_value, one_line, Read, quote}
+use Rattle.yaml_flow_scalars.specs.Prelude.{read_quoted, read_single_one, single_closes, quoted_value}
 use Rattle.yaml_flow_scalars.specs.Folds.{NoFold}
 
 -- a character that means itself between single quotes

@@ -1,14 +1,7 @@
 -- A flow scalar at a place of a text, which counts bytes.
 use Rattle.std.specs.Prelude.{◌≡◌, ℕ, ◌<◌, true, List}
-use Rattle.std.specs.Cow.{IsBorrowedStr}
-use Rattle.std.specs.Str.{IsCharBoundary}
-use Rattle.std.specs.declared.borrow.CowStr.{CowStr}
-use Rattle.yaml_chars.specs.Breaks.{no_break}
-use Rattle.yaml_chars.specs.Places.{rest, between}
-use Rattle.yaml_grammar.specs.Events.{Style}
-use Rattle.std.specs.List.{list_all}
-use Rattle.yaml_grammar.specs.FlowScalars.{FlowContext, Scalar, style_of}
-use Rattle.yaml_events.specs.EventPlaces.{line_starts}
+use Rattle.yaml_flow_scalars.specs.Prelude.{IsBorrowedStr, IsCharBoundary, CowStr, no_break, rest, between, Style}
+use Rattle.yaml_flow_scalars.specs.Prelude.{list_all, FlowContext, Scalar, style_of, line_starts}
 use Rattle.yaml_recognizers.specs.WholeScalars.{StandsWhole, IsScalar}
 
 -- A scalar of this style and value is whole between the two places, and each that is whole at the first is such a one.

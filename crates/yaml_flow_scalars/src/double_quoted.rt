@@ -1,16 +1,10 @@
 // Scalars in double quotes (YAML 1.2.2, 7.3.1).
-ghost use Rattle.std.specs.Prelude.{◌≡◌, ◌≢◌, ◌↔◌, ◌+◌, ◌<◌, ◌≤◌, false, None, IsTrue, IfOk, IfErr, IfSome, IfNone, length, slice_index, codes, if◌then◌else◌};
-ghost use Rattle.std.specs.Str.{IsCharBoundary, chars};
-ghost use Rattle.std.specs.String.{string_bytes};
-ghost use Rattle.std.specs.Cow.{cow_str_bytes};
-ghost use Rattle.yaml_chars.specs.Classes.{line_break, is_in};
-ghost use Rattle.yaml_chars.specs.Places.{rest, IsRun};
-ghost use Rattle.yaml_chars.specs.Signs.{backslash, double_quote};
-ghost use Rattle.yaml_grammar.specs.Texts.{first};
-ghost use Rattle.yaml_grammar.specs.Events.{double_style};
-ghost use Rattle.yaml_grammar.specs.FlowScalars.{one_line, escape, quoted_char_fits, hex_digit, digits_after};
-ghost use Rattle.yaml_events.specs.Meant.{context_of};
-ghost use Rattle.yaml_events.specs.EventPlaces.{line_starts, Refuses};
+ghost use Rattle.std.specs.Prelude.{◌≡◌, ◌≢◌, ◌↔◌, ◌+◌, ◌<◌, ◌≤◌, false, None, IsTrue, IfOk, IfErr, IfSome, IfNone};
+ghost use Rattle.std.specs.Prelude.{length, slice_index, codes, if◌then◌else◌};
+ghost use Rattle.yaml_flow_scalars.specs.Prelude.{IsCharBoundary, chars, string_bytes, cow_str_bytes, line_break};
+ghost use Rattle.yaml_flow_scalars.specs.Prelude.{is_in, rest, IsRun, backslash, double_quote, first, double_style};
+ghost use Rattle.yaml_flow_scalars.specs.Prelude.{one_line, escape, quoted_char_fits, hex_digit, digits_after};
+ghost use Rattle.yaml_flow_scalars.specs.Prelude.{context_of, line_starts, Refuses};
 ghost use Rattle.yaml_flow_scalars.specs.Standing.{ScalarAt, NoScalarAt, IsUnbroken};
 ghost use Rattle.yaml_flow_scalars.specs.DoubleScan.{double_value, raw_char, Adds, ClosesAt, EscapeAt, NoEscapeAt, IsEscape, IsDigit, digits_at, IsNumberAt, JoinsAt, NoJoinAt};
 ghost use Rattle.yaml_flow_scalars.specs.DoubleBorrowed.{BorrowsVerbatim};

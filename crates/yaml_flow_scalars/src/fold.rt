@@ -1,8 +1,6 @@
 // Folds: what joins two lines of a flow scalar (YAML 1.2.2, 6.5 and 7.3.1).
 ghost use Rattle.std.specs.Prelude.{◌≡◌, ◌≤◌, ◌++◌, IfSome, IfNone, OnOk};
-ghost use Rattle.std.specs.Str.{IsCharBoundary};
-ghost use Rattle.std.specs.String.{string_bytes};
-ghost use Rattle.yaml_grammar.specs.FlowScalars.{folded_break};
+ghost use Rattle.yaml_flow_scalars.specs.Prelude.{IsCharBoundary, string_bytes, folded_break};
 ghost use Rattle.yaml_flow_scalars.specs.Folds.{IsFold, NoFold, IsPrefix, IsWhiteStart};
 
 use std::alloc::AllocError;

@@ -1,19 +1,10 @@
 // Plain scalars (YAML 1.2.2, 7.3.3).
-ghost use Rattle.std.specs.Prelude.{◌≡◌, ℕ, Bool, ◌<◌, ◌≤◌, ◌&&◌, ◌||◌, ◌==◌, nat_lt, true, false, ◌++◌, IsTrue, IfOk, IfErr, IfSome, IfNone, length, slice_index};
-ghost use Rattle.std.specs.Str.{IsCharBoundary, chars};
-ghost use Rattle.std.specs.Cow.{cow_str_bytes};
-ghost use Rattle.std.specs.List.{list_all};
-ghost use Rattle.std.specs.String.{string_bytes};
-ghost use Rattle.yaml_chars.specs.Breaks.{no_break};
-ghost use Rattle.yaml_chars.specs.Classes.{ns};
-ghost use Rattle.yaml_chars.specs.Places.{rest, between};
-ghost use Rattle.yaml_chars.specs.Signs.{colon};
-ghost use Rattle.yaml_grammar.specs.Events.{plain_style};
-ghost use Rattle.yaml_grammar.specs.Texts.{first};
-ghost use Rattle.yaml_grammar.specs.FlowScalars.{plain_first, plain_next, folded_break};
+ghost use Rattle.std.specs.Prelude.{◌≡◌, ℕ, Bool, ◌<◌, ◌≤◌, ◌&&◌, ◌||◌, ◌==◌, nat_lt, true, false, ◌++◌, IsTrue, IfOk};
+ghost use Rattle.std.specs.Prelude.{IfErr, IfSome, IfNone, length, slice_index};
+ghost use Rattle.yaml_flow_scalars.specs.Prelude.{IsCharBoundary, chars, cow_str_bytes, list_all, string_bytes};
+ghost use Rattle.yaml_flow_scalars.specs.Prelude.{no_break, ns, rest, between, colon, plain_style, first, plain_first};
+ghost use Rattle.yaml_flow_scalars.specs.Prelude.{plain_next, folded_break, context_of, line_starts, Refuses};
 ghost use Rattle.yaml_events.specs.Borrowed.{BorrowsOneLine};
-ghost use Rattle.yaml_events.specs.Meant.{context_of};
-ghost use Rattle.yaml_events.specs.EventPlaces.{line_starts, Refuses};
 ghost use Rattle.yaml_scan.specs.Classes.{test_of, word};
 ghost use Rattle.yaml_flow_scalars.specs.Standing.{ScalarAt, NoScalarAt, IsUnbroken};
 ghost use Rattle.yaml_flow_scalars.specs.PlainPlaces.{is_content, letter_or_digit, BeginsPlain, NoPlainBegins, IsPlainPiece, NoPlainPiece, IsPlainRun, IsFirstLine, IsNextLine, NoNextLine, PushesLines};

@@ -1,14 +1,7 @@
 // Scalars in single quotes (YAML 1.2.2, 7.3.2).
 ghost use Rattle.std.specs.Prelude.{◌≡◌, ◌+◌, ◌-◌, ◌<◌, ◌≤◌, false, IfOk, IfErr, IfSome, IfNone, None};
-ghost use Rattle.std.specs.Str.{IsCharBoundary, chars};
-ghost use Rattle.std.specs.Cow.{cow_str_bytes};
-ghost use Rattle.yaml_chars.specs.Places.{rest, IsRun};
-ghost use Rattle.yaml_grammar.specs.Events.{single_style};
-ghost use Rattle.yaml_grammar.specs.FlowScalars.{one_line};
-ghost use Rattle.yaml_grammar.specs.Texts.{first};
-ghost use Rattle.yaml_recognizers.specs.QuotedScalars.{quote};
-ghost use Rattle.yaml_events.specs.Meant.{context_of};
-ghost use Rattle.yaml_events.specs.EventPlaces.{line_starts, Refuses};
+ghost use Rattle.yaml_flow_scalars.specs.Prelude.{IsCharBoundary, chars, cow_str_bytes, rest, IsRun, single_style};
+ghost use Rattle.yaml_flow_scalars.specs.Prelude.{one_line, first, quote, context_of, line_starts, Refuses};
 ghost use Rattle.yaml_flow_scalars.specs.Folds.{IsFold};
 ghost use Rattle.yaml_flow_scalars.specs.SingleScalars.{content, BorrowsContent, IsInside, NoFoldIn, read_inside};
 ghost use Rattle.yaml_flow_scalars.specs.Standing.{ScalarAt, NoScalarAt, IsUnbroken};

@@ -1,10 +1,7 @@
 -- A JSON array of texts, from one of its places on.
-use Rattle.std.proofs.Common.{◌≡◌, ℕ, Bool, true, false, nat_lt, List, [], ◌∷◌, ◌++◌, length, length-append, codes}
-use Rattle.std.proofs.Common.{encode_utf8_all, refl, sym, ap, ◌∙◌, append_assoc, arith}
-use Rattle.std.proofs.lemmas.Bool.{ne_eqb, ltb-true}
-use Rattle.std.proofs.lemmas.Str.{encodes-append, encodes-IsAscii}
-use Rattle.std.specs.Str.{chars}
-use Rattle.yaml_data.proofs.CharacterLemmas.{chars-literal, every-IsAscii}
+use Rattle.std.proofs.Common.{◌≡◌, ℕ, Bool, true, false, nat_lt, List, [], ◌∷◌, ◌++◌, length, length-append, codes, encode_utf8_all, refl}
+use Rattle.std.proofs.Common.{sym, ap, ◌∙◌, append_assoc, arith}
+use Rattle.yaml_forms.proofs.Prelude.{ne_eqb, ltb-true, encodes-append, encodes-IsAscii, chars, chars-literal, every-IsAscii}
 use Rattle.yaml_forms.specs.Json.{json_string, json_texts, more_elements, text_elements}
 use Rattle.yaml_forms.specs.TextArrays.{array_end, array_lead, array_rest, is_fresh}
 

@@ -1,17 +1,12 @@
 -- What is written for a character of a string fits between double quotes, and means that character.
-use Rattle.std.proofs.Common.{◌≡◌, refl, sym, ap, subst, inl, inr, arith, ◌<◌}
-use Rattle.std.specs.Prelude.{ℕ, ◌/◌, ◌%◌, true, false, ◌||◌, ◌==◌, List, [], ◌∷◌, ◌++◌}
-use Rattle.std.specs.List.{list_all}
-use Rattle.std.proofs.lemmas.Bool.{cond_both, and_parts, and_from, or_cases, eqb-true, agree_below_at, false≢true}
-use Rattle.yaml_chars.specs.Classes.{code_point}
-use Rattle.yaml_grammar.specs.Texts.{IsText}
-use Rattle.yaml_grammar.specs.FlowScalars.{escape, number}
-use Rattle.yaml_grammar.specs.Style.{shown, hex, letter_escape}
-use Rattle.yaml_recognizers.proofs.OneStyle.QuotedChars.{Quotes, item_quotes, long_number, unshown_low}
-use Rattle.yaml_recognizers.proofs.OneStyle.Characters.{every_joined}
-use Rattle.yaml_recognizers.proofs.OneStyle.Presented as style
+use Rattle.std.proofs.Common.{◌≡◌, refl, sym, subst, inl, inr, arith, ◌<◌}
+use Rattle.std.specs.Prelude.{ℕ, ◌/◌, ◌%◌, true, ◌||◌, ◌==◌, List, [], ◌∷◌, ◌++◌}
+use Rattle.yaml_forms.proofs.Prelude.{list_all, cond_both, and_parts, and_from, or_cases, eqb-true, agree_below_at, false≢true, code_point}
+use Rattle.yaml_forms.proofs.Prelude.{IsText, escape, shown, hex, letter_escape, Quotes, item_quotes, long_number, unshown_low}
+use Rattle.yaml_forms.proofs.Prelude.{every_joined}
 use Rattle.yaml_forms.specs.Json.{has_letter, json_char, json_chars, json_string}
 use Rattle.yaml_forms.proofs.JsonPresented.{item_of}
+use Rattle.yaml_recognizers.proofs.OneStyle.Presented as style
 
 -- ---- escapes by a letter
 
@@ -19,24 +14,28 @@ use Rattle.yaml_forms.proofs.JsonPresented.{item_of}
 abbrev LetterRight : ℕ → Type 0
 LetterRight c = Quotes c (escape (letter_escape c))
 
--- a character that has a letter is written by it
-lettered : (c : ℕ) → has_letter c ≡ true → LetterRight c
-lettered c h = elim (or_cases (c == 8) _ h) [
-  | inl e ↦ subst LetterRight (sym (eqb-true c 8 e)) (refl, refl)
+-- what holds of each character that has a letter
+pub for_letters : (P : ℕ → Type 0) → P 8 → P 9 → P 10 → P 12 → P 13 → (c : ℕ) → has_letter c ≡ true → P c
+for_letters P p8 p9 p10 p12 p13 c h = elim (or_cases (c == 8) _ h) [
+  | inl e ↦ subst P (sym (eqb-true c 8 e)) p8
   | inr k ↦ elim (or_cases (c == 9) _ k) [
-    | inl e ↦ subst LetterRight (sym (eqb-true c 9 e)) (refl, refl)
+    | inl e ↦ subst P (sym (eqb-true c 9 e)) p9
     | inr l ↦ elim (or_cases (c == 10) _ l) [
-      | inl e ↦ subst LetterRight (sym (eqb-true c 10 e)) (refl, refl)
+      | inl e ↦ subst P (sym (eqb-true c 10 e)) p10
       | inr m ↦ elim (or_cases (c == 12) _ m) [
-        | inl e ↦ subst LetterRight (sym (eqb-true c 12 e)) (refl, refl)
+        | inl e ↦ subst P (sym (eqb-true c 12 e)) p12
         | inr n ↦ elim (or_cases (c == 13) _ n) [
-          | inl e ↦ subst LetterRight (sym (eqb-true c 13 e)) (refl, refl)
+          | inl e ↦ subst P (sym (eqb-true c 13 e)) p13
           | inr o ↦ absurd (false≢true o)
         ]
       ]
     ]
   ]
 ]
+
+-- a character that has a letter is written by it
+lettered : (c : ℕ) → has_letter c ≡ true → LetterRight c
+lettered c h = for_letters LetterRight (refl, refl) (refl, refl) (refl, refl) (refl, refl) (refl, refl) c h
 
 -- ---- all of them
 
@@ -52,22 +51,7 @@ json_quotes c t =
 
 -- the letter of an escape is a character
 letter_text : (c : ℕ) → has_letter c ≡ true → code_point (letter_escape c) ≡ true
-letter_text c h = elim (or_cases (c == 8) _ h) [
-  | inl e ↦ ap (λ x. code_point (letter_escape x)) (eqb-true c 8 e)
-  | inr k ↦ elim (or_cases (c == 9) _ k) [
-    | inl e ↦ ap (λ x. code_point (letter_escape x)) (eqb-true c 9 e)
-    | inr l ↦ elim (or_cases (c == 10) _ l) [
-      | inl e ↦ ap (λ x. code_point (letter_escape x)) (eqb-true c 10 e)
-      | inr m ↦ elim (or_cases (c == 12) _ m) [
-        | inl e ↦ ap (λ x. code_point (letter_escape x)) (eqb-true c 12 e)
-        | inr n ↦ elim (or_cases (c == 13) _ n) [
-          | inl e ↦ ap (λ x. code_point (letter_escape x)) (eqb-true c 13 e)
-          | inr o ↦ absurd (false≢true o)
-        ]
-      ]
-    ]
-  ]
-]
+letter_text c h = for_letters (λ x. code_point (letter_escape x) ≡ true) refl refl refl refl refl c h
 
 -- the digit of a number below 16 is a character
 digit_text : (d : ℕ) → d < 16 → code_point (hex d) ≡ true

@@ -1,12 +1,8 @@
 -- A presentation of each tree's JSON text: which productions of YAML it is made by.
 use Rattle.std.specs.Prelude.{ℕ, ◌/◌, ◌%◌, false, ◌||◌, ◌==◌, List, [], ◌∷◌, Some, None, if◌then◌else◌}
-use Rattle.yaml_grammar.specs.Separation.{LineEnd, inline}
-use Rattle.yaml_grammar.specs.FlowScalars.{QuotedChar, raw, escape, number, double}
-use Rattle.yaml_grammar.specs.FlowNodes.{Flow, scalar, seq, map, Entries, none, last, next, Entry, entry, absent, given}
-use Rattle.yaml_grammar.specs.BlockNodes.{flow}
-use Rattle.yaml_grammar.specs.Streams.{Stream, bare}
-use Rattle.yaml_grammar.specs.Trees.{Tree, text, sequence, mapping, Elements, no_element, element, Members, no_member, member}
-use Rattle.yaml_grammar.specs.Style.{shown, hex, letter_escape}
+use Rattle.yaml_forms.proofs.Prelude.{LineEnd, inline, QuotedChar, raw, escape, number, double, Flow, scalar, seq, map, Entries, none, last}
+use Rattle.yaml_forms.proofs.Prelude.{next, Entry, entry, absent, given, flow, Stream, bare, Tree, text, sequence, mapping, Elements}
+use Rattle.yaml_forms.proofs.Prelude.{no_element, element, Members, no_member, member, shown, hex, letter_escape}
 use Rattle.yaml_forms.specs.Json.{has_letter}
 
 -- a character of a string, as it is written

@@ -2,21 +2,12 @@
 -- reads as that tree.
 use Rattle.std.proofs.Common.{refl, ◌∙◌}
 use Rattle.std.specs.Prelude.{ℕ, List, [], ◌∷◌}
-use Rattle.std.proofs.lemmas.List.{append-nil}
+use Rattle.yaml_forms.proofs.Prelude.{append-nil, stream_events, Tree, CanReadAs, feed, Unambiguous}
 use Rattle.yaml_grammar.specs.Reads.{CanRead, Reads}
-use Rattle.yaml_grammar.specs.Streams.{stream_events}
-use Rattle.yaml_grammar.specs.Trees.{Tree}
-use Rattle.yaml_recognizers.specs.StyleLaws.{CanReadAs}
-use Rattle.yaml_recognizers.proofs.OneStyle.Presented.{feed}
-use Rattle.yaml_recognizers.proofs.OneStyle.StyleRead.{Unambiguous}
 use Rattle.yaml_forms.specs.Json.{json_text, json_line}
 use Rattle.yaml_forms.specs.JsonLaws.{JsonPresents, JsonLinePresents, JsonReads, JsonLineReads}
-use Rattle.yaml_forms.proofs.JsonPresented.{presentation_of}
-use Rattle.yaml_forms.proofs.JsonSpelled.{presentation_spelled}
-use Rattle.yaml_forms.proofs.JsonFits.{presentation_fits}
-use Rattle.yaml_forms.proofs.JsonMeant.{presentation_meant}
-use Rattle.yaml_forms.proofs.JsonCharacters.{joined}
-use Rattle.yaml_forms.proofs.JsonTexts.{json_is_text}
+use Rattle.yaml_forms.proofs.{JsonPresented.presentation_of, JsonSpelled.presentation_spelled, JsonFits.presentation_fits}
+use Rattle.yaml_forms.proofs.{JsonMeant.presentation_meant, JsonCharacters.joined, JsonTexts.json_is_text}
 
 -- the JSON text has a presentation that means the tree
 pub json_presented : JsonPresents

@@ -1,6 +1,8 @@
+pub mod Prelude
 pub mod ArrayLemmas
 pub mod JsonCharacters
 pub mod JsonFits
+pub mod JsonIsJson
 pub mod JsonMeant
 pub mod JsonPresented
 pub mod JsonRead

@@ -1,27 +1,18 @@
 -- The presentation of a tree in the plain form fits.
 use Rattle.std.proofs.Common.{◌≡◌, refl, ◌∙◌, ap, inl, inr, arith, ◌≤◌}
-use Rattle.std.specs.Prelude.{ℕ, zero, suc, ◌+◌, Bool, true, false, cond, not, ◌&&◌, ◌||◌, ◌==◌, List, [], ◌∷◌, ◌++◌}
-use Rattle.std.specs.Prelude.{codes, length, flat_map}
-use Rattle.std.specs.List.{list_all}
-use Rattle.std.proofs.lemmas.List.{append-nil}
-use Rattle.std.proofs.lemmas.Bool.{and_parts, and_from, or_left, or_right, or_cases, or_parts, not-true, le-leb}
-use Rattle.std.proofs.lemmas.Bool.{ltb-false, eqb-true, agree_below_at, not_from_false, false≢true}
-use Rattle.yaml_chars.specs.Classes.{ns, white, is_in, indicator, line_break}
-use Rattle.yaml_grammar.specs.Texts.{IsText, first, spaces, starts_line, marker}
-use Rattle.yaml_grammar.specs.Separation.{Sep, sep_text, sep_fits, inline}
-use Rattle.yaml_grammar.specs.FlowScalars.{FlowContext, outer, block_key, safe, plain, plain_text as plain_char}
-use Rattle.yaml_grammar.specs.FlowScalars.{lines_text, plain_first, plain_run}
-use Rattle.yaml_grammar.specs.FlowNodes.{scalar, flow_text, flow_fits, short_key}
-use Rattle.yaml_grammar.specs.BlockNodes.{Node, flow, node_text, node_fits, items_text, items_fit, Indented}
-use Rattle.yaml_grammar.specs.BlockNodes.{indented_text, indented_fits, node, Pair, pair_text, pair_fits, pairs_text}
-use Rattle.yaml_grammar.specs.BlockNodes.{pairs_fit, asked, keyed}
-use Rattle.yaml_grammar.specs.Streams.{fits}
-use Rattle.yaml_grammar.specs.Trees.{Tree, text, sequence, mapping, Elements, no_element, element, Members, no_member}
-use Rattle.yaml_grammar.specs.Trees.{member, IsTextTree, AreTextElements, AreTextMembers}
-use Rattle.yaml_grammar.specs.Style.{plain_in_style, letter, in_double_quotes, key_text, long_key, key_lines}
-use Rattle.yaml_recognizers.proofs.OneStyle.Presented.{feed, one_space, word_flow, scalar_node, pair_of}
-use Rattle.yaml_recognizers.proofs.OneStyle.Spelled.{pair_spelled, word_flow_spelled, two_more}
-use Rattle.yaml_recognizers.proofs.OneStyle.Characters.{of_letter, after_not}
+use Rattle.std.specs.Prelude.{ℕ, zero, suc, ◌+◌, Bool, true, false, cond, not, ◌&&◌, ◌||◌, ◌==◌, List, [], ◌∷◌, ◌++◌, codes, length}
+use Rattle.std.specs.Prelude.{flat_map}
+use Rattle.yaml_forms.proofs.Prelude.{list_all, append-nil, and_parts, and_from, or_left, or_right, or_cases, or_parts, not-true, le-leb}
+use Rattle.yaml_forms.proofs.Prelude.{ltb-false, eqb-true, agree_below_at, not_from_false, false≢true, ns, white, is_in, indicator}
+use Rattle.yaml_forms.proofs.Prelude.{line_break, IsText, first, spaces, starts_line, marker, Sep, sep_text, sep_fits, inline, FlowContext}
+use Rattle.yaml_forms.proofs.Prelude.{outer, block_key, safe, plain, lines_text, plain_first, plain_run, scalar, flow_text, flow_fits}
+use Rattle.yaml_forms.proofs.Prelude.{short_key, Node, flow, node_text, node_fits, items_text, items_fit, Indented, indented_text}
+use Rattle.yaml_forms.proofs.Prelude.{indented_fits, node, Pair, pair_text, pair_fits, pairs_text, pairs_fit, asked, keyed, fits, Tree}
+use Rattle.yaml_forms.proofs.Prelude.{text, sequence, mapping, Elements, no_element, element, Members, no_member, member, IsTextTree}
+use Rattle.yaml_forms.proofs.Prelude.{AreTextElements, AreTextMembers, plain_in_style, letter, in_double_quotes, key_text, long_key}
+use Rattle.yaml_forms.proofs.Prelude.{key_lines, feed, one_space, word_flow, scalar_node, pair_of, pair_spelled, word_flow_spelled}
+use Rattle.yaml_forms.proofs.Prelude.{two_more, of_letter, after_not}
+use Rattle.yaml_grammar.specs.FlowScalars.{plain_text as plain_char}
 use Rattle.yaml_recognizers.proofs.OneStyle.ScalarsFit.{Below, Wide, no_marker_there, word_flow_fits, scalar_node_fits}
 use Rattle.yaml_forms.specs.CoreScalars.{is_typed}
 use Rattle.yaml_forms.proofs.TypedLemmas.{typed_char, typed_shape, typed_shaped, typed_low}

@@ -1,27 +1,15 @@
 -- The presentation of a tree in the plain form means the events of that tree.
 use Rattle.std.proofs.Common.{◌≡◌, refl, sym, ◌∙◌, ap}
 use Rattle.std.specs.Prelude.{ℕ, ◌+◌, Bool, true, false, cond, not, ◌&&◌, List, [], ◌∷◌, ◌++◌}
-use Rattle.std.proofs.lemmas.List.{append-nil}
-use Rattle.std.proofs.lemmas.Bool.{and_parts, not-true}
-use Rattle.yaml_chars.specs.Classes.{code_point, is_in}
-use Rattle.std.specs.List.{list_all}
-use Rattle.yaml_grammar.specs.Texts.{IsText, first, byte_len}
-use Rattle.yaml_grammar.specs.Separation.{Sep, inline}
-use Rattle.yaml_grammar.specs.FlowScalars.{char_value, quoted_char_value, values, plain, double}
-use Rattle.yaml_grammar.specs.FlowNodes.{scalar, flow_text, flow_events}
-use Rattle.yaml_grammar.specs.BlockNodes.{Node, flow, block, node_events, items_events, Indented, indented_text}
-use Rattle.yaml_grammar.specs.BlockNodes.{indented_events, node, Pair, pair_text, pair_events, pairs_events, asked}
-use Rattle.yaml_grammar.specs.BlockNodes.{keyed}
-use Rattle.yaml_grammar.specs.Streams.{stream_events}
-use Rattle.yaml_grammar.specs.Events.{as_document, document_end}
-use Rattle.yaml_grammar.specs.Trees.{Tree, text, sequence, mapping, Elements, no_element, element, Members, no_member}
-use Rattle.yaml_grammar.specs.Trees.{member, Shape, scalar_of, document_from, document_to, shapes, tree_shapes}
-use Rattle.yaml_grammar.specs.Trees.{elements_shapes, members_shapes, IsTextTree, AreTextElements, AreTextMembers}
-use Rattle.yaml_grammar.specs.Trees.{IsTreeOf}
-use Rattle.yaml_grammar.specs.Style.{plain_in_style, literal_in_style, long_key, space_or_feed, shown_or_feed}
-use Rattle.yaml_recognizers.proofs.OneStyle.Presented.{feed, one_space, items_of_text, word_flow, literal_block, scalar_node, pair_of}
-use Rattle.yaml_recognizers.proofs.OneStyle.Spelled.{two_more}
-use Rattle.yaml_recognizers.proofs.OneStyle.QuotedChars.{item_quotes}
+use Rattle.yaml_forms.proofs.Prelude.{append-nil, and_parts, not-true, code_point, is_in, list_all, IsText, first, byte_len, Sep, inline}
+use Rattle.yaml_forms.proofs.Prelude.{char_value, quoted_char_value, values, plain, double, scalar, flow_text, flow_events, Node, flow}
+use Rattle.yaml_forms.proofs.Prelude.{block, node_events, items_events, Indented, indented_text, indented_events, node, Pair, pair_text}
+use Rattle.yaml_forms.proofs.Prelude.{pair_events, pairs_events, asked, keyed, stream_events, as_document, document_end, Tree, text}
+use Rattle.yaml_forms.proofs.Prelude.{sequence, mapping, Elements, no_element, element, Members, no_member, member, Shape, scalar_of}
+use Rattle.yaml_forms.proofs.Prelude.{document_from, document_to, shapes, tree_shapes, elements_shapes, members_shapes, IsTextTree}
+use Rattle.yaml_forms.proofs.Prelude.{AreTextElements, AreTextMembers, IsTreeOf, plain_in_style, literal_in_style, long_key, space_or_feed}
+use Rattle.yaml_forms.proofs.Prelude.{shown_or_feed, feed, one_space, items_of_text, word_flow, literal_block, scalar_node, pair_of}
+use Rattle.yaml_forms.proofs.Prelude.{two_more, item_quotes}
 use Rattle.yaml_recognizers.proofs.OneStyle.Literals.{literal_meant}
 use Rattle.yaml_forms.specs.CoreScalars.{is_typed}
 use Rattle.yaml_forms.proofs.JsonMeant.{both_meant, sequence_meant, mapping_meant}

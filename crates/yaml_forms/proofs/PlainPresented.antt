@@ -1,13 +1,9 @@
 -- A presentation of each tree in the plain form: which productions its text is made by.
 use Rattle.std.specs.Prelude.{ℕ, ◌+◌, false, List, [], ◌∷◌, Some, if◌then◌else◌}
-use Rattle.yaml_grammar.specs.Separation.{Sep, inline}
-use Rattle.yaml_grammar.specs.FlowScalars.{plain}
-use Rattle.yaml_grammar.specs.FlowNodes.{scalar}
-use Rattle.yaml_grammar.specs.BlockNodes.{Node, flow, items, pairs, Items, item, item_and, Pairs, pair, pair_and}
-use Rattle.yaml_grammar.specs.BlockNodes.{Pair, Indented, compact_items, compact_pairs, node}
-use Rattle.yaml_grammar.specs.Streams.{Stream, bare}
-use Rattle.yaml_grammar.specs.Trees.{Tree, text, sequence, mapping, Elements, no_element, element, Members, no_member, member}
-use Rattle.yaml_recognizers.proofs.OneStyle.Presented.{feed, one_space, scalar_node, pair_of, empty_sequence, empty_mapping}
+use Rattle.yaml_forms.proofs.Prelude.{Sep, inline, plain, scalar, Node, flow, items, pairs, Items, item, item_and, Pairs, pair, pair_and}
+use Rattle.yaml_forms.proofs.Prelude.{Pair, Indented, compact_items, compact_pairs, node, Stream, bare, Tree, text, sequence, mapping}
+use Rattle.yaml_forms.proofs.Prelude.{Elements, no_element, element, Members, no_member, member, feed, one_space, scalar_node, pair_of}
+use Rattle.yaml_forms.proofs.Prelude.{empty_sequence, empty_mapping}
 use Rattle.yaml_forms.specs.CoreScalars.{is_typed}
 
 -- a value, after this separation

@@ -1,21 +1,15 @@
 -- The presentation of a tree spells the tree's text in the plain form.
 use Rattle.std.proofs.Common.{◌≡◌, refl, sym, ◌∙◌, ap, append_assoc}
 use Rattle.std.specs.Prelude.{ℕ, ◌+◌, Bool, true, false, cond, List, [], ◌∷◌, ◌++◌, codes, flat_map}
-use Rattle.std.proofs.lemmas.List.{append-nil}
-use Rattle.yaml_grammar.specs.Texts.{spaces}
-use Rattle.yaml_grammar.specs.Separation.{Sep, sep_text, inline}
-use Rattle.yaml_grammar.specs.FlowScalars.{plain_text as plain_char, plain}
-use Rattle.yaml_grammar.specs.FlowNodes.{scalar}
-use Rattle.yaml_grammar.specs.BlockNodes.{flow, node_text, Indented, indented_text, items_text, Pair, pair_text, pairs_text}
-use Rattle.yaml_grammar.specs.Trees.{Tree, text, sequence, mapping, Elements, no_element, element, Members, no_member, member}
-use Rattle.yaml_grammar.specs.Streams.{stream_text}
-use Rattle.yaml_grammar.specs.Style.{scalar_lines, key_lines}
-use Rattle.yaml_recognizers.proofs.OneStyle.Presented.{feed, one_space, scalar_node, pair_of, at_start}
-use Rattle.yaml_recognizers.proofs.OneStyle.Spelled as style
-use Rattle.yaml_recognizers.proofs.OneStyle.Spelled.{two_more, item_regrouped, pair_regrouped, pair_spelled}
+use Rattle.yaml_forms.proofs.Prelude.{append-nil, spaces, Sep, sep_text, inline, plain, scalar, flow, node_text, Indented, indented_text}
+use Rattle.yaml_forms.proofs.Prelude.{items_text, Pair, pair_text, pairs_text, Tree, text, sequence, mapping, Elements, no_element, element}
+use Rattle.yaml_forms.proofs.Prelude.{Members, no_member, member, stream_text, scalar_lines, key_lines, feed, one_space, scalar_node}
+use Rattle.yaml_forms.proofs.Prelude.{pair_of, at_start, two_more, item_regrouped, pair_regrouped, pair_spelled}
+use Rattle.yaml_grammar.specs.FlowScalars.{plain_text as plain_char}
 use Rattle.yaml_forms.specs.CoreScalars.{is_typed}
 use Rattle.yaml_forms.specs.PlainForm.{value_lines, elements_after, lines_after_dash, members_after, value_at, plain_text}
 use Rattle.yaml_forms.proofs.PlainPresented.{value_node, element_of, value_of, items_from, pairs_from, top_node, presentation_of}
+use Rattle.yaml_recognizers.proofs.OneStyle.Spelled as style
 
 -- plain characters spell themselves
 plain_spelled : (value : List ℕ) → flat_map plain_char value ≡ value

@@ -1,8 +1,7 @@
 -- What is between the quotes of a string of JSON.
 use Rattle.std.proofs.Common.{◌≡◌, ℕ, true, [], ◌∷◌, refl, arith}
-use Rattle.std.proofs.lemmas.Bool.Decides.{nat_tests}
+use Rattle.yaml_forms.proofs.Prelude.{nat_tests, Spells}
 use Rattle.yaml_writer.specs.Runs.{stands_alone}
-use Rattle.yaml_writer.proofs.QuotedLemmas.{Spells}
 use Rattle.yaml_forms.specs.Json.{json_char, json_chars}
 
 json_char-alone : (c : ℕ) → stands_alone c ≡ true → json_char c ≡ c ∷ []

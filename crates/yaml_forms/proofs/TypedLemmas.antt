@@ -1,18 +1,11 @@
 -- What the scalars are that the core schema resolves to something other than a text: ASCII, and fit to stand plain.
-use Rattle.std.proofs.Common.{◌≡◌, ℕ, ◌<◌, Bool, true, false, not, ◌&&◌, ◌||◌, ◌==◌, cond, List, [], ◌∷◌, codes}
-use Rattle.std.proofs.Common.{IsUtf8, refl, sym, ap, ◌∙◌, inl, inr, arith}
-use Rattle.std.specs.List.{list_all}
-use Rattle.std.specs.Str.{chars}
-use Rattle.std.proofs.lemmas.Bool.{and_parts, and_from, or_cases, or_left, or_right, eqb-true, false≢true}
-use Rattle.std.proofs.lemmas.Bool.Decides.{nat_tests}
-use Rattle.yaml_chars.specs.Classes.{in_range, is_in}
-use Rattle.yaml_grammar.specs.Texts.{first, same_text}
-use Rattle.yaml_grammar.specs.FlowScalars.{hex_digit}
-use Rattle.yaml_grammar.specs.Style.{letter, is_among}
-use Rattle.yaml_data.proofs.CharacterLemmas.{same_text-true, every-IsAscii, chars-same}
-use Rattle.std.proofs.lemmas.Str.{chars-IsAscii}
-use Rattle.yaml_forms.specs.CoreScalars.{null_words, truth_words, float_words, digit, octal_digit, digits, after_sign}
-use Rattle.yaml_forms.specs.CoreScalars.{after_digits, exponent, fraction, unsigned, based, based_number, is_typed}
+use Rattle.std.proofs.Common.{◌≡◌, ℕ, ◌<◌, Bool, true, false, not, ◌&&◌, ◌||◌, ◌==◌, cond, List, [], ◌∷◌, codes, IsUtf8, refl, sym, ap, ◌∙◌}
+use Rattle.std.proofs.Common.{inl, inr, arith}
+use Rattle.yaml_forms.proofs.Prelude.{list_all, chars, and_parts, and_from, or_cases, or_left, or_right, eqb-true, false≢true, nat_tests}
+use Rattle.yaml_forms.proofs.Prelude.{in_range, is_in, first, same_text, hex_digit, letter, is_among, same_text-true, every-IsAscii}
+use Rattle.yaml_forms.proofs.Prelude.{chars-same, chars-IsAscii}
+use Rattle.yaml_forms.specs.CoreScalars.{null_words, truth_words, float_words, digit, octal_digit, digits, after_sign, after_digits}
+use Rattle.yaml_forms.specs.CoreScalars.{exponent, fraction, unsigned, based, based_number, is_typed}
 
 -- a character of such a scalar
 abbrev pub typed_char : ℕ → Bool

@@ -1,11 +1,6 @@
 -- The plain scalars that YAML's core schema resolves to something other than a text (YAML 1.2.2, 10.3.2).
 use Rattle.std.specs.Prelude.{ℕ, Bool, true, false, not, ◌&&◌, ◌||◌, ◌==◌, if◌then◌else◌, List, [], ◌∷◌, length, codes}
-use Rattle.std.specs.List.{list_all}
-use Rattle.yaml_chars.specs.Classes.{in_range, is_in}
-use Rattle.yaml_chars.specs.Signs.{dot, digit_zero, small_x}
-use Rattle.yaml_grammar.specs.Texts.{first}
-use Rattle.yaml_grammar.specs.FlowScalars.{hex_digit}
-use Rattle.yaml_grammar.specs.Style.{is_among}
+use Rattle.yaml_forms.specs.Prelude.{list_all, in_range, is_in, dot, digit_zero, small_x, first, hex_digit, is_among}
 
 -- `null | Null | NULL | ~`
 abbrev pub null_words : List (List ℕ)

@@ -1,10 +1,9 @@
 -- JSON texts of trees (RFC 8259): on one line and without whitespace. A mapping is an object with its members in order,
 -- a sequence an array, and each text a string.
 use Rattle.std.specs.Prelude.{ℕ, ◌/◌, ◌%◌, Bool, ◌||◌, ◌==◌, if◌then◌else◌, List, [], ◌∷◌, ◌++◌, codes}
-use Rattle.yaml_chars.specs.Signs.{backspace, tab, line_feed, form_feed, carriage_return, double_quote, backslash}
-use Rattle.yaml_chars.specs.Classes.{is_in}
-use Rattle.yaml_grammar.specs.Trees.{Tree, text, sequence, mapping, Elements, no_element, element, Members, no_member, member}
-use Rattle.yaml_grammar.specs.Style.{shown, hex, letter_escape}
+use Rattle.yaml_forms.specs.Prelude.{backspace, tab, line_feed, form_feed, carriage_return, double_quote, backslash}
+use Rattle.yaml_forms.specs.Prelude.{is_in, Tree, text, sequence, mapping, Elements, no_element, element, Members}
+use Rattle.yaml_forms.specs.Prelude.{no_member, member, shown, hex, letter_escape}
 
 -- ---- strings (RFC 8259, 7)
 

@@ -1,10 +1,8 @@
 -- The laws of JSON texts, as statements.
 use Rattle.std.specs.Prelude.{◌≤◌}
-use Rattle.yaml_grammar.specs.Texts.{byte_len}
-use Rattle.yaml_grammar.specs.Trees.{Tree, IsTextTree}
-use Rattle.yaml_grammar.specs.Reads.{Limits, Good, Gives}
-use Rattle.yaml_recognizers.specs.StyleLaws.{CanReadAs}
+use Rattle.yaml_forms.specs.Prelude.{byte_len, Tree, IsTextTree, Limits, Good, Gives, CanReadAs}
 use Rattle.yaml_forms.specs.Json.{json_text, json_line}
+use Rattle.yaml_forms.specs.JsonGrammar.{IsJsonOf}
 
 -- each tree of texts can be read from its JSON text
 abbrev pub JsonPresents : Type 0
@@ -23,3 +21,11 @@ JsonReads = (t : Tree) (limits : Limits) → Good t limits → byte_len (json_te
 abbrev pub JsonLineReads : Type 0
 JsonLineReads = (t : Tree) (limits : Limits) → Good t limits → byte_len (json_line t) ≤ limits.bytes
     → Gives (json_line t) limits t
+
+-- each tree's JSON text is JSON that means the tree
+abbrev pub JsonIsJson : Type 0
+JsonIsJson = (t : Tree) → IsTextTree t → IsJsonOf t (json_text t)
+
+-- and so is that text with a line feed after it
+abbrev pub JsonLineIsJson : Type 0
+JsonLineIsJson = (t : Tree) → IsTextTree t → IsJsonOf t (json_line t)

@@ -1,10 +1,8 @@
 -- The keys of a mapping, or the indexes of a sequence, a line each.
-use Rattle.std.specs.Prelude.{◌≡◌, ℕ, ◌+◌, Bool, not, ◌&&◌, ◌==◌, if◌then◌else◌, List, [], ◌++◌, codes, decimal, encode_utf8_all}
-use Rattle.std.specs.List.{list_all}
-use Rattle.yaml_chars.specs.Signs.{double_quote}
-use Rattle.yaml_grammar.specs.Texts.{first}
-use Rattle.yaml_grammar.specs.Trees.{Tree, text, sequence, mapping, Elements, no_element, element, Members, no_member, member}
-use Rattle.yaml_grammar.specs.Style.{shown, in_double_quotes}
+use Rattle.std.specs.Prelude.{◌≡◌, ℕ, ◌+◌, Bool, not, ◌&&◌, ◌==◌, if◌then◌else◌, List, [], ◌++◌, codes, decimal}
+use Rattle.std.specs.Prelude.{encode_utf8_all}
+use Rattle.yaml_forms.specs.Prelude.{list_all, double_quote, first, Tree, text, sequence, mapping, Elements, no_element}
+use Rattle.yaml_forms.specs.Prelude.{element, Members, no_member, member, shown, in_double_quotes}
 use Rattle.yaml_forms.specs.declared.keys_fault.KeysFault.{KeysFault}
 use Rattle.yaml_forms.specs.declared.keys_fault.KeysFault.TheVariants.{NotCollection, OutOfMemory}
 

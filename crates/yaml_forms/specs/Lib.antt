@@ -1,5 +1,7 @@
+pub mod Prelude
 pub mod CoreScalars
 pub mod Json
+pub mod JsonGrammar
 pub mod JsonLaws
 pub mod KeyLines
 pub mod PlainForm

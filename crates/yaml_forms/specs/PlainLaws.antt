@@ -1,9 +1,6 @@
 -- The laws of the plain form, as statements.
 use Rattle.std.specs.Prelude.{◌≤◌}
-use Rattle.yaml_grammar.specs.Texts.{byte_len}
-use Rattle.yaml_grammar.specs.Trees.{Tree, IsTextTree}
-use Rattle.yaml_grammar.specs.Reads.{Limits, Good, Gives}
-use Rattle.yaml_recognizers.specs.StyleLaws.{CanReadAs}
+use Rattle.yaml_forms.specs.Prelude.{byte_len, Tree, IsTextTree, Limits, Good, Gives, CanReadAs}
 use Rattle.yaml_forms.specs.PlainForm.{plain_text}
 
 -- each tree of texts can be read from its text in the plain form

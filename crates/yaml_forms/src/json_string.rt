@@ -1,8 +1,6 @@
 // Texts as strings of JSON (RFC 8259, 7).
 ghost use Rattle.std.specs.Prelude.{◌≡◌, ◌<◌, ◌^◌, ◌∷◌, [], true, false, OnOk, MatchOption};
-ghost use Rattle.std.specs.Str.{chars};
-ghost use Rattle.yaml_chars.specs.Signs.{backslash};
-ghost use Rattle.yaml_grammar.specs.Style.{hex, letter_escape};
+ghost use Rattle.yaml_forms.specs.Prelude.{chars, backslash, hex, letter_escape};
 ghost use Rattle.yaml_forms.specs.Json.{has_letter, json_char, json_chars, json_string, number_escape};
 
 use crate::shown::is_shown;

@@ -1,9 +1,7 @@
 // The JSON text of a tree (RFC 8259, 3 to 5).
 ghost use Rattle.std.specs.Prelude.{◌≡◌, ◌≤◌, IfOk, OnOk, encode_utf8_all, string_bytes};
-ghost use Rattle.std.specs.Str.{chars};
-ghost use Rattle.yaml_grammar.specs.Trees.{depth, mapping, sequence};
-ghost use Rattle.yaml_data.specs.OwnLimits.{own_limits};
-ghost use Rattle.yaml_data.specs.Seen.{tree_of, elements_of, members_of};
+ghost use Rattle.yaml_forms.specs.Prelude.{chars, depth, mapping, sequence, own_limits, tree_of, elements_of};
+ghost use Rattle.yaml_forms.specs.Prelude.{members_of};
 ghost use Rattle.yaml_forms.specs.Json.{json_line, json_member, json_text};
 
 use crate::json_string::write_json_string;

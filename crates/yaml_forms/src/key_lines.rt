@@ -1,11 +1,8 @@
 // The keys of a mapping, or the indexes of a sequence, as lines.
-ghost use Rattle.std.specs.Prelude.{◌≡◌, ℕ, ◌++◌, not, ◌==◌, IfOk, IfErr, OnOk, codes, decimal, encode_utf8_all, string_bytes};
-ghost use Rattle.std.specs.List.{list_all};
-ghost use Rattle.std.specs.Str.{chars};
-ghost use Rattle.yaml_chars.specs.Signs.{double_quote};
-ghost use Rattle.yaml_grammar.specs.Style.{shown};
-ghost use Rattle.yaml_grammar.specs.Texts.{first};
-ghost use Rattle.yaml_data.specs.Seen.{tree_of, elements_of, members_of};
+ghost use Rattle.std.specs.Prelude.{◌≡◌, ℕ, ◌++◌, not, ◌==◌, IfOk, IfErr, OnOk, codes, decimal, encode_utf8_all};
+ghost use Rattle.std.specs.Prelude.{string_bytes};
+ghost use Rattle.yaml_forms.specs.Prelude.{list_all, chars, double_quote, shown, first, tree_of, elements_of};
+ghost use Rattle.yaml_forms.specs.Prelude.{members_of};
 ghost use Rattle.yaml_forms.specs.KeyLines.{HasKeys, LacksKeys, index_lines, key_in_line, member_lines, stands_in_line};
 
 use crate::keys_fault::KeysFault;

@@ -1,8 +1,8 @@
-// Laws of JSON texts and of the plain form: each is YAML, and gives the tree that it was made of.
+// Laws of JSON texts and of the plain form: each is YAML, and gives the tree that it was made of. JSON texts are JSON.
 //
 // A law is a function that does nothing, takes nothing and always returns. What it ensures holds of all values, and
 // is cited where a proof needs it.
-ghost use Rattle.yaml_forms.specs.JsonLaws.{JsonLinePresents, JsonLineReads, JsonPresents, JsonReads};
+ghost use Rattle.yaml_forms.specs.JsonLaws.{JsonIsJson, JsonLineIsJson, JsonLinePresents, JsonLineReads, JsonPresents, JsonReads};
 ghost use Rattle.yaml_forms.specs.PlainLaws.{PlainPresents, PlainReads};
 
 use yaml_recognizers::texts::unambiguous;
@@ -22,6 +22,14 @@ pub fn json_reads()
 {
     unambiguous();
 }
+
+/// The JSON text of each tree of texts is one by the grammar of RFC 8259, and means the tree: its strings are the
+/// texts, its arrays the sequences, and its objects the mappings, with their members in order. The same holds with a
+/// line feed after it.
+pub fn json_is_json()
+    ensures alone { JsonIsJson }
+    ensures line { JsonLineIsJson }
+{}
 
 /// The plain form of each tree of texts is a text that can be read as that tree.
 pub fn plain_presents()

@@ -1,9 +1,8 @@
 // The plain form of a tree: the one style, with values of other types than text plain (YAML 1.2.2, 10.3.2).
-ghost use Rattle.std.specs.Prelude.{◌≡◌, ◌+◌, ◌*◌, ◌^◌, ◌<◌, ◌≤◌, ◌++◌, codes, IfOk, OnOk, encode_utf8_all, string_bytes};
-ghost use Rattle.std.specs.Str.{chars};
-ghost use Rattle.yaml_grammar.specs.Trees.{depth, elements_depth, members_depth};
-ghost use Rattle.yaml_data.specs.OwnLimits.{own_limits};
-ghost use Rattle.yaml_data.specs.Seen.{tree_of, elements_of, members_of};
+ghost use Rattle.std.specs.Prelude.{◌≡◌, ◌+◌, ◌*◌, ◌^◌, ◌<◌, ◌≤◌, ◌++◌, codes, IfOk, OnOk, encode_utf8_all};
+ghost use Rattle.std.specs.Prelude.{string_bytes};
+ghost use Rattle.yaml_forms.specs.Prelude.{chars, depth, elements_depth, members_depth, own_limits, tree_of};
+ghost use Rattle.yaml_forms.specs.Prelude.{elements_of, members_of};
 ghost use Rattle.yaml_forms.specs.PlainForm.{elements_at, lines_after_dash, members_at, plain_text, value_at, value_lines};
 
 use crate::typed::is_typed;

@@ -1,6 +1,6 @@
 // Characters that are written as themselves.
 ghost use Rattle.std.specs.Prelude.{◌≡◌};
-ghost use Rattle.yaml_grammar.specs.Style.{shown};
+ghost use Rattle.yaml_forms.specs.Prelude.{shown};
 
 use yaml_chars::printable;
 

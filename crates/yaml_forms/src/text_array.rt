@@ -1,6 +1,6 @@
 // A JSON array of texts, written text by text (RFC 8259, 5).
 ghost use Rattle.std.specs.Prelude.{◌≡◌, ℕ, List, [], ◌∷◌, IfOk, OnOk, encode_utf8_all, string_bytes};
-ghost use Rattle.std.specs.Str.{chars};
+ghost use Rattle.yaml_forms.specs.Prelude.{chars};
 ghost use Rattle.yaml_forms.specs.Json.{json_texts};
 
 use crate::json_string::write_json_string;

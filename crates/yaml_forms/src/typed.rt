@@ -1,10 +1,6 @@
 // The plain scalars that YAML's core schema resolves to something other than a text (YAML 1.2.2, 10.3.2).
 ghost use Rattle.std.specs.Prelude.{◌≡◌, ◌||◌, ◌∷◌, [], MatchOption};
-ghost use Rattle.std.specs.List.{list_all};
-ghost use Rattle.std.specs.Str.{chars};
-ghost use Rattle.yaml_grammar.specs.FlowScalars.{hex_digit};
-ghost use Rattle.yaml_grammar.specs.Style.{is_among};
-ghost use Rattle.yaml_grammar.specs.Texts.{first, same_text};
+ghost use Rattle.yaml_forms.specs.Prelude.{list_all, chars, hex_digit, is_among, first, same_text};
 ghost use Rattle.yaml_forms.specs.CoreScalars.{after_digits, after_sign, based, based_number, digit, digits, exponent, float_words, fraction, is_typed, null_words, octal_digit, truth_words, unsigned};
 
 /// Whether the core schema resolves a text, as a plain scalar, to null, a truth value, an integer or a float (YAML

@@ -1,4 +1,5 @@
 -- the lemmas of the laws, by the production that they speak of
+pub mod Prelude
 pub mod Basics
 pub mod Separation
 pub mod Scalars
@@ -8,3 +9,4 @@ pub mod Block
 pub mod Documents
 pub mod Meanings
 pub mod OneStyle
+pub mod Zeroed

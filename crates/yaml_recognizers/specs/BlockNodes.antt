@@ -1,21 +1,15 @@
 -- The recognizer of block nodes (YAML 1.2.2, 8.2), over those of keys, flow nodes and block scalars.
 use Rattle.std.specs.Prelude.{ℕ, zero, suc, ◌+◌, ◌*◌, Bool, true, false, not, ◌&&◌, ◌||◌, ◌==◌, nat_le, List, [], ◌∷◌}
 use Rattle.std.specs.Prelude.{length, Option, Some, None, is_some, if◌then◌else◌}
-use Rattle.yaml_chars.specs.Classes.{white}
-use Rattle.yaml_grammar.specs.Texts.{is_empty, first, starts_line}
-use Rattle.yaml_grammar.specs.Separation.{LineEnd, Sep, inline, lines, sep_text, indents}
-use Rattle.yaml_grammar.specs.FlowScalars.{FlowContext, outer, block_key, Scalar}
-use Rattle.yaml_grammar.specs.FlowNodes.{Flow, short_key}
-use Rattle.yaml_grammar.specs.BlockScalars.{BlockScalar, spaces_before, past_spaces}
-use Rattle.yaml_grammar.specs.BlockNodes.{Node, block, flow, items, pairs, Items, item, item_and, Pairs, pair}
-use Rattle.yaml_grammar.specs.BlockNodes.{pair_and, Pair, asked, asked_alone, keyed, keyed_alone, Indented}
-use Rattle.yaml_grammar.specs.BlockNodes.{compact_items, compact_pairs, node, omitted, is_omitted}
-use Rattle.yaml_chars.specs.Signs.{colon, dash, greater, question, vertical_bar}
+use Rattle.yaml_recognizers.specs.Prelude.{white, is_empty, first, starts_line, LineEnd, Sep, inline, lines, sep_text}
+use Rattle.yaml_recognizers.specs.Prelude.{indents, FlowContext, outer, block_key, Scalar, Flow, short_key, BlockScalar}
+use Rattle.yaml_recognizers.specs.Prelude.{spaces_before, past_spaces, Node, block, flow, items, pairs, Items, item}
+use Rattle.yaml_recognizers.specs.Prelude.{item_and, Pairs, pair, pair_and, Pair, asked, asked_alone, keyed}
+use Rattle.yaml_recognizers.specs.Prelude.{keyed_alone, Indented, compact_items, compact_pairs, node, omitted}
+use Rattle.yaml_recognizers.specs.Prelude.{is_omitted, colon, dash, greater, question, vertical_bar}
+use Rattle.yaml_recognizers.specs.{Reading.Read, Reading.on, Comments.all_comments, Comments.closes_line}
+use Rattle.yaml_recognizers.specs.{Ends.block_node_stops, FlowNodes.whole_flow}
 use Rattle.yaml_recognizers.specs.Prefixes.{take_while, drop_while, past, sign}
-use Rattle.yaml_recognizers.specs.Reading.{Read, on}
-use Rattle.yaml_recognizers.specs.Comments.{all_comments, closes_line}
-use Rattle.yaml_recognizers.specs.Ends.{block_node_stops}
-use Rattle.yaml_recognizers.specs.FlowNodes.{whole_flow}
 
 -- ---- keys: a flow node on one line, whitespace, and `:` not before an ns
 

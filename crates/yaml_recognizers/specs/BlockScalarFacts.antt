@@ -1,9 +1,9 @@
 -- What a scanner of block scalars says in terms of the grammar, over lists: some presentation is at the start of the
 -- text, and each one there means the same and ends at the same place.
-use Rattle.std.specs.Prelude.{◌≡◌, ℕ, Bool, true, List, [], ◌∷◌, ◌++◌, Option}
-use Rattle.yaml_grammar.specs.BlockScalars.{Chomping, Header, Body, BlockScalar, header_text, body_text, block_text}
-use Rattle.yaml_grammar.specs.BlockScalars.{bare_block_text, header_fits, body_fits, block_fits, block_events}
-use Rattle.yaml_grammar.specs.BlockScalars.{block_value, TextLine, between_lines, trailing_line_feeds}
+use Rattle.std.specs.Prelude.{◌≡◌, ℕ, Bool, true, List, ◌++◌, Option}
+use Rattle.yaml_recognizers.specs.Prelude.{Chomping, Header, Body, BlockScalar, header_text, body_text, block_text}
+use Rattle.yaml_recognizers.specs.Prelude.{bare_block_text, header_fits, body_fits, block_fits, block_events}
+use Rattle.yaml_recognizers.specs.Prelude.{block_value}
 
 -- ---- the header
 
@@ -72,8 +72,3 @@ abbrev pub NoBlock : ℕ → List ℕ → Type 0
 NoBlock m text = (b : BlockScalar) (rest : List ℕ) → BlockStands m text b rest → ⊥
 
 -- ---- values
-
--- the value after the first text line
-abbrev pub value_after : Bool → Chomping → TextLine → List TextLine → List ℕ
-value_after folded chomping l [] = trailing_line_feeds chomping l
-value_after folded chomping l (m ∷ ms) = between_lines folded l m ++ (m.text ++ value_after folded chomping m ms)

@@ -2,17 +2,13 @@
 -- them.
 use Rattle.std.specs.Prelude.{Bool, List, None, Option, Some, [], drop, false, if◌then◌else◌, is_some, length, max}
 use Rattle.std.specs.Prelude.{nat_le, nat_lt, suc, true, zero, ℕ, ◌&&◌, ◌+◌, ◌-◌, ◌==◌, ◌∷◌}
-use Rattle.yaml_chars.specs.Classes.{in_range, nb}
-use Rattle.yaml_grammar.specs.BlockScalars.{BlockScalar, Body, Chomping, BlockEmptyLine, Header, TextLine, clip}
-use Rattle.yaml_grammar.specs.BlockScalars.{goes_on, keep, last_spaces, past_spaces, sets_none, spaces_before, strip}
-use Rattle.yaml_grammar.specs.BlockScalars.{widest}
-use Rattle.yaml_grammar.specs.Separation.{Break, LineEnd}
-use Rattle.yaml_grammar.specs.Texts.{first}
-use Rattle.yaml_recognizers.specs.CanonicalComments.{hash, is_line_end}
+use Rattle.yaml_recognizers.specs.Prelude.{in_range, nb, BlockScalar, Body, Chomping, BlockEmptyLine, Header, TextLine}
+use Rattle.yaml_recognizers.specs.Prelude.{clip, goes_on, keep, last_spaces, past_spaces, sets_none, spaces_before}
+use Rattle.yaml_recognizers.specs.Prelude.{strip, widest, Break, LineEnd, first, dash, digit_zero, greater, plus}
+use Rattle.yaml_recognizers.specs.Prelude.{vertical_bar}
+use Rattle.yaml_recognizers.specs.{CanonicalComments.hash, CanonicalComments.is_line_end, Prefixes.drop_while}
+use Rattle.yaml_recognizers.specs.{Prefixes.take_while, Reading.Read, Reading.on}
 use Rattle.yaml_recognizers.specs.Comments.{all_comments, read_break, read_line_end, read_stop}
-use Rattle.yaml_recognizers.specs.Prefixes.{drop_while, take_while}
-use Rattle.yaml_recognizers.specs.Reading.{Read, on}
-use Rattle.yaml_chars.specs.Signs.{dash, digit_zero, greater, plus, vertical_bar}
 
 -- ---- the header
 

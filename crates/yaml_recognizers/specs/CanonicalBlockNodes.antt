@@ -1,19 +1,12 @@
 -- Block nodes whose comments, separation, flow nodes and block scalars are canonical. The rest is as in the grammar.
 use Rattle.std.specs.Prelude.{ℕ, suc, ◌+◌, Bool, true, false, not, ◌&&◌, nat_le, ◌==◌, List, ◌++◌, codes, if◌then◌else◌}
-use Rattle.yaml_chars.specs.Classes.{white, ns}
-use Rattle.std.specs.List.{list_all}
-use Rattle.yaml_grammar.specs.Texts.{first, spaces, starts_line}
-use Rattle.yaml_grammar.specs.Separation.{comments_text, sep_text}
-use Rattle.yaml_grammar.specs.FlowScalars.{outer, block_key}
-use Rattle.yaml_grammar.specs.FlowNodes.{flow_text, short_key}
-use Rattle.yaml_grammar.specs.BlockScalars.{block_text}
-use Rattle.yaml_grammar.specs.BlockNodes.{Node, block, flow, items, pairs, Items, item, item_and, Pairs, pair}
-use Rattle.yaml_grammar.specs.BlockNodes.{pair_and, Pair, asked, asked_alone, keyed, keyed_alone, Indented}
-use Rattle.yaml_grammar.specs.BlockNodes.{compact_items, compact_pairs, node, omitted, node_text, items_text}
-use Rattle.yaml_grammar.specs.BlockNodes.{pairs_text, indented_text, is_omitted}
+use Rattle.yaml_recognizers.specs.Prelude.{white, ns, list_all, first, spaces, starts_line, comments_text, sep_text}
+use Rattle.yaml_recognizers.specs.Prelude.{outer, block_key, flow_text, short_key, block_text, Node, block, flow, items}
+use Rattle.yaml_recognizers.specs.Prelude.{pairs, Items, item, item_and, Pairs, pair, pair_and, Pair, asked}
+use Rattle.yaml_recognizers.specs.Prelude.{asked_alone, keyed, keyed_alone, Indented, compact_items, compact_pairs}
+use Rattle.yaml_recognizers.specs.Prelude.{node, omitted, node_text, items_text, pairs_text, indented_text, is_omitted}
+use Rattle.yaml_recognizers.specs.{CanonicalFlowNodes.canonical_flow, CanonicalBlockScalars.canonical_block}
 use Rattle.yaml_recognizers.specs.CanonicalComments.{canonical_comments, canonical_sep}
-use Rattle.yaml_recognizers.specs.CanonicalFlowNodes.{canonical_flow}
-use Rattle.yaml_recognizers.specs.CanonicalBlockScalars.{canonical_block}
 
 abbrev mutual
   -- [196] s-l+block-node, 8.2.3: a node in its canonical form

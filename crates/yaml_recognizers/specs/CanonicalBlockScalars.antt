@@ -1,8 +1,7 @@
 -- The canonical form of block scalars.
 use Rattle.std.specs.Prelude.{ℕ, Bool, not, ◌&&◌, ◌||◌, nat_lt, List, [], ◌∷◌, is_some}
-use Rattle.yaml_grammar.specs.Texts.{is_empty, first}
-use Rattle.yaml_grammar.specs.Separation.{LineEnd}
-use Rattle.yaml_grammar.specs.BlockScalars.{Header, BlockScalar, chomping_text, spaces_before, past_spaces, block_fits}
+use Rattle.yaml_recognizers.specs.Prelude.{is_empty, first, LineEnd, Header, BlockScalar, chomping_text, spaces_before}
+use Rattle.yaml_recognizers.specs.Prelude.{past_spaces, block_fits}
 use Rattle.yaml_recognizers.specs.CanonicalComments.{hash, is_line_end}
 
 -- [162] c-b-block-header, 8.1.1: the digit is last only after a chomping mark

@@ -2,11 +2,8 @@
 -- ways, since a comment line may belong to the part before it or to the part after it. In the canonical form it belongs
 -- to the first part that may have it. So a text has at most one canonical presentation.
 use Rattle.std.specs.Prelude.{ℕ, Bool, true, false, not, ◌&&◌, ◌||◌, ◌==◌, List, [], ◌∷◌, ◌++◌, Option, Some, None}
-use Rattle.yaml_chars.specs.Classes.{white, line_break, nb}
-use Rattle.std.specs.List.{list_all}
-use Rattle.yaml_grammar.specs.Texts.{is_empty, first}
-use Rattle.yaml_grammar.specs.Separation.{LineEnd, comments_fit, Sep, inline, lines, indents}
-use Rattle.yaml_chars.specs.Signs.{number_sign}
+use Rattle.yaml_recognizers.specs.Prelude.{white, line_break, nb, list_all, is_empty, first, LineEnd, comments_fit, Sep}
+use Rattle.yaml_recognizers.specs.Prelude.{inline, lines, indents, number_sign}
 use Rattle.yaml_recognizers.specs.Prefixes.{drop_while, past}
 
 -- `#`

@@ -1,6 +1,6 @@
 -- What a presentation and its canonical form have in common.
 use Rattle.std.specs.Prelude.{◌≡◌, IsTrue}
-use Rattle.yaml_grammar.specs.Streams.{Stream, stream_text, fits, stream_events}
+use Rattle.yaml_recognizers.specs.Prelude.{Stream, stream_text, fits, stream_events}
 use Rattle.yaml_recognizers.specs.CanonicalStreams.{FlatStream, flat_text, canonical_stream, flat_events}
 
 -- it is canonical, and has the same text and the same meaning

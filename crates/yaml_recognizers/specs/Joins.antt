@@ -1,15 +1,9 @@
 -- The recognizer of what joins two lines of a flow scalar. It serves all three styles.
 use Rattle.std.specs.Prelude.{Bool, List, None, Some, [], codes, false, if◌then◌else◌, true, ℕ, ◌&&◌, ◌++◌, ◌==◌, ◌||◌}
-use Rattle.yaml_chars.specs.Classes.{line_break, space, white}
-use Rattle.yaml_grammar.specs.FlowScalars.{FlowEmptyLine, Line, flow_empties_text}
-use Rattle.yaml_grammar.specs.Separation.{Break, break_text, indents}
-use Rattle.std.specs.List.{list_all}
-use Rattle.yaml_grammar.specs.Texts.{begins, first, no_marker, spaces}
-use Rattle.yaml_recognizers.specs.Comments.{read_break}
+use Rattle.yaml_recognizers.specs.Prelude.{line_break, space, white, FlowEmptyLine, Line, flow_empties_text, Break}
+use Rattle.yaml_recognizers.specs.Prelude.{break_text, indents, list_all, begins, first, no_marker, spaces, backslash}
+use Rattle.yaml_recognizers.specs.{Comments.read_break, Reading.Read, Reading.on, Repeated.all_of}
 use Rattle.yaml_recognizers.specs.Prefixes.{drop_while, past, take_while}
-use Rattle.yaml_recognizers.specs.Reading.{Read, on}
-use Rattle.yaml_recognizers.specs.Repeated.{all_of}
-use Rattle.yaml_chars.specs.Signs.{backslash}
 
 -- a line without what it holds: perhaps a backslash, or whitespace; a break, empty lines, and the whitespace at the
 -- start of the line

@@ -1,4 +1,5 @@
 -- texts, and what recognizers give
+pub mod Prelude
 pub mod Prefixes
 pub mod Reading
 -- the canonical form
@@ -36,3 +37,4 @@ pub mod NestedStreams
 pub mod CanonicalForms
 pub mod StyleLaws
 pub mod Closings
+pub mod Zeroed

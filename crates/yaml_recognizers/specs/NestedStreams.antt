@@ -1,8 +1,7 @@
 -- The stream, as the grammar nests it, that a flat stream means: after the start of the stream and after a `...` come
 -- lines, and perhaps a document.
 use Rattle.std.specs.Prelude.{List, [], ◌∷◌, Option, Some, None}
-use Rattle.yaml_grammar.specs.Separation.{LineEnd}
-use Rattle.yaml_grammar.specs.Streams.{Document, bare, explicit, directed, Part, suffixes, further, Stream}
+use Rattle.yaml_recognizers.specs.Prelude.{LineEnd, Document, bare, explicit, directed, Part, suffixes, further, Stream}
 use Rattle.yaml_grammar.specs.Streams.{line as line_part}
 use Rattle.yaml_recognizers.specs.CanonicalStreams.{Section, suffix, line, document, FlatStream}
 

@@ -2,19 +2,16 @@
 -- do. Numbers, contexts and bol are those of the grammar's conditions.
 use Rattle.std.specs.Prelude.{◌≡◌, ℕ, suc, ◌+◌, Bool, true, false, ◌==◌, List, [], ◌∷◌, ◌++◌, Option, Some, None}
 use Rattle.std.specs.Prelude.{is_some, flat_map, codes, if◌then◌else◌}
-use Rattle.yaml_grammar.specs.Texts.{byte_len, optional, spaces, starts_line}
-use Rattle.yaml_grammar.specs.Separation.{comments_text, gap_text, sep_text}
-use Rattle.yaml_grammar.specs.FlowScalars.{FlowContext, outer, block_key, flow_key, in_flow}
-use Rattle.yaml_grammar.specs.FlowNodes.{Flow, scalar, seq, map, Entries, none, last, next, Entry, entry, Value}
-use Rattle.yaml_grammar.specs.FlowNodes.{absent, empty, given, asked_text, single_pair, flow_text, entries_text}
-use Rattle.yaml_grammar.specs.FlowNodes.{entry_text, value_text}
-use Rattle.yaml_grammar.specs.BlockNodes.{Node, block, flow, items, pairs, Items, item, item_and, Pairs, pair}
-use Rattle.yaml_grammar.specs.BlockNodes.{pair_and, Pair, asked, asked_alone, keyed, keyed_alone, Indented}
-use Rattle.yaml_grammar.specs.BlockNodes.{compact_items, compact_pairs, node, omitted, node_text, items_text}
-use Rattle.yaml_grammar.specs.BlockNodes.{pairs_text, pair_text, indented_text}
-use Rattle.yaml_grammar.specs.Streams.{Explicit, content, nothing, Document, bare, explicit, directed, Part, suffixes}
-use Rattle.yaml_grammar.specs.Streams.{line, further, Stream, directive_text, document_text, mark_text, suffix_text}
-use Rattle.yaml_grammar.specs.Streams.{part_text, parts_text}
+use Rattle.yaml_recognizers.specs.Prelude.{byte_len, optional, spaces, starts_line, comments_text, gap_text, sep_text}
+use Rattle.yaml_recognizers.specs.Prelude.{FlowContext, outer, block_key, flow_key, in_flow, Flow, scalar, seq, map}
+use Rattle.yaml_recognizers.specs.Prelude.{Entries, none, last, next, Entry, entry, Value, absent, empty, given}
+use Rattle.yaml_recognizers.specs.Prelude.{asked_text, single_pair, flow_text, entries_text, entry_text, value_text}
+use Rattle.yaml_recognizers.specs.Prelude.{Node, block, flow, items, pairs, Items, item, item_and, Pairs, pair}
+use Rattle.yaml_recognizers.specs.Prelude.{pair_and, Pair, asked, asked_alone, keyed, keyed_alone, Indented}
+use Rattle.yaml_recognizers.specs.Prelude.{compact_items, compact_pairs, node, omitted, node_text, items_text}
+use Rattle.yaml_recognizers.specs.Prelude.{pairs_text, pair_text, indented_text, Explicit, content, nothing, Document}
+use Rattle.yaml_recognizers.specs.Prelude.{bare, explicit, directed, Part, suffixes, line, further, Stream}
+use Rattle.yaml_recognizers.specs.Prelude.{directive_text, document_text, mark_text, suffix_text, part_text, parts_text}
 use Rattle.yaml_recognizers.specs.StandingNodes.{FlowNodeStands, BlockNodeStands}
 
 -- A flow node at n in a context, or a block node at m. Here bol says whether a line starts at its place, and `after`

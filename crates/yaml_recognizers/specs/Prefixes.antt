@@ -1,7 +1,6 @@
 -- The prefix of a text that passes a test, and what comes after it.
 use Rattle.std.specs.Prelude.{ℕ, Bool, false, not, ◌&&◌, ◌==◌, List, [], ◌∷◌, if◌then◌else◌}
-use Rattle.yaml_chars.specs.Classes.{ns}
-use Rattle.yaml_grammar.specs.Texts.{first}
+use Rattle.yaml_recognizers.specs.Prelude.{ns, first}
 
 -- the longest prefix of which every character passes the test
 abbrev pub take_while : (ℕ → Bool) → List ℕ → List ℕ

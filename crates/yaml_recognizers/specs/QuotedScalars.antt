@@ -1,13 +1,10 @@
 -- Recognizers of single-quoted and double-quoted scalars (YAML 1.2.2, 7.3.1 and 7.3.2).
-use Rattle.std.specs.Prelude.{ℕ, Bool, true, false, not, ◌&&◌, ◌||◌, ◌==◌, List, [], ◌∷◌, take, drop, Some, None, codes, if◌then◌else◌}
-use Rattle.yaml_chars.specs.Classes.{is_in, nb_json}
-use Rattle.yaml_grammar.specs.Texts.{is_empty, first}
-use Rattle.yaml_grammar.specs.FlowScalars.{FlowContext, one_line, QuotedChar, raw, escape, number, Line, Scalar}
-use Rattle.yaml_grammar.specs.FlowScalars.{single, double, digits_after, quoted_char_fits}
-use Rattle.yaml_chars.specs.Signs.{backslash, double_quote, single_quote}
-use Rattle.yaml_recognizers.specs.Prefixes.{past}
-use Rattle.yaml_recognizers.specs.Reading.{Read, on}
-use Rattle.yaml_recognizers.specs.Repeated.{all_of}
+use Rattle.std.specs.Prelude.{ℕ, Bool, true, false, not, ◌&&◌, ◌||◌, ◌==◌, List, [], ◌∷◌, take, drop, Some, None, codes}
+use Rattle.std.specs.Prelude.{if◌then◌else◌}
+use Rattle.yaml_recognizers.specs.Prelude.{is_in, nb_json, is_empty, first, FlowContext, one_line, QuotedChar, raw}
+use Rattle.yaml_recognizers.specs.Prelude.{escape, number, Line, Scalar, single, double, digits_after, quoted_char_fits}
+use Rattle.yaml_recognizers.specs.Prelude.{backslash, double_quote, single_quote}
+use Rattle.yaml_recognizers.specs.{Prefixes.past, Reading.Read, Reading.on, Repeated.all_of}
 use Rattle.yaml_recognizers.specs.Joins.{at_break, read_join, line_of}
 
 -- ---- what is between quotes; read_one reads one thing of it, and escapes says whether a backslash may join lines

@@ -1,10 +1,7 @@
 -- What is read between quotes, from what is read after its first thing: for the steps of a scanner.
 use Rattle.std.specs.Prelude.{ℕ, Bool, not, ◌||◌, List, [], ◌∷◌, ◌++◌, length, Some, None, if◌then◌else◌}
-use Rattle.yaml_grammar.specs.Texts.{is_empty}
-use Rattle.yaml_grammar.specs.FlowScalars.{FlowContext, Line, line_feeds, folded_break, flow_fold}
-use Rattle.yaml_recognizers.specs.Reading.{Read, on}
-use Rattle.yaml_recognizers.specs.Joins.{Join, line_of}
-use Rattle.yaml_recognizers.specs.QuotedScalars.{read_quoted}
+use Rattle.yaml_recognizers.specs.Prelude.{is_empty, FlowContext, Line, line_feeds, folded_break, flow_fold}
+use Rattle.yaml_recognizers.specs.{Reading.Read, Reading.on, Joins.Join, Joins.line_of, QuotedScalars.read_quoted}
 
 -- after a join: the next join comes only after something
 unfoldable pub read_after_join : {A : Type 0} → (List ℕ → Read A) → (List ℕ → Bool) → Bool → ℕ → FlowContext → List ℕ

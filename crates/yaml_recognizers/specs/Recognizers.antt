@@ -1,18 +1,13 @@
 -- The recognizers over one another: of flow nodes, block nodes and streams over those of scalars.
 use Rattle.std.specs.Prelude.{◌≡◌, ℕ, suc, Bool, true, false, List, ◌++◌, length, Option, codes}
-use Rattle.yaml_chars.specs.Classes.{white, ns}
-use Rattle.std.specs.List.{list_all}
-use Rattle.yaml_grammar.specs.Texts.{first}
-use Rattle.yaml_grammar.specs.FlowScalars.{FlowContext, outer, block_key}
-use Rattle.yaml_grammar.specs.FlowNodes.{Flow, Entries, Entry, Value, flow_text, short_key}
-use Rattle.yaml_grammar.specs.BlockNodes.{Node, Items, Pairs, Pair, Indented}
-use Rattle.yaml_recognizers.specs.Reading.{Read}
-use Rattle.yaml_recognizers.specs.CanonicalFlowNodes.{canonical_flow}
+use Rattle.yaml_recognizers.specs.Prelude.{white, ns, list_all, first, FlowContext, outer, block_key, Flow, Entries}
+use Rattle.yaml_recognizers.specs.Prelude.{Entry, Value, flow_text, short_key, Node, Items, Pairs, Pair, Indented}
+use Rattle.yaml_recognizers.specs.{Reading.Read, CanonicalFlowNodes.canonical_flow, BlockScalars.read_block}
 use Rattle.yaml_recognizers.specs.CanonicalStreams.{Section, FlatStream}
 use Rattle.yaml_recognizers.specs.FlowScalars.{read_scalar, scalar_ends}
-use Rattle.yaml_recognizers.specs.BlockScalars.{read_block}
 use Rattle.yaml_recognizers.specs.FlowNodes.{whole_flow, whole_entries, whole_entry, whole_value, flow_ends}
-use Rattle.yaml_recognizers.specs.BlockNodes.{block_key_at, deep_items, deep_pairs, deep_pair, deep_indented, whole_node}
+use Rattle.yaml_recognizers.specs.BlockNodes.{block_key_at, deep_items, deep_pairs, deep_pair, deep_indented}
+use Rattle.yaml_recognizers.specs.BlockNodes.{whole_node}
 use Rattle.yaml_recognizers.specs.Streams.{read_section, read_sections, read_stream}
 
 -- [161] ns-flow-node, 7.5, at n in a context; the Bool says whether it is at the start of a line

@@ -1,11 +1,8 @@
 -- What is asked of recognizers of scalars: they find what fits, where it ends, and what they find fits.
 use Rattle.std.specs.Prelude.{◌≡◌, ℕ, Bool, true, List, ◌++◌, Some}
-use Rattle.yaml_grammar.specs.FlowScalars.{FlowContext, Scalar, scalar_text, scalar_fits}
-use Rattle.yaml_grammar.specs.FlowNodes.{scalar, is_plain}
-use Rattle.yaml_grammar.specs.BlockScalars.{BlockScalar, block_text}
-use Rattle.yaml_recognizers.specs.Reading.{Read}
-use Rattle.yaml_recognizers.specs.CanonicalBlockScalars.{canonical_block}
-use Rattle.yaml_recognizers.specs.Ends.{Stops}
+use Rattle.yaml_recognizers.specs.Prelude.{FlowContext, Scalar, scalar_text, scalar_fits, scalar, is_plain, BlockScalar}
+use Rattle.yaml_recognizers.specs.Prelude.{block_text}
+use Rattle.yaml_recognizers.specs.{Reading.Read, CanonicalBlockScalars.canonical_block, Ends.Stops}
 
 -- `ends` says whether a flow scalar ends before a text; it does before everything that may come after one in a node
 pub record ReadsScalars (read_scalar : ℕ → FlowContext → Bool → List ℕ → Read Scalar) : Type 0 where

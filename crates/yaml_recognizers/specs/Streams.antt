@@ -2,20 +2,14 @@
 -- node is at the start of a line.
 use Rattle.std.specs.Prelude.{ℕ, zero, suc, Bool, true, false, ◌&&◌, ◌==◌, List, [], ◌∷◌, length, drop, Option, Some}
 use Rattle.std.specs.Prelude.{None, codes, if◌then◌else◌}
-use Rattle.yaml_chars.specs.Classes.{white}
-use Rattle.yaml_grammar.specs.Texts.{is_empty, first, begins, ends_word, starts_line}
-use Rattle.yaml_grammar.specs.Separation.{LineEnd}
-use Rattle.yaml_grammar.specs.FlowScalars.{FlowContext, Scalar}
-use Rattle.yaml_grammar.specs.BlockScalars.{BlockScalar}
-use Rattle.yaml_grammar.specs.BlockNodes.{Node}
-use Rattle.yaml_grammar.specs.Streams.{Explicit, content, nothing, Version, yaml_1_1, yaml_1_2, Document, bare, explicit, directed}
-use Rattle.yaml_chars.specs.Signs.{byte_order_mark, dash, dot, percent_sign}
-use Rattle.yaml_recognizers.specs.Prefixes.{take_while, drop_while}
-use Rattle.yaml_recognizers.specs.Reading.{Read, on}
-use Rattle.yaml_recognizers.specs.CanonicalComments.{is_line_end}
+use Rattle.yaml_recognizers.specs.Prelude.{white, is_empty, first, begins, ends_word, starts_line, LineEnd, FlowContext}
+use Rattle.yaml_recognizers.specs.Prelude.{Scalar, BlockScalar, Node, Explicit, content, nothing, Version, yaml_1_1}
+use Rattle.yaml_recognizers.specs.Prelude.{yaml_1_2, Document, bare, explicit, directed, byte_order_mark, dash, dot}
+use Rattle.yaml_recognizers.specs.Prelude.{percent_sign}
+use Rattle.yaml_recognizers.specs.{Prefixes.take_while, Prefixes.drop_while, Reading.Read, Reading.on}
+use Rattle.yaml_recognizers.specs.{CanonicalComments.is_line_end, BlockNodes.omits, BlockNodes.whole_node}
 use Rattle.yaml_recognizers.specs.CanonicalStreams.{Section, suffix, line, document, FlatStream, section_text, opens}
 use Rattle.yaml_recognizers.specs.Comments.{read_line_end, all_comments, closes_line}
-use Rattle.yaml_recognizers.specs.BlockNodes.{omits, whole_node}
 
 -- the marker of three times this sign: `---` or `...` (`marker` is either)
 abbrev pub marker_of : ℕ → List ℕ → Bool

@@ -1,10 +1,7 @@
 -- The laws of the one style, as statements.
 use Rattle.std.specs.Prelude.{◌≤◌, List, ℕ}
-use Rattle.yaml_grammar.specs.Texts.{IsText, byte_len}
-use Rattle.yaml_grammar.specs.Events.{Event}
-use Rattle.yaml_grammar.specs.Trees.{Tree, IsTextTree, IsTreeOf}
-use Rattle.yaml_grammar.specs.Style.{style_text}
-use Rattle.yaml_grammar.specs.Reads.{CanRead, Limits, Good, Gives}
+use Rattle.yaml_recognizers.specs.Prelude.{IsText, byte_len, Event, Tree, IsTextTree, IsTreeOf, style_text, CanRead}
+use Rattle.yaml_recognizers.specs.Prelude.{Limits, Good, Gives}
 use Rattle.yaml_recognizers.specs.Closings.{framed_text}
 
 -- the source is a text, and can be read as the events of the tree

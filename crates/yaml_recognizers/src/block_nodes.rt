@@ -1,15 +1,15 @@
 //! Laws of block nodes (YAML 1.2.2, 8.2).
 
-ghost use Rattle.std.specs.Prelude.{◌≡◌, ℕ, suc, ◌+◌, ◌==◌, nat_le, Bool, true, false, ◌&&◌, if◌then◌else◌, List, ◌++◌, Some, None};
+ghost use Rattle.std.specs.Prelude.{◌≡◌, ℕ, suc, ◌+◌, ◌==◌, nat_le, Bool, true, false, ◌&&◌, if◌then◌else◌, List, ◌++◌};
+ghost use Rattle.std.specs.Prelude.{Some, None};
+ghost use Rattle.yaml_recognizers.specs.Prelude.{spaces_before, past_spaces, Node, compact_items, compact_pairs};
+ghost use Rattle.yaml_recognizers.specs.Prelude.{node_text, dash, question};
 ghost use Rattle.std.proofs.Math.Logic.{◌⊎◌};
-ghost use Rattle.yaml_grammar.specs.BlockScalars.{spaces_before, past_spaces};
-ghost use Rattle.yaml_grammar.specs.BlockNodes.{Node, compact_items, compact_pairs, node_text};
 ghost use Rattle.yaml_recognizers.specs.CanonicalBlockNodes.{canonical_node};
 ghost use Rattle.yaml_recognizers.specs.Ends.{block_node_stops};
 ghost use Rattle.yaml_recognizers.specs.StandingNodes.{BlockNodeStands, SameBlockNode, IsBlockNode, NoBlockNode};
 ghost use Rattle.yaml_recognizers.specs.Comments.{all_comments};
 ghost use Rattle.yaml_recognizers.specs.BlockScalars.{read_block};
-ghost use Rattle.yaml_chars.specs.Signs.{dash, question};
 ghost use Rattle.yaml_recognizers.specs.Prefixes.{past, sign};
 ghost use Rattle.yaml_recognizers.specs.Reading.{on};
 ghost use Rattle.yaml_recognizers.specs.BlockNodes.{node_below, more_items, more_pairs, asked_key, key_value, opens_pair, indented_node};

@@ -1,7 +1,7 @@
 //! Laws of block scalars (YAML 1.2.2, 8.1).
 
 ghost use Rattle.std.specs.Prelude.{◌≡◌, ℕ, Bool, true, List, ◌++◌, Option, Some, None};
-ghost use Rattle.yaml_grammar.specs.BlockScalars.{Chomping, Header, Body, BlockScalar, block_text, block_value};
+ghost use Rattle.yaml_recognizers.specs.Prelude.{Chomping, Header, Body, BlockScalar, block_text, block_value};
 ghost use Rattle.yaml_recognizers.specs.CanonicalBlockScalars.{canonical_block};
 ghost use Rattle.yaml_recognizers.specs.BlockScalars.{read_header, read_body, read_block};
 ghost use Rattle.yaml_recognizers.specs.BlockScalarFacts.{IsHeader, NoHeader, IsBody, NoBody, BlockStands, SameBlock, NoBlock};

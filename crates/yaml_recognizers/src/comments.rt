@@ -1,9 +1,7 @@
 //! Laws of comments and of the gaps between the parts of a flow node (YAML 1.2.2, 6.6 and 6.7).
 
 ghost use Rattle.std.specs.Prelude.{◌≡◌, ℕ, Bool, true, false, not, ◌||◌, List, ◌++◌, Option, Some, None};
-ghost use Rattle.yaml_chars.specs.Classes.{white};
-ghost use Rattle.yaml_grammar.specs.Texts.{is_empty, first};
-ghost use Rattle.yaml_grammar.specs.Separation.{LineEnd, comments_text, Sep, gap_text};
+ghost use Rattle.yaml_recognizers.specs.Prelude.{white, is_empty, first, LineEnd, comments_text, Sep, gap_text};
 ghost use Rattle.yaml_recognizers.specs.CanonicalComments.{is_line_end, canonical_comments, canonical_gap};
 ghost use Rattle.yaml_recognizers.specs.Ends.{solid};
 ghost use Rattle.yaml_recognizers.specs.Comments.{read_line_end, more_comments, all_comments};

@@ -1,19 +1,17 @@
 //! Laws of flow nodes, and of the keys among them (YAML 1.2.2, 7.4 and 7.5).
 
-ghost use Rattle.std.specs.Prelude.{◌≡◌, ℕ, ◌+◌, ◌*◌, ◌≤◌, ◌==◌, length, Bool, true, false, if◌then◌else◌, List, ◌++◌, Some, None, codes};
-ghost use Rattle.yaml_chars.specs.Classes.{white, ns};
-ghost use Rattle.std.specs.List.{list_all};
-ghost use Rattle.yaml_grammar.specs.Texts.{first, starts_line};
-ghost use Rattle.yaml_grammar.specs.Separation.{LineEnd, comments_text, gap_text};
-ghost use Rattle.yaml_grammar.specs.FlowScalars.{FlowContext, outer, block_key, in_flow, one_line};
-ghost use Rattle.yaml_grammar.specs.FlowNodes.{Flow, scalar, seq, map, none, is_plain, flow_text, short_key};
+ghost use Rattle.std.specs.Prelude.{◌≡◌, ℕ, ◌+◌, ◌*◌, ◌≤◌, ◌==◌, length, Bool, true, false, if◌then◌else◌, List, ◌++◌};
+ghost use Rattle.std.specs.Prelude.{Some, None, codes};
+ghost use Rattle.yaml_recognizers.specs.Prelude.{white, ns, list_all, first, starts_line, LineEnd, comments_text};
+ghost use Rattle.yaml_recognizers.specs.Prelude.{gap_text, FlowContext, outer, block_key, in_flow, one_line, Flow};
+ghost use Rattle.yaml_recognizers.specs.Prelude.{scalar, seq, map, none, is_plain, flow_text, short_key, open_bracket};
+ghost use Rattle.yaml_recognizers.specs.Prelude.{close_bracket, open_brace, close_brace};
 ghost use Rattle.yaml_recognizers.specs.CanonicalComments.{canonical_comments};
 ghost use Rattle.yaml_recognizers.specs.CanonicalFlowNodes.{canonical_flow};
 ghost use Rattle.yaml_recognizers.specs.Ends.{Stops, less_deep};
 ghost use Rattle.yaml_recognizers.specs.Gaps.{read_gap};
 ghost use Rattle.yaml_recognizers.specs.FlowScalars.{read_scalar};
 ghost use Rattle.yaml_recognizers.specs.OneLine.{widens, on_one_line};
-ghost use Rattle.yaml_chars.specs.Signs.{open_bracket, close_bracket, open_brace, close_brace};
 ghost use Rattle.yaml_recognizers.specs.Prefixes.{past};
 ghost use Rattle.yaml_recognizers.specs.StandingNodes.{FlowNodeStands, SameFlowNode, IsFlowNode, NoFlowNode};
 ghost use Rattle.yaml_recognizers.specs.Reading.{on};

@@ -1,8 +1,8 @@
 //! Laws of flow scalars (YAML 1.2.2, 7.3).
 
 ghost use Rattle.std.specs.Prelude.{◌≡◌, ℕ, Bool, true, List, ◌++◌, Some, None};
-ghost use Rattle.yaml_grammar.specs.FlowScalars.{FlowContext, one_line, safe, Scalar, scalar_text, scalar_fits, scalar_value, style_of};
-ghost use Rattle.yaml_grammar.specs.FlowNodes.{scalar, none, is_plain};
+ghost use Rattle.yaml_recognizers.specs.Prelude.{FlowContext, one_line, safe, Scalar, scalar_text, scalar_fits};
+ghost use Rattle.yaml_recognizers.specs.Prelude.{scalar_value, style_of, scalar, none, is_plain};
 ghost use Rattle.yaml_recognizers.specs.Ends.{Stops};
 ghost use Rattle.yaml_recognizers.specs.FlowScalars.{read_scalar, scalar_ends, Stands};
 ghost use Rattle.yaml_recognizers.specs.WholeScalars.{StandsWhole, IsScalar, NoScalar, stands_on_one_line};

@@ -16,8 +16,9 @@
 //! What follows from them is in `texts`: all presentations of a text, in whatever form, mean the same. The recognizer
 //! of streams decides whether a text has one, and finds what it means.
 //!
-//! `one_style` and `closings` have laws for stores: each tree has a text in the one style, which gives that tree, and
-//! closing lines mark exactly the documents that are whole, also in bytes that a crash has cut.
+//! `one_style`, `closings` and `zeros` have laws for stores: each tree has a text in the one style, which gives that
+//! tree, and closing lines mark exactly the documents that are whole, also in bytes that a crash has cut, or where it
+//! has left zeros.
 #![tactic(auto)]
 
 pub mod block_nodes;
@@ -29,3 +30,4 @@ pub mod flow_scalars;
 pub mod one_style;
 pub mod streams;
 pub mod texts;
+pub mod zeros;

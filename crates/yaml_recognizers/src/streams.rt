@@ -1,9 +1,8 @@
 //! Laws of streams (YAML 1.2.2, 6.8 and chapter 9).
 
 ghost use Rattle.std.specs.Prelude.{◌≡◌, ℕ, Bool, true, false, if◌then◌else◌, drop, List, [], ◌++◌, Some, None};
-ghost use Rattle.yaml_grammar.specs.Texts.{is_empty, first, starts_line};
-ghost use Rattle.yaml_grammar.specs.Streams.{Part, Stream, parts_text, fits, stream_events};
-ghost use Rattle.yaml_grammar.specs.Reads.{Presents, CanRead};
+ghost use Rattle.yaml_recognizers.specs.Prelude.{is_empty, first, starts_line, Part, Stream, parts_text, fits};
+ghost use Rattle.yaml_recognizers.specs.Prelude.{stream_events, Presents, CanRead};
 ghost use Rattle.yaml_recognizers.specs.CanonicalStreams.{section_text, opens, FlatStream, flat_text, canonical_stream, flat_events};
 ghost use Rattle.yaml_recognizers.specs.StandingNodes.{EndsNode};
 ghost use Rattle.yaml_recognizers.specs.NestedStreams.{nested_stream};

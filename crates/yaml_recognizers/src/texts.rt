@@ -1,10 +1,8 @@
 //! What texts mean: the laws that join the recognizers to the presentations of the grammar.
 
 ghost use Rattle.std.specs.Prelude.{All, ◌≡◌, ℕ, true, List, Some, None};
-ghost use Rattle.yaml_grammar.specs.Texts.{IsText, byte_len};
-ghost use Rattle.yaml_grammar.specs.Events.{Event};
-ghost use Rattle.yaml_grammar.specs.Streams.{Stream, stream_text, fits, stream_events};
-ghost use Rattle.yaml_grammar.specs.Reads.{Presents, CanRead, Reads};
+ghost use Rattle.yaml_recognizers.specs.Prelude.{IsText, byte_len, Event, Stream, stream_text, fits, stream_events};
+ghost use Rattle.yaml_recognizers.specs.Prelude.{Presents, CanRead, Reads};
 ghost use Rattle.yaml_recognizers.specs.CanonicalStreams.{FlatStream, flat_events};
 ghost use Rattle.yaml_recognizers.specs.CanonicalForms.{HaveCanonicalForms};
 ghost use Rattle.yaml_recognizers.specs.NodePlaces.{NodeSpelled, NodeStands, NodeStarts, stream_places};

@@ -1,5 +1,5 @@
 -- The search for a comment, scalar after scalar.
-use Rattle.std.proofs.Common.{Bor, ◌≡◌, ◌≢◌, ℕ, ◌<◌, ◌≤◌, List, [], ◌∷◌, Some, None, length, refl, subst, sym, inl, inr, arith, ⊎_elim}
+use Rattle.std.proofs.Common.{Bor, ◌≡◌, ℕ, ◌<◌, ◌≤◌, List, [], ◌∷◌, Some, None, length, refl, subst, sym, inl, inr, arith, ⊎_elim}
 use Rattle.std.specs.Prelude.{◌⊎◌, slice_index, Option}
 use Rattle.std.proofs.lemmas.Bool.{cases_lt}
 use Rattle.yaml_grammar.specs.Events.{Event, Style, plain_style, single_style, double_style, literal_style}
@@ -101,15 +101,6 @@ pub record Searched (bytes : List ℕ) (all : List Event) (from : ℕ) (rest : L
   pub past : (at : ℕ) → IsComment bytes all at → from ≤ at
   pub within : (at : ℕ) → IsOutside bytes at all → IsOutside bytes at rest
   pub whole : (at : ℕ) → from ≤ at → IsOutside bytes at rest → IsOutside bytes at all
-
--- before the first event
-pub unsearched : (bytes : List ℕ) (all : List Event) → RangesInOrder 0 all (length bytes) → Searched bytes all 0 all
-unsearched bytes all ordered = record {
-  ordered = ordered;
-  past = λ at is. omega arith;
-  within = λ at outside. outside;
-  whole = λ at after outside. outside;
-}
 
 -- the first `#` in what was not searched is a comment, if it is outside of all, and then the first
 found_first : (bytes : List ℕ) (all : List Event) (from to at : ℕ) (rest : List Event) → Searched bytes all from rest

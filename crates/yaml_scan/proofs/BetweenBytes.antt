@@ -1,21 +1,12 @@
 -- What is between two places: breaks, and how many characters.
-use Rattle.std.proofs.Common.{◌≡◌, ℕ, ◌+◌, ◌-◌, ◌*◌, ◌<◌, ◌≤◌, Bool, true, false, List, [], ◌∷◌, ◌++◌, refl, ap, sym}
-use Rattle.std.proofs.Common.{◌∙◌, arith, length, get_or, length-append, length-take, length-drop, drop, slice_range}
-use Rattle.std.proofs.Common.{inl, inr}
+use Rattle.std.proofs.Common.{◌≡◌, ℕ, ◌+◌, ◌-◌, ◌*◌, ◌<◌, ◌≤◌, Bool, true, false, List, [], ◌∷◌, ◌++◌, refl, ap, sym, ◌∙◌, arith, length}
+use Rattle.std.proofs.Common.{get_or, length-append, length-take, length-drop, drop, slice_range, inl, inr}
 use Rattle.std.specs.Prelude.{not, ◌&&◌, nat_le, nat_lt, ◌/◌}
+use Rattle.yaml_scan.proofs.Prelude.{IsUtf8, IsCharBoundary, cases_lt, le-leb, lt-leb, lt-ltb, not-false, not-true, nat_tests}
+use Rattle.yaml_scan.proofs.Prelude.{length-encode, length-le-encodes, len_utf8_bounds, IsCharBoundary-before_ascii, no_break, line_break}
+use Rattle.yaml_scan.proofs.Prelude.{between, between-append, between-ascii, encodes-between, blind-no_break, test-between, list_all}
 use lib.Utf8.{encodes, encode}
-use Rattle.std.specs.Str.{IsUtf8, IsCharBoundary}
-use Rattle.std.proofs.lemmas.Bool.{cases_lt, le-leb, lt-leb, lt-ltb, not-false, not-true}
-use Rattle.std.proofs.lemmas.Bool.Decides.{nat_tests}
-use Rattle.std.proofs.lemmas.Str.{length-encode, length-le-encodes, len_utf8_bounds, IsCharBoundary-before_ascii}
-use Rattle.yaml_chars.specs.Breaks.{no_break}
-use Rattle.yaml_chars.specs.Classes.{line_break}
-use Rattle.yaml_chars.specs.Places.{between}
-use Rattle.yaml_chars.proofs.Places.{between-append, between-ascii, encodes-between}
-use Rattle.yaml_chars.proofs.Runs.{blind-no_break, test-between}
-use Rattle.std.specs.List.{list_all}
-use Rattle.yaml_scan.specs.Classes.{ArePassed}
-use Rattle.yaml_scan.specs.ScanPlaces.{unbroken_between}
+use Rattle.yaml_scan.specs.{Classes.ArePassed, ScanPlaces.unbroken_between}
 
 -- ---- breaks
 

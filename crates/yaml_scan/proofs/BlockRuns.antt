@@ -1,10 +1,7 @@
 -- From the mask of sixteen lanes to the run of bytes before the first lane that stops.
 use Rattle.std.proofs.Common.{◌≡◌, ℕ, ◌+◌, ◌%◌, ◌^◌, ◌≤◌, Bool, true, not, List, map, length, get_or, Fits, w8, sym, ap, ◌∙◌, arith}
-use Rattle.std.specs.List.{prefix_len}
-use Rattle.std.proofs.lemmas.Bool.{agree_below, agree_below_at, not-true, not-false}
-use Rattle.std.proofs.lemmas.List.{length-map}
-use Rattle.std.proofs.lemmas.Simd.{map-map, mask_l-mod, length-chunk, first_set_mask_l, run_in_chunk_fails}
-use Rattle.std.proofs.lemmas.Simd.{run_in_chunk_le, run_in_chunk_stops}
+use Rattle.yaml_scan.proofs.Prelude.{prefix_len, agree_below, agree_below_at, not-true, not-false, length-map, map-map, mask_l-mod}
+use Rattle.yaml_scan.proofs.Prelude.{length-chunk, first_set_mask_l, run_in_chunk_fails, run_in_chunk_le, run_in_chunk_stops}
 use lib.Lanes.{chunk, mask_l, top}
 use Rattle.yaml_scan.specs.Blocks.{IsBlockRun, first_set}
 

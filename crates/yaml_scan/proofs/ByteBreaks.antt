@@ -1,19 +1,10 @@
 -- Breaks, by the bytes at a place.
-use Rattle.std.proofs.Common.{◌≡◌, ℕ, ◌+◌, ◌<◌, ◌≤◌, true, false, List, [], ◌∷◌, Some, None, refl, ap, sym, ◌∙◌}
-use Rattle.std.proofs.Common.{arith, length, inl, inr, get_or}
+use Rattle.std.proofs.Common.{◌≡◌, ℕ, ◌+◌, ◌<◌, ◌≤◌, true, false, List, [], ◌∷◌, Some, None, refl, ap, sym, ◌∙◌, arith, length, inl, inr}
+use Rattle.std.proofs.Common.{get_or}
 use Rattle.std.specs.Prelude.{◌==◌}
-use Rattle.std.specs.Str.{IsUtf8, IsCharBoundary}
-use Rattle.std.proofs.lemmas.Bool.{cases_Bool, cond-false, ne_eqb}
-use Rattle.std.proofs.lemmas.Bool.Decides.{nat_tests}
-use Rattle.yaml_chars.specs.Classes.{line_break}
-use Rattle.yaml_chars.specs.Places.{rest}
-use Rattle.std.specs.Char.{len_utf8}
-use Rattle.yaml_chars.proofs.Places.{char_at, rest-end}
-use Rattle.yaml_chars.proofs.Runs.{IsBlind, blind-line_break}
-use Rattle.yaml_grammar.specs.Separation.{Break, lf, cr, cr_lf}
-use Rattle.yaml_grammar.specs.Texts.{first}
+use Rattle.yaml_scan.proofs.Prelude.{IsUtf8, IsCharBoundary, cases_Bool, cond-false, ne_eqb, nat_tests, line_break, rest, len_utf8, char_at}
+use Rattle.yaml_scan.proofs.Prelude.{rest-end, IsBlind, blind-line_break, Break, lf, cr, cr_lf, first, read_break, read_cr, read_stop}
 use Rattle.yaml_recognizers.proofs.Basics.Breaks.{unbroken}
-use Rattle.yaml_recognizers.specs.Comments.{read_break, read_cr, read_stop}
 use Rattle.yaml_recognizers.specs.Reading.{Read, on}
 use Rattle.yaml_scan.specs.ScanPlaces.{IsBreak, IsStop}
 use Rattle.yaml_scan.proofs.ByteRuns.{ascii_prefix, first_at_end, first_there}

@@ -1,24 +1,13 @@
 -- Signs and markers, by the bytes at a place.
-use Rattle.std.proofs.Common.{◌≡◌, ℕ, ◌+◌, ◌<◌, ◌≤◌, Bool, true, false, List, [], ◌∷◌, refl, ap, sym, ◌∙◌, subst}
-use Rattle.std.proofs.Common.{arith, length, inl, inr, get_or}
+use Rattle.std.proofs.Common.{◌≡◌, ℕ, ◌+◌, ◌<◌, ◌≤◌, Bool, true, false, List, [], ◌∷◌, refl, ap, sym, ◌∙◌, subst, arith, length, inl, inr}
+use Rattle.std.proofs.Common.{get_or}
 use Rattle.std.specs.Prelude.{not, ◌&&◌, ◌||◌, ◌==◌, nat_lt}
-use Rattle.std.specs.Char.{len_utf8}
-use Rattle.std.specs.Str.{IsUtf8, IsCharBoundary}
-use Rattle.std.proofs.lemmas.Bool.{and_parts, cases_Bool, eqb-true, false≢true}
-use Rattle.std.proofs.lemmas.Bool.Decides.{nat_tests}
-use Rattle.yaml_chars.specs.Classes.{line_break, ns, white}
-use Rattle.yaml_chars.specs.Places.{rest}
-use Rattle.yaml_chars.proofs.Places.{char_at, rest-end}
-use Rattle.yaml_chars.proofs.Runs.{IsBlind, blind-line_break, blind-not, blind-or, blind-white}
-use Rattle.yaml_grammar.specs.Texts.{begins, ends_word, first, marker}
-use Rattle.yaml_recognizers.specs.CanonicalComments.{hash}
-use Rattle.yaml_recognizers.specs.Ends.{solid}
-use Rattle.yaml_recognizers.specs.Prefixes.{sign}
+use Rattle.yaml_scan.proofs.Prelude.{len_utf8, IsUtf8, IsCharBoundary, and_parts, cases_Bool, eqb-true, false≢true, nat_tests, line_break}
+use Rattle.yaml_scan.proofs.Prelude.{ns, white, rest, char_at, rest-end, IsBlind, blind-line_break, blind-not, blind-or, blind-white}
+use Rattle.yaml_scan.proofs.Prelude.{begins, ends_word, first, marker, hash, solid, sign}
 use Rattle.yaml_recognizers.specs.Streams.{marker_of}
-use Rattle.yaml_scan.specs.Markers.{sign_of}
-use Rattle.yaml_scan.specs.ScanPlaces.{is_sign, ends_word_byte}
-use Rattle.yaml_scan.specs.declared.signs.Marker.{Marker}
-use Rattle.yaml_scan.specs.declared.signs.Marker.TheVariants.{DirectivesEnd, DocumentEnd}
+use Rattle.yaml_scan.specs.{Markers.sign_of, ScanPlaces.is_sign, ScanPlaces.ends_word_byte, declared.signs.Marker.Marker}
+use Rattle.yaml_scan.specs.{declared.signs.Marker.TheVariants.DirectivesEnd, declared.signs.Marker.TheVariants.DocumentEnd}
 use Rattle.yaml_scan.proofs.ByteRuns.{ascii_prefix, ascii_at_beginning, first_at_end, first_there}
 
 -- ---- one byte
@@ -178,14 +167,3 @@ either p q e = grind arith
 
 neither : (a b : Bool) → ((a && false) && true) || ((b && false) && true) ≡ false
 neither a b = grind arith
-
--- a marker is one of the two
-pub marker_either : (cs : List ℕ) → marker cs ≡ marker_of 45 cs || marker_of 46 cs
-marker_either [] = refl
-marker_either (a ∷ []) = sym (neither (a == 45) (a == 46))
-marker_either (a ∷ b ∷ []) = sym (neither_of (a == 45) (b == 45) (a == 46) (b == 46))
-  where
-    neither_of : (p q r s : Bool) → ((p && (q && false)) && true) || ((r && (s && false)) && true) ≡ false
-    neither_of p q r s = grind arith
-marker_either (a ∷ b ∷ c ∷ cs) = either ((a == 45) && ((b == 45) && ((c == 45) && true)))
-    ((a == 46) && ((b == 46) && ((c == 46) && true))) (ends_word cs)

@@ -1,20 +1,12 @@
 -- The table of classes holds what the classes say: 256 closed facts for each class, at once.
-use Rattle.std.proofs.Common.{◌≡◌, ℕ, ◌<◌, Bool, false, not, nat_eq, bit_and, ◌≤◌, inl, inr, List, refl, sym, ap, ◌∙◌}
-use Rattle.std.proofs.Common.{arith, get_or, length, map, true}
-use Rattle.std.specs.List.{range_with_len}
-use Rattle.std.proofs.lemmas.Bool.{cases_lt}
-use Rattle.std.proofs.lemmas.Bool.Decides.{nat_tests}
-use Rattle.std.proofs.lemmas.List.{get_or-map}
-use Rattle.std.proofs.lemmas.List.FromFn.{get_or-map-range_with_len}
+use Rattle.std.proofs.Common.{◌≡◌, ℕ, ◌<◌, Bool, false, not, nat_eq, bit_and, ◌≤◌, inl, inr, List, refl, sym, ap, ◌∙◌, arith, get_or}
+use Rattle.std.proofs.Common.{length, map, true}
 use Rattle.std.specs.Prelude.{nat_lt, slice_index}
-use Rattle.std.specs.Str.{IsCharBoundary, IsUtf8}
-use Rattle.yaml_chars.specs.Classes.{white}
-use Rattle.yaml_chars.specs.Places.{IsRun}
-use Rattle.yaml_chars.proofs.Runs.{IsBlind, run_is}
-use Rattle.yaml_grammar.specs.FlowScalars.{FlowContext, inner, outer}
+use Rattle.yaml_scan.proofs.Prelude.{range_with_len, cases_lt, nat_tests, get_or-map, IsCharBoundary, IsUtf8, white, IsRun, IsBlind, run_is}
+use Rattle.yaml_scan.proofs.Prelude.{FlowContext, inner, outer}
+use Rattle.std.proofs.lemmas.List.FromFn.{get_or-map-range_with_len}
+use Rattle.yaml_scan.specs.{declared.classes.TheConstants.CLASSES, declared.classes.Class.Class}
 use Rattle.yaml_scan.specs.Classes.{ArePassed, bit_of, double_quoted, line_ascii, simple, single_quoted, test_of, word}
-use Rattle.yaml_scan.specs.declared.classes.TheConstants.{CLASSES}
-use Rattle.yaml_scan.specs.declared.classes.Class.{Class}
 use Rattle.yaml_scan.specs.declared.classes.Class.TheVariants.{Words, WordsInside, SingleQuoted, DoubleQuoted, Line}
 
 -- whether a sum of bits has this bit

@@ -1,43 +1,22 @@
 -- Gaps at places, by what is there.
-use Rattle.std.proofs.Common.{◌≡◌, ℕ, zero, suc, ◌+◌, ◌-◌, ◌<◌, ◌≤◌, Bool, true, false, List, [], ◌∷◌, ◌++◌, Option}
-use Rattle.std.proofs.Common.{Some, None, refl, ap, sym, ◌∙◌, subst, arith, length, inl, inr}
+use Rattle.std.proofs.Common.{◌≡◌, ℕ, zero, suc, ◌+◌, ◌-◌, ◌<◌, ◌≤◌, Bool, true, false, List, [], ◌∷◌, ◌++◌, Option, Some, None, refl, ap}
+use Rattle.std.proofs.Common.{sym, ◌∙◌, subst, arith, length, inl, inr}
 use Rattle.std.specs.Prelude.{not, ◌&&◌, ◌||◌, ◌==◌, nat_le, nat_lt, is_some, cond}
-use Rattle.std.specs.Str.{IsUtf8, IsCharBoundary}
-use Rattle.std.specs.Char.{len_utf8}
-use Rattle.std.proofs.lemmas.Bool.{and_from, and_parts, cases_Bool, cases_lt, cond-false, false≢true, le-leb, lt-leb, lt-ltb, or_left}
-use Rattle.std.proofs.lemmas.Bool.Decides.{nat_tests}
-use Rattle.std.proofs.lemmas.List.{append_cancel_right}
-use Rattle.yaml_chars.specs.Breaks.{no_break}
-use Rattle.yaml_chars.specs.Classes.{line_break, nb, white}
-use Rattle.yaml_chars.specs.Places.{rest, between}
-use Rattle.yaml_chars.proofs.Places.{between-nil, char_at, rest-between, rest-end, same_place}
-use Rattle.yaml_grammar.specs.BlockScalars.{spaces_before}
-use Rattle.yaml_grammar.specs.FlowScalars.{FlowContext, one_line}
-use Rattle.yaml_grammar.specs.Separation.{Break, LineEnd, Sep, break_text, comment_fits, comment_text, cr, cr_lf}
-use Rattle.yaml_grammar.specs.Separation.{gap_text, indents, inline, lf, lines}
-use Rattle.std.specs.List.{list_all}
-use Rattle.yaml_grammar.specs.Texts.{begins, first, is_empty, optional, spaces, starts_line}
-use Rattle.yaml_recognizers.specs.CanonicalComments.{hash, is_line_end, stops}
-use Rattle.yaml_recognizers.specs.Comments.{all_comments, read_line_end}
-use Rattle.yaml_recognizers.specs.Ends.{solid}
-use Rattle.yaml_recognizers.specs.Prefixes.{drop_while, past, take_while}
+use Rattle.yaml_scan.proofs.Prelude.{IsUtf8, IsCharBoundary, len_utf8, and_from, and_parts, cases_Bool, cases_lt, cond-false, false≢true}
+use Rattle.yaml_scan.proofs.Prelude.{le-leb, lt-leb, lt-ltb, or_left, nat_tests, append_cancel_right, no_break, line_break, nb, white, rest}
+use Rattle.yaml_scan.proofs.Prelude.{between, between-nil, char_at, rest-between, rest-end, same_place, spaces_before, FlowContext}
+use Rattle.yaml_scan.proofs.Prelude.{one_line, Break, LineEnd, Sep, break_text, comment_fits, comment_text, cr, cr_lf, gap_text, indents}
+use Rattle.yaml_scan.proofs.Prelude.{inline, lf, lines, list_all, begins, first, is_empty, optional, spaces, starts_line, hash, is_line_end}
+use Rattle.yaml_scan.proofs.Prelude.{stops, all_comments, read_line_end, solid, drop_while, past, take_while, solid_no_line, gap_step}
+use Rattle.yaml_scan.proofs.Prelude.{inline_step, LineOf, line_sound, take_while_every, line_parts, line_regrouped, sound_is}
 use Rattle.yaml_recognizers.specs.Gaps.{inline_gap, lines_gap, read_gap}
 use Rattle.yaml_recognizers.specs.OneLine.{gap_on_one_line}
-use Rattle.yaml_recognizers.proofs.Separation.CommentsComplete.{solid_no_line}
-use Rattle.yaml_recognizers.proofs.Separation.CommentsDepth.{gap_step, inline_step}
-use Rattle.yaml_recognizers.proofs.Separation.CommentsSound.{LineOf, line_sound}
-use Rattle.yaml_recognizers.proofs.Basics.Prefixes.{take_while_every}
 use Rattle.yaml_recognizers.proofs.Separation.GapsSound.{GapOf, gap_sound}
-use Rattle.yaml_recognizers.proofs.Separation.LineEnds.{line_parts, line_regrouped}
 use Rattle.yaml_recognizers.proofs.Flow.OneLineText.{gap_one_line}
-use Rattle.yaml_recognizers.proofs.Basics.Reading.{sound_is}
+use Rattle.yaml_scan.specs.{Lines.IsLineEnd, Lines.IsSolidLine, ScanPlaces.AreSpaces, ScanPlaces.AreTaken, declared.gap.Gap.Gap}
+use Rattle.yaml_scan.specs.{declared.lines.Line.Line}
 use Rattle.yaml_scan.specs.Gaps.{IsGap, IsLinesGap, NoGap, NoLinesGap, after_comments, stuck, used_up}
-use Rattle.yaml_scan.specs.Lines.{IsLineEnd, IsSolidLine}
-use Rattle.yaml_scan.specs.ScanPlaces.{AreSpaces, AreTaken}
-use Rattle.yaml_scan.specs.declared.gap.Gap.{Gap}
-use Rattle.yaml_scan.specs.declared.lines.Line.{Line}
-use Rattle.yaml_scan.proofs.LineSteps.{spaces_split_at}
-use Rattle.yaml_scan.proofs.LineStarts.{starts_on}
+use Rattle.yaml_scan.proofs.{LineSteps.spaces_split_at, LineStarts.starts_on}
 
 -- ---- white space on one line
 

@@ -1,3 +1,4 @@
+pub mod Prelude
 pub mod ByteRuns
 pub mod ByteBreaks
 pub mod ByteSigns

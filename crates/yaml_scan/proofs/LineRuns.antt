@@ -1,19 +1,11 @@
 -- Runs of ASCII characters that a line may hold.
-use Rattle.std.proofs.Common.{◌≡◌, ℕ, ◌<◌, true, false, List, [], ◌∷◌, ◌++◌, refl, ap, sym, ◌∙◌, arith, length}
-use Rattle.std.proofs.Common.{get_or, append_assoc, inl, inr}
-use Rattle.std.specs.List.{list_all}
-use Rattle.std.specs.Str.{IsUtf8, IsCharBoundary}
+use Rattle.std.proofs.Common.{◌≡◌, ℕ, ◌<◌, true, false, List, [], ◌∷◌, ◌++◌, refl, ap, sym, ◌∙◌, arith, length, get_or, append_assoc, inl}
+use Rattle.std.proofs.Common.{inr}
 use Rattle.std.specs.Prelude.{nat_lt}
-use Rattle.std.proofs.lemmas.Bool.{and_parts, cases_lt, cond-true}
-use Rattle.std.proofs.lemmas.Bool.Decides.{nat_tests}
+use Rattle.yaml_scan.proofs.Prelude.{list_all, IsUtf8, IsCharBoundary, and_parts, cases_lt, cond-true, nat_tests, nb, rest, between, IsRun}
+use Rattle.yaml_scan.proofs.Prelude.{between-append, rest-ascii, rest-between, rest-end, first, drop_while, take_while}
 use Rattle.std.proofs.lemmas.List.Sums.{list_all-from_AllPass}
-use Rattle.yaml_chars.specs.Classes.{nb}
-use Rattle.yaml_chars.specs.Places.{rest, between, IsRun}
-use Rattle.yaml_chars.proofs.Places.{between-append, rest-ascii, rest-between, rest-end}
-use Rattle.yaml_grammar.specs.Texts.{first}
-use Rattle.yaml_recognizers.specs.Prefixes.{drop_while, take_while}
-use Rattle.yaml_scan.specs.Classes.{line_ascii}
-use Rattle.yaml_scan.specs.ScanPlaces.{AreTaken}
+use Rattle.yaml_scan.specs.{Classes.line_ascii, ScanPlaces.AreTaken}
 use Rattle.yaml_scan.proofs.ByteRuns.{AreTakenSoFar, take_while_all_at}
 
 stopped_low : (c : ℕ) → c < 128 → line_ascii c ≡ false → nb c ≡ false

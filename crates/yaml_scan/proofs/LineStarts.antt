@@ -1,26 +1,14 @@
 -- Whether a line starts at a place, by what comes before it.
-use Rattle.std.proofs.Common.{◌≡◌, ℕ, ◌+◌, ◌-◌, ◌<◌, ◌≤◌, Bool, true, false, List, [], ◌∷◌, ◌++◌, Some, refl, ap, sym}
-use Rattle.std.proofs.Common.{◌∙◌, subst, arith, inl, inr, get_or, append_assoc, slice_range}
+use Rattle.std.proofs.Common.{◌≡◌, ℕ, ◌+◌, ◌-◌, ◌<◌, ◌≤◌, Bool, true, false, List, [], ◌∷◌, ◌++◌, refl, ap, sym, ◌∙◌, arith, inl, inr}
+use Rattle.std.proofs.Common.{get_or, append_assoc, slice_range}
 use Rattle.std.specs.Prelude.{◌==◌, ◌↔◌, IsTrue}
+use Rattle.yaml_scan.proofs.Prelude.{IsUtf8, IsCharBoundary, chars, and_parts, cases_Bool, eqb-true, false≢true, nat_tests}
+use Rattle.yaml_scan.proofs.Prelude.{append_cancel_right, chars-encodes, IsCharBoundary-start, line_break, rest, between, between-append}
+use Rattle.yaml_scan.proofs.Prelude.{between-nil, encodes-between, rest-between, blind-line_break, last_char, test-last_char, line_starts}
+use Rattle.yaml_scan.proofs.Prelude.{without_mark, Break, break_text, lf, cr, cr_lf, list_all, is_empty, starts_line}
 use lib.Utf8.{encode, encodes}
-use Rattle.std.specs.Str.{IsUtf8, IsCharBoundary, chars}
-use Rattle.std.proofs.lemmas.Bool.{and_parts, cases_Bool, eqb-true, false≢true}
-use Rattle.std.proofs.lemmas.Bool.Decides.{nat_tests}
-use Rattle.std.proofs.lemmas.List.{append_cancel_right}
-use Rattle.std.proofs.lemmas.Str.{chars-encodes, IsCharBoundary-start}
-use Rattle.yaml_chars.specs.Classes.{line_break, white}
-use Rattle.yaml_chars.specs.Places.{rest, between}
-use Rattle.yaml_chars.proofs.Places.{between-append, between-nil, encodes-between, rest-between}
-use Rattle.yaml_chars.proofs.Runs.{blind-line_break, last_char, test-last_char}
-use Rattle.yaml_events.specs.EventPlaces.{line_starts, without_mark}
-use Rattle.yaml_grammar.specs.Separation.{Break, break_text, lf, cr, cr_lf}
-use Rattle.std.specs.List.{list_all}
-use Rattle.yaml_grammar.specs.Texts.{is_empty, starts_line}
-use Rattle.yaml_recognizers.specs.Comments.{read_break}
-use Rattle.yaml_recognizers.proofs.Basics.Breaks.{break_sound, BreakOf}
 use Rattle.yaml_recognizers.proofs.Basics.LineStarts.{starts_joined}
-use Rattle.yaml_recognizers.proofs.Basics.Reading.{Sound}
-use Rattle.yaml_scan.specs.ScanPlaces.{IsBreak, byte_order_mark_bytes}
+use Rattle.yaml_scan.specs.ScanPlaces.{byte_order_mark_bytes}
 use Rattle.yaml_scan.proofs.ByteSigns.{IsSign}
 
 -- ---- by the last character
@@ -79,25 +67,6 @@ last_of test x (z ∷ zs) h =
     let later = last_of test z zs (and_parts (test x) (list_all test (z ∷ zs)) h).1 in
     (x ∷ later.0, later.1, ap (λ t. x ∷ t) later.2, later.3)
 
--- After characters that are neither breaks nor byte order marks, one at least, no line starts.
-pub starts_after_run : (test : ℕ → Bool) (bs : List ℕ) (i j : ℕ) → IsUtf8 bs → i < j → IsCharBoundary bs i
-    → IsCharBoundary bs j → list_all test (between bs i j) ≡ true
-    → ((x : ℕ) → test x ≡ true → (line_break x ≡ false) × ((x == 0xfeff) ≡ false)) → line_starts bs j ≡ false
-starts_after_run test bs i j u l b d h apart =
-    let last = last_char bs i j u l b d in
-    let ends = last.2 in
-    let passes : test last.1 ≡ true = every_last test last.0 last.1 (sym (ap (list_all test) ends.splits) ∙ h) in
-    let a = apart last.1 passes in
-    starts_after bs i j last.0 last.1 u (omega arith) b d ends.splits a.1 ∙ a.0
-  where
-    every_last : (test : ℕ → Bool) (prefix : List ℕ) (x : ℕ) → list_all test (prefix ++ x ∷ []) ≡ true → test x ≡ true
-    every_last test [] x h = (and_parts (test x) true h).0
-    every_last test (y ∷ ys) x h = every_last test ys x (and_parts (test y) (list_all test (ys ++ x ∷ [])) h).1
-
--- whitespace is neither a break nor a byte order mark
-pub white_apart : (x : ℕ) → white x ≡ true → (line_break x ≡ false) × ((x == 0xfeff) ≡ false)
-white_apart x h = (grind (arith, nat_tests), grind (arith, nat_tests))
-
 -- ---- on from a place
 
 joined : (xs ys : List ℕ) → starts_line true (without_mark xs) ≡ false → starts_line true (without_mark (xs ++ ys)) ≡ starts_line false ys
@@ -124,21 +93,6 @@ break_ends xs lf = mark_last xs 10 refl
 break_ends xs cr = mark_last xs 13 refl
 break_ends xs cr_lf = ap (λ t. starts_line true (without_mark t)) (sym (append_assoc xs (13 ∷ []) (10 ∷ [])))
     ∙ mark_last (xs ++ 13 ∷ []) 10 refl
-
-break_splits : (text : List ℕ) (b : Break) (after : List ℕ) → read_break text ≡ Some (b, after) → text ≡ break_text b ++ after
-break_splits text b after e = (let s : BreakOf text b after = subst (Sound (BreakOf text)) e (break_sound text) in s).0
-
--- the same at a place
-pub starts_after_break : (bs : List ℕ) (i j : ℕ) → IsUtf8 bs → IsCharBoundary bs i → IsBreak bs i j → line_starts bs j ≡ true
-starts_after_break bs i j u b h =
-    let above = h.above in
-    let spelled : between bs i j ≡ break_text h.break =
-    append_cancel_right (between bs i j) (break_text h.break) (rest bs j)
-    (sym (rest-between bs i j u (omega arith) b h.boundary) ∙ break_splits (rest bs i) h.break (rest bs j) h.reads) in
-    ap (λ t. starts_line true (without_mark t))
-    (between-append bs 0 i j u (omega arith) (omega arith) (IsCharBoundary-start bs u) b h.boundary
-    ∙ ap (λ t. between bs 0 i ++ t) spelled)
-    ∙ break_ends (between bs 0 i) h.break
 
 -- ---- by the bytes before the place
 

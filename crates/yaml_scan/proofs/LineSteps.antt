@@ -1,36 +1,18 @@
 -- The ends of lines and lines of comments at places, by what is there.
-use Rattle.std.proofs.Common.{◌≡◌, ℕ, ◌+◌, ◌-◌, ◌<◌, ◌≤◌, Bool, true, false, List, [], ◌∷◌, ◌++◌, Option, Some, None}
-use Rattle.std.proofs.Common.{refl, ap, sym, ◌∙◌, subst, arith, length, inl, inr, append_assoc, length-append}
+use Rattle.std.proofs.Common.{◌≡◌, ℕ, ◌+◌, ◌-◌, ◌<◌, ◌≤◌, Bool, true, false, List, [], ◌∷◌, ◌++◌, Option, Some, None, refl, ap, sym, ◌∙◌}
+use Rattle.std.proofs.Common.{subst, arith, length, inl, inr, append_assoc, length-append}
 use Rattle.std.specs.Prelude.{not, ◌&&◌, ◌||◌, ◌==◌}
-use Rattle.std.specs.Str.{IsUtf8, IsCharBoundary}
-use Rattle.std.proofs.lemmas.Bool.{cases_Bool, cond-false, eqb-true, false≢true}
-use Rattle.std.proofs.lemmas.Bool.Decides.{nat_tests}
-use Rattle.std.proofs.lemmas.List.{append_cancel_right}
-use Rattle.std.proofs.lemmas.Str.{IsCharBoundary-start}
-use Rattle.yaml_chars.specs.Classes.{nb, space, white}
-use Rattle.yaml_chars.specs.Places.{rest, between}
-use Rattle.yaml_chars.proofs.Places.{between-append, between-nil, char_at, rest-between, rest-end, same_place}
-use Rattle.yaml_events.specs.EventPlaces.{without_mark}
-use Rattle.yaml_grammar.specs.BlockScalars.{past_spaces, spaces_before}
-use Rattle.yaml_grammar.specs.Separation.{Break, LineEnd, break_text, comment_line_fits, comment_text, line_end_text, stop_fits}
-use Rattle.yaml_grammar.specs.Texts.{first, is_empty, optional, spaces, starts_line}
-use Rattle.yaml_recognizers.specs.CanonicalComments.{hash, is_line_end}
-use Rattle.yaml_recognizers.specs.Comments.{all_comments, closes_line, more_comments, read_after_blank, read_line_end}
-use Rattle.yaml_recognizers.specs.Comments.{read_stop, line_end_with_stop}
-use Rattle.yaml_recognizers.specs.Ends.{solid}
-use Rattle.yaml_recognizers.specs.Prefixes.{drop_while, take_while}
-use Rattle.yaml_recognizers.proofs.Separation.CommentsComplete.{no_line, not_line_end}
-use Rattle.yaml_recognizers.proofs.Separation.CommentsDepth.{comments_step}
-use Rattle.yaml_recognizers.proofs.Separation.CommentsSound.{LineOf, StopOf, line_sound, stop_sound}
-use Rattle.yaml_recognizers.proofs.Basics.Prefixes.{every_space, spaces_split, take_while_split}
-use Rattle.yaml_recognizers.proofs.Separation.LineEnds.{line_parts}
-use Rattle.yaml_recognizers.proofs.Basics.Reading.{sound_is}
+use Rattle.yaml_scan.proofs.Prelude.{IsUtf8, IsCharBoundary, cases_Bool, cond-false, eqb-true, false≢true, nat_tests, append_cancel_right}
+use Rattle.yaml_scan.proofs.Prelude.{IsCharBoundary-start, nb, space, white, rest, between, between-append, between-nil, char_at}
+use Rattle.yaml_scan.proofs.Prelude.{rest-between, rest-end, same_place, without_mark, past_spaces, spaces_before, Break, LineEnd}
+use Rattle.yaml_scan.proofs.Prelude.{break_text, comment_line_fits, comment_text, line_end_text, stop_fits, first, is_empty, optional}
+use Rattle.yaml_scan.proofs.Prelude.{spaces, starts_line, hash, is_line_end, all_comments, closes_line, more_comments, read_after_blank}
+use Rattle.yaml_scan.proofs.Prelude.{read_line_end, read_stop, line_end_with_stop, solid, drop_while, take_while, no_line, not_line_end}
+use Rattle.yaml_scan.proofs.Prelude.{comments_step, LineOf, StopOf, line_sound, stop_sound, every_space, spaces_split, take_while_split}
+use Rattle.yaml_scan.proofs.Prelude.{line_parts, sound_is}
+use Rattle.yaml_scan.specs.{ScanPlaces.AreSpaces, ScanPlaces.AreTaken, ScanPlaces.IsStop, ScanPlaces.is_sign, declared.lines.Line.Line}
 use Rattle.yaml_scan.specs.Lines.{IsCommentEnd, IsContentEnd, IsLineEnd, IsLineStart, IsSolidLine, past_comment}
-use Rattle.yaml_scan.specs.ScanPlaces.{AreSpaces, AreTaken, IsStop, is_sign}
-use Rattle.yaml_scan.specs.declared.lines.Line.{Line}
-use Rattle.yaml_scan.proofs.ByteRuns.{first_at_end}
-use Rattle.yaml_scan.proofs.ByteSigns.{IsSign}
-use Rattle.yaml_scan.proofs.LineStarts.{break_ends}
+use Rattle.yaml_scan.proofs.{ByteRuns.first_at_end, ByteSigns.IsSign, LineStarts.break_ends}
 
 -- ---- comments
 

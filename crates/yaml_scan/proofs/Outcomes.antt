@@ -1,7 +1,7 @@
 -- What holds of each outcome of a call, and how a fault that a callee returns is passed on.
 use Rattle.std.proofs.Common.{◌≡◌, Some, None, refl, sym, subst, Ok, Err}
 use Rattle.std.specs.Prelude.{Option, Result, IfOk, IfErr, IfSome, IfNone}
-use Rattle.yaml_events.specs.EventPlaces.{Refuses}
+use Rattle.yaml_scan.proofs.Prelude.{Refuses}
 use Rattle.yaml_events.specs.declared.fault.ScanFault.{ScanFault}
 use Rattle.yaml_events.specs.declared.fault.ScanFault.TheVariants.{At, OutOfMemory}
 

@@ -1,8 +1,7 @@
 -- The classes of characters that a table of bytes decides: those from U+0080 on are all in a class or all outside it.
-use Rattle.std.specs.Prelude.{◌≡◌, ℕ, ◌<◌, ◌≤◌, Bool, true, not, ◌&&◌, ◌||◌, ◌==◌, nat_lt, List, length, slice_index, codes}
-use Rattle.yaml_chars.specs.Classes.{is_in, nb, nb_json, white}
-use Rattle.yaml_grammar.specs.FlowScalars.{FlowContext, outer, inner, safe}
-use Rattle.yaml_chars.specs.Signs.{single_quote}
+use Rattle.std.specs.Prelude.{◌≡◌, ℕ, ◌<◌, ◌≤◌, Bool, true, not, ◌&&◌, ◌||◌, ◌==◌, nat_lt, List, length, slice_index}
+use Rattle.std.specs.Prelude.{codes}
+use Rattle.yaml_scan.specs.Prelude.{is_in, nb, nb_json, white, FlowContext, outer, inner, safe, single_quote}
 use Rattle.yaml_scan.specs.declared.classes.Class.{Class}
 use Rattle.yaml_scan.specs.declared.classes.Class.TheVariants.{Words, WordsInside, SingleQuoted, DoubleQuoted, Line}
 

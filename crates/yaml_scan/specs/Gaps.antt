@@ -1,19 +1,11 @@
 -- Gaps between the parts of a flow node at places of a text (YAML 1.2.2, 6.7).
 use Rattle.std.specs.Prelude.{◌≡◌, ℕ, ◌≤◌, true, false, not, ◌||◌, nat_lt, List, [], ◌∷◌, Option, None, is_some}
+use Rattle.yaml_scan.specs.Prelude.{IsCharBoundary, line_break, white, rest, FlowContext, one_line, Sep, gap_text}
+use Rattle.yaml_scan.specs.Prelude.{indents, is_empty, starts_line, line_starts, all_comments, take_while, drop_while}
 use Rattle.std.proofs.Math.Logic.{◌⊎◌}
-use Rattle.std.specs.Str.{IsCharBoundary}
-use Rattle.yaml_chars.specs.Classes.{line_break, white}
-use Rattle.yaml_chars.specs.Places.{rest}
-use Rattle.yaml_grammar.specs.FlowScalars.{FlowContext, one_line}
-use Rattle.yaml_grammar.specs.Separation.{Sep, gap_text, indents}
-use Rattle.yaml_grammar.specs.Texts.{is_empty, starts_line}
-use Rattle.yaml_events.specs.EventPlaces.{line_starts}
-use Rattle.yaml_recognizers.specs.Comments.{all_comments}
-use Rattle.yaml_recognizers.specs.Prefixes.{take_while, drop_while}
 use Rattle.yaml_recognizers.specs.Gaps.{read_gap}
 use Rattle.yaml_recognizers.specs.OneLine.{gap_on_one_line}
-use Rattle.yaml_scan.specs.ScanPlaces.{unbroken_between}
-use Rattle.yaml_scan.specs.declared.gap.Gap.{Gap}
+use Rattle.yaml_scan.specs.{ScanPlaces.unbroken_between, declared.gap.Gap.Gap}
 
 -- what follows all comments from the place on, where a line starts
 abbrev pub after_comments : List ℕ → ℕ → List ℕ

@@ -1,3 +1,4 @@
+pub mod Prelude
 pub mod ScanPlaces
 pub mod Markers
 pub mod Lines

@@ -1,8 +1,6 @@
 // Runs of bytes, sixteen bytes at a time.
 ghost use Rattle.std.specs.Prelude.{◌≡◌, ◌+◌, ◌≤◌, length};
-ghost use Rattle.yaml_chars.specs.Breaks.{no_break};
-ghost use Rattle.yaml_chars.specs.Classes.{space};
-ghost use Rattle.yaml_grammar.specs.FlowScalars.{inner, outer};
+ghost use Rattle.yaml_scan.specs.Prelude.{no_break, space, inner, outer};
 ghost use Rattle.yaml_scan.specs.Classes.{test_of, word, single_quoted, double_quoted, line_ascii};
 ghost use Rattle.yaml_scan.specs.Blocks.{IsBlockRun, first_set};
 

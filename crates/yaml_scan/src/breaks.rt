@@ -1,11 +1,8 @@
 // Line breaks, the starts of lines, and what is between two places.
-ghost use Rattle.std.specs.Prelude.{◌≡◌, ◌<◌, ◌≤◌, ◌↔◌, true, not, nat_le, None, IsTrue, IfSome, IfNone, length, slice_index};
-ghost use Rattle.std.specs.Str.{IsCharBoundary, chars};
-ghost use Rattle.yaml_chars.specs.Breaks.{no_break};
-ghost use Rattle.yaml_chars.specs.Classes.{line_break};
-ghost use Rattle.yaml_chars.specs.Places.{rest, between};
-ghost use Rattle.yaml_events.specs.EventPlaces.{line_starts};
-ghost use Rattle.yaml_recognizers.specs.Comments.{read_break, read_stop};
+ghost use Rattle.std.specs.Prelude.{◌≡◌, ◌<◌, ◌≤◌, ◌↔◌, true, not, nat_le, None, IsTrue, IfSome, IfNone, length};
+ghost use Rattle.std.specs.Prelude.{slice_index};
+ghost use Rattle.yaml_scan.specs.Prelude.{IsCharBoundary, chars, no_break, line_break, rest, between, line_starts};
+ghost use Rattle.yaml_scan.specs.Prelude.{read_break, read_stop};
 ghost use Rattle.yaml_scan.specs.Classes.{ArePassed};
 ghost use Rattle.yaml_scan.specs.ScanPlaces.{IsBreak, IsStop, byte_order_mark_bytes, unbroken_between};
 

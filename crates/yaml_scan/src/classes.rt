@@ -1,7 +1,6 @@
 // Runs of characters of a class: sixteen bytes at a time, and at the end of the text by a look in a table for each.
 ghost use Rattle.std.specs.Prelude.{◌≡◌, ◌<◌, ◌≤◌, false, length, slice_index};
-ghost use Rattle.std.specs.Str.{IsCharBoundary};
-ghost use Rattle.yaml_chars.specs.Places.{IsRun};
+ghost use Rattle.yaml_scan.specs.Prelude.{IsCharBoundary, IsRun};
 ghost use Rattle.yaml_scan.specs.Classes.{test_of, bit_of, line_ascii, ArePassed};
 
 use crate::blocks::class_in_block;

@@ -1,7 +1,7 @@
 // Line feeds in the value of a scalar.
 ghost use Rattle.std.specs.Prelude.{◌≡◌, ◌++◌, OnOk};
+ghost use Rattle.yaml_scan.specs.Prelude.{line_feeds};
 ghost use Rattle.std.specs.String.{string_bytes};
-ghost use Rattle.yaml_grammar.specs.FlowScalars.{line_feeds};
 
 use std::alloc::AllocError;
 

@@ -1,13 +1,6 @@
 // Gaps between the parts of a flow node.
 ghost use Rattle.std.specs.Prelude.{◌≡◌, ◌≢◌, true, IfOk, IfErr, IfSome};
-ghost use Rattle.std.specs.Str.{IsCharBoundary};
-ghost use Rattle.yaml_chars.specs.Classes.{white};
-ghost use Rattle.yaml_chars.specs.Places.{rest};
-ghost use Rattle.yaml_events.specs.Meant.{context_of};
-ghost use Rattle.yaml_events.specs.EventPlaces.{Refuses};
-ghost use Rattle.yaml_grammar.specs.FlowScalars.{one_line};
-ghost use Rattle.yaml_grammar.specs.Texts.{first};
-ghost use Rattle.yaml_recognizers.specs.Ends.{solid};
+ghost use Rattle.yaml_scan.specs.Prelude.{IsCharBoundary, white, rest, context_of, Refuses, one_line, first, solid};
 ghost use Rattle.yaml_scan.specs.ScanPlaces.{AreTaken};
 ghost use Rattle.yaml_scan.specs.Gaps.{IsGap, NoGap, IsLinesGap, NoLinesGap};
 

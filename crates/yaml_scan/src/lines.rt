@@ -1,8 +1,6 @@
 // The ends of lines, and lines of comments.
 ghost use Rattle.std.specs.Prelude.{◌≡◌, ◌<◌, ◌≤◌, true, false, [], None, IfSome, IfNone, IsTrue, length};
-ghost use Rattle.std.specs.Str.{IsCharBoundary};
-ghost use Rattle.yaml_chars.specs.Places.{rest};
-ghost use Rattle.yaml_recognizers.specs.Comments.{read_line_end, all_comments, closes_line};
+ghost use Rattle.yaml_scan.specs.Prelude.{IsCharBoundary, rest, read_line_end, all_comments, closes_line};
 ghost use Rattle.yaml_scan.specs.Lines.{IsLineStart, IsCommentEnd, IsLineEnd, EndsLineAfter, NoLineEndAfter, IsSolidLine};
 
 use crate::breaks::stop_at;

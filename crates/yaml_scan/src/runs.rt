@@ -1,9 +1,6 @@
 // Runs of characters from a place on.
 ghost use Rattle.std.specs.Prelude.{◌≡◌, ◌<◌, ◌≤◌, false, IfSome, IfNone, length, slice_index};
-ghost use Rattle.std.specs.Str.{IsCharBoundary};
-ghost use Rattle.yaml_chars.specs.Classes.{nb, space, white};
-ghost use Rattle.yaml_chars.specs.Places.{rest, IsRun};
-ghost use Rattle.yaml_grammar.specs.Texts.{first};
+ghost use Rattle.yaml_scan.specs.Prelude.{IsCharBoundary, nb, space, white, rest, IsRun, first};
 ghost use Rattle.yaml_scan.specs.Classes.{ArePassed};
 ghost use Rattle.yaml_scan.specs.ScanPlaces.{AreSpaces, AreTaken, IsNb};
 

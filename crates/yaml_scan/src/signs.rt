@@ -1,13 +1,7 @@
 // Single signs and markers at a place.
 ghost use Rattle.std.specs.Prelude.{◌≡◌, ◌<◌};
-ghost use Rattle.std.specs.Str.{IsCharBoundary};
-ghost use Rattle.yaml_chars.specs.Classes.{ns, white};
-ghost use Rattle.yaml_chars.specs.Places.{rest};
-ghost use Rattle.yaml_events.specs.Meant.{context_of};
-ghost use Rattle.yaml_grammar.specs.FlowScalars.{safe};
-ghost use Rattle.yaml_grammar.specs.Texts.{first, marker};
-ghost use Rattle.yaml_recognizers.specs.Ends.{solid};
-ghost use Rattle.yaml_recognizers.specs.Prefixes.{sign};
+ghost use Rattle.yaml_scan.specs.Prelude.{IsCharBoundary, ns, white, rest, context_of, safe, first, marker, solid};
+ghost use Rattle.yaml_scan.specs.Prelude.{sign};
 ghost use Rattle.yaml_recognizers.specs.Streams.{marker_of};
 ghost use Rattle.yaml_scan.specs.Markers.{sign_of};
 ghost use Rattle.yaml_scan.specs.ScanPlaces.{is_sign, ends_word_byte};

@@ -1,18 +1,11 @@
 -- A text and what is written, one character after another.
-use Rattle.std.proofs.Common.{◌≡◌, ◌≢◌, ℕ, ◌-◌, ◌<◌, ◌≤◌, suc, Some, None, Bool, true, false, ◌==◌, List, [], ◌∷◌}
-use Rattle.std.proofs.Common.{◌++◌, refl, sym, ap, ap₂, ◌∙◌, subst, arith, take, drop, length, length-append, inl}
-use Rattle.std.proofs.Common.{inr}
+use Rattle.std.proofs.Common.{◌≡◌, ◌≢◌, ℕ, ◌-◌, ◌<◌, ◌≤◌, suc, Some, None, Bool, true, false, ◌==◌, List, [], ◌∷◌, ◌++◌, refl, sym, ap, ap₂}
+use Rattle.std.proofs.Common.{◌∙◌, subst, arith, take, drop, length, length-append, inl, inr}
+use Rattle.yaml_style.proofs.Prelude.{chars, IsUtf8, IsCharBoundary, eq-eqb, eqb-true, false≢true, and_parts, cases_lt, cases_Bool, take_at}
+use Rattle.yaml_style.proofs.Prelude.{append_cancel_right, chars-append, encodes-append, encodes-chars, IsUtf8-take, IsCharBoundary-at_seam}
+use Rattle.yaml_style.proofs.Prelude.{rest, rest-end, same_text}
 use lib.Utf8.{encodes}
-use Rattle.std.specs.Str.{chars, IsUtf8, IsCharBoundary}
-use Rattle.std.proofs.lemmas.Bool.{eq-eqb, eqb-true, false≢true, and_parts, cases_lt, cases_Bool}
-use Rattle.std.proofs.lemmas.List.{take_at, append_cancel_right}
-use Rattle.std.proofs.lemmas.Str.{chars-append, encodes-append, encodes-chars, IsUtf8-take, IsCharBoundary-at_seam}
-use Rattle.yaml_chars.specs.Places.{rest}
-use Rattle.yaml_chars.proofs.Places.{rest-end}
-use Rattle.yaml_grammar.specs.Texts.{same_text}
-use Rattle.yaml_style.specs.Findings.{common, style_line}
-use Rattle.yaml_style.specs.Lines.{breaks}
-use Rattle.yaml_style.specs.Comparing.{comparison_after}
+use Rattle.yaml_style.specs.{Findings.common, Findings.style_line, Lines.breaks, Comparing.comparison_after}
 
 -- ---- one character
 

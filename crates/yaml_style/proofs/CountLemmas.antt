@@ -1,6 +1,6 @@
 -- A count of bytes that stops at the greatest u64, beside a limit.
 use Rattle.std.proofs.Common.{◌≡◌, ℕ, ◌+◌, ◌≤◌, ◌<◌, min, arith}
-use Rattle.yaml_config.specs.Limits.{config_limits}
+use Rattle.yaml_style.proofs.Prelude.{config_limits}
 
 -- a count from 0 that is within the limit is that of so many bytes
 pub counted_within : {before after : ℕ} (n : ℕ) → before ≡ 0 → min after 18446744073709551615 ≡ min (before + n) 18446744073709551615

@@ -1,11 +1,8 @@
 -- Texts, and what is found in each. The second text is that of its tree in the one style.
 use Rattle.std.proofs.Common.{◌≡◌, ℕ, [], ◌∷◌, ◌++◌, codes, replicate, refl}
-use Rattle.yaml_chars.specs.Signs.{next_line, line_separator, paragraph_separator, byte_order_mark}
-use Rattle.yaml_style.specs.declared.finding.Finding.{Finding}
-use Rattle.yaml_style.specs.declared.finding.Rule.{Rule}
+use Rattle.yaml_style.proofs.Prelude.{next_line, line_separator, paragraph_separator, byte_order_mark}
+use Rattle.yaml_style.specs.{declared.finding.Finding.Finding, declared.finding.Rule.Rule, Lines.lines, Findings.findings}
 use Rattle.yaml_style.specs.declared.finding.Rule.TheVariants.{TrailingWhitespace, LineEnd, LongLine, NotInStyle}
-use Rattle.yaml_style.specs.Lines.{lines}
-use Rattle.yaml_style.specs.Findings.{findings}
 
 abbrev on : Rule → ℕ → Finding
 on rule line = record { rule = rule; line = line }

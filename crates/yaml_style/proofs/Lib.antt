@@ -1,3 +1,4 @@
+pub mod Prelude
 pub mod LineLemmas
 pub mod SplitLemmas
 pub mod RuleLemmas

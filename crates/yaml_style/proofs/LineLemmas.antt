@@ -1,13 +1,9 @@
 -- Where the first line of a text ends.
-use Rattle.std.proofs.Common.{◌≡◌, ◌≢◌, ℕ, suc, ◌<◌, inl, inr, Bool, true, false, not, ◌&&◌, ◌||◌, ◌==◌, List, []}
-use Rattle.std.proofs.Common.{◌∷◌, ◌++◌, Some, length, slice_get, refl, ap, sym, ◌∙◌, arith, append-nil}
-use Rattle.std.specs.List.{list_all}
-use Rattle.std.proofs.lemmas.Bool.{and_parts, eqb-true, cases_Bool}
+use Rattle.std.proofs.Common.{◌≡◌, ◌≢◌, ℕ, suc, ◌<◌, inl, inr, Bool, true, false, not, ◌&&◌, ◌||◌, ◌==◌, List, [], ◌∷◌, ◌++◌, Some, length}
+use Rattle.std.proofs.Common.{slice_get, refl, ap, sym, ◌∙◌, arith, append-nil}
+use Rattle.yaml_style.proofs.Prelude.{list_all, and_parts, eqb-true, cases_Bool, line_break, StartsWithBreak, cr_lf, lf, cr, no_break}
+use Rattle.yaml_style.proofs.Prelude.{NoBreak, line_feed, carriage_return, first}
 use Rattle.std.proofs.lemmas.List.Sums.{list_all-from_AllPass}
-use Rattle.yaml_chars.specs.Classes.{line_break}
-use Rattle.yaml_chars.specs.Breaks.{StartsWithBreak, cr_lf, lf, cr, no_break, NoBreak}
-use Rattle.yaml_chars.specs.Signs.{line_feed, carriage_return}
-use Rattle.yaml_grammar.specs.Texts.{first}
 use Rattle.yaml_style.specs.Lines.{ends_break, lines, content, line_end, breaks}
 
 -- ---- one character

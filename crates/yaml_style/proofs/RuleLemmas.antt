@@ -1,19 +1,13 @@
 -- What the bytes of a line tell of each rule.
-use Rattle.std.proofs.Common.{◌≡◌, ◌≢◌, ℕ, ◌-◌, ◌<◌, ◌≤◌, Bool, true, false, not, ◌==◌, List, [], ◌∷◌, ◌++◌, length}
-use Rattle.std.proofs.Common.{take, drop, refl, ap, sym, ◌∙◌, arith, append-nil, append_assoc, inl, inr, lit<}
-use Rattle.std.proofs.Common.{take-append-drop}
+use Rattle.std.proofs.Common.{◌≡◌, ◌≢◌, ℕ, ◌-◌, ◌<◌, ◌≤◌, Bool, true, false, not, ◌==◌, List, [], ◌∷◌, ◌++◌, length, take, drop, refl, ap}
+use Rattle.std.proofs.Common.{sym, ◌∙◌, arith, append-nil, append_assoc, inl, inr, lit<, take-append-drop}
+use Rattle.yaml_style.proofs.Prelude.{chars, IsUtf8, IsCharBoundary, cases_Bool, eqb-true, or_from, lt-ltb, le-ltb, and_parts, drop_all}
+use Rattle.yaml_style.proofs.Prelude.{chars-append, IsUtf8-take, encode_ascii, encodes-chars, length-le-encodes, white, tab, line_feed}
+use Rattle.yaml_style.proofs.Prelude.{space_char, same_text}
 use lib.Utf8.{encodes, encode}
 use lib.Dec.{eqb}
 use lib.Pointwise.{pointwise}
-use Rattle.std.specs.Str.{chars, IsUtf8, IsCharBoundary}
-use Rattle.std.proofs.lemmas.Bool.{cases_Bool, eqb-true, or_from, lt-ltb, le-ltb, and_parts}
-use Rattle.std.proofs.lemmas.List.{drop_all}
-use Rattle.std.proofs.lemmas.Str.{chars-append, IsUtf8-take, encode_ascii, encodes-chars, length-le-encodes}
-use Rattle.yaml_chars.specs.Classes.{white}
-use Rattle.yaml_chars.specs.Signs.{tab, line_feed, space_char}
-use Rattle.yaml_grammar.specs.Texts.{same_text}
-use Rattle.yaml_style.specs.declared.finding.Finding.{Finding}
-use Rattle.yaml_style.specs.declared.finding.Rule.{Rule}
+use Rattle.yaml_style.specs.{declared.finding.Finding.Finding, declared.finding.Rule.Rule}
 use Rattle.yaml_style.specs.Findings.{ends_in_white, ends_otherwise, is_long, found}
 
 -- ---- a space or TAB at the end

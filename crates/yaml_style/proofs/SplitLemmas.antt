@@ -1,15 +1,10 @@
 -- The first line of a text, by the place of its break in the bytes.
-use Rattle.std.proofs.Common.{◌≡◌, ℕ, suc, ◌+◌, ◌<◌, ◌≤◌, List, [], ◌∷◌, ◌++◌, length, refl, ap, sym, ◌∙◌, subst}
-use Rattle.std.proofs.Common.{arith, ◌==◌, true, false, inl, inr}
+use Rattle.std.proofs.Common.{◌≡◌, ℕ, suc, ◌+◌, ◌<◌, ◌≤◌, List, [], ◌∷◌, ◌++◌, length, refl, ap, sym, ◌∙◌, subst, arith, ◌==◌, true, false}
+use Rattle.std.proofs.Common.{inl, inr}
+use Rattle.yaml_style.proofs.Prelude.{chars, IsUtf8, append_cancel_right, IsCharBoundary-start, chars-nil, encodes-chars, eqb-true}
+use Rattle.yaml_style.proofs.Prelude.{eqb-false, cases_Bool, StartsWithBreak, cr_lf, lf, cr, NoBreak, EndsLine, rest, between, rest-between}
+use Rattle.yaml_style.proofs.Prelude.{is_empty}
 use lib.Utf8.{encodes}
-use Rattle.std.specs.Str.{chars, IsUtf8}
-use Rattle.std.proofs.lemmas.List.{append_cancel_right}
-use Rattle.std.proofs.lemmas.Str.{IsCharBoundary-start, chars-nil, encodes-chars}
-use Rattle.std.proofs.lemmas.Bool.{eqb-true, eqb-false, cases_Bool}
-use Rattle.yaml_chars.specs.Breaks.{StartsWithBreak, cr_lf, lf, cr, NoBreak, EndsLine}
-use Rattle.yaml_chars.specs.Places.{rest, between}
-use Rattle.yaml_chars.proofs.Places.{rest-between}
-use Rattle.yaml_grammar.specs.Texts.{is_empty}
 use Rattle.yaml_style.specs.Lines.{breaks}
 use Rattle.yaml_style.proofs.LineLemmas.{has_break, IsFirstLine, first_line, last_line, one_more_break}
 

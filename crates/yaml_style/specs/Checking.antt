@@ -1,12 +1,9 @@
 -- What the findings of bytes are.
 use Rattle.std.specs.Prelude.{◌≡◌, ℕ, List}
-use Rattle.std.specs.Str.{chars}
+use Rattle.yaml_style.specs.Prelude.{chars, config_limits, IsRead}
 use Rattle.yaml_grammar.specs.Style.{style_text}
 use Rattle.yaml_grammar.specs.Trees.{Tree}
-use Rattle.yaml_config.specs.Limits.{config_limits}
-use Rattle.yaml_tree.specs.Reading.{IsRead}
-use Rattle.yaml_style.specs.declared.finding.Finding.{Finding}
-use Rattle.yaml_style.specs.Findings.{findings}
+use Rattle.yaml_style.specs.{declared.finding.Finding.Finding, Findings.findings}
 
 -- the bytes give a tree, and these are the findings of their text
 pub record IsChecked (bytes : List ℕ) (all : List Finding) : Type 0 where

@@ -1,7 +1,7 @@
 -- A text compared with one that is written: what is left of the text after the longest prefix that both share, and
 -- whether all that is written is that prefix. And a count of what is written.
 use Rattle.std.specs.Prelude.{◌≡◌, ℕ, ◌+◌, min, Bool, true, false, ◌==◌, List, [], ◌∷◌, if◌then◌else◌}
-use Rattle.yaml_grammar.specs.Texts.{byte_len}
+use Rattle.yaml_style.specs.Prelude.{byte_len}
 
 -- the comparison after more is written: what is left of the text, and whether all that was written agrees with it
 abbrev pub comparison_after : List ℕ → Bool → List ℕ → List ℕ × Bool

@@ -1,12 +1,8 @@
 -- What is found in a text: each rule, and the findings in order.
 use Rattle.std.specs.Prelude.{ℕ, suc, Bool, true, false, not, ◌==◌, nat_lt, List, [], ◌∷◌, ◌++◌, length, codes}
 use Rattle.std.specs.Prelude.{if◌then◌else◌, Option, Some, None}
-use Rattle.std.specs.List.{insert, position_or_len}
-use Rattle.yaml_chars.specs.Classes.{white}
-use Rattle.yaml_chars.specs.Signs.{line_feed}
-use Rattle.yaml_grammar.specs.Texts.{same_text}
-use Rattle.yaml_style.specs.declared.finding.Finding.{Finding}
-use Rattle.yaml_style.specs.declared.finding.Rule.{Rule}
+use Rattle.yaml_style.specs.Prelude.{insert, position_or_len, white, line_feed, same_text}
+use Rattle.yaml_style.specs.{declared.finding.Finding.Finding, declared.finding.Rule.Rule}
 use Rattle.yaml_style.specs.declared.finding.Rule.TheVariants.{TrailingWhitespace, LineEnd, LongLine, NotInStyle}
 use Rattle.yaml_style.specs.Lines.{lines, content, line_end, breaks}
 

@@ -1,8 +1,6 @@
 -- The lines of a text (YAML 1.2.2, 5.4).
 use Rattle.std.specs.Prelude.{ℕ, suc, Bool, not, ◌&&◌, ◌||◌, ◌==◌, List, [], ◌∷◌, if◌then◌else◌}
-use Rattle.yaml_chars.specs.Classes.{line_break}
-use Rattle.yaml_chars.specs.Signs.{line_feed, carriage_return}
-use Rattle.yaml_grammar.specs.Texts.{first}
+use Rattle.yaml_style.specs.Prelude.{line_break, line_feed, carriage_return, first}
 
 -- A break ends with LF, or with a CR that no LF follows.
 abbrev pub ends_break : ℕ → List ℕ → Bool

@@ -1,6 +1,6 @@
 -- What a line of src/ is in the definitions.
 use Rattle.std.specs.Prelude.{ℕ, List, ◌++◌}
-use Rattle.std.specs.Str.{chars}
+use Rattle.yaml_style.specs.Prelude.{chars}
 use Rattle.yaml_style.specs.declared.lines.Line.{Line}
 
 -- a line with its break

@@ -1,6 +1,6 @@
 // A text compared with one that is written piece by piece.
 ghost use Rattle.std.specs.Prelude.{◌≡◌, ◌+◌, ◌<◌, false, true, [], ◌∷◌, IfNone, IfSome};
-ghost use Rattle.std.specs.Str.{IsCharBoundary, chars};
+ghost use Rattle.yaml_style.specs.Prelude.{IsCharBoundary, chars};
 ghost use Rattle.yaml_chars.specs.Places.{rest};
 ghost use Rattle.yaml_style.specs.Comparing.{comparison_after};
 

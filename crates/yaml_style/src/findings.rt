@@ -1,13 +1,9 @@
 // The findings of a text.
 ghost use Rattle.std.specs.Prelude.{◌≡◌, ℕ, ◌≤◌, ◌<◌, ◌↔◌, true, List, ◌++◌, Err, IfOk, IfErr, OnOk, length, nat_lt};
-ghost use Rattle.std.specs.List.{position_or_len};
-ghost use Rattle.std.specs.Str.{chars};
-ghost use Rattle.yaml_grammar.specs.Texts.{is_empty};
+ghost use Rattle.yaml_style.specs.Prelude.{position_or_len, chars, is_empty, config_limits, Refuses};
 ghost use Rattle.yaml_style.specs.Checking.{IsChecked};
-ghost use Rattle.yaml_config.specs.Limits.{config_limits};
 ghost use Rattle.yaml_style.specs.Comparing.{comparison_after};
 ghost use Rattle.yaml_style.specs.Findings.{style_line, with_style};
-ghost use Rattle.yaml_tree.specs.Reading.{Refuses};
 
 use crate::comparison::{Comparison, CountedComparison};
 use crate::lines::{break_count, line_findings};

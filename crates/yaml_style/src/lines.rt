@@ -1,6 +1,6 @@
 // The lines of a text, and what is found on each.
 ghost use Rattle.std.specs.Prelude.{◌≡◌, ◌<◌, ◌≤◌, ◌+◌, ◌++◌, ◌∷◌, length, IfOk, OnOk};
-ghost use Rattle.std.specs.Str.{chars};
+ghost use Rattle.yaml_style.specs.Prelude.{chars};
 ghost use Rattle.yaml_style.specs.Lines.{lines, content, line_end, breaks};
 ghost use Rattle.yaml_style.specs.Findings.{ends_in_white, ends_otherwise, is_long, found, on_line, line_findings};
 ghost use Rattle.yaml_style.specs.Seen.{line_chars};

@@ -1,18 +1,10 @@
 -- Keys that ascend differ.
-use Rattle.std.proofs.Common.{◌≡◌, ℕ, suc, ◌+◌, ◌-◌, ◌<◌, ◌==◌, Bool, true, false, not, ◌&&◌, ◌||◌, List, [], ◌∷◌, length, get_or}
-use Rattle.std.proofs.Common.{Less, nat_cmp, refl, sym, ap, ap₂, ◌∙◌, subst, true≢false, arith}
-use Rattle.std.proofs.lemmas.Bool.{eqb-true}
-use Rattle.std.proofs.lemmas.Bool.Decides.{nat_tests}
-use Rattle.std.proofs.lemmas.List.{get_or_default}
+use Rattle.std.proofs.Common.{◌≡◌, ℕ, suc, ◌+◌, ◌-◌, ◌<◌, ◌==◌, Bool, true, false, not, ◌&&◌, ◌||◌, List, [], ◌∷◌, length, get_or, Less}
+use Rattle.std.proofs.Common.{nat_cmp, refl, sym, ap, ap₂, ◌∙◌, subst, true≢false, arith}
+use Rattle.yaml_styled.proofs.Prelude.{eqb-true, nat_tests, get_or_default, AllAdjacentBelow, chars, same_text, has_key, keys_differ}
+use Rattle.yaml_styled.proofs.Prelude.{same_text-Decides, same_bytes}
 use Rattle.std.specs.Cmp.Lexicographic.{slice_cmp, nat_list_cmp_total}
-use Rattle.std.specs.List.{AllAdjacentBelow}
 use Rattle.std.specs.Ordering.{is_lt, ordering_reverse}
-use Rattle.std.specs.Str.{chars}
-use Rattle.yaml_grammar.specs.Texts.{same_text}
-use Rattle.yaml_grammar.specs.Trees.{has_key}
-use Rattle.yaml_data.specs.Keys.{keys_differ}
-use Rattle.yaml_data.proofs.CharacterLemmas.{same_text-Decides}
-use Rattle.yaml_data.proofs.KeyLemmas.{same_bytes}
 use Rattle.yaml_styled.specs.Names.{named, IsBelow}
 use Rattle.yaml_styled.proofs.NameLemmas.{Key}
 

@@ -1,9 +1,6 @@
 -- Lists of the code with one tree or pair more.
 use Rattle.std.proofs.Common.{◌≡◌, List, [], ◌∷◌, ◌++◌, refl, ap}
-use Rattle.std.specs.Str.{chars}
-use Rattle.yaml_grammar.specs.Trees.{element, member}
-use Rattle.yaml_data.specs.Seen.{Pair, tree_of, elements_of, members_of}
-use Rattle.yaml_data.specs.TextBytes.{text_bytes}
+use Rattle.yaml_styled.proofs.Prelude.{chars, element, member, Pair, tree_of, elements_of, members_of, text_bytes}
 use Rattle.yaml_data.specs.declared.tree.Tree.{Tree}
 use Rattle.yaml_styled.specs.Parts.{elements_and, members_and}
 

@@ -1,3 +1,4 @@
+pub mod Prelude
 pub mod BlockRuns
 pub mod RunLemmas
 pub mod WordLemmas

@@ -1,16 +1,10 @@
 -- Keys of members, and keys that differ.
 use Rattle.std.proofs.Common.{◌≡◌, ℕ, Bool, true, false, not, ◌&&◌, ◌||◌, List, [], ◌∷◌, ◌++◌, length, drop, Bor, refl, ap, ap₂, ◌∙◌}
+use Rattle.yaml_styled.proofs.Prelude.{chars, IsUtf8, same_text, Tree, Members, no_member, member, has_key, nothing, key_members}
+use Rattle.yaml_styled.proofs.Prelude.{keys_differ, text_bytes, same_text-Decides, same_bytes}
 use Rattle.std.proofs.Math.Seq.{drop-append_seam}
-use Rattle.std.specs.Str.{chars, IsUtf8}
-use Rattle.yaml_grammar.specs.Texts.{same_text}
-use Rattle.yaml_grammar.specs.Trees.{Tree, Members, no_member, member, has_key}
-use Rattle.yaml_data.specs.Keys.{nothing, key_members, keys_differ}
-use Rattle.yaml_data.specs.TextBytes.{text_bytes}
 use Rattle.yaml_data.specs.declared.text.Text.{Text}
-use Rattle.yaml_data.proofs.CharacterLemmas.{same_text-Decides}
-use Rattle.yaml_data.proofs.KeyLemmas.{same_bytes}
-use Rattle.yaml_styled.specs.Parts.{members_and}
-use Rattle.yaml_styled.specs.Names.{named, keys_alone}
+use Rattle.yaml_styled.specs.{Parts.members_and, Names.named, Names.keys_alone}
 
 abbrev pub Key : Type 0
 Key = Bor (List ℕ)

@@ -1,16 +1,11 @@
 -- Rows of a collection that are read one after another.
 use Rattle.std.proofs.Common.{◌≡◌, ℕ, ◌+◌, ◌≤◌, true, List, [], ◌∷◌, ◌++◌, codes, refl, sym, ap, ◌∙◌, append-nil, append_assoc, arith}
-use Rattle.std.specs.Str.{chars, IsUtf8}
-use Rattle.yaml_grammar.specs.Texts.{spaces}
-use Rattle.yaml_grammar.specs.Trees.{Tree, sequence, mapping, Elements, no_element, element, Members, no_member, member}
-use Rattle.yaml_grammar.specs.Style.{key_lines, elements_at, elements_after, lines_after_dash, members_at, members_after, value_at}
-use Rattle.yaml_data.specs.Keys.{nothing, keys_differ}
-use Rattle.yaml_writer.specs.Sizes.{indented, elements_indented, elements_after_indented, indented_key_lines}
-use Rattle.yaml_writer.specs.Sizes.{members_indented, members_after_indented, value_indented, is_filled}
-use Rattle.yaml_styled.specs.Taking.{Took, took_none, took_both}
-use Rattle.yaml_styled.specs.Parts.{lines_of, elements_and, members_and, IsRead}
-use Rattle.yaml_styled.specs.Names.{named, keys_alone}
-use Rattle.yaml_styled.specs.Sounds.{SoundElements, SoundMembers}
+use Rattle.yaml_styled.proofs.Prelude.{chars, IsUtf8, spaces, Tree, sequence, mapping, Elements, no_element, element, Members, no_member}
+use Rattle.yaml_styled.proofs.Prelude.{member, key_lines, elements_at, elements_after, lines_after_dash, members_at, members_after}
+use Rattle.yaml_styled.proofs.Prelude.{value_at, nothing, keys_differ, indented, elements_indented, elements_after_indented}
+use Rattle.yaml_styled.proofs.Prelude.{indented_key_lines, members_indented, members_after_indented, value_indented, is_filled}
+use Rattle.yaml_styled.specs.{Taking.Took, Taking.took_none, Taking.took_both, Parts.lines_of, Parts.elements_and, Parts.members_and}
+use Rattle.yaml_styled.specs.{Parts.IsRead, Names.named, Names.keys_alone, Sounds.SoundElements, Sounds.SoundMembers}
 use Rattle.yaml_styled.proofs.NameLemmas.{Key, keys_differ-alone, keys_alone-and, named-and}
 use Rattle.yaml_styled.proofs.SoundLemmas.{chars-IsText, more_elements, more_members, sequence_sound, mapping_sound, looser}
 use Rattle.yaml_styled.proofs.TakingLemmas.{took_as, took_end, took_after_none}

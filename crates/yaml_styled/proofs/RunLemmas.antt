@@ -1,14 +1,7 @@
 -- Runs of bytes, and what stands in them.
-use Rattle.std.proofs.Common.{◌≡◌, ℕ, zero, suc, ◌+◌, ◌<◌, ◌≤◌, Bool, true, inl, inr, List, [], ◌∷◌, length, get_or, take}
-use Rattle.std.proofs.Common.{refl, ap₂, arith}
-use Rattle.std.proofs.lemmas.Bool.{and_from, cases_lt, eqb-true}
-use Rattle.std.specs.List.{list_all}
-use Rattle.std.specs.Str.{chars}
-use Rattle.std.proofs.lemmas.Str.{chars-IsAscii}
-use Rattle.yaml_data.proofs.CharacterLemmas.{every-IsAscii}
-use Rattle.yaml_chars.specs.Signs.{space_char}
-use Rattle.yaml_chars.specs.Classes.{space}
-use Rattle.yaml_grammar.specs.Texts.{spaces}
+use Rattle.std.proofs.Common.{◌≡◌, ℕ, zero, suc, ◌+◌, ◌<◌, ◌≤◌, Bool, true, inl, inr, List, [], ◌∷◌, length, get_or, take, refl, ap₂, arith}
+use Rattle.yaml_styled.proofs.Prelude.{and_from, cases_lt, eqb-true, list_all, chars, chars-IsAscii, every-IsAscii, space_char, space}
+use Rattle.yaml_styled.proofs.Prelude.{spaces}
 use Rattle.yaml_styled.specs.Blocks.{IsBlockRun, IsRun}
 
 -- a run goes on by what passes in a block

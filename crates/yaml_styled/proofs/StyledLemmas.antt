@@ -1,20 +1,13 @@
 -- The size of what was read, from its bytes and its lines.
-use Rattle.std.proofs.Common.{◌≡◌, ℕ, ◌+◌, ◌-◌, ◌*◌, ◌≤◌, true, false, List, ◌++◌, length, encode_utf8_all, refl, sym}
-use Rattle.std.proofs.Common.{ap, ◌∙◌, length-append, arith}
+use Rattle.std.proofs.Common.{◌≡◌, ℕ, ◌+◌, ◌-◌, ◌*◌, ◌≤◌, true, false, List, ◌++◌, length, encode_utf8_all, refl, sym, ap, ◌∙◌}
+use Rattle.std.proofs.Common.{length-append, arith}
+use Rattle.yaml_styled.proofs.Prelude.{byte_len, Tree, text, sequence, mapping, no_element, element, no_member, member, scalar_lines}
+use Rattle.yaml_styled.proofs.Prelude.{lines_after_dash, style_text, value_at, indented, indented_scalar_lines, value_indented, is_filled}
+use Rattle.yaml_styled.proofs.Prelude.{element_size, Size, byte_len-encoded, same_size, filled_value, other_value}
 use Rattle.std.proofs.lemmas.Nat.{mul-le}
-use Rattle.yaml_grammar.specs.Texts.{byte_len}
-use Rattle.yaml_grammar.specs.Trees.{Tree, text, sequence, mapping, no_element, element, no_member, member}
-use Rattle.yaml_grammar.specs.Style.{scalar_lines, lines_after_dash, style_text, value_at}
-use Rattle.yaml_writer.specs.Sizes.{indented, indented_scalar_lines, value_indented, is_filled, element_size}
-use Rattle.yaml_writer.specs.declared.size.Size.{Size}
-use Rattle.yaml_writer.proofs.ByteLemmas.{byte_len-encoded}
 use Rattle.yaml_writer.proofs.SizeLaws.{value_law, scalar_law, elements_law, members_law}
-use Rattle.yaml_writer.proofs.SizeSums.{same_size, filled_value, other_value}
-use Rattle.yaml_styled.specs.Comparing.{GoesOn}
-use Rattle.yaml_styled.specs.Parts.{lines_of, IsRead}
-use Rattle.yaml_styled.specs.Styles.{IsStyled}
-use Rattle.yaml_styled.proofs.SoundLemmas.{looser}
-use Rattle.yaml_styled.proofs.ValueLemmas.{after_dash}
+use Rattle.yaml_styled.specs.{Comparing.GoesOn, Parts.lines_of, Parts.IsRead, Styles.IsStyled}
+use Rattle.yaml_styled.proofs.{SoundLemmas.looser, ValueLemmas.after_dash}
 
 -- how many bytes are taken off
 bytes_taken : (before rest written : List ℕ) → GoesOn before written rest

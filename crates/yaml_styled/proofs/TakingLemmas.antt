@@ -1,7 +1,6 @@
 -- Pieces that are taken.
 use Rattle.std.proofs.Common.{◌≡◌, ◌+◌, ℕ, List, [], ◌++◌, IsUtf8, encode_utf8_all, refl, sym, ap, ◌∙◌, add-zero, zero-add, append-nil}
-use Rattle.std.proofs.lemmas.Str.{encodes-chars}
-use Rattle.std.specs.Str.{chars}
+use Rattle.yaml_styled.proofs.Prelude.{encodes-chars, chars}
 use Rattle.yaml_styled.specs.Taking.{Took, took_both}
 
 -- bytes that are a text are taken
@@ -11,10 +10,6 @@ took_bytes {piece = piece} {rest = rest} before utf8 same = record {
   goes_on = same ∙ ap (λ bytes. bytes ++ rest) (sym (encodes-chars piece utf8));
   counted = sym (add-zero before);
 }
-
--- lines are counted, and nothing is taken
-pub took_count : (text : List ℕ) (before n : ℕ) → Took text before [] n text (before + n)
-took_count text before n = record { goes_on = refl; counted = refl }
 
 -- the same pieces, otherwise put together
 pub took_as : {text rest cs ds : List ℕ} {before after m n : ℕ} → cs ≡ ds → m ≡ n

@@ -1,29 +1,17 @@
 -- Texts of ASCII that are taken: plain ones, and those in double quotes.
-use Rattle.std.proofs.Common.{◌≡◌, ℕ, ◌<◌, ◌≤◌, true, false, not, ◌&&◌, ◌||◌, ◌==◌, nat_le, nat_lt, List, [], ◌∷◌, ◌++◌, codes}
-use Rattle.std.proofs.Common.{length, get_or, IsAscii, refl, sym, ap, ap₂, subst, ◌∙◌, add-zero, append_assoc, arith}
-use Rattle.std.proofs.lemmas.Bool.{and_from, and_parts, le-leb, leb-true, ltb-true}
-use Rattle.std.proofs.lemmas.Bool.Decides.{nat_tests}
-use Rattle.std.proofs.lemmas.Str.{encodes-IsAscii, IsUtf8-from_ascii}
-use Rattle.std.specs.List.{list_all}
-use Rattle.std.specs.Str.{chars}
-use Rattle.yaml_chars.specs.Classes.{is_in}
-use Rattle.yaml_chars.specs.Signs.{line_feed}
-use Rattle.yaml_grammar.specs.Texts.{first}
-use Rattle.yaml_grammar.specs.Trees as tree
-use Rattle.yaml_grammar.specs.Style.{letter, word_char, plain_in_style, lower, is_among, special_words, long_key, key_lines, scalar_lines}
-use Rattle.yaml_data.proofs.CharacterLemmas.{every-IsAscii}
-use Rattle.yaml_writer.specs.Runs.{stands_alone}
+use Rattle.std.proofs.Common.{◌≡◌, ℕ, ◌<◌, ◌≤◌, true, false, not, ◌&&◌, ◌||◌, ◌==◌, nat_le, nat_lt, List, [], ◌∷◌, ◌++◌, codes, length}
+use Rattle.std.proofs.Common.{get_or, IsAscii, refl, sym, ap, ap₂, subst, ◌∙◌, add-zero, append_assoc, arith}
+use Rattle.yaml_styled.proofs.Prelude.{and_from, and_parts, le-leb, leb-true, ltb-true, nat_tests, encodes-IsAscii, IsUtf8-from_ascii}
+use Rattle.yaml_styled.proofs.Prelude.{list_all, chars, is_in, line_feed, first, letter, word_char, plain_in_style, lower, is_among}
+use Rattle.yaml_styled.proofs.Prelude.{special_words, long_key, key_lines, scalar_lines, every-IsAscii, stands_alone, indented_key_lines}
+use Rattle.yaml_styled.proofs.Prelude.{indented_scalar_lines, short_key}
 use Rattle.yaml_writer.specs.ScalarStyles.{special_initials}
-use Rattle.yaml_writer.specs.Sizes.{indented_key_lines, indented_scalar_lines}
 use Rattle.yaml_writer.proofs.QuotedLemmas.{quoted_chars-alone, run_IsUtf8, stands_alone-below}
 use Rattle.yaml_writer.proofs.ScalarLemmas.{word_char-below}
-use Rattle.yaml_writer.proofs.SizeBounds.{short_key}
 use Rattle.yaml_writer.proofs.SpecialWords.{none_longer, other_initial, same_length}
-use Rattle.yaml_styled.specs.Sounds.{Sound}
-use Rattle.yaml_styled.specs.Taking.{Took, took_both}
-use Rattle.yaml_styled.proofs.RunLemmas.{run_same}
-use Rattle.yaml_styled.proofs.SoundLemmas.{text_sound}
-use Rattle.yaml_styled.proofs.TakingLemmas.{took_as}
+use Rattle.yaml_styled.specs.{Sounds.Sound, Taking.Took, Taking.took_both}
+use Rattle.yaml_styled.proofs.{RunLemmas.run_same, SoundLemmas.text_sound, TakingLemmas.took_as}
+use Rattle.yaml_grammar.specs.Trees as tree
 
 -- a text of word characters is its own characters
 pub word_same : (word : List ℕ) → list_all word_char word ≡ true → chars word ≡ word

@@ -1,11 +1,9 @@
 -- The keys of members.
 use Rattle.std.specs.Prelude.{◌≡◌, ℕ, List, [], ◌∷◌}
+use Rattle.std.proofs.Common.{Less, nat_cmp}
+use Rattle.yaml_styled.specs.Prelude.{chars, IsUtf8, Members, no_member, member, nothing}
 use Rattle.std.specs.Borrow.{Bor}
 use Rattle.std.specs.Cmp.Lexicographic.{slice_cmp}
-use Rattle.std.proofs.Common.{Less, nat_cmp}
-use Rattle.std.specs.Str.{chars, IsUtf8}
-use Rattle.yaml_grammar.specs.Trees.{Members, no_member, member}
-use Rattle.yaml_data.specs.Keys.{nothing}
 
 -- members that have these keys, with values that are not kept
 abbrev pub named : List (Bor (List ℕ)) → Members

@@ -1,9 +1,8 @@
 // What is made of a tree whose lines are read.
 ghost use Rattle.std.specs.Prelude.{◌≡◌, IfOk, OnOk};
-ghost use Rattle.std.specs.Str.{chars};
-ghost use Rattle.yaml_grammar.specs.Trees as grammar;
-ghost use Rattle.yaml_data.specs.Seen.{tree_of};
+ghost use Rattle.yaml_styled.specs.Prelude.{chars, tree_of};
 ghost use Rattle.yaml_styled.specs.Parts.{elements_and, members_and, IsTree, IsAny, AreElements, AreMembers, AreAny};
+ghost use Rattle.yaml_grammar.specs.Trees as grammar;
 
 use std::alloc::{AllocError, Global};
 use yaml_data::{Text, Tree};

@@ -1,8 +1,6 @@
 // Values that begin and end without lines of rows: texts, and collections that hold nothing.
 ghost use Rattle.std.specs.Prelude.{◌≡◌, ◌≤◌, ℕ, IfOk, OnOk, false};
-ghost use Rattle.std.specs.Str.{chars};
-ghost use Rattle.yaml_grammar.specs.Style.{scalar_lines};
-ghost use Rattle.yaml_writer.specs.Sizes.{indented, indented_scalar_lines, is_filled};
+ghost use Rattle.yaml_styled.specs.Prelude.{chars, scalar_lines, indented, indented_scalar_lines, is_filled};
 ghost use Rattle.yaml_styled.specs.Taking.{Took};
 ghost use Rattle.yaml_styled.specs.Parts.{lines_of, IsRead};
 

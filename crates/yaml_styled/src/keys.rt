@@ -1,8 +1,6 @@
 // Keys that are taken off lines.
 ghost use Rattle.std.specs.Prelude.{◌≡◌, ◌≤◌, ◌<◌, ◌^◌, IfOk};
-ghost use Rattle.std.specs.Str.{chars};
-ghost use Rattle.yaml_grammar.specs.Style.{key_lines};
-ghost use Rattle.yaml_writer.specs.Sizes.{indented_key_lines};
+ghost use Rattle.yaml_styled.specs.Prelude.{chars, key_lines, indented_key_lines};
 ghost use Rattle.yaml_styled.specs.Taking.{Took};
 
 use crate::guess::guessed_key;

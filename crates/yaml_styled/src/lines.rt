@@ -1,7 +1,6 @@
 // Lines that are taken piece by piece, as the one style writes them.
 ghost use Rattle.std.specs.Prelude.{◌≡◌, ◌≤◌, ◌++◌, [], ◌∷◌, IfOk, IfSome, OnOk, if◌then◌else◌};
-ghost use Rattle.std.specs.Str.{chars};
-ghost use Rattle.yaml_grammar.specs.Texts.{spaces};
+ghost use Rattle.yaml_styled.specs.Prelude.{chars, spaces};
 ghost use Rattle.yaml_styled.specs.Comparing.{GoesOn};
 ghost use Rattle.yaml_styled.specs.Taking.{Took};
 

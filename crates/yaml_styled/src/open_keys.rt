@@ -1,9 +1,6 @@
 // The keys of the mappings that are being read.
 ghost use Rattle.std.specs.Prelude.{◌≡◌, ◌++◌, [], ◌∷◌, take, drop, length, true, IfOk, OnOk, IsTrue};
-ghost use Rattle.std.specs.Str.{chars, IsUtf8};
-ghost use Rattle.yaml_grammar.specs.Texts.{same_text};
-ghost use Rattle.yaml_grammar.specs.Trees.{has_key};
-ghost use Rattle.yaml_data.specs.Keys.{keys_differ};
+ghost use Rattle.yaml_styled.specs.Prelude.{chars, IsUtf8, same_text, has_key, keys_differ};
 ghost use Rattle.yaml_styled.specs.Names.{named, IsBelow};
 
 use crate::miss::Miss;

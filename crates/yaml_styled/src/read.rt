@@ -1,7 +1,6 @@
 // Trees read from their lines, as `style.rt` of `yaml_writer` writes them.
 ghost use Rattle.std.specs.Prelude.{◌≡◌, ◌+◌, ◌*◌, ◌^◌, ◌<◌, IfOk, OnOk, true, false};
-ghost use Rattle.yaml_grammar.specs.Style.{lines_after_dash, value_at};
-ghost use Rattle.yaml_writer.specs.Sizes.{indented, value_indented, is_filled};
+ghost use Rattle.yaml_styled.specs.Prelude.{lines_after_dash, value_at, indented, value_indented, is_filled};
 ghost use Rattle.yaml_styled.specs.Parts.{lines_of, IsRead};
 
 use crate::build::Build;

@@ -1,7 +1,6 @@
 // What callers read: a value, a text, a key.
 ghost use Rattle.std.specs.Prelude.{◌≡◌, ◌+◌, ◌-◌, ◌*◌, ◌^◌, ◌<◌, length, IfOk};
-ghost use Rattle.std.specs.Str.{chars};
-ghost use Rattle.yaml_grammar.specs.Style.{key_lines, style_text, value_at};
+ghost use Rattle.yaml_styled.specs.Prelude.{chars, key_lines, style_text, value_at};
 ghost use Rattle.yaml_data.specs.TextBytes.{text_bytes};
 ghost use Rattle.yaml_styled.specs.Comparing.{GoesOn};
 ghost use Rattle.yaml_styled.specs.Parts.{IsTree, IsAny};

@@ -1,8 +1,7 @@
 // Texts of ASCII at the start of lines: plain, or in double quotes without an escape.
 ghost use Rattle.std.specs.Prelude.{◌≡◌, ◌≤◌, ◌<◌, ◌∷◌, ◌++◌, codes, true, false, length, IfSome, IsTrue};
+ghost use Rattle.yaml_styled.specs.Prelude.{chars, letter, plain_in_style, word_char};
 ghost use Rattle.std.specs.List.{list_all};
-ghost use Rattle.std.specs.Str.{chars};
-ghost use Rattle.yaml_grammar.specs.Style.{letter, plain_in_style, word_char};
 ghost use Rattle.yaml_writer.specs.Runs.{stands_alone};
 ghost use Rattle.yaml_writer.specs.ScalarStyles.{special_initials};
 ghost use Rattle.yaml_chars.specs.Classes.{is_in};

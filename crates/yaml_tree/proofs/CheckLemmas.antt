@@ -1,15 +1,9 @@
 -- Open parts after one event more.
 use Rattle.std.proofs.Common.{◌≡◌, Bool, List, Option, Some, None, Result, MatchResult, sym, ap, subst, ◌∙◌}
-use Rattle.std.proofs.lemmas.Result.{MatchResult-weaker}
-use Rattle.yaml_events.specs.declared.read_fault.ReadFault.{ReadFault}
-use Rattle.yaml_events.specs.declared.read_fault.ReadFault.TheVariants.{TooLong, NotUtf8, Syntax, Documents}
-use Rattle.yaml_events.specs.declared.read_fault.ReadFault.TheVariants.{KeyNotText, KeyTwice, TooDeep, LargeInStyle}
-use Rattle.yaml_events.specs.declared.read_fault.ReadFault.TheVariants.{OutOfMemory}
-use Rattle.yaml_grammar.specs.Trees.{Shape}
-use Rattle.yaml_tree.specs.Building.{HasNone}
-use Rattle.yaml_tree.specs.Frames.{Frame, step}
+use Rattle.yaml_tree.proofs.Prelude.{MatchResult-weaker, ReadFault, TooLong, NotUtf8, Syntax, Documents, KeyNotText, KeyTwice, TooDeep}
+use Rattle.yaml_tree.proofs.Prelude.{LargeInStyle, OutOfMemory, Shape}
+use Rattle.yaml_tree.specs.{Building.HasNone, Frames.Frame, Frames.step, OpenParts.Keeps, OpenParts.KeepsNext}
 use Rattle.yaml_tree.specs.Kept.{Keep, kept_frames, frames_distinct}
-use Rattle.yaml_tree.specs.OpenParts.{Keeps, KeepsNext}
 use Rattle.yaml_tree.proofs.KeptLemmas.{Stepped, IsInner, inner_stepped, inner_none}
 
 -- what a step has done, from what it does to what is kept

@@ -1,11 +1,10 @@
 -- How deep a list of events is.
 use Rattle.std.proofs.Common.{◌≡◌, ℕ, ◌+◌, ◌-◌, ◌≤◌, max, List, [], ◌∷◌, ◌++◌, append_assoc, refl, ap, ◌∙◌, arith}
 use Rattle.std.specs.Prelude.{suc}
+use Rattle.yaml_tree.proofs.Prelude.{Tree, text, sequence, mapping, Elements, no_element, element, Members, no_member, member, Shape}
+use Rattle.yaml_tree.proofs.Prelude.{document_from, document_to, seq_from, seq_to, map_from, map_to, scalar_of, shapes, tree_shapes}
+use Rattle.yaml_tree.proofs.Prelude.{elements_shapes, members_shapes, depth, elements_depth, members_depth, IsTreeOf}
 use Rattle.yaml_grammar.specs.Events as grammar
-use Rattle.yaml_grammar.specs.Trees.{Tree, text, sequence, mapping, Elements, no_element, element, Members, no_member}
-use Rattle.yaml_grammar.specs.Trees.{member, Shape, document_from, document_to, seq_from, seq_to, map_from, map_to}
-use Rattle.yaml_grammar.specs.Trees.{scalar_of, shapes, tree_shapes, elements_shapes, members_shapes, depth}
-use Rattle.yaml_grammar.specs.Trees.{elements_depth, members_depth, IsTreeOf}
 
 -- the greatest depth, where so many collections are open, and d is the greatest one so far
 abbrev pub deepest_from : ℕ → ℕ → List Shape → ℕ

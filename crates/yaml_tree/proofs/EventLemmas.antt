@@ -1,16 +1,10 @@
 -- What events that are taken one after another say of the tree.
 use Rattle.std.proofs.Common.{◌≡◌, List, [], ◌∷◌, Option, Some, None, sym, ap, subst, ◌∙◌}
-use Rattle.yaml_events.specs.declared.read_fault.ReadFault.{ReadFault}
-use Rattle.yaml_events.specs.declared.read_fault.ReadFault.TheVariants.{TooLong, NotUtf8, Syntax, Documents}
-use Rattle.yaml_events.specs.declared.read_fault.ReadFault.TheVariants.{KeyNotText, KeyTwice, TooDeep, LargeInStyle}
-use Rattle.yaml_events.specs.declared.read_fault.ReadFault.TheVariants.{OutOfMemory}
-use Rattle.yaml_events.specs.Meant.{event_of, events_of}
-use Rattle.yaml_events.specs.declared.event.Event.{Event}
-use Rattle.yaml_grammar.specs.Events as grammar
-use Rattle.yaml_grammar.specs.Trees.{Tree, shape, shapes, IsTreeOf}
-use Rattle.yaml_tree.specs.Building.{HasNone, HasNoTree}
-use Rattle.yaml_tree.specs.Frames.{Frame, whole, step, finished_tree}
+use Rattle.yaml_tree.proofs.Prelude.{ReadFault, TooLong, NotUtf8, Syntax, Documents, KeyNotText, KeyTwice, TooDeep, LargeInStyle}
+use Rattle.yaml_tree.proofs.Prelude.{OutOfMemory, event_of, events_of, Event, Tree, shape, shapes, IsTreeOf}
+use Rattle.yaml_tree.specs.{Building.HasNone, Building.HasNoTree, Frames.Frame, Frames.whole, Frames.step, Frames.finished_tree}
 use Rattle.yaml_tree.proofs.FrameLemmas.{run, run-None, document_run, run_written, finished_whole}
+use Rattle.yaml_grammar.specs.Events as grammar
 
 -- ---- an event more
 

@@ -1,12 +1,10 @@
 -- The events of a tree, taken one after another, give that tree; and events that give a tree are those of it.
 use Rattle.std.proofs.Common.{◌≡◌, ℕ, List, [], ◌∷◌, ◌++◌, Option, Some, None, append_assoc, refl, sym, ap, subst, ◌∙◌}
-use Rattle.std.proofs.lemmas.List.{append-nil}
-use Rattle.yaml_grammar.specs.Trees.{Tree, text, sequence, mapping, Elements, no_element, element, Members, no_member}
-use Rattle.yaml_grammar.specs.Trees.{member, Shape, document_from, document_to, seq_from, seq_to, map_from, map_to}
-use Rattle.yaml_grammar.specs.Trees.{scalar_of, tree_shapes, elements_shapes, members_shapes}
-use Rattle.yaml_tree.specs.Frames.{Frame, awaiting, root, whole, in_seq, at_key, at_value, elements_and, members_and}
-use Rattle.yaml_tree.specs.Frames.{frames_with, step, finished_tree}
-use Rattle.yaml_data.proofs.SeenLemmas.{join_elements, join_members}
+use Rattle.yaml_tree.proofs.Prelude.{append-nil, Tree, text, sequence, mapping, Elements, no_element, element, Members, no_member, member}
+use Rattle.yaml_tree.proofs.Prelude.{Shape, document_from, document_to, seq_from, seq_to, map_from, map_to, scalar_of, tree_shapes}
+use Rattle.yaml_tree.proofs.Prelude.{elements_shapes, members_shapes, join_elements, join_members}
+use Rattle.yaml_tree.specs.Frames.{Frame, awaiting, root, whole, in_seq, at_key, at_value, elements_and, members_and, frames_with, step}
+use Rattle.yaml_tree.specs.Frames.{finished_tree}
 
 -- ---- several events
 

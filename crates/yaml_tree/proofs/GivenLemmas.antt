@@ -1,20 +1,10 @@
 -- Bytes give one tree at most, and none where they are refused.
 use Rattle.std.proofs.Common.{◌≡◌, ◌≢◌, ℕ, ◌<◌, true, false, List, refl, sym, subst, ◌∙◌, arith}
-use Rattle.std.specs.Str.{chars}
-use Rattle.yaml_events.specs.declared.read_fault.ReadFault.{ReadFault}
-use Rattle.yaml_events.specs.declared.read_fault.ReadFault.TheVariants.{TooLong, NotUtf8, Syntax, Documents}
-use Rattle.yaml_events.specs.declared.read_fault.ReadFault.TheVariants.{KeyNotText, KeyTwice, TooDeep, LargeInStyle}
-use Rattle.yaml_events.specs.declared.read_fault.ReadFault.TheVariants.{OutOfMemory}
+use Rattle.yaml_tree.proofs.Prelude.{chars, ReadFault, TooLong, NotUtf8, Syntax, Documents, KeyNotText, KeyTwice, TooDeep, LargeInStyle}
+use Rattle.yaml_tree.proofs.Prelude.{OutOfMemory, Limits, Reads, Tree, depth, distinct, IsTreeOf, style_text, byte_len, byte_len-chars}
 use Rattle.yaml_grammar.specs.Events.{Event}
-use Rattle.yaml_grammar.specs.Reads.{Limits, Reads}
-use Rattle.yaml_grammar.specs.Trees.{Tree, depth, distinct, IsTreeOf}
-use Rattle.yaml_grammar.specs.Style.{style_text}
-use Rattle.yaml_grammar.specs.Texts.{byte_len}
 use Rattle.yaml_tree.specs.Reading.{IsRead, RefusesTree, Refuses}
-use Rattle.yaml_writer.proofs.ByteLemmas.{byte_len-chars}
-use Rattle.yaml_tree.proofs.EventLemmas.{tree_is_one}
-use Rattle.yaml_tree.proofs.NestedLemmas.{collection_key_none}
-use Rattle.yaml_tree.proofs.StartLemmas.{tree_counted}
+use Rattle.yaml_tree.proofs.{EventLemmas.tree_is_one, NestedLemmas.collection_key_none, StartLemmas.tree_counted}
 
 -- ---- what bytes give
 

@@ -1,10 +1,8 @@
 -- A change of the innermost part.
-use Rattle.std.proofs.Common.{◌≡◌, ℕ, zero, suc, List, [], ◌∷◌, length, get_or, set, take, Option, Some, Result, Ok}
-use Rattle.std.proofs.Common.{Err, MatchResult, arith, sym, ap, ◌∙◌}
-use Rattle.std.proofs.lemmas.List.{nil_from_length}
-use Rattle.yaml_events.specs.declared.read_fault.ReadFault.{ReadFault}
-use Rattle.yaml_tree.specs.Building.{frames_onto, HasNone}
-use Rattle.yaml_tree.specs.Frames.{Frame, innermost, inside}
+use Rattle.std.proofs.Common.{◌≡◌, ℕ, zero, suc, List, [], ◌∷◌, length, get_or, set, take, Option, Some, Result, Ok, Err, MatchResult}
+use Rattle.std.proofs.Common.{arith, sym, ap, ◌∙◌}
+use Rattle.yaml_tree.proofs.Prelude.{nil_from_length, ReadFault}
+use Rattle.yaml_tree.specs.{Building.frames_onto, Building.HasNone, Frames.Frame, Frames.innermost, Frames.inside}
 use Rattle.yaml_tree.proofs.CheckLemmas.{has_none}
 
 -- the last part is the innermost frame

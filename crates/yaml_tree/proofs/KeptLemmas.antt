@@ -1,17 +1,14 @@
 -- A step of what is kept of open parts is one of the parts themselves.
 use Rattle.std.proofs.Common.{◌≡◌, ℕ, Bool, true, false, ◌&&◌, ◌||◌, not, List, [], ◌∷◌, Option, Some, None, refl, sym, ap, ap₂, subst, ◌∙◌}
-use Rattle.yaml_grammar.specs.Texts.{same_text}
-use Rattle.yaml_grammar.specs.Trees.{Tree, text, sequence, mapping, Elements, no_element, element, Members, no_member}
-use Rattle.yaml_grammar.specs.Trees.{member, Shape, document_from, document_to, seq_from, seq_to, map_from, map_to}
-use Rattle.yaml_grammar.specs.Trees.{scalar_of, distinct, elements_distinct, members_distinct, has_key}
-use Rattle.yaml_tree.specs.Frames.{Frame, awaiting, root, whole, in_seq, at_key, at_value, elements_and, members_and}
-use Rattle.yaml_tree.specs.Frames.{innermost, frames_with, step, after_document_end, after_seq_end, after_map_end}
-use Rattle.yaml_tree.specs.Frames.{finished_tree}
-use Rattle.yaml_tree.specs.Kept.{Keep, trees, keys, kept, kept_elements, kept_members, kept_frames, elements_more}
-use Rattle.yaml_tree.specs.Kept.{with_last, value_placed, scalar_placed, seq_ended, map_ended, frames_distinct}
-use Rattle.yaml_tree.specs.OpenParts.{Finished}
-use Rattle.yaml_data.specs.Keys.{nothing, keys_differ, values_distinct}
+use Rattle.yaml_tree.proofs.Prelude.{same_text, Tree, text, sequence, mapping, Elements, no_element, element, Members, no_member, member}
+use Rattle.yaml_tree.proofs.Prelude.{Shape, document_from, document_to, seq_from, seq_to, map_from, map_to, scalar_of, distinct}
+use Rattle.yaml_tree.proofs.Prelude.{elements_distinct, members_distinct, has_key, nothing, keys_differ, values_distinct}
 use Rattle.yaml_data.proofs.KeyLemmas.{members_distinct-parts}
+use Rattle.yaml_tree.specs.Frames.{Frame, awaiting, root, whole, in_seq, at_key, at_value, elements_and, members_and, innermost}
+use Rattle.yaml_tree.specs.Frames.{frames_with, step, after_document_end, after_seq_end, after_map_end, finished_tree}
+use Rattle.yaml_tree.specs.Kept.{Keep, trees, keys, kept, kept_elements, kept_members, kept_frames, elements_more, with_last, value_placed}
+use Rattle.yaml_tree.specs.Kept.{scalar_placed, seq_ended, map_ended, frames_distinct}
+use Rattle.yaml_tree.specs.OpenParts.{Finished}
 
 -- what is kept of frames, where there are frames
 abbrev pub kept_some : Keep → Option (List Frame) → Option (List Frame)

@@ -1,3 +1,4 @@
+pub mod Prelude
 pub mod DepthLemmas
 pub mod ReadLemmas
 pub mod GivenLemmas

@@ -1,26 +1,15 @@
 -- The open parts of src/parts.rt as frames: what is next in them, and what is written before it.
-use Rattle.std.proofs.Common.{◌≡◌, ℕ, suc, ◌+◌, ◌<◌, Bool, true, false, if◌then◌else◌, ◌==◌, List, [], ◌∷◌, ◌++◌, ◌⊎◌}
-use Rattle.std.proofs.Common.{inl, inr, codes, length, refl, sym, ap, ◌∙◌, arith}
-use Rattle.std.proofs.lemmas.Bool.{ne_eqb}
-use Rattle.yaml_events.specs.Meant.{event_of}
-use Rattle.yaml_events.specs.declared.event.Event.{Event}
+use Rattle.std.proofs.Common.{◌≡◌, ℕ, suc, ◌+◌, ◌<◌, Bool, true, false, if◌then◌else◌, ◌==◌, List, [], ◌∷◌, ◌++◌, ◌⊎◌, inl, inr, codes}
+use Rattle.std.proofs.Common.{length, refl, sym, ap, ◌∙◌, arith}
+use Rattle.yaml_tree.proofs.Prelude.{ne_eqb, event_of, Event, spaces, Members, shape, Text}
 use Rattle.yaml_events.specs.declared.event.Event.TheVariants.{DocStart, SeqStart, MapStart}
-use Rattle.yaml_grammar.specs.Texts.{spaces}
-use Rattle.yaml_grammar.specs.Trees.{Members, shape}
-use Rattle.yaml_tree.specs.Kept.{members_by, elements_by, no_tree}
-use Rattle.yaml_tree.specs.OpenParts.{frame_by_next}
+use Rattle.yaml_tree.specs.{Kept.members_by, Kept.elements_by, Kept.no_tree, OpenParts.frame_by_next}
 use Rattle.yaml_tree.specs.Frames.{Frame, awaiting, root, whole, in_seq, at_key, at_value, awaits_value}
 use Rattle.yaml_tree.specs.OpenText.{indent_in, empty_line, line_start, dash, key_start, seq_end, map_end, added}
-use Rattle.yaml_data.specs.declared.text.Text.{Text}
 
 -- a key of a mapping, without its value
 abbrev Key : Type 0
 Key = Text × Unit {0}
-
--- a mapping awaits a value where the code says so
-pub value_awaited : (ms : Members) (awaits : Bool) (fs : List Frame) → awaits ≡ awaits_value (frame_by_next ms awaits ∷ fs)
-value_awaited ms true fs = refl
-value_awaited ms false fs = refl
 
 -- what comes before the first line of a collection after a key
 pub line_start-after_key : (is_first : Bool) (fs : List Frame) (i : ℕ) → is_first ≡ true → awaits_value fs ≡ true → i ≡ indent_in fs

@@ -1,19 +1,12 @@
 -- Open parts, one more of them or one more thing in one.
 use Rattle.std.proofs.Common.{◌≡◌, ℕ, zero, suc, ◌<◌, ◌&&◌, ◌||◌, not, List, [], ◌∷◌, ◌++◌, length, get_or, set, None, arith, refl, ap, ap₂}
-use Rattle.std.specs.Str.{chars}
-use Rattle.yaml_grammar.specs.Texts.{same_text}
-use Rattle.yaml_grammar.specs.Trees as grammar
-use Rattle.yaml_tree.specs.Building.{frames_onto}
-use Rattle.yaml_tree.specs.Kept.{with_last, members_by}
-use Rattle.yaml_tree.specs.OpenParts.{part_frame, part_frames, open_frame, open_frames}
-use Rattle.yaml_tree.specs.Frames.{Frame, awaiting, root, whole, in_seq, at_key, at_value, elements_and, members_and, finished_tree}
-use Rattle.yaml_data.specs.Keys.{key_members, keys_differ}
-use Rattle.yaml_data.specs.Seen.{Pair, tree_of, elements_of, members_of}
+use Rattle.yaml_tree.proofs.Prelude.{chars, same_text, key_members, keys_differ, Pair, tree_of, elements_of, members_of, Text}
 use Rattle.yaml_data.specs.TextBytes.{text_bytes}
-use Rattle.yaml_tree.specs.declared.kept.Emptiness.{Emptiness}
-use Rattle.yaml_tree.specs.declared.parts.Part.{Part}
-use Rattle.yaml_data.specs.declared.text.Text.{Text}
 use Rattle.yaml_data.specs.declared.tree.Tree.{Tree}
+use Rattle.yaml_tree.specs.{Building.frames_onto, Kept.with_last, Kept.members_by, OpenParts.part_frame, OpenParts.part_frames}
+use Rattle.yaml_tree.specs.{OpenParts.open_frame, OpenParts.open_frames, declared.kept.Emptiness.Emptiness, declared.parts.Part.Part}
+use Rattle.yaml_tree.specs.Frames.{Frame, awaiting, root, whole, in_seq, at_key, at_value, elements_and, members_and, finished_tree}
+use Rattle.yaml_grammar.specs.Trees as grammar
 
 -- the elements of a list with one more tree at the end
 pub elements_of-and : (ts : List Tree) (t : Tree) → elements_of (ts ++ t ∷ []) ≡ elements_and (elements_of ts) (tree_of t)

@@ -1,20 +1,10 @@
 -- What bytes give whose events are those of a tree, and what others are refused for.
 use Rattle.std.proofs.Common.{◌≡◌, ℕ, ◌<◌, ◌≤◌, List, sym, subst}
-use Rattle.std.specs.Str.{chars}
-use Rattle.yaml_events.specs.declared.read_fault.ReadFault.{ReadFault}
-use Rattle.yaml_events.specs.declared.read_fault.ReadFault.TheVariants.{TooLong, NotUtf8, Syntax, Documents}
-use Rattle.yaml_events.specs.declared.read_fault.ReadFault.TheVariants.{KeyNotText, KeyTwice, TooDeep, LargeInStyle}
-use Rattle.yaml_events.specs.declared.read_fault.ReadFault.TheVariants.{OutOfMemory}
+use Rattle.yaml_tree.proofs.Prelude.{chars, ReadFault, TooLong, NotUtf8, Syntax, Documents, KeyNotText, KeyTwice, TooDeep, LargeInStyle}
+use Rattle.yaml_tree.proofs.Prelude.{OutOfMemory, events_of, Event, Limits, Good, Tree, IsTreeOf, depth, byte_len-chars}
 use Rattle.yaml_docs.specs.Reading.{ReadsAs}
-use Rattle.yaml_events.specs.Meant.{events_of}
-use Rattle.yaml_events.specs.declared.event.Event.{Event}
-use Rattle.yaml_grammar.specs.Reads.{Limits, Good}
-use Rattle.yaml_grammar.specs.Trees.{Tree, IsTreeOf, depth}
-use Rattle.yaml_tree.specs.Building.{HasNoTree, RefusesDeep}
-use Rattle.yaml_tree.specs.Reading.{IsRead, Refuses, document_count}
-use Rattle.yaml_writer.proofs.ByteLemmas.{byte_len-chars}
-use Rattle.yaml_tree.proofs.NestedLemmas.{collection_key}
-use Rattle.yaml_tree.proofs.PresentedLemmas.{document_nested}
+use Rattle.yaml_tree.specs.{Building.HasNoTree, Building.RefusesDeep, Reading.IsRead, Reading.Refuses, Reading.document_count}
+use Rattle.yaml_tree.proofs.{NestedLemmas.collection_key, PresentedLemmas.document_nested}
 
 -- a good tree whose events the bytes read as is given by the bytes
 pub tree_read : (bytes : List ℕ) (limits : Limits) (es : List Event) (t : Tree) → ReadsAs bytes limits.bytes es

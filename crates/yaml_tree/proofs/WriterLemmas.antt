@@ -1,33 +1,19 @@
 -- A writer of a document after one event more, and at the end.
-use Rattle.std.proofs.Common.{◌≡◌, ◌≢◌, ℕ, ◌-◌, ◌<◌, ◌≤◌, nat_le, Bool, true, false, if◌then◌else◌, ◌++◌, List, []}
-use Rattle.std.proofs.Common.{◌∷◌, length, Option, Some, None, Result, Err, ◌↔◌, encode_utf8_all, refl, sym, ap}
-use Rattle.std.proofs.Common.{subst, ◌∙◌, arith}
-use Rattle.std.proofs.lemmas.Bool.{leb-true, leb-false}
-use Rattle.yaml_events.specs.Meant.{events_of}
-use Rattle.yaml_events.specs.declared.read_fault.ReadFault.{ReadFault}
-use Rattle.yaml_events.specs.declared.read_fault.ReadFault.TheVariants.{TooLong, KeyTwice, TooDeep, LargeInStyle}
-use Rattle.yaml_grammar.specs.Reads.{Limits, Good}
-use Rattle.yaml_grammar.specs.Style.{style_text}
-use Rattle.yaml_grammar.specs.Texts.{byte_len}
-use Rattle.yaml_grammar.specs.Trees.{Tree, Shape}
-use Rattle.yaml_writer.proofs.ByteLemmas.{byte_len-chars}
+use Rattle.std.proofs.Common.{◌≡◌, ◌≢◌, ℕ, ◌-◌, ◌<◌, ◌≤◌, nat_le, Bool, true, false, if◌then◌else◌, ◌++◌, List, [], ◌∷◌, length, Option}
+use Rattle.std.proofs.Common.{Some, None, Result, Err, ◌↔◌, encode_utf8_all, refl, sym, ap, subst, ◌∙◌, arith}
+use Rattle.yaml_tree.proofs.Prelude.{leb-true, leb-false, events_of, ReadFault, TooLong, KeyTwice, TooDeep, LargeInStyle, Limits, Good}
+use Rattle.yaml_tree.proofs.Prelude.{style_text, byte_len, Tree, Shape, byte_len-chars, shapes}
 use Rattle.yaml_writer.specs.Budget.{left_after}
-use Rattle.yaml_tree.specs.Documents.{IsDocument, IsWrittenTo, with_style}
-use Rattle.yaml_tree.specs.Kept.{keys, elements_by, no_tree, kept_frames}
-use Rattle.yaml_tree.specs.OpenParts.{HoldsKeys, Took, Finished}
-use Rattle.yaml_tree.specs.Formatting.{IsFormatted, Writes, Wrote, IsWritten, indent_after}
-use Rattle.yaml_tree.specs.Frames.{Frame, whole, step, finished_tree}
-use Rattle.yaml_tree.specs.OpenText.{text_of, added, AreTextFrames, BringsText}
-use Rattle.yaml_tree.specs.Reading.{IsRead, Refuses, RefusesTree}
 use Rattle.yaml_writer.specs.Limited.{TakesLimited, room_left, taken}
-use Rattle.yaml_tree.specs.declared.documents.Document.{Document}
-use Rattle.yaml_tree.specs.declared.format.DocumentWriter.{DocumentWriter}
 use Rattle.yaml_writer.specs.declared.limited.LimitedText.{LimitedText}
 use Rattle.yaml_events.specs.declared.event.Event.{Event as CodeEvent}
-use Rattle.yaml_tree.proofs.EventLemmas.{run_tree}
-use Rattle.yaml_tree.proofs.FrameLemmas.{run, finished_whole}
-use Rattle.yaml_grammar.specs.Trees.{shapes}
-use Rattle.yaml_tree.proofs.ReadLemmas.{tree_read}
+use Rattle.yaml_tree.specs.{Documents.IsDocument, Documents.IsWrittenTo, Documents.with_style, Kept.keys, Kept.elements_by, Kept.no_tree}
+use Rattle.yaml_tree.specs.{Kept.kept_frames, OpenParts.HoldsKeys, OpenParts.Took, OpenParts.Finished, Frames.Frame, Frames.whole}
+use Rattle.yaml_tree.specs.{Frames.step, Frames.finished_tree, OpenText.text_of, OpenText.added, OpenText.AreTextFrames}
+use Rattle.yaml_tree.specs.{OpenText.BringsText, Reading.IsRead, Reading.Refuses, Reading.RefusesTree, declared.documents.Document.Document}
+use Rattle.yaml_tree.specs.{declared.format.DocumentWriter.DocumentWriter}
+use Rattle.yaml_tree.specs.Formatting.{IsFormatted, Writes, Wrote, IsWritten, indent_after}
+use Rattle.yaml_tree.proofs.{EventLemmas.run_tree, FrameLemmas.run, FrameLemmas.finished_whole, ReadLemmas.tree_read}
 use Rattle.yaml_tree.proofs.OpenTextLemmas.{IsTextOf, HasTexts, HasIndent, step_text, step_texts, step_indent, added-kept, BringsText-kept}
 
 -- a writer before the first event

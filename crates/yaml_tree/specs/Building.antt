@@ -1,13 +1,9 @@
 -- When events are refused, and lists of parts as frames.
 use Rattle.std.specs.Prelude.{◌≡◌, true, false, List, [], ◌∷◌, Option, None}
-use Rattle.yaml_events.specs.declared.read_fault.ReadFault.{ReadFault}
-use Rattle.yaml_events.specs.declared.read_fault.ReadFault.TheVariants.{TooLong, NotUtf8, Syntax, Documents}
-use Rattle.yaml_events.specs.declared.read_fault.ReadFault.TheVariants.{KeyNotText, KeyTwice, TooDeep, LargeInStyle}
-use Rattle.yaml_events.specs.declared.read_fault.ReadFault.TheVariants.{OutOfMemory}
-use Rattle.yaml_grammar.specs.Events.{Event}
-use Rattle.yaml_grammar.specs.Trees as grammar
-use Rattle.yaml_grammar.specs.Trees.{IsTreeOf, distinct}
+use Rattle.yaml_tree.specs.Prelude.{ReadFault, TooLong, NotUtf8, Syntax, Documents, KeyNotText, KeyTwice, TooDeep}
+use Rattle.yaml_tree.specs.Prelude.{LargeInStyle, OutOfMemory, Event, IsTreeOf, distinct}
 use Rattle.yaml_tree.specs.Frames.{Frame}
+use Rattle.yaml_grammar.specs.Trees as grammar
 
 -- the frames of a list whose last one is the innermost, put before others
 abbrev pub frames_onto : {A : Type 0} → (A → Frame) → List A → List Frame → List Frame

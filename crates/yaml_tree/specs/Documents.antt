@@ -1,13 +1,7 @@
 -- A text that was read as one document, and the text of its tree in the one style.
 use Rattle.std.specs.Prelude.{◌≡◌, ℕ, List}
-use Rattle.yaml_docs.specs.Reading.{ReadsAs}
-use Rattle.yaml_events.specs.Meant.{events_of}
-use Rattle.yaml_grammar.specs.Reads.{Limits}
-use Rattle.yaml_grammar.specs.Style.{style_text}
-use Rattle.yaml_grammar.specs.Texts.{byte_len}
-use Rattle.yaml_grammar.specs.Trees.{Tree, IsTreeOf, depth}
-use Rattle.yaml_tree.specs.Reading.{IsRead, document_count}
-use Rattle.yaml_tree.specs.declared.documents.Document.{Document}
+use Rattle.yaml_tree.specs.Prelude.{ReadsAs, events_of, Limits, style_text, byte_len, Tree, IsTreeOf, depth}
+use Rattle.yaml_tree.specs.{Reading.IsRead, Reading.document_count, declared.documents.Document.Document}
 
 -- the bytes read as the events of one document, which say how deep its tree is, if it has one
 pub record IsDocument (bytes : List ℕ) (limits : Limits) (document : Document) : Type 0 where

@@ -1,9 +1,6 @@
 -- Texts that are read in one pass over the lines of their tree.
 use Rattle.std.specs.Prelude.{◌≡◌, ◌⊎◌, ◌≤◌, ℕ, List, [], ◌++◌, codes, length}
-use Rattle.std.specs.Str.{IsUtf8}
-use Rattle.yaml_grammar.specs.Reads.{Limits}
-use Rattle.yaml_grammar.specs.Style.{style_text}
-use Rattle.yaml_grammar.specs.Trees.{Tree}
+use Rattle.yaml_tree.specs.Prelude.{IsUtf8, Limits, style_text, Tree}
 use Rattle.yaml_styled.specs.Comparing.{GoesOn}
 use Rattle.yaml_styled.specs.Sounds.{Sound}
 use Rattle.yaml_writer.specs.Sizes.{element_size}

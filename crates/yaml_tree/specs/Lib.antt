@@ -1,3 +1,4 @@
+pub mod Prelude
 pub mod Nested
 pub mod Reading
 pub mod OpenText

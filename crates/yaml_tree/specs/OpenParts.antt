@@ -1,15 +1,11 @@
 -- What the open parts of src/parts.rt mean.
 use Rattle.std.specs.Prelude.{◌≡◌, Bool, true, false, List, [], Option, Some}
-use Rattle.yaml_grammar.specs.Events.{Event}
-use Rattle.yaml_grammar.specs.Trees.{Tree, Elements, Members, IsTreeOf, distinct}
+use Rattle.yaml_tree.specs.Prelude.{Event, Tree, Elements, Members, IsTreeOf, distinct}
+use Rattle.yaml_tree.specs.{Building.frames_onto, declared.kept.Emptiness.Emptiness, declared.parts.OpenMap.OpenMap}
+use Rattle.yaml_tree.specs.{declared.parts.Part.Part, declared.parts.Parts.Parts}
 use Rattle.yaml_tree.specs.Frames.{Frame, awaiting, root, whole, in_seq, at_key, at_value}
-use Rattle.yaml_tree.specs.Building.{frames_onto}
 use Rattle.yaml_tree.specs.Kept.{Keep, keys, kept, kept_frames, frames_distinct, members_by, elements_by, no_tree}
-use Rattle.yaml_tree.specs.declared.kept.Emptiness.{Emptiness}
-use Rattle.yaml_tree.specs.declared.parts.OpenMap.{OpenMap}
-use Rattle.yaml_tree.specs.declared.parts.Part.{Part}
 use Rattle.yaml_tree.specs.declared.parts.Part.TheVariants.{Document, Root, Whole, Seq, Map}
-use Rattle.yaml_tree.specs.declared.parts.Parts.{Parts}
 
 -- a mapping, by whether the value of its last key is next
 abbrev pub frame_by_next : Members → Bool → Frame

@@ -1,16 +1,9 @@
 -- Which tree bytes give, and the faults of bytes that give none.
 use Rattle.std.specs.Prelude.{◌≡◌, ◌≢◌, ℕ, suc, ◌<◌, ◌≤◌, List, [], ◌∷◌, length}
-use Rattle.std.specs.Str.{chars, IsUtf8}
+use Rattle.yaml_tree.specs.Prelude.{chars, IsUtf8, Event, document_start, Limits, Reads, Gives, Tree, IsTreeOf}
+use Rattle.yaml_tree.specs.Prelude.{IsShortText, ReadFault, TooLong, NotUtf8, Syntax, Documents, KeyNotText, KeyTwice}
+use Rattle.yaml_tree.specs.Prelude.{TooDeep, LargeInStyle, OutOfMemory, IsFirstFault}
 use Rattle.std.specs.Str.Lossy.{utf8_valid_len}
-use Rattle.yaml_grammar.specs.Events.{Event, document_start}
-use Rattle.yaml_grammar.specs.Reads.{Limits, Reads, Gives}
-use Rattle.yaml_grammar.specs.Trees.{Tree, IsTreeOf}
-use Rattle.yaml_docs.specs.Reading.{IsShortText}
-use Rattle.yaml_events.specs.declared.read_fault.ReadFault.{ReadFault}
-use Rattle.yaml_events.specs.declared.read_fault.ReadFault.TheVariants.{TooLong, NotUtf8, Syntax, Documents}
-use Rattle.yaml_events.specs.declared.read_fault.ReadFault.TheVariants.{KeyNotText, KeyTwice, TooDeep, LargeInStyle}
-use Rattle.yaml_events.specs.declared.read_fault.ReadFault.TheVariants.{OutOfMemory}
-use Rattle.yaml_config.specs.Kept.{IsFirstFault}
 use Rattle.yaml_tree.specs.Nested.{HasCollectionKey}
 
 -- the bytes are a text that gives the tree within the limits

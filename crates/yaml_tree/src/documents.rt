@@ -1,8 +1,6 @@
 // How many documents a list of events has, how deep it is, and how large its collections are.
 ghost use Rattle.std.specs.Prelude.{◌≡◌, ◌<◌, ◌↔◌, Err, IfOk, IfErr, length};
-ghost use Rattle.yaml_events.specs.Meant.{events_of};
-ghost use Rattle.yaml_grammar.specs.Trees.{Tree, IsTreeOf, depth};
-ghost use Rattle.yaml_config.specs.Kept.{limits_of};
+ghost use Rattle.yaml_tree.specs.Prelude.{events_of, Tree, IsTreeOf, depth, limits_of};
 ghost use Rattle.yaml_tree.specs.Documents.{IsDocument};
 ghost use Rattle.yaml_tree.specs.Reading.{Refuses, document_count};
 

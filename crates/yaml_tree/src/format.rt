@@ -1,13 +1,11 @@
 // A document that is written in the one style, with no tree in between.
 ghost use Rattle.std.specs.Prelude.{◌≡◌, ◌<◌, ℕ, ◌↔◌, List, [], Err, IfOk, IfErr, MatchResult, length, string_bytes};
-ghost use Rattle.yaml_events.specs.Meant.{event_of, events_of};
-ghost use Rattle.yaml_grammar.specs.Trees.{shape};
+ghost use Rattle.yaml_tree.specs.Prelude.{event_of, events_of, shape, limits_of};
 ghost use Rattle.yaml_tree.specs.Building.{HasNone, HasNoTree};
 ghost use Rattle.yaml_tree.specs.Documents.{IsDocument, IsWrittenTo};
 ghost use Rattle.yaml_tree.specs.OpenParts.{HoldsKeys, open_frames};
 ghost use Rattle.yaml_tree.specs.Formatting.{IsFormatted, Writes, Wrote, IsWritten, indent_after};
 ghost use Rattle.yaml_tree.specs.Frames.{Frame, step};
-ghost use Rattle.yaml_config.specs.Kept.{limits_of};
 ghost use Rattle.yaml_tree.specs.OpenText.{indent_in};
 ghost use Rattle.yaml_tree.specs.Reading.{Refuses};
 

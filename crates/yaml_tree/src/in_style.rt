@@ -1,7 +1,6 @@
 // A text that stands in the one style.
 ghost use Rattle.std.specs.Prelude.{◌≡◌, ◌<◌, ◌≤◌, Ok, None, IfOk, IfSome, length};
-ghost use Rattle.yaml_config.specs.Kept.{limits_of, own_limits};
-ghost use Rattle.yaml_data.specs.Seen.{tree_of};
+ghost use Rattle.yaml_tree.specs.Prelude.{limits_of, own_limits, tree_of};
 ghost use Rattle.yaml_tree.specs.Formatting.{IsFormatted};
 ghost use Rattle.yaml_tree.specs.InStyle.{AreLinesIn, AreLinesOf, StandIn};
 ghost use Rattle.yaml_tree.specs.Reading.{IsRead};

@@ -1,12 +1,9 @@
 // What is kept of the values of a document while its parts are open: its trees, or nothing.
-ghost use Rattle.std.specs.Cow.{cow_str_bytes};
 ghost use Rattle.std.specs.Prelude.{◌≡◌, IfOk, OnOk};
-ghost use Rattle.std.specs.Str.{chars};
-ghost use Rattle.yaml_grammar.specs.Trees as grammar;
-ghost use Rattle.yaml_grammar.specs.Trees.{no_element, sequence, mapping, text};
+ghost use Rattle.yaml_tree.specs.Prelude.{cow_str_bytes, chars, no_element, sequence, mapping, text, nothing};
+ghost use Rattle.yaml_tree.specs.Prelude.{text_bytes};
 ghost use Rattle.yaml_tree.specs.Kept.{Keep, kept, elements_more, members_by};
-ghost use Rattle.yaml_data.specs.Keys.{nothing};
-ghost use Rattle.yaml_data.specs.TextBytes.{text_bytes};
+ghost use Rattle.yaml_grammar.specs.Trees as grammar;
 
 use std::alloc::{AllocError, Global};
 use std::borrow::CowStr;

@@ -1,9 +1,6 @@
 // What an event adds to the text of a document in the one style.
 ghost use Rattle.std.specs.Prelude.{◌≡◌, ◌+◌, ◌^◌, ◌<◌, List, ◌∷◌, OnOk};
-ghost use Rattle.std.specs.Str.{chars};
-ghost use Rattle.yaml_events.specs.Meant.{event_of};
-ghost use Rattle.yaml_grammar.specs.Texts.{IsText};
-ghost use Rattle.yaml_grammar.specs.Trees.{shape};
+ghost use Rattle.yaml_tree.specs.Prelude.{chars, event_of, IsText, shape};
 ghost use Rattle.yaml_tree.specs.Kept.{no_tree};
 ghost use Rattle.yaml_tree.specs.OpenParts.{open_frame, open_frames, map_frame};
 ghost use Rattle.yaml_tree.specs.Frames.{Frame, awaits_value};

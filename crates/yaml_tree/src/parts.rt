@@ -1,9 +1,7 @@
 // The parts of a document that are open, while its events come.
-ghost use Rattle.std.specs.Cow.{cow_str_bytes};
 ghost use Rattle.std.specs.Prelude.{◌≡◌, List, [], ◌∷◌, Some, false, IfOk, MatchResult};
-ghost use Rattle.std.specs.Str.{chars};
-ghost use Rattle.yaml_events.specs.Meant.{event_of, events_of};
-ghost use Rattle.yaml_grammar.specs.Trees.{no_element, no_member, text, shape};
+ghost use Rattle.yaml_tree.specs.Prelude.{cow_str_bytes, chars, event_of, events_of, no_element, no_member, text};
+ghost use Rattle.yaml_tree.specs.Prelude.{shape};
 ghost use Rattle.yaml_tree.specs.Building.{HasNone, HasNoTree};
 ghost use Rattle.yaml_tree.specs.Frames.{Frame, in_seq, at_key, innermost, frames_with, step, after_document_end, after_seq_end, after_map_end, finished_tree};
 ghost use Rattle.yaml_tree.specs.Kept.{with_last, value_placed, scalar_placed, seq_ended, map_ended, members_by};

@@ -1,10 +1,8 @@
 // Reading a text as one tree.
 ghost use Rattle.std.specs.Prelude.{◌≡◌, ◌≤◌, ◌<◌, ◌↔◌, Err, IfOk, IfErr, length};
-ghost use Rattle.yaml_events.specs.Meant.{events_of};
+ghost use Rattle.yaml_tree.specs.Prelude.{events_of, limits_of, own_limits, tree_of};
 ghost use Rattle.yaml_tree.specs.Building.{RefusesDeep};
-ghost use Rattle.yaml_config.specs.Kept.{limits_of, own_limits};
 ghost use Rattle.yaml_tree.specs.Reading.{IsRead, Refuses};
-ghost use Rattle.yaml_data.specs.Seen.{tree_of};
 
 use crate::documents::Document;
 use crate::in_style::read_in_style;

@@ -1,9 +1,6 @@
 // Laws of what bytes give as a tree.
 ghost use Rattle.std.specs.Prelude.{◌≡◌, ◌≢◌, ℕ, List};
-ghost use Rattle.yaml_grammar.specs.Reads.{Limits};
-ghost use Rattle.yaml_grammar.specs.Trees.{Tree};
-ghost use Rattle.yaml_events.specs.declared.read_fault.ReadFault.{ReadFault};
-ghost use Rattle.yaml_events.specs.declared.read_fault.ReadFault.TheVariants.{OutOfMemory};
+ghost use Rattle.yaml_tree.specs.Prelude.{Limits, Tree, ReadFault, OutOfMemory};
 ghost use Rattle.yaml_tree.specs.Reading.{IsRead, Refuses, GivesNone};
 
 /// Bytes give at most one tree.

@@ -1,13 +1,9 @@
 -- Tests of the bytes of a block at once, and of all bytes by blocks.
-use Rattle.std.proofs.Common.{◌≡◌, ℕ, ◌+◌, ◌-◌, ◌*◌, ◌%◌, ◌^◌, ◌≤◌, ◌==◌, Bool, true, false, not, cond, ◌&&◌, List}
-use Rattle.std.proofs.Common.{[], ◌∷◌, ◌++◌, map, length, take, drop, Fits, w8, refl, sym, ap, ap₂, ◌∙◌, subst, arith}
-use Rattle.std.proofs.Math.Seq.{take-add}
-use Rattle.std.proofs.lemmas.Bool.{agree_below, agree_below_at, and_parts}
-use Rattle.std.proofs.lemmas.Bool.Decides.{nat_tests}
-use Rattle.std.proofs.lemmas.List.{length-append, length-map, length-take-le, length-drop, take-append-drop, take_all}
-use Rattle.std.proofs.lemmas.List.Folds.{list_all-append}
-use Rattle.std.proofs.lemmas.Simd.{map-map, mask_l-mod, pick_l_whole}
-use Rattle.std.specs.List.{list_all, range_with_len}
+use Rattle.std.proofs.Common.{◌≡◌, ℕ, ◌+◌, ◌-◌, ◌*◌, ◌%◌, ◌^◌, ◌≤◌, ◌==◌, Bool, true, false, not, cond, ◌&&◌, List, [], ◌∷◌, ◌++◌, map}
+use Rattle.std.proofs.Common.{length, take, drop, Fits, w8, refl, sym, ap, ap₂, ◌∙◌, subst, arith}
+use Rattle.yaml_writer.proofs.Prelude.{take-add, agree_below, agree_below_at, and_parts, nat_tests, length-append, length-map}
+use Rattle.yaml_writer.proofs.Prelude.{length-take-le, length-drop, take-append-drop, take_all, list_all-append, map-map, mask_l-mod}
+use Rattle.yaml_writer.proofs.Prelude.{pick_l_whole, list_all, range_with_len}
 use lib.Lanes.{chunk, mask_l, top, Each1, pick_l}
 
 -- ---- one block

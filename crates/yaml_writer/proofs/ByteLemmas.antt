@@ -1,9 +1,7 @@
 -- Lengths in bytes.
-use Rattle.std.proofs.Common.{◌≡◌, ℕ, zero, suc, List, [], ◌∷◌, length, length-append, IsUtf8, encode_utf8}
-use Rattle.std.proofs.Common.{encode_utf8_all, refl, ap, ◌∙◌, arith}
-use Rattle.std.proofs.lemmas.Str.{length-encode, encodes-chars}
-use Rattle.std.specs.Str.{chars}
-use Rattle.yaml_grammar.specs.Texts.{byte_len, spaces}
+use Rattle.std.proofs.Common.{◌≡◌, ℕ, zero, suc, List, [], ◌∷◌, length, length-append, IsUtf8, encode_utf8, encode_utf8_all, refl, ap, ◌∙◌}
+use Rattle.std.proofs.Common.{arith}
+use Rattle.yaml_writer.proofs.Prelude.{length-encode, encodes-chars, chars, byte_len, spaces}
 
 -- a text has as many bytes as its characters
 pub byte_len-encoded : (cs : List ℕ) → byte_len cs ≡ length (encode_utf8_all cs)

@@ -1,15 +1,11 @@
 -- Each level of a tree has at least two characters in the one style.
-use Rattle.std.proofs.Common.{◌≡◌, ℕ, zero, suc, ◌+◌, ◌*◌, ◌≤◌, Bool, true, false, if◌then◌else◌, List, [], ◌∷◌, ◌++◌}
-use Rattle.std.proofs.Common.{length, length-append, codes, refl, arith}
-use Rattle.std.proofs.lemmas.Str.{len_utf8_bounds}
-use Rattle.std.proofs.lemmas.Bool.{and_parts}
-use Rattle.yaml_grammar.specs.Texts.{byte_len, spaces, first}
-use Rattle.yaml_grammar.specs.Trees.{Tree, text, sequence, mapping, Elements, no_element, element, Members, no_member}
-use Rattle.yaml_grammar.specs.Trees.{member, depth, elements_depth, members_depth}
-use Rattle.yaml_grammar.specs.Style.{letter, plain_in_style, literal_in_style, in_double_quotes, quoted_chars}
-use Rattle.yaml_grammar.specs.Style.{literal_mark, literal_lines, feeds_at_end, scalar_lines, key_text, long_key}
-use Rattle.yaml_grammar.specs.Style.{key_lines, elements_at, elements_after, lines_after_dash, members_at}
-use Rattle.yaml_grammar.specs.Style.{members_after, value_at, style_text}
+use Rattle.std.proofs.Common.{◌≡◌, ℕ, zero, suc, ◌+◌, ◌*◌, ◌≤◌, Bool, true, false, if◌then◌else◌, List, [], ◌∷◌, ◌++◌, length}
+use Rattle.std.proofs.Common.{length-append, codes, refl, arith}
+use Rattle.yaml_writer.proofs.Prelude.{len_utf8_bounds, and_parts, byte_len, spaces, first, Tree, text, sequence, mapping, Elements}
+use Rattle.yaml_writer.proofs.Prelude.{no_element, element, Members, no_member, member, depth, elements_depth, members_depth, letter}
+use Rattle.yaml_writer.proofs.Prelude.{plain_in_style, literal_in_style, in_double_quotes, quoted_chars, literal_mark, literal_lines}
+use Rattle.yaml_writer.proofs.Prelude.{feeds_at_end, scalar_lines, key_text, long_key, key_lines, elements_at, elements_after}
+use Rattle.yaml_writer.proofs.Prelude.{lines_after_dash, members_at, members_after, value_at}
 
 -- a text has at least as many bytes as characters
 pub length-byte_len : (cs : List ℕ) → length cs ≤ byte_len cs
@@ -101,9 +97,3 @@ mutual
   deep_members_after no_member i = omega arith
   deep_members_after (member key t ms) i =
       omega (arith, deep_value t i, deep_members_after ms i, parts (spaces i ++ key_lines i key) (value_at t i) (members_after ms i))
-
--- the text of a deep tree is long: two characters at least for each level
-pub deep_text : (t : Tree) → 2 * depth t ≤ length (style_text t)
-deep_text (text value) = scalar_two 2 value
-deep_text (sequence ts) = deep_elements ts 0
-deep_text (mapping ms) = deep_members ms 0

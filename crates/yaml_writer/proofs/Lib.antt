@@ -1,3 +1,4 @@
+pub mod Prelude
 pub mod ByteLemmas
 pub mod LengthLemmas
 pub mod SizeLaws

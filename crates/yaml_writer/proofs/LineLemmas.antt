@@ -1,14 +1,9 @@
 -- A text is cut at its first line feed.
-use Rattle.std.proofs.Common.{◌≡◌, ℕ, zero, suc, ◌+◌, ◌-◌, ◌<◌, ◌≤◌, Bool, true, not, ◌==◌, List, [], ◌∷◌, ◌++◌}
-use Rattle.std.proofs.Common.{length, take, drop, slice_index, IsUtf8, sym, ap, ap₂, ◌∙◌, subst, arith, slice_range}
-use Rattle.std.proofs.lemmas.Bool.{and_parts, not-true, not_from_false, false_from_ne_true, eqb-true}
-use Rattle.std.proofs.lemmas.Bool.Decides.{nat_tests}
-use Rattle.std.specs.List.{list_all}
-use Rattle.std.specs.Str.{chars}
-use Rattle.std.proofs.lemmas.List.{get_or-take, length-take}
-use Rattle.std.proofs.lemmas.Str.{IsUtf8-take, IsCharBoundary-before_ascii}
+use Rattle.std.proofs.Common.{◌≡◌, ℕ, zero, suc, ◌+◌, ◌-◌, ◌<◌, ◌≤◌, Bool, true, not, ◌==◌, List, [], ◌∷◌, ◌++◌, length, take, drop}
+use Rattle.std.proofs.Common.{slice_index, IsUtf8, sym, ap, ap₂, ◌∙◌, subst, arith, slice_range}
+use Rattle.yaml_writer.proofs.Prelude.{and_parts, not-true, not_from_false, false_from_ne_true, eqb-true, nat_tests, list_all, chars}
+use Rattle.yaml_writer.proofs.Prelude.{get_or-take, length-take, IsUtf8-take, IsCharBoundary-before_ascii, line_feed}
 use Rattle.memchr.specs.Find.{NoneBefore, Passes, is_byte}
-use Rattle.yaml_chars.specs.Signs.{line_feed}
 use Rattle.yaml_chars.proofs.Runs.{IsBlind, test-chars}
 use Rattle.yaml_writer.specs.Lines.{IsOneLine}
 

@@ -1,18 +1,9 @@
 -- A literal's lines, cut at its line feeds.
-use Rattle.std.proofs.Common.{◌≡◌, ℕ, ◌+◌, ◌<◌, Bool, true, false, ◌==◌, ◌||◌, Bor, Option, Some, None, List, [], ◌∷◌}
-use Rattle.std.proofs.Common.{◌++◌, length, length-append, get_or, take, drop, codes, IsUtf8, refl, sym, ap, ◌∙◌}
-use Rattle.std.proofs.Common.{subst, append_assoc, arith}
-use Rattle.std.proofs.Math.Seq.{take-append_seam, drop-append-add, get_or-append_seam}
-use Rattle.std.proofs.lemmas.Str.{IsUtf8-take, IsUtf8-drop, IsCharBoundary-before_ascii, IsCharBoundary-after_ascii, chars-append}
-use Rattle.std.proofs.lemmas.Bool.{eq-eqb}
-use Rattle.std.specs.List.{list_any}
-use Rattle.std.specs.Option.{MatchOption, is_some}
-use Rattle.std.specs.Str.{chars}
-use Rattle.yaml_chars.specs.Classes.{is_in}
-use Rattle.yaml_chars.specs.Signs.{line_feed}
-use Rattle.yaml_data.proofs.CharacterLemmas.{list_any-is_in}
-use Rattle.yaml_grammar.specs.Texts.{spaces}
-use Rattle.yaml_grammar.specs.Style.{literal_lines}
+use Rattle.std.proofs.Common.{◌≡◌, ℕ, ◌+◌, ◌<◌, Bool, true, false, ◌==◌, ◌||◌, Bor, Option, Some, None, List, [], ◌∷◌, ◌++◌, length}
+use Rattle.std.proofs.Common.{length-append, get_or, take, drop, codes, IsUtf8, refl, sym, ap, ◌∙◌, subst, append_assoc, arith}
+use Rattle.yaml_writer.proofs.Prelude.{take-append_seam, drop-append-add, get_or-append_seam, IsUtf8-take, IsUtf8-drop}
+use Rattle.yaml_writer.proofs.Prelude.{IsCharBoundary-before_ascii, IsCharBoundary-after_ascii, chars-append, eq-eqb, list_any, MatchOption}
+use Rattle.yaml_writer.proofs.Prelude.{is_some, chars, is_in, line_feed, list_any-is_in, spaces, literal_lines}
 use Rattle.yaml_writer.specs.Lines.{IsOneLine, line_text}
 
 within_line : (j : ℕ) (xs ys : List ℕ) → IsOneLine xs

@@ -1,17 +1,10 @@
 -- What is between double quotes.
-use Rattle.std.proofs.Common.{◌≡◌, ℕ, ◌+◌, ◌-◌, subst, ◌/◌, ◌%◌, ◌<◌, ◌≤◌, true, List, [], ◌∷◌, ◌++◌, codes, length}
-use Rattle.std.proofs.Common.{take, drop, IsUtf8, encode_utf8, refl, sym, ap, ap₂, ◌∙◌, append_assoc, arith}
-use Rattle.std.proofs.Math.Seq.{take-add}
-use Rattle.std.proofs.lemmas.List.Folds.{list_all-append}
-use Rattle.std.proofs.lemmas.List.{take-append-drop}
-use Rattle.std.proofs.lemmas.Str.{IsUtf8-from_ascii, IsCharBoundary-from_take, chars-IsAscii, chars-append, chars_past_char}
-use Rattle.std.specs.Str.{chars, IsCharBoundary}
-use Rattle.std.proofs.lemmas.Bool.{le-leb, lt-leb, and_from, and_parts}
-use Rattle.std.proofs.lemmas.Bool.Decides.{nat_tests}
-use Rattle.std.specs.List.{list_all}
-use Rattle.yaml_grammar.specs.Style.{hex, quoted_char, quoted_chars}
+use Rattle.std.proofs.Common.{◌≡◌, ℕ, ◌+◌, ◌-◌, subst, ◌/◌, ◌%◌, ◌<◌, ◌≤◌, true, List, [], ◌∷◌, ◌++◌, codes, length, take, drop, IsUtf8}
+use Rattle.std.proofs.Common.{encode_utf8, refl, sym, ap, ap₂, ◌∙◌, append_assoc, arith}
+use Rattle.yaml_writer.proofs.Prelude.{take-add, list_all-append, take-append-drop, IsUtf8-from_ascii, IsCharBoundary-from_take}
+use Rattle.yaml_writer.proofs.Prelude.{chars-IsAscii, chars-append, chars_past_char, chars, IsCharBoundary, le-leb, lt-leb, and_from}
+use Rattle.yaml_writer.proofs.Prelude.{and_parts, nat_tests, list_all, hex, quoted_char, quoted_chars, every-IsAscii}
 use Rattle.yaml_writer.specs.Runs.{stands_alone, number_escape}
-use Rattle.yaml_data.proofs.CharacterLemmas.{every-IsAscii}
 
 -- a character up to 255 is escaped by two hexadecimal digits
 pub number_escape-two : (c : ℕ) → c ≤ 255 → number_escape c ≡ codes "\\x" ++ hex (c / 16) ∷ hex (c % 16) ∷ []

@@ -1,20 +1,14 @@
 -- The tests by which a scalar's style is chosen.
-use Rattle.std.proofs.Common.{◌≡◌, ℕ, suc, ◌+◌, ◌<◌, Bool, true, false, ◌==◌, ◌&&◌, ◌||◌, not, nat_le, if◌then◌else◌}
-use Rattle.std.proofs.Common.{List, [], ◌∷◌, ◌++◌, length, length-append, get_or, take, map, IsUtf8, encode_utf8_all}
-use Rattle.std.proofs.Common.{refl, sym, ap, ap₂, ◌∙◌, subst, lit<, arith}
-use Rattle.std.proofs.Math.Seq.{take-append_seam, get_or-append_seam}
-use Rattle.std.proofs.lemmas.Bool.{and_from, and_parts, eqb-true}
-use Rattle.std.proofs.lemmas.Bool.Decides.{nat_tests}
-use Rattle.std.proofs.lemmas.Str.{encode_ascii, chars-append, encodes-chars, encodes-append, IsUtf8-take, IsCharBoundary-before_ascii}
+use Rattle.std.proofs.Common.{◌≡◌, ℕ, suc, ◌+◌, ◌<◌, Bool, true, false, ◌==◌, ◌&&◌, ◌||◌, not, nat_le, if◌then◌else◌, List, [], ◌∷◌, ◌++◌}
+use Rattle.std.proofs.Common.{length, length-append, get_or, take, map, IsUtf8, encode_utf8_all, refl, sym, ap, ap₂, ◌∙◌, subst, lit<}
+use Rattle.std.proofs.Common.{arith}
+use Rattle.yaml_writer.proofs.Prelude.{take-append_seam, get_or-append_seam, and_from, and_parts, eqb-true, nat_tests, encode_ascii}
+use Rattle.yaml_writer.proofs.Prelude.{chars-append, encodes-chars, encodes-append, IsUtf8-take, IsCharBoundary-before_ascii, chars}
+use Rattle.yaml_writer.proofs.Prelude.{in_range, is_in, printable, line_feed, no_break_space, line_separator, paragraph_separator}
+use Rattle.yaml_writer.proofs.Prelude.{byte_order_mark, list_all, letter, word_char, plain_in_style, special_words, is_among, lower}
+use Rattle.yaml_writer.proofs.Prelude.{feeds_at_end, shown_or_feed, first, every-IsAscii, chars-same, every-bytes, every-push}
 use Rattle.std.specs.Char.{to_ascii_lowercase}
-use Rattle.std.specs.Str.{chars}
-use Rattle.yaml_chars.specs.Classes.{in_range, is_in, printable}
-use Rattle.yaml_chars.specs.Signs.{line_feed, no_break_space, line_separator, paragraph_separator, byte_order_mark}
-use Rattle.std.specs.List.{list_all}
-use Rattle.yaml_grammar.specs.Style.{letter, word_char, plain_in_style, special_words, is_among, lower, feeds_at_end, shown_or_feed}
-use Rattle.yaml_grammar.specs.Texts.{first}
 use Rattle.yaml_writer.specs.Runs.{ascii_in_lines}
-use Rattle.yaml_data.proofs.CharacterLemmas.{every-IsAscii, chars-same, every-bytes, every-push}
 
 -- a character of a word is ASCII
 pub word_char-below : (c : ℕ) → word_char c ≡ true → c < 128

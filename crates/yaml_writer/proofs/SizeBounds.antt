@@ -1,21 +1,17 @@
 -- A part has no more indented lines than bytes, so lengths at small indentations are small where the length in the one
 -- style is.
-use Rattle.std.proofs.Common.{◌≡◌, ℕ, zero, suc, ◌+◌, ◌*◌, ◌/◌, ◌%◌, ◌-◌, ◌<◌, ◌≤◌, ◌==◌, ◌||◌, nat_le, nat_lt, Bool}
-use Rattle.std.proofs.Common.{true, false, length, length-append, if◌then◌else◌, List, [], ◌∷◌, ◌++◌, codes, arith}
-use Rattle.std.proofs.lemmas.Bool.Decides.{nat_tests}
-use Rattle.std.proofs.lemmas.Str.{len_utf8_bounds}
-use Rattle.yaml_chars.specs.Classes.{in_range}
-use Rattle.yaml_chars.specs.Signs.{null, bell, line_feed, carriage_return, escape_char, double_quote, backslash}
-use Rattle.yaml_grammar.specs.Texts.{byte_len, spaces}
-use Rattle.yaml_grammar.specs.Trees.{Tree, text, sequence, mapping, Elements, no_element, element, Members, no_member, member}
-use Rattle.yaml_grammar.specs.Style.{shown as is_shown, hex, letter_escape, quoted_char, quoted_chars, plain_in_style}
-use Rattle.yaml_grammar.specs.Style.{literal_in_style, in_double_quotes, literal_mark, literal_lines, feeds_at_end}
-use Rattle.yaml_grammar.specs.Style.{scalar_lines, key_text, long_key, key_lines, elements_at, elements_after}
-use Rattle.yaml_grammar.specs.Style.{lines_after_dash, members_at, members_after, value_at, style_text}
+use Rattle.std.proofs.Common.{◌≡◌, ℕ, ◌+◌, ◌*◌, ◌/◌, ◌%◌, ◌-◌, ◌≤◌, ◌==◌, ◌||◌, nat_le, nat_lt, Bool, true, false, length, length-append}
+use Rattle.std.proofs.Common.{if◌then◌else◌, List, [], ◌∷◌, ◌++◌, codes, arith}
+use Rattle.yaml_writer.proofs.Prelude.{nat_tests, len_utf8_bounds, in_range, null, bell, line_feed, carriage_return, escape_char}
+use Rattle.yaml_writer.proofs.Prelude.{double_quote, backslash, byte_len, spaces, Tree, text, sequence, mapping, Elements, no_element}
+use Rattle.yaml_writer.proofs.Prelude.{element, Members, no_member, member, hex, letter_escape, quoted_char, quoted_chars, plain_in_style}
+use Rattle.yaml_writer.proofs.Prelude.{literal_in_style, in_double_quotes, literal_mark, literal_lines, feeds_at_end, scalar_lines}
+use Rattle.yaml_writer.proofs.Prelude.{key_text, long_key, key_lines, elements_at, elements_after, lines_after_dash, members_at}
+use Rattle.yaml_writer.proofs.Prelude.{members_after, value_at, style_text}
+use Rattle.yaml_grammar.specs.Style.{shown as is_shown}
 use Rattle.yaml_writer.specs.BudgetLaws.{byte_len-append}
-use Rattle.yaml_writer.specs.Sizes.{indented_literal_lines, indented_scalar_lines, indented_key_lines, indented}
-use Rattle.yaml_writer.specs.Sizes.{elements_indented, elements_after_indented, members_indented}
-use Rattle.yaml_writer.specs.Sizes.{members_after_indented, value_indented}
+use Rattle.yaml_writer.specs.Sizes.{indented_literal_lines, indented_scalar_lines, indented_key_lines, indented, elements_indented}
+use Rattle.yaml_writer.specs.Sizes.{elements_after_indented, members_indented, members_after_indented, value_indented}
 use Rattle.yaml_writer.proofs.SizeLaws.{three, four, scalar_law, elements_law, members_law}
 
 literal_bound : (fresh : Bool) (cs : List ℕ) → indented_literal_lines fresh cs ≤ byte_len (literal_lines 0 fresh cs)
@@ -54,14 +50,6 @@ key_bound key = by (long_key key) (key_text key)
           four (codes "? ") shown (codes "\n") (spaces 0),
         )
     by false shown = omega (arith, byte_len-append shown (codes ":"))
-
--- at most one line of a key is indented
-pub key_lines_bound : (key : List ℕ) → indented_key_lines key ≤ 1
-key_lines_bound key = by (long_key key)
-  where
-    by : (long : Bool) → (if long then 1 else 0) ≤ 1
-    by true = omega arith
-    by false = omega arith
 
 -- a key has at most 24 bytes for each byte of its text, and six more
 quoted_char_short : (c : ℕ) → length (quoted_char c) ≤ 6
@@ -201,12 +189,6 @@ mutual
       (on_own_lines (members_at (member key t ms)) (members_indented (member key t ms))
       (members_bound (member key t ms)) (members_law (member key t ms))).0
 
--- a number that is at most 1, times another
-pub times_at_most : (i n : ℕ) → i ≤ 1 → i * n ≤ n
-times_at_most zero n h = omega arith
-times_at_most (suc zero) n h = omega arith
-times_at_most (suc (suc i)) n h = absurd (omega arith)
-
 -- ---- by the length of the whole
 
 -- as an element, a tree is at most three times as long as alone
@@ -226,8 +208,3 @@ value_small (mapping no_member) = omega arith
 value_small (mapping (member key t ms)) =
     (on_own_lines (members_at (member key t ms)) (members_indented (member key t ms))
     (members_bound (member key t ms)) (members_law (member key t ms))).1
-
--- where a part's length at no indentation fits, so does its size
-pub small_size : {bytes more b n : ℕ} → bytes ≡ b → more ≡ b + 1 * n → n ≤ b → b < 4294967296
-    → (bytes < 4294967296) × (more - bytes < 4294967296)
-small_size p q bound small = (omega (arith, p, small), omega (arith, p, q, bound, small))

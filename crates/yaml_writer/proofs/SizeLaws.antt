@@ -1,17 +1,13 @@
 -- The length of a part at any indentation, by its size.
-use Rattle.std.proofs.Common.{◌≡◌, ℕ, zero, suc, ◌+◌, ◌-◌, ◌*◌, ◌==◌, Bool, true, false, if◌then◌else◌, List, [], ◌∷◌}
-use Rattle.std.proofs.Common.{◌++◌, codes, refl, ap₂, arith}
-use Rattle.yaml_chars.specs.Signs.{line_feed}
-use Rattle.yaml_grammar.specs.Texts.{byte_len, spaces}
-use Rattle.yaml_grammar.specs.Trees.{Tree, text, sequence, mapping, Elements, no_element, element, Members, no_member, member}
-use Rattle.yaml_grammar.specs.Style.{plain_in_style, literal_in_style, in_double_quotes, literal_mark, literal_lines}
-use Rattle.yaml_grammar.specs.Style.{feeds_at_end, scalar_lines, key_text, long_key, key_lines, elements_at}
-use Rattle.yaml_grammar.specs.Style.{elements_after, lines_after_dash, members_at, members_after, value_at}
-use Rattle.yaml_writer.specs.declared.size.Size.{Size}
-use Rattle.yaml_writer.specs.BudgetLaws.{byte_len-append}
-use Rattle.yaml_writer.specs.Sizes.{indented_literal_lines, indented_scalar_lines, indented_key_lines, indented}
-use Rattle.yaml_writer.specs.Sizes.{elements_indented, elements_after_indented, members_indented}
-use Rattle.yaml_writer.specs.Sizes.{members_after_indented, value_indented}
+use Rattle.std.proofs.Common.{◌≡◌, ℕ, zero, suc, ◌+◌, ◌-◌, ◌*◌, ◌==◌, Bool, true, false, if◌then◌else◌, List, [], ◌∷◌, ◌++◌, codes, refl}
+use Rattle.std.proofs.Common.{ap₂, arith}
+use Rattle.yaml_writer.proofs.Prelude.{line_feed, byte_len, spaces, Tree, text, sequence, mapping, Elements, no_element, element, Members}
+use Rattle.yaml_writer.proofs.Prelude.{no_member, member, plain_in_style, literal_in_style, in_double_quotes, literal_mark, literal_lines}
+use Rattle.yaml_writer.proofs.Prelude.{feeds_at_end, scalar_lines, key_text, long_key, key_lines, elements_at, elements_after}
+use Rattle.yaml_writer.proofs.Prelude.{lines_after_dash, members_at, members_after, value_at}
+use Rattle.yaml_writer.specs.{declared.size.Size.Size, BudgetLaws.byte_len-append}
+use Rattle.yaml_writer.specs.Sizes.{indented_literal_lines, indented_scalar_lines, indented_key_lines, indented, elements_indented}
+use Rattle.yaml_writer.specs.Sizes.{elements_after_indented, members_indented, members_after_indented, value_indented}
 
 -- n spaces have n bytes
 pub spaces_bytes : (n : ℕ) → byte_len (spaces n) ≡ n

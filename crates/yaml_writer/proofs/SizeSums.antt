@@ -1,28 +1,19 @@
 -- The size of a tree as the sum of its parts' sizes.
-use Rattle.std.proofs.Common.{◌≡◌, ℕ, ◌+◌, ◌*◌, ◌<◌, ◌≤◌, ◌==◌, Bool, true, false, not, if◌then◌else◌, List, [], ◌∷◌}
-use Rattle.std.proofs.Common.{◌++◌, zero, suc, length, codes, IsUtf8, refl, sym, ap, ◌∙◌, arith}
-use Rattle.std.proofs.lemmas.Bool.Decides.{nat_tests}
-use Rattle.std.specs.Str.{chars}
-use Rattle.yaml_chars.specs.Signs.{line_feed}
-use Rattle.yaml_grammar.specs.Texts.{byte_len, spaces}
-use Rattle.yaml_grammar.specs.Trees.{Tree, text, sequence, mapping, Elements, no_element, element, Members, no_member, member}
-use Rattle.yaml_grammar.specs.Style.{literal_lines, plain_in_style, literal_in_style, feeds_at_end, scalar_lines}
-use Rattle.yaml_grammar.specs.Style.{key_text, long_key, key_lines, elements_at, elements_after, lines_after_dash}
-use Rattle.yaml_grammar.specs.Style.{members_at, members_after, value_at}
-use Rattle.yaml_data.specs.Seen.{Pair, elements_of, members_of}
-use Rattle.yaml_data.specs.declared.tree.Tree as code
-use Rattle.yaml_writer.specs.Lines.{IsOneLine, line_text}
-use Rattle.yaml_writer.specs.ScalarStyles.{literal_style, value_style}
-use Rattle.yaml_writer.specs.BudgetLaws.{byte_len-append}
-use Rattle.yaml_writer.specs.Sizes.{indented_literal_lines, indented_scalar_lines, indented_key_lines, indented}
-use Rattle.yaml_writer.specs.Sizes.{elements_indented, elements_after_indented, members_indented}
-use Rattle.yaml_writer.specs.Sizes.{members_after_indented, is_filled, value_size}
-use Rattle.yaml_writer.specs.declared.scalar_style.ScalarStyle.{ScalarStyle}
+use Rattle.std.proofs.Common.{◌≡◌, ℕ, ◌+◌, ◌*◌, ◌<◌, ◌≤◌, ◌==◌, Bool, true, false, not, if◌then◌else◌, List, [], ◌∷◌, ◌++◌, zero, suc}
+use Rattle.std.proofs.Common.{length, codes, IsUtf8, refl, sym, ap, ◌∙◌, arith}
+use Rattle.yaml_writer.proofs.Prelude.{nat_tests, chars, line_feed, byte_len, spaces, Tree, text, sequence, mapping, Elements, no_element}
+use Rattle.yaml_writer.proofs.Prelude.{element, Members, no_member, member, literal_lines, plain_in_style, literal_in_style, feeds_at_end}
+use Rattle.yaml_writer.proofs.Prelude.{scalar_lines, key_text, long_key, key_lines, elements_at, elements_after, lines_after_dash}
+use Rattle.yaml_writer.proofs.Prelude.{members_at, members_after, value_at, Pair, elements_of, members_of}
+use Rattle.yaml_writer.specs.{Lines.IsOneLine, Lines.line_text, ScalarStyles.literal_style, ScalarStyles.value_style}
+use Rattle.yaml_writer.specs.{BudgetLaws.byte_len-append, declared.scalar_style.ScalarStyle.ScalarStyle, declared.size.Size.Size}
+use Rattle.yaml_writer.specs.Sizes.{indented_literal_lines, indented_scalar_lines, indented_key_lines, indented, elements_indented}
+use Rattle.yaml_writer.specs.Sizes.{elements_after_indented, members_indented, members_after_indented, is_filled, value_size}
 use Rattle.yaml_writer.specs.declared.scalar_style.ScalarStyle.TheVariants.{Plain, Double, LiteralStrip, LiteralClip, LiteralKeep}
-use Rattle.yaml_writer.specs.declared.size.Size.{Size}
 use Rattle.yaml_writer.proofs.LiteralLemmas.{line_filled, literal_line, chars-lines}
 use Rattle.yaml_writer.proofs.SizeLaws.{three, four, spaces_bytes, made, sized, elements_law, members_law}
 use Rattle.yaml_writer.proofs.SizeBounds.{elements_after_bound, members_after_bound}
+use Rattle.yaml_data.specs.declared.tree.Tree as code
 
 -- ---- scalars and keys
 

@@ -1,8 +1,6 @@
 -- Spaces in UTF-8.
 use Rattle.std.proofs.Common.{◌≡◌, ℕ, zero, suc, ◌++◌, encode_utf8_all, refl, ap₂, lit<}
-use Rattle.std.proofs.lemmas.Str.{encode_ascii}
-use Rattle.yaml_chars.specs.Signs.{space_char}
-use Rattle.yaml_grammar.specs.Texts.{spaces}
+use Rattle.yaml_writer.proofs.Prelude.{encode_ascii, space_char, spaces}
 
 -- spaces are their own bytes
 pub encoded_spaces : (n : ℕ) → encode_utf8_all (spaces n) ≡ spaces n

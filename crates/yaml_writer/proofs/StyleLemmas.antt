@@ -1,7 +1,7 @@
 -- How a scalar's and a key's text follow from its style.
 use Rattle.std.proofs.Common.{◌≡◌, ℕ, zero, suc, Bool, true, false, if◌then◌else◌, List, ◌++◌, codes, refl, sym}
-use Rattle.yaml_grammar.specs.Style.{plain_in_style, literal_in_style, feeds_at_end, literal_mark, literal_lines}
-use Rattle.yaml_grammar.specs.Style.{in_double_quotes, scalar_lines, key_text}
+use Rattle.yaml_writer.proofs.Prelude.{plain_in_style, literal_in_style, feeds_at_end, literal_mark, literal_lines, in_double_quotes}
+use Rattle.yaml_writer.proofs.Prelude.{scalar_lines, key_text}
 use Rattle.yaml_writer.specs.ScalarStyles.{literal_style, key_style, value_style}
 use Rattle.yaml_writer.specs.declared.scalar_style.ScalarStyle.{ScalarStyle}
 use Rattle.yaml_writer.specs.declared.scalar_style.ScalarStyle.TheVariants.{Plain, Double, LiteralStrip, LiteralClip, LiteralKeep}

@@ -1,9 +1,8 @@
 -- The lines of a collection, written from its start: here `lead` spaces come before the first line that is left.
 use Rattle.std.proofs.Common.{◌≡◌, ℕ, ◌+◌, List, [], ◌∷◌, ◌++◌, length, codes, refl, sym, subst, arith}
-use Rattle.yaml_grammar.specs.Texts.{spaces}
-use Rattle.yaml_grammar.specs.Trees.{sequence, mapping, Elements, no_element, element, Members, no_member, member}
-use Rattle.yaml_grammar.specs.Style.{key_lines, elements_at, elements_after, lines_after_dash, members_at, members_after, value_at}
-use Rattle.yaml_data.specs.Seen.{Pair, elements_of, members_of}
+use Rattle.yaml_writer.proofs.Prelude.{spaces, sequence, mapping, Elements, no_element, element, Members, no_member, member, key_lines}
+use Rattle.yaml_writer.proofs.Prelude.{elements_at, elements_after, lines_after_dash, members_at, members_after, value_at, Pair}
+use Rattle.yaml_writer.proofs.Prelude.{elements_of, members_of}
 use Rattle.yaml_data.specs.declared.tree.Tree.{Tree}
 
 -- elements with this many spaces before the first; each further line has its indentation

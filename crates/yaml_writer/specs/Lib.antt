@@ -1,3 +1,4 @@
+pub mod Prelude
 pub mod Budget
 pub mod BudgetLaws
 pub mod Sizes

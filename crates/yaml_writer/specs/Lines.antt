@@ -1,8 +1,6 @@
 -- The lines of a text, and of a literal.
 use Rattle.std.specs.Prelude.{ℕ, ◌==◌, List, [], ◌∷◌, ◌++◌, codes}
-use Rattle.std.specs.Str.{NonePass}
-use Rattle.yaml_chars.specs.Signs.{line_feed}
-use Rattle.yaml_grammar.specs.Texts.{spaces}
+use Rattle.yaml_writer.specs.Prelude.{NonePass, line_feed, spaces}
 
 -- the text has no line feed
 abbrev pub IsOneLine : List ℕ → Type 0

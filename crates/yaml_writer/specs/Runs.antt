@@ -1,8 +1,7 @@
 -- Runs of ASCII characters, and parts of what is between double quotes.
-use Rattle.std.specs.Prelude.{ℕ, ◌/◌, ◌%◌, Bool, not, ◌&&◌, ◌||◌, ◌==◌, nat_le, List, [], ◌∷◌, ◌++◌, codes, if◌then◌else◌}
-use Rattle.yaml_chars.specs.Classes.{in_range}
-use Rattle.yaml_chars.specs.Signs.{backslash, double_quote, line_feed}
-use Rattle.yaml_grammar.specs.Style.{hex}
+use Rattle.std.specs.Prelude.{ℕ, ◌/◌, ◌%◌, Bool, not, ◌&&◌, ◌||◌, ◌==◌, nat_le, List, [], ◌∷◌, ◌++◌, codes}
+use Rattle.std.specs.Prelude.{if◌then◌else◌}
+use Rattle.yaml_writer.specs.Prelude.{in_range, backslash, double_quote, line_feed, hex}
 
 -- an ASCII character that is written as itself between double quotes
 abbrev pub stands_alone : ℕ → Bool

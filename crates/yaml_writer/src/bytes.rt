@@ -1,6 +1,6 @@
 // Tests of bytes, many of them at once.
 ghost use Rattle.std.specs.Prelude.{◌≡◌, ◌-◌, ◌≤◌, ◌++◌, length, take, drop, ℕ, Bool};
-ghost use Rattle.std.specs.List.{list_all};
+ghost use Rattle.yaml_writer.specs.Prelude.{list_all};
 
 use std::simd::prelude::*;
 

@@ -1,13 +1,8 @@
 // Lengths in the one style, counted and not written.
 ghost use Rattle.std.specs.Prelude.{◌≡◌, ◌≤◌, Some, is_some};
+ghost use Rattle.yaml_writer.specs.Prelude.{chars, byte_len, depth, long_key, style_text, own_limits, tree_of};
 ghost use Rattle.std.specs.Option.{SomeIff};
-ghost use Rattle.std.specs.Str.{chars};
-ghost use Rattle.yaml_grammar.specs.Texts.{byte_len};
-ghost use Rattle.yaml_grammar.specs.Trees.{depth};
-ghost use Rattle.yaml_grammar.specs.Style.{long_key, style_text};
 ghost use Rattle.yaml_writer.specs.Budget.{left_after};
-ghost use Rattle.yaml_data.specs.OwnLimits.{own_limits};
-ghost use Rattle.yaml_data.specs.Seen.{tree_of};
 
 use crate::sink::Sink;
 use crate::style::{write_key_text, write_style};

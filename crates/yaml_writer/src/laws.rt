@@ -1,8 +1,6 @@
 // Laws of lengths in the one style, over the definitions alone.
 ghost use Rattle.std.specs.Prelude.{◌≡◌, ℕ, List};
-ghost use Rattle.yaml_grammar.specs.Texts.{byte_len};
-ghost use Rattle.yaml_grammar.specs.Trees.{Tree};
-ghost use Rattle.yaml_grammar.specs.Style.{key_lines, lines_after_dash, value_at};
+ghost use Rattle.yaml_writer.specs.Prelude.{byte_len, Tree, key_lines, lines_after_dash, value_at};
 ghost use Rattle.yaml_writer.specs.Sizes.{length_at, key_size, element_size, value_size};
 
 /// The length of a key, an element and a value at each indentation follows from its [`Size`](crate::Size). It is the

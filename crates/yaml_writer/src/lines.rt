@@ -1,7 +1,6 @@
 // The lines of a text.
 ghost use Rattle.std.specs.Prelude.{◌≡◌, ◌∷◌, ◌++◌, MatchOption};
-ghost use Rattle.std.specs.Str.{chars};
-ghost use Rattle.yaml_chars.specs.Signs.{line_feed};
+ghost use Rattle.yaml_writer.specs.Prelude.{chars, line_feed};
 ghost use Rattle.yaml_writer.specs.Lines.{IsOneLine};
 
 /// The first line of a text, and what comes after its line feed; `None` if the text has no line feed.

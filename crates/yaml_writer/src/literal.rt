@@ -1,7 +1,6 @@
 // Literals (YAML 1.2.2, 8.1.2).
 ghost use Rattle.std.specs.Prelude.{true, OnOk};
-ghost use Rattle.std.specs.Str.{chars};
-ghost use Rattle.yaml_grammar.specs.Style.{literal_lines};
+ghost use Rattle.yaml_writer.specs.Prelude.{chars, literal_lines};
 ghost use Rattle.yaml_writer.specs.Lines.{line_text};
 
 use crate::lines::split_line;

@@ -1,10 +1,8 @@
 // Texts in double quotes (YAML 1.2.2, 7.3.1).
-ghost use Rattle.std.specs.Prelude.{◌≡◌, ◌≤◌, ◌<◌, ◌/◌, ◌%◌, ◌^◌, ◌∷◌, [], true, false, ◌==◌, ◌||◌, length, slice_index, take, OnOk, MatchOption};
-ghost use Rattle.std.specs.Str.{chars};
-ghost use Rattle.yaml_chars.specs.Classes.{in_range};
-ghost use Rattle.yaml_chars.specs.Signs.{null, bell, carriage_return, escape_char, backslash};
-ghost use Rattle.std.specs.List.{list_all};
-ghost use Rattle.yaml_grammar.specs.Style.{hex, letter_escape, quoted_char, quoted_chars, in_double_quotes};
+ghost use Rattle.std.specs.Prelude.{◌≡◌, ◌≤◌, ◌<◌, ◌/◌, ◌%◌, ◌^◌, ◌∷◌, [], true, false, ◌==◌, ◌||◌, length};
+ghost use Rattle.std.specs.Prelude.{slice_index, take, OnOk, MatchOption};
+ghost use Rattle.yaml_writer.specs.Prelude.{chars, in_range, null, bell, carriage_return, escape_char, backslash};
+ghost use Rattle.yaml_writer.specs.Prelude.{list_all, hex, letter_escape, quoted_char, quoted_chars, in_double_quotes};
 ghost use Rattle.yaml_writer.specs.Runs.{stands_alone, number_escape};
 
 use crate::bytes::{ByteClass, LoneBytes, are_all};

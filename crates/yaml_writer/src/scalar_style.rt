@@ -1,11 +1,8 @@
 // How the one style writes a scalar.
 ghost use Rattle.std.specs.Prelude.{◌≡◌, ◌&&◌, false, IsTrue};
-ghost use Rattle.std.specs.Str.{chars};
-ghost use Rattle.yaml_grammar.specs.Style.{letter, word_char, shown, plain_in_style, literal_in_style, special_words, lower, is_among, shown_or_feed, space_or_feed, feeds_at_end};
-ghost use Rattle.std.specs.List.{list_all};
-ghost use Rattle.yaml_grammar.specs.Texts.{first, same_text};
-ghost use Rattle.yaml_chars.specs.Classes.{is_in};
-ghost use Rattle.yaml_chars.specs.Signs.{line_feed};
+ghost use Rattle.yaml_writer.specs.Prelude.{chars, letter, word_char, shown, plain_in_style, literal_in_style};
+ghost use Rattle.yaml_writer.specs.Prelude.{special_words, lower, is_among, shown_or_feed, space_or_feed, feeds_at_end};
+ghost use Rattle.yaml_writer.specs.Prelude.{list_all, first, same_text, is_in, line_feed};
 ghost use Rattle.yaml_writer.specs.ScalarStyles.{value_style, key_style, literal_style, special_initials};
 
 use crate::bytes::{LineBytes, WordBytes, are_all};

@@ -1,7 +1,6 @@
 // Where a text goes, piece by piece.
 ghost use Rattle.std.specs.Prelude.{◌≡◌, ℕ, List, [], ◌∷◌, ◌++◌, OnOk};
-ghost use Rattle.std.specs.Str.{chars};
-ghost use Rattle.yaml_grammar.specs.Texts.{spaces};
+ghost use Rattle.yaml_writer.specs.Prelude.{chars, spaces};
 
 /// Takes a text piece by piece, as a buffer that grows or as a count. After a fault nothing is promised of what it
 /// holds.

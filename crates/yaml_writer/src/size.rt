@@ -1,14 +1,11 @@
 // How the length of a part grows with its indentation.
 ghost use Rattle.std.specs.Prelude.{◌≡◌, true, ◌+◌, ◌*◌, ◌^◌, ◌<◌, ◌≤◌};
-ghost use Rattle.std.specs.Str.{chars};
-ghost use Rattle.yaml_grammar.specs.Texts.{byte_len};
-ghost use Rattle.yaml_grammar.specs.Trees as grammar;
-ghost use Rattle.yaml_grammar.specs.Trees.{depth, sequence, mapping};
-ghost use Rattle.yaml_grammar.specs.Style.{style_text, scalar_lines, elements_at, members_at, lines_after_dash, literal_lines, in_double_quotes, key_text};
-ghost use Rattle.yaml_data.specs.OwnLimits.{own_limits};
-ghost use Rattle.yaml_data.specs.Seen.{tree_of, elements_of, members_of};
+ghost use Rattle.yaml_writer.specs.Prelude.{chars, byte_len, depth, sequence, mapping, style_text, scalar_lines};
+ghost use Rattle.yaml_writer.specs.Prelude.{elements_at, members_at, lines_after_dash, literal_lines, in_double_quotes};
+ghost use Rattle.yaml_writer.specs.Prelude.{key_text, own_limits, tree_of, elements_of, members_of};
 ghost use Rattle.yaml_writer.specs.Lines.{line_text};
 ghost use Rattle.yaml_writer.specs.Sizes.{element_size, value_size, key_size, is_filled, indented_literal_lines};
+ghost use Rattle.yaml_grammar.specs.Trees as grammar;
 
 use crate::count::{ByteCount, is_long_key};
 use crate::lines::split_line;

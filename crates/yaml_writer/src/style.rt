@@ -1,12 +1,10 @@
 // The one style: the text of a tree, written to a sink.
 ghost use Rattle.std.specs.Prelude.{◌+◌, ◌*◌, ◌^◌, ◌<◌, ◌≤◌, ◌++◌, true, codes, OnOk};
-ghost use Rattle.std.specs.Str.{chars};
-ghost use Rattle.yaml_grammar.specs.Texts.{spaces};
+ghost use Rattle.yaml_writer.specs.Prelude.{chars, spaces, depth, elements_depth, members_depth, literal_lines};
+ghost use Rattle.yaml_writer.specs.Prelude.{scalar_lines, key_text, key_lines, elements_at, lines_after_dash};
+ghost use Rattle.yaml_writer.specs.Prelude.{members_at, value_at, style_text, own_limits, tree_of, elements_of};
+ghost use Rattle.yaml_writer.specs.Prelude.{members_of};
 ghost use Rattle.yaml_grammar.specs.Trees as grammar;
-ghost use Rattle.yaml_grammar.specs.Trees.{depth, elements_depth, members_depth};
-ghost use Rattle.yaml_grammar.specs.Style.{literal_lines, scalar_lines, key_text, key_lines, elements_at, lines_after_dash, members_at, value_at, style_text};
-ghost use Rattle.yaml_data.specs.OwnLimits.{own_limits};
-ghost use Rattle.yaml_data.specs.Seen.{tree_of, elements_of, members_of};
 
 use crate::count::is_long_key;
 use crate::literal::write_literal_lines;

@@ -1,6 +1,6 @@
 // A string as a sink: what is written comes at its end.
 ghost use Rattle.std.specs.Prelude.{◌≡◌, ◌++◌, string_bytes, OnOk};
-ghost use Rattle.yaml_grammar.specs.Texts.{spaces};
+ghost use Rattle.yaml_writer.specs.Prelude.{spaces};
 
 use crate::sink::Sink;
 use std::alloc::AllocError;

@@ -1,12 +1,8 @@
 -- White at the start of a text, and what comes after it.
 use Rattle.std.proofs.Common.{◌≡◌, refl, inl, inr}
 use Rattle.std.specs.Prelude.{ℕ, Bool, true, false, not, ◌||◌, List, [], ◌∷◌, ◌++◌}
-use Rattle.std.proofs.lemmas.Bool.{and_parts, cases_Bool, false≢true}
-use Rattle.yaml_chars.specs.Classes.{white, line_break}
-use Rattle.std.specs.List.{list_all}
-use Rattle.yaml_grammar.specs.Texts.{first}
-use Rattle.yaml_recognizers.specs.Prefixes.{drop_while}
-use Rattle.yaml_recognizers.specs.Joins.{at_break}
+use Rattle.yaml_recognizers.proofs.Prelude.{and_parts, cases_Bool, false≢true, white, line_break, list_all, first}
+use Rattle.yaml_recognizers.specs.{Prefixes.drop_while, Joins.at_break}
 
 -- what is left does not begin with another such character
 pub drop_while_first : (p : ℕ → Bool) (text : List ℕ) → first p (drop_while p text) ≡ false

@@ -1,10 +1,8 @@
 -- Breaks: those that fit are read, and those that are read fit.
 use Rattle.std.proofs.Common.{ap, inl, inr, refl, subst, sym, ◌≡◌}
 use Rattle.std.specs.Prelude.{Bool, List, None, Some, [], cond, false, if◌then◌else◌, is_some, not, true, ℕ, ◌&&◌, ◌++◌, ◌==◌, ◌||◌, ◌∷◌}
-use Rattle.std.proofs.lemmas.Bool.{and_left, cases_Bool, cond_both, eqb-true, false≢true, not_from_false}
-use Rattle.yaml_chars.specs.Classes.{line_break}
-use Rattle.yaml_grammar.specs.Separation.{Break, break_fits, break_text, cr, cr_lf, lf}
-use Rattle.yaml_grammar.specs.Texts.{begins, first}
+use Rattle.yaml_recognizers.proofs.Prelude.{and_left, cases_Bool, cond_both, eqb-true, false≢true, not_from_false, line_break, Break}
+use Rattle.yaml_recognizers.proofs.Prelude.{break_fits, break_text, cr, cr_lf, lf, begins, first}
 use Rattle.yaml_recognizers.specs.Comments.{read_break, read_cr}
 use Rattle.yaml_recognizers.proofs.Basics.Reading.{Sound}
 

@@ -1,11 +1,9 @@
 -- Whether a line starts after a text. How long texts are that are put together.
 use Rattle.std.proofs.Common.{append_assoc, arith, refl, sym, ◌∙◌, ◌≡◌}
 use Rattle.std.specs.Prelude.{Bool, List, None, Option, Some, [], false, not, true, ℕ, ◌++◌, ◌+◌, ◌||◌, ◌∷◌}
-use Rattle.std.proofs.lemmas.Bool.{and_parts, false≢true, or_left, or_right}
-use Rattle.yaml_chars.specs.Classes.{line_break}
-use Rattle.yaml_grammar.specs.Separation.{Break, LineEnd, break_text, comment_line_fits, comment_text, comments_fit}
-use Rattle.yaml_grammar.specs.Separation.{comments_text, cr, cr_lf, lf, line_end_text, stop_fits}
-use Rattle.yaml_grammar.specs.Texts.{byte_len, is_empty, optional, starts_line}
+use Rattle.yaml_recognizers.proofs.Prelude.{and_parts, false≢true, or_left, or_right, line_break, Break, LineEnd, break_text}
+use Rattle.yaml_recognizers.proofs.Prelude.{comment_line_fits, comment_text, comments_fit, comments_text, cr, cr_lf, lf, line_end_text}
+use Rattle.yaml_recognizers.proofs.Prelude.{stop_fits, byte_len, is_empty, optional, starts_line}
 use Rattle.yaml_recognizers.proofs.Separation.LineEnds.{line_parts}
 
 -- the length of two texts is the sum of their lengths

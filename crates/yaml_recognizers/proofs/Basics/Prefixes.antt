@@ -1,11 +1,8 @@
 -- Runs of characters at the start of a text.
 use Rattle.std.proofs.Common.{ap, inl, inr, refl, ◌∙◌, ◌≡◌}
 use Rattle.std.specs.Prelude.{Bool, List, [], false, suc, true, zero, ℕ, ◌++◌, ◌==◌, ◌∷◌}
-use Rattle.std.proofs.lemmas.Bool.{and_from, and_parts, cases_Bool, cond_both, eqb-true, false≢true}
-use Rattle.yaml_chars.specs.Classes.{space, white}
-use Rattle.yaml_grammar.specs.BlockScalars.{past_spaces, spaces_before}
-use Rattle.std.specs.List.{list_all}
-use Rattle.yaml_grammar.specs.Texts.{first, spaces}
+use Rattle.yaml_recognizers.proofs.Prelude.{and_from, and_parts, cases_Bool, cond_both, eqb-true, false≢true, space, white, past_spaces}
+use Rattle.yaml_recognizers.proofs.Prelude.{spaces_before, list_all, first, spaces}
 use Rattle.yaml_recognizers.specs.Prefixes.{drop_while, past, take_while}
 
 -- characters that pass, before one that doesn't, are taken whole

@@ -1,7 +1,7 @@
 -- What holds of what a recognizer returns.
 use Rattle.std.proofs.Common.{ap, inl, inr, refl, subst, ◌≡◌, ◌⊎◌}
 use Rattle.std.specs.Prelude.{Bool, List, None, Some, [], cond, false, true, ℕ, ◌==◌, ◌∷◌}
-use Rattle.std.proofs.lemmas.Bool.{eqb-true}
+use Rattle.yaml_recognizers.proofs.Prelude.{eqb-true}
 use Rattle.yaml_recognizers.specs.Reading.{Read, read_closing, if_fits, on}
 
 -- what holds of what is read, if anything is

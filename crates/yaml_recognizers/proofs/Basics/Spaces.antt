@@ -1,12 +1,10 @@
 -- Spaces at the start of a text, and what a line that goes on begins with.
 use Rattle.std.proofs.Common.{◌≡◌, refl, sym, ◌∙◌, ap, subst, inl, inr, arith, ◌<◌, ◌≤◌}
 use Rattle.std.specs.Prelude.{ℕ, zero, suc, ◌+◌, Bool, true, false, not, ◌&&◌, ◌||◌, ◌==◌, nat_le, nat_lt, List, [], ◌∷◌, ◌++◌, drop, codes}
-use Rattle.std.proofs.lemmas.Bool.{and_parts, and_from, and_left, and_right, or_cases, or_left, or_right, or_parts}
-use Rattle.std.proofs.lemmas.Bool.{or_from, false≢true, eqb-true, eq-eqb, ltb-true, lt-ltb, le-ltb, lt-leb, not-true}
-use Rattle.std.proofs.lemmas.Bool.{not-false, cases_Bool}
-use Rattle.yaml_chars.specs.Classes.{printable, line_break, space, nb}
-use Rattle.yaml_grammar.specs.Texts.{first, begins, spaces, ends_word, marker, no_marker}
-use Rattle.yaml_grammar.specs.BlockScalars.{spaces_before, past_spaces, goes_on}
+use Rattle.yaml_recognizers.proofs.Prelude.{and_parts, and_from, and_left, and_right, or_cases, or_left, or_right, or_parts, or_from}
+use Rattle.yaml_recognizers.proofs.Prelude.{false≢true, eqb-true, eq-eqb, ltb-true, lt-ltb, le-ltb, lt-leb, not-true, not-false, cases_Bool}
+use Rattle.yaml_recognizers.proofs.Prelude.{printable, line_break, space, nb, first, begins, spaces, ends_word, marker, no_marker}
+use Rattle.yaml_recognizers.proofs.Prelude.{spaces_before, past_spaces, goes_on}
 
 -- ---- spaces
 

@@ -1,27 +1,17 @@
 -- One step of the reading of a block node over its open collections.
 use Rattle.std.proofs.Common.{ap, refl, sym, ◌∙◌, ◌≡◌}
-use Rattle.std.specs.Prelude.{Bool, List, None, Some, [], false, true, suc, nat_le, if◌then◌else◌, not, ℕ, ◌&&◌, ◌||◌, ◌++◌, ◌+◌, ◌==◌, ◌∷◌}
-use Rattle.yaml_grammar.specs.Texts.{is_empty}
-use Rattle.yaml_grammar.specs.Separation.{LineEnd}
-use Rattle.yaml_grammar.specs.FlowNodes.{Flow}
-use Rattle.yaml_grammar.specs.BlockNodes.{Indented, Items, Node, Pair, Pairs, asked_alone, is_omitted, item, item_and}
-use Rattle.yaml_grammar.specs.BlockNodes.{items, keyed, keyed_alone, node, omitted, pair, pair_and, pairs}
-use Rattle.yaml_grammar.specs.BlockScalars.{past_spaces, spaces_before}
-use Rattle.yaml_recognizers.specs.BlockFrames.{BlockFrame, Sits, close_items, close_pairs, items_part, joined_items}
-use Rattle.yaml_recognizers.specs.BlockFrames.{joined_pairs, key_asked, key_on_line, keyed_part, on_lines}
-use Rattle.yaml_recognizers.specs.BlockFrames.{on_sign_line, pair_with, pairs_after, pairs_part, plug, unwind}
-use Rattle.yaml_recognizers.specs.BlockFrames.{waits_item, waits_key, waits_value}
-use Rattle.yaml_recognizers.specs.BlockNodes.{asked_key, indented_node, key_value, leaf_at, more_items, more_pairs}
-use Rattle.yaml_recognizers.specs.BlockNodes.{omits, opens_pair, sep_at}
-use Rattle.yaml_recognizers.specs.BlockScalars.{read_block}
-use Rattle.yaml_chars.specs.Classes.{white}
-use Rattle.yaml_recognizers.specs.Comments.{all_comments}
-use Rattle.yaml_recognizers.specs.Ends.{block_node_stops}
-use Rattle.yaml_recognizers.specs.Prefixes.{drop_while, past, sign, take_while}
-use Rattle.yaml_recognizers.specs.Reading.{Read, on}
-use Rattle.yaml_recognizers.specs.Recognizers.{block_indented_at, block_items_at, block_key_in, block_node_at}
-use Rattle.yaml_recognizers.specs.Recognizers.{block_pair_at, block_pairs_at, flow_leaf_at}
-use Rattle.yaml_recognizers.proofs.Meanings.Steps.{indented_steps, items_steps, node_steps, pair_steps, pairs_steps}
+use Rattle.std.specs.Prelude.{Bool, List, None, Some, [], false, true, suc, nat_le, if◌then◌else◌, not, ℕ, ◌&&◌, ◌++◌, ◌+◌, ◌==◌, ◌∷◌}
+use Rattle.yaml_recognizers.proofs.Prelude.{LineEnd, Flow, Indented, Items, Node, Pair, Pairs, asked_alone, is_omitted, item, item_and}
+use Rattle.yaml_recognizers.proofs.Prelude.{items, keyed, keyed_alone, node, omitted, pair, pair_and, pairs, past_spaces, spaces_before}
+use Rattle.yaml_recognizers.specs.{BlockScalars.read_block, Comments.all_comments, Ends.block_node_stops, Prefixes.past, Prefixes.sign}
+use Rattle.yaml_recognizers.specs.{Reading.Read, Reading.on}
+use Rattle.yaml_recognizers.specs.BlockFrames.{BlockFrame, Sits, close_items, close_pairs, items_part, joined_items, joined_pairs}
+use Rattle.yaml_recognizers.specs.BlockFrames.{key_asked, key_on_line, keyed_part, on_lines, on_sign_line, pair_with, pairs_after}
+use Rattle.yaml_recognizers.specs.BlockFrames.{pairs_part, plug, unwind, waits_item, waits_key, waits_value}
+use Rattle.yaml_recognizers.specs.BlockNodes.{asked_key, indented_node, key_value, more_items, more_pairs, omits, opens_pair}
+use Rattle.yaml_recognizers.specs.Recognizers.{block_indented_at, block_items_at, block_key_in, block_node_at, block_pair_at}
+use Rattle.yaml_recognizers.specs.Recognizers.{block_pairs_at, flow_leaf_at}
+use Rattle.yaml_recognizers.proofs.Meanings.Steps.{indented_steps, items_steps, pair_steps, pairs_steps}
 
 -- two steps after what was read are one step of both
 on_on : {A B C : Type 0} (r : Read A) (f : A → List ℕ → Read B) (g : B → List ℕ → Read C) → on (on r f) g ≡ on r (λ a t. on (f a t) g)
@@ -210,13 +200,6 @@ pub sequence_on_sign_line : (k : ℕ) (shallow : Bool) (text : List ℕ) → nat
     (block_items_at (k + 1 + spaces_before text) (past_spaces text))
 sequence_on_sign_line k shallow text h = indented_steps k shallow text ∙ rw h refl
 
--- a compact mapping after a sign
-pub mapping_on_sign_line : (k : ℕ) (shallow : Bool) (text : List ℕ) → nat_le 1 (spaces_before text) && sign 45 (past_spaces text) ≡ false
-    → nat_le 1 (spaces_before text) && opens_pair block_key_in flow_leaf_at read_block false (past_spaces text) ≡ true
-    → block_indented_at k shallow text ≡ close_pairs (on_sign_line (spaces_before text)) []
-    (block_pairs_at (k + 1 + spaces_before text) false (past_spaces text))
-mapping_on_sign_line k shallow text h p = indented_steps k shallow text ∙ rw (h, p) refl
-
 -- a node, or nothing, after a sign
 pub node_after_sign : (k : ℕ) (shallow : Bool) (text : List ℕ) → nat_le 1 (spaces_before text) && sign 45 (past_spaces text) ≡ false
     → nat_le 1 (spaces_before text) && opens_pair block_key_in flow_leaf_at read_block false (past_spaces text) ≡ false
@@ -240,45 +223,3 @@ pairs_as_part : (comments : List LineEnd) (k : ℕ) (r : Read Pairs)
     → as_part (on r (λ ps rest. Some (pairs comments k ps, rest))) ≡ close_pairs (on_lines comments k) [] r
 pairs_as_part comments k None = refl
 pairs_as_part comments k (Some r) = refl
-
--- a sequence after comments
-pub sequence_on_lines : (m : ℕ) (shallow bol : Bool) (text : List ℕ)
-    → (bol || not (is_empty (all_comments bol text).0)) && sign 45 (past_spaces (all_comments bol text).1)
-    && nat_le m (if shallow then suc (spaces_before (all_comments bol text).1) else spaces_before (all_comments bol text).1) ≡ true
-    → as_part (block_node_at m shallow bol text)
-    ≡ close_items (on_lines (all_comments bol text).0 (spaces_before (all_comments bol text).1)) []
-    (block_items_at (spaces_before (all_comments bol text).1) (past_spaces (all_comments bol text).1))
-sequence_on_lines m shallow bol text h =
-    ap as_part (node_steps m shallow bol text ∙ rw h refl)
-    ∙ items_as_part (all_comments bol text).0 (spaces_before (all_comments bol text).1)
-    (block_items_at (spaces_before (all_comments bol text).1) (past_spaces (all_comments bol text).1))
-
--- a mapping after comments
-pub mapping_on_lines : (m : ℕ) (shallow bol : Bool) (text : List ℕ)
-    → (bol || not (is_empty (all_comments bol text).0)) && sign 45 (past_spaces (all_comments bol text).1)
-    && nat_le m (if shallow then suc (spaces_before (all_comments bol text).1) else spaces_before (all_comments bol text).1) ≡ false
-    → (bol || not (is_empty (all_comments bol text).0)) && nat_le m (spaces_before (all_comments bol text).1)
-    && opens_pair block_key_in flow_leaf_at read_block (spaces_before (all_comments bol text).1 == 0)
-    (past_spaces (all_comments bol text).1) ≡ true
-    → as_part (block_node_at m shallow bol text)
-    ≡ close_pairs (on_lines (all_comments bol text).0 (spaces_before (all_comments bol text).1)) []
-    (block_pairs_at (spaces_before (all_comments bol text).1) (spaces_before (all_comments bol text).1 == 0)
-    (past_spaces (all_comments bol text).1))
-mapping_on_lines m shallow bol text h p =
-    ap as_part (node_steps m shallow bol text ∙ rw (h, p) refl)
-    ∙ pairs_as_part (all_comments bol text).0 (spaces_before (all_comments bol text).1)
-    (block_pairs_at (spaces_before (all_comments bol text).1) (spaces_before (all_comments bol text).1 == 0)
-    (past_spaces (all_comments bol text).1))
-
--- a flow node or a block scalar after comments
-pub leaf_after_comments : (m : ℕ) (shallow bol : Bool) (text : List ℕ)
-    → (bol || not (is_empty (all_comments bol text).0)) && sign 45 (past_spaces (all_comments bol text).1)
-    && nat_le m (if shallow then suc (spaces_before (all_comments bol text).1) else spaces_before (all_comments bol text).1) ≡ false
-    → (bol || not (is_empty (all_comments bol text).0)) && nat_le m (spaces_before (all_comments bol text).1)
-    && opens_pair block_key_in flow_leaf_at read_block (spaces_before (all_comments bol text).1 == 0)
-    (past_spaces (all_comments bol text).1) ≡ false
-    → block_node_at m shallow bol text
-    ≡ leaf_at block_key_in flow_leaf_at read_block m bol
-    (sep_at m bol (all_comments bol text).0 (take_while white (all_comments bol text).1))
-    (drop_while white (all_comments bol text).1)
-leaf_after_comments m shallow bol text h p = node_steps m shallow bol text ∙ rw (h, p) refl

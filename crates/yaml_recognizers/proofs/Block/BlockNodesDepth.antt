@@ -1,29 +1,20 @@
 -- The recognizer of block nodes finds the same at each depth that is enough for the text; so its parts can be said by
 -- one another.
 use Rattle.std.proofs.Common.{ap, arith, length-append, refl, sym, ◌∙◌, ◌≡◌, ◌≤◌}
-use Rattle.std.specs.Prelude.{Bool, List, None, Some, [], false, if◌then◌else◌, length, nat_le, not, suc, true, zero}
-use Rattle.std.specs.Prelude.{ℕ, ◌&&◌, ◌*◌, ◌++◌, ◌+◌, ◌==◌, ◌||◌, ◌∷◌}
-use Rattle.std.proofs.lemmas.Bool.{and_parts}
-use Rattle.yaml_grammar.specs.BlockNodes.{Indented, Items, Node, Pair, Pairs, asked, compact_items, compact_pairs}
-use Rattle.yaml_grammar.specs.BlockNodes.{indented_text, is_omitted, item_and, items, keyed, node, pair_and}
-use Rattle.yaml_grammar.specs.BlockNodes.{pair_text, pairs}
-use Rattle.yaml_grammar.specs.BlockScalars.{BlockScalar, past_spaces, spaces_before}
-use Rattle.yaml_grammar.specs.FlowNodes.{Flow, flow_text}
-use Rattle.yaml_grammar.specs.Separation.{LineEnd, comments_text}
-use Rattle.yaml_grammar.specs.Texts.{is_empty, spaces}
-use Rattle.yaml_recognizers.specs.BlockNodes.{asked_key, deep_indented, deep_items, deep_node, deep_pair, deep_pairs}
-use Rattle.yaml_recognizers.specs.BlockNodes.{indented_node, key_value, more_items, more_pairs, node_below, omits}
-use Rattle.yaml_recognizers.specs.BlockNodes.{opens_pair, read_indented, read_items, read_node, read_pair, read_pairs}
-use Rattle.yaml_recognizers.specs.Comments.{all_comments}
-use Rattle.yaml_recognizers.specs.Ends.{block_node_stops}
-use Rattle.yaml_recognizers.specs.Prefixes.{past, sign}
-use Rattle.yaml_recognizers.specs.Reading.{Read, on}
-use Rattle.yaml_recognizers.proofs.Block.BlockNodesBegin.{pair_long}
+use Rattle.std.specs.Prelude.{Bool, List, None, Some, [], false, if◌then◌else◌, length, nat_le, not, suc, true, zero, ℕ, ◌&&◌, ◌*◌, ◌++◌}
+use Rattle.std.specs.Prelude.{◌+◌, ◌==◌, ◌||◌, ◌∷◌}
+use Rattle.yaml_recognizers.proofs.Prelude.{and_parts, Indented, Items, Node, Pair, Pairs, asked, compact_items, compact_pairs}
+use Rattle.yaml_recognizers.proofs.Prelude.{indented_text, is_omitted, item_and, items, keyed, node, pair_and, pair_text, pairs}
+use Rattle.yaml_recognizers.proofs.Prelude.{BlockScalar, past_spaces, spaces_before, Flow, flow_text, LineEnd, comments_text, is_empty}
+use Rattle.yaml_recognizers.proofs.Prelude.{spaces}
+use Rattle.yaml_recognizers.specs.{Comments.all_comments, Ends.block_node_stops, Prefixes.past, Prefixes.sign, Reading.Read, Reading.on}
+use Rattle.yaml_recognizers.specs.BlockNodes.{asked_key, deep_indented, deep_items, deep_node, deep_pair, deep_pairs, indented_node}
+use Rattle.yaml_recognizers.specs.BlockNodes.{key_value, more_items, more_pairs, node_below, omits, opens_pair, read_indented, read_items}
+use Rattle.yaml_recognizers.specs.BlockNodes.{read_node, read_pair, read_pairs}
+use Rattle.yaml_recognizers.proofs.{Block.BlockNodesBegin.pair_long, Separation.CommentsSound.all_sound, Basics.Prefixes.spaces_split}
+use Rattle.yaml_recognizers.proofs.{Basics.Solid.head_of}
 use Rattle.yaml_recognizers.proofs.Block.BlockNodesSound.{BlockOf, FlowOf, IndentedOf, KeyOf, PairOf, indented_sound, pair_sound}
-use Rattle.yaml_recognizers.proofs.Separation.CommentsSound.{all_sound}
-use Rattle.yaml_recognizers.proofs.Basics.Prefixes.{spaces_split}
 use Rattle.yaml_recognizers.proofs.Basics.Reading.{Sound, cond_same, on_same, sound_is}
-use Rattle.yaml_recognizers.proofs.Basics.Solid.{head_of}
 
 -- ---- what is left of a text
 

@@ -1,30 +1,18 @@
 -- A block key is a flow node of the wider context that is on one line, is short, and has white and a `:` after it: so
 -- one reading decides both.
-use Rattle.std.proofs.Common.{ap, refl, subst, sym, ◌∙◌, ◌≡◌}
+use Rattle.std.proofs.Common.{ap, refl, subst, sym, ◌∙◌, ◌≡◌, inl, inr}
 use Rattle.std.specs.Prelude.{Bool, List, None, Some, false, true, ℕ, ◌&&◌, ◌++◌, ◌∷◌}
-use Rattle.std.proofs.lemmas.Bool.{and_parts, false≢true}
-use Rattle.yaml_chars.specs.Classes.{ns, white}
-use Rattle.yaml_grammar.specs.FlowNodes.{Flow, flow_text, is_plain, short_key}
-use Rattle.yaml_grammar.specs.FlowScalars.{block_key, outer}
-use Rattle.std.specs.List.{list_all}
-use Rattle.yaml_grammar.specs.Texts.{first}
-use Rattle.yaml_recognizers.specs.CanonicalFlowNodes.{canonical_flow}
-use Rattle.yaml_recognizers.specs.Ends.{Stops}
-use Rattle.yaml_recognizers.specs.FlowScalars.{read_scalar}
+use Rattle.yaml_recognizers.proofs.Prelude.{and_parts, false≢true, ns, white, Flow, flow_text, is_plain, short_key, block_key, outer}
+use Rattle.yaml_recognizers.proofs.Prelude.{list_all, first}
+use Rattle.yaml_recognizers.specs.{CanonicalFlowNodes.canonical_flow, Ends.Stops, FlowScalars.read_scalar, OneLine.on_one_line}
+use Rattle.yaml_recognizers.specs.{Reading.Read, Recognizers.StandsFlow, Recognizers.block_key_in, Recognizers.flow_node_at}
 use Rattle.yaml_recognizers.specs.Prefixes.{drop_while, past, sign, take_while}
-use Rattle.yaml_recognizers.specs.OneLine.{on_one_line}
-use Rattle.yaml_recognizers.specs.Reading.{Read}
-use Rattle.yaml_recognizers.specs.Recognizers.{StandsFlow, block_key_in, flow_node_at}
+use Rattle.yaml_recognizers.proofs.{Flow.FlowNodesFound.stands, Flow.FlowNodesNarrower.flow_key_line, Flow.FlowNodesNarrower.flow_narrower}
+use Rattle.yaml_recognizers.proofs.{Flow.FlowNodesWhole.whole_flow_read, Flow.FlowNodesWhole.whole_flow_sound}
+use Rattle.yaml_recognizers.proofs.{Flow.FlowNodesWider.flow_wider, Scalars.ScalarsInNodes.reads_scalars, Basics.Solid.head_of}
 use Rattle.yaml_recognizers.proofs.Block.BlockKeys.{WholeKey, keys_read, whole_key}
-use Rattle.yaml_recognizers.proofs.Flow.FlowNodesFound.{stands}
-use Rattle.yaml_recognizers.proofs.Flow.FlowNodesNarrower.{flow_key_line, flow_narrower}
-use Rattle.yaml_recognizers.proofs.Flow.FlowNodesWhole.{whole_flow_read, whole_flow_sound}
-use Rattle.yaml_recognizers.proofs.Flow.FlowNodesWider.{flow_wider}
 use Rattle.yaml_recognizers.proofs.Basics.Prefixes.{drop_while_all, take_while_all, take_while_every, take_while_split}
 use Rattle.yaml_recognizers.proofs.Basics.Reading.{none_some, some_parts, sound_is}
-use Rattle.yaml_recognizers.proofs.Scalars.ScalarsInNodes.{reads_scalars}
-use Rattle.yaml_recognizers.proofs.Basics.Solid.{head_of}
-use Rattle.std.proofs.Common.{inl, inr}
 
 -- before the `:` of a key a scalar ends
 before_colon : (n : ℕ) (after_plain : Bool) (gap rest : List ℕ) → list_all white gap ≡ true → first ns rest ≡ false

@@ -2,17 +2,14 @@
 -- nothing is there. These lemmas are over the grammar's own conditions, without those of the canonical form.
 use Rattle.std.proofs.Common.{◌≡◌, refl, sym, ◌∙◌, ap, append_assoc}
 use Rattle.std.specs.Prelude.{ℕ, ◌+◌, Bool, true, false, not, ◌&&◌, ◌||◌, List, [], ◌∷◌, ◌++◌, Option, Some, None, is_some, if◌then◌else◌}
-use Rattle.std.proofs.lemmas.Bool.{and_parts}
-use Rattle.yaml_grammar.specs.Texts.{is_empty, byte_len}
-use Rattle.yaml_grammar.specs.Separation.{LineEnd, line_end_text, comments_text}
-use Rattle.yaml_grammar.specs.BlockScalars.{Chomping, strip, clip, keep, Header, Body, BlockScalar, chomping_text}
-use Rattle.yaml_grammar.specs.BlockScalars.{header_text, body_text, bare_block_text, block_value}
-use Rattle.yaml_grammar.specs.Events.{Event, scalar_event, literal_style, folded_style}
+use Rattle.yaml_recognizers.proofs.Prelude.{is_empty, byte_len, LineEnd, line_end_text, comments_text, Chomping, strip, clip, keep, Header}
+use Rattle.yaml_recognizers.proofs.Prelude.{Body, BlockScalar, chomping_text, header_text, body_text, bare_block_text, block_value, Event}
+use Rattle.yaml_recognizers.proofs.Prelude.{scalar_event, literal_style, folded_style}
 use Rattle.yaml_recognizers.specs.Scalars.{ReadsBlocks}
-use Rattle.yaml_recognizers.proofs.Basics.Reading.{none_some, some_parts, sound_is}
 use Rattle.yaml_recognizers.specs.BlockScalars.{read_header, read_body, read_trail, block_of, read_block}
-use Rattle.yaml_recognizers.specs.BlockScalarFacts.{HeaderStands, IsHeader, NoHeader, BodyStands, IsBody, NoBody}
-use Rattle.yaml_recognizers.specs.BlockScalarFacts.{BlockStands, SameBlock, IsBlock, NoBlock}
+use Rattle.yaml_recognizers.specs.BlockScalarFacts.{HeaderStands, IsHeader, NoHeader, BodyStands, IsBody, NoBody, BlockStands, SameBlock}
+use Rattle.yaml_recognizers.specs.BlockScalarFacts.{NoBlock}
+use Rattle.yaml_recognizers.proofs.Basics.Reading.{none_some, some_parts, sound_is}
 use Rattle.yaml_recognizers.proofs.BlockScalars.BlockHeaders.{bar, signs, header_read, HeaderOf, header_sound}
 use Rattle.yaml_recognizers.proofs.BlockScalars.BlockBodies.{body_read, BodyOf, body_sound}
 use Rattle.yaml_recognizers.proofs.BlockScalars.BlockScalarsWhole.{BlockParts, block_parts, block_read, BlockOf, block_sound}
@@ -186,13 +183,6 @@ block_once m text b c rest after s t =
     some_parts (block_of (digit_first b.header) b.body u.0) (block_of (digit_first c.header) c.body v.0) u.1 v.1
     (sym (block_found m text b rest s) ∙ block_found m text c after t) in
     same_parts b c (ap (λ (x : BlockScalar). x.header) p.0) (ap (λ (x : BlockScalar). x.body) p.0)
-
--- a block scalar that is read is there, and each one there is the same except for comments
-pub block_is : (m : ℕ) (text : List ℕ) (b : BlockScalar) (rest : List ℕ) → read_block m text ≡ Some (b, rest) → IsBlock m text b rest
-block_is m text b rest e =
-    let s : BlockOf m text b rest = sound_is (BlockOf m text) (read_block m text) (b, rest) (block_sound m text) e in
-    let stands : BlockStands m text b rest = record { spells = s.0; fits = (and_parts _ _ (and_parts _ _ s.1).0).0 } in
-    record { stands = stands; only = λ c after t. block_once m text c b after rest t stands }
 
 -- if none is read, none is there
 pub no_block : (m : ℕ) (text : List ℕ) → read_block m text ≡ None → NoBlock m text

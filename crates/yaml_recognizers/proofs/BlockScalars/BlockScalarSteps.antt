@@ -2,15 +2,10 @@
 -- after a line does not depend on how far the recognizer may go.
 use Rattle.std.proofs.Common.{ap, append_assoc, arith, inl, inr, length-append, refl, subst, sym, ◌<◌, ◌∙◌, ◌≡◌}
 use Rattle.std.specs.Prelude.{Bool, List, None, Some, [], drop, false, length, suc, true, zero, ℕ, ◌++◌, ◌∷◌}
-use Rattle.std.proofs.lemmas.Bool.{and_from, cases_Bool}
-use Rattle.yaml_grammar.specs.BlockScalars.{Chomping, BlockEmptyLine, TextLine, between_lines, block_empties_text}
-use Rattle.yaml_grammar.specs.BlockScalars.{goes_on, past_spaces, spaces_before, text_value}
-use Rattle.yaml_grammar.specs.Separation.{Break, break_fits, break_text}
-use Rattle.yaml_grammar.specs.Texts.{optional, spaces}
-use Rattle.yaml_recognizers.specs.BlockScalarFacts.{value_after}
+use Rattle.yaml_recognizers.proofs.Prelude.{and_from, cases_Bool, BlockEmptyLine, TextLine, block_empties_text, goes_on, past_spaces}
+use Rattle.yaml_recognizers.proofs.Prelude.{spaces_before, Break, break_fits, break_text, optional, spaces}
+use Rattle.yaml_recognizers.specs.{Comments.read_break, Reading.Read, Reading.on}
 use Rattle.yaml_recognizers.specs.BlockScalars.{empties_of, lines_at, read_text_line, read_text_lines}
-use Rattle.yaml_recognizers.specs.Comments.{read_break}
-use Rattle.yaml_recognizers.specs.Reading.{Read, on}
 use Rattle.yaml_recognizers.proofs.Basics.Breaks.{BreakOf, break_sound}
 use Rattle.yaml_recognizers.proofs.BlockScalars.EmptyLines.{EmptiesOf, empty_split, empties_of_read, empties_of_sound}
 use Rattle.yaml_recognizers.proofs.Basics.Reading.{Sound, sound_is, sound_to}
@@ -100,11 +95,3 @@ lines_step q text h n =
     ap (λ r. on r (λ ls after. Some (l ∷ ls, after))) (lines_fuel (length text) (suc (length rest)) q rest j (omega arith) s.no_empty))))
 
 -- ---- values
-
--- the value of text lines, from the first one
-pub text_value_parts : (folded : Bool) (chomping : Chomping) (l : TextLine) (ls : List TextLine)
-    → text_value folded chomping l ls ≡ l.text ++ value_after folded chomping l ls
-text_value_parts folded chomping l [] = refl
-text_value_parts folded chomping l (m ∷ ms) =
-    append_assoc l.text (between_lines folded l m) (text_value folded chomping m ms)
-    ∙ ap (λ t. l.text ++ (between_lines folded l m ++ t)) (text_value_parts folded chomping m ms)

@@ -1,13 +1,10 @@
 -- Worked examples of the canonical form: presentations of one text that differ, and the form that they share.
 use Rattle.std.proofs.Common.{refl, ◌≡◌}
 use Rattle.std.specs.Prelude.{Bool, List, None, Some, [], codes, false, true, ℕ, ◌∷◌}
-use Rattle.yaml_grammar.specs.BlockNodes.{Node, block, flow}
-use Rattle.yaml_grammar.specs.BlockScalars.{strip}
-use Rattle.yaml_grammar.specs.FlowNodes.{scalar}
-use Rattle.yaml_grammar.specs.FlowScalars.{plain}
-use Rattle.yaml_grammar.specs.Separation.{LineEnd, Sep, inline, lf, lines}
-use Rattle.yaml_grammar.specs.Streams.{Part, Stream, bare, fits, line, stream_text}
-use Rattle.yaml_recognizers.specs.CanonicalStreams.{Section, document, line as line_section}
+use Rattle.yaml_recognizers.proofs.Prelude.{Node, block, flow, strip, scalar, plain, LineEnd, Sep, inline, lf, lines, Part, Stream, bare}
+use Rattle.yaml_recognizers.proofs.Prelude.{fits, line, stream_text}
+use Rattle.yaml_recognizers.specs.CanonicalStreams.{line as line_section}
+use Rattle.yaml_recognizers.specs.CanonicalStreams.{Section, document}
 use Rattle.yaml_recognizers.proofs.Documents.StreamsForm.{stream_form}
 
 -- two presentations of a text that fit, and their one form

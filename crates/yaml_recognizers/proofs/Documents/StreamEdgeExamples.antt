@@ -3,17 +3,14 @@
 -- texts, never from the recognizer.
 use Rattle.std.proofs.Common.{◌≡◌, refl}
 use Rattle.std.specs.Prelude.{List, [], ◌∷◌, ◌++◌, codes}
-use Rattle.yaml_grammar.specs.Events.{document_start, document_end, seq_start, seq_end, map_start, map_end}
-use Rattle.yaml_grammar.specs.Events.{scalar_event, plain_style, double_style, literal_style, folded_style}
-use Rattle.yaml_recognizers.specs.FlowNodes.{read_flow}
-use Rattle.yaml_recognizers.specs.BlockNodes.{read_node}
-use Rattle.yaml_recognizers.specs.Streams.{read_explicit, read_section, read_sections}
-use Rattle.yaml_recognizers.specs.Repeated.{repeated}
-use Rattle.yaml_recognizers.specs.Joins.{read_empty, after_blank, read_join}
-use Rattle.yaml_recognizers.specs.QuotedScalars.{read_held, read_quoted_line, read_quoted, read_single_one}
-use Rattle.yaml_recognizers.specs.QuotedScalars.{single_closes, read_single, read_item, double_closes, read_double}
+use Rattle.yaml_recognizers.proofs.Prelude.{document_start, document_end, seq_start, seq_end, map_start, map_end, scalar_event, plain_style}
+use Rattle.yaml_recognizers.proofs.Prelude.{double_style, literal_style, folded_style}
+use Rattle.yaml_recognizers.specs.{FlowNodes.read_flow, BlockNodes.read_node, Streams.read_explicit, Streams.read_section}
+use Rattle.yaml_recognizers.specs.{Streams.read_sections, Repeated.repeated, Joins.read_empty, Joins.after_blank, Joins.read_join}
+use Rattle.yaml_recognizers.specs.{FlowScalars.read_scalar, FlowScalars.scalar_ends}
+use Rattle.yaml_recognizers.specs.QuotedScalars.{read_held, read_quoted_line, read_quoted, read_single_one, single_closes, read_single}
+use Rattle.yaml_recognizers.specs.QuotedScalars.{read_item, double_closes, read_double}
 use Rattle.yaml_recognizers.specs.PlainScalars.{read_run, read_plain_line, read_plain, last_of, last_char, plain_ends}
-use Rattle.yaml_recognizers.specs.FlowScalars.{read_scalar, scalar_ends}
 use Rattle.yaml_recognizers.proofs.Documents.StreamExamples.{Example, found, read, refused, wanted}
 
 -- ---- comments, and where they begin

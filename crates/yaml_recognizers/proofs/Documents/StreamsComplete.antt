@@ -1,32 +1,22 @@
 -- A stream that is canonical is read whole.
 use Rattle.std.proofs.Common.{ap, append_assoc, arith, inl, inr, length-append, refl, subst, sym, ◌<◌, ◌∙◌, ◌≡◌, ◌≤◌}
 use Rattle.std.specs.Prelude.{Bool, List, Some, [], codes, drop, false, length, not, suc, true, zero, ℕ, ◌&&◌, ◌++◌, ◌==◌, ◌∷◌}
-use Rattle.std.proofs.lemmas.Bool.{and_from, and_parts, and_right, cases_Bool, cases_eq, eqb-true, false≢true, ne_eqb, not-true, or_parts}
-use Rattle.yaml_chars.specs.Classes.{white}
-use Rattle.yaml_grammar.specs.BlockNodes.{Node, node_text}
-use Rattle.yaml_grammar.specs.Separation.{LineEnd, comments_text, line_end_text}
-use Rattle.yaml_grammar.specs.Streams.{Explicit, bare, content, directed, document_text, explicit, explicit_text}
-use Rattle.yaml_grammar.specs.Streams.{mark_text, nothing, Version, yaml_1_1, yaml_1_2, version_text}
-use Rattle.std.specs.List.{list_all}
-use Rattle.yaml_grammar.specs.Texts.{begins, ends_word, first, is_empty, marker, starts_line}
-use Rattle.yaml_recognizers.specs.BlockNodes.{omits}
-use Rattle.yaml_recognizers.specs.CanonicalBlockNodes.{canonical_node}
-use Rattle.yaml_recognizers.specs.CanonicalComments.{canonical_comments, is_line_end}
-use Rattle.yaml_recognizers.specs.CanonicalStreams.{FlatStream, Section, canonical_explicit, canonical_section}
-use Rattle.yaml_recognizers.specs.CanonicalStreams.{canonical_sections, canonical_stream, document, flat_text, line}
-use Rattle.yaml_recognizers.specs.CanonicalStreams.{opens, section_text, sections_text, suffix}
-use Rattle.yaml_recognizers.specs.Comments.{all_comments, closes_line}
-use Rattle.yaml_recognizers.specs.Ends.{block_node_stops}
-use Rattle.yaml_recognizers.specs.Reading.{Read, on}
-use Rattle.yaml_recognizers.specs.Streams.{directed_with, marker_of, more_sections, order_mark, percent, section_and}
-use Rattle.yaml_recognizers.specs.Streams.{read_directed, read_explicit, read_section, read_sections, read_version}
-use Rattle.yaml_recognizers.specs.Streams.{stream_of, suffix_with, with_mark}
-use Rattle.yaml_recognizers.proofs.Block.BlockNodesBegin.{closes}
+use Rattle.yaml_recognizers.proofs.Prelude.{and_from, and_parts, and_right, cases_Bool, cases_eq, eqb-true, false≢true, ne_eqb, not-true}
+use Rattle.yaml_recognizers.proofs.Prelude.{or_parts, white, Node, node_text, LineEnd, comments_text, line_end_text, Explicit, bare}
+use Rattle.yaml_recognizers.proofs.Prelude.{content, directed, document_text, explicit, explicit_text, mark_text, nothing, Version}
+use Rattle.yaml_recognizers.proofs.Prelude.{yaml_1_1, yaml_1_2, version_text, list_all, begins, ends_word, first, is_empty, marker}
+use Rattle.yaml_recognizers.proofs.Prelude.{starts_line}
+use Rattle.yaml_recognizers.specs.{BlockNodes.omits, CanonicalBlockNodes.canonical_node, CanonicalComments.canonical_comments}
+use Rattle.yaml_recognizers.specs.{CanonicalComments.is_line_end, Comments.all_comments, Comments.closes_line, Ends.block_node_stops}
+use Rattle.yaml_recognizers.specs.{Reading.Read, Reading.on}
+use Rattle.yaml_recognizers.specs.CanonicalStreams.{FlatStream, Section, canonical_explicit, canonical_section, canonical_sections}
+use Rattle.yaml_recognizers.specs.CanonicalStreams.{canonical_stream, document, flat_text, line, opens, section_text, sections_text, suffix}
+use Rattle.yaml_recognizers.specs.Streams.{directed_with, marker_of, more_sections, order_mark, percent, section_and, read_directed}
+use Rattle.yaml_recognizers.specs.Streams.{read_explicit, read_section, read_sections, read_version, stream_of, suffix_with, with_mark}
+use Rattle.yaml_recognizers.proofs.{Block.BlockNodesBegin.closes, Separation.CommentsSound.line_is_end, Flow.FlowNodesBegin.reserved}
+use Rattle.yaml_recognizers.proofs.{Separation.LineEnds.line_long}
 use Rattle.yaml_recognizers.proofs.Separation.CommentsComplete.{comments_all, line_end_read}
-use Rattle.yaml_recognizers.proofs.Separation.CommentsSound.{line_is_end}
-use Rattle.yaml_recognizers.proofs.Flow.FlowNodesBegin.{reserved}
 use Rattle.yaml_recognizers.proofs.Basics.Prefixes.{drop_while_all, take_while_all}
-use Rattle.yaml_recognizers.proofs.Separation.LineEnds.{line_long}
 use Rattle.yaml_recognizers.proofs.Documents.StreamsBegin.{Bare, bare_prefix, content_given, document_ended, node_prefix, node_long}
 
 -- there is a marker where one is found

@@ -1,25 +1,19 @@
 -- The canonical form of streams: of its sections each document and each suffix takes in the lines after it that it may
 -- have.
 use Rattle.std.proofs.Common.{ap, append_assoc, refl, subst, sym, ◌∙◌, ◌≡◌}
-use Rattle.std.proofs.Math.Nat.{add-zero, add_assoc}
 use Rattle.std.specs.Prelude.{Bool, List, None, Option, Some, [], false, if◌then◌else◌, true, ℕ, ◌&&◌, ◌++◌, ◌+◌, ◌∷◌}
-use Rattle.std.proofs.lemmas.Bool.{and_from, and_parts, cond_both, not-true, not_from_false}
-use Rattle.std.proofs.lemmas.List.{append-nil}
-use Rattle.yaml_grammar.specs.Events.{Event}
-use Rattle.yaml_grammar.specs.Separation.{LineEnd, comment_fits, comment_line_fits, comments_fit, comments_text, line_end_text}
-use Rattle.yaml_grammar.specs.Streams.{Document, Stream, bare, directed, document_events, document_text, explicit}
-use Rattle.yaml_grammar.specs.Streams.{fits, mark_text, suffix_fits, suffix_text}
-use Rattle.yaml_grammar.specs.Texts.{byte_len, ends_word, starts_line}
-use Rattle.yaml_recognizers.specs.CanonicalComments.{is_line_end}
-use Rattle.yaml_recognizers.specs.CanonicalStreams.{FlatStream, Section, canonical_document, canonical_sections}
-use Rattle.yaml_recognizers.specs.CanonicalStreams.{document, line, opens, section_events, section_text}
-use Rattle.yaml_recognizers.specs.CanonicalStreams.{sections_events, sections_text, suffix}
+use Rattle.yaml_recognizers.proofs.Prelude.{add-zero, add_assoc, and_from, and_parts, cond_both, not-true, not_from_false, append-nil}
+use Rattle.yaml_recognizers.proofs.Prelude.{Event, LineEnd, comment_fits, comment_line_fits, comments_fit, comments_text, line_end_text}
+use Rattle.yaml_recognizers.proofs.Prelude.{Document, Stream, bare, directed, document_events, document_text, explicit, fits, mark_text}
+use Rattle.yaml_recognizers.proofs.Prelude.{suffix_fits, suffix_text, byte_len, ends_word, starts_line}
+use Rattle.yaml_recognizers.specs.{CanonicalComments.is_line_end, CanonicalForms.IsCanonicalFormOf}
+use Rattle.yaml_recognizers.specs.CanonicalStreams.{FlatStream, Section, canonical_document, canonical_sections, document, line, opens}
+use Rattle.yaml_recognizers.specs.CanonicalStreams.{section_events, section_text, sections_events, sections_text, suffix}
 use Rattle.yaml_recognizers.proofs.Separation.LineEnds.{LineParts, line_parts}
-use Rattle.yaml_recognizers.specs.CanonicalForms.{IsCanonicalFormOf}
 use Rattle.yaml_recognizers.proofs.BlockScalars.BlockScalarsForm.{takes, takes_not}
 use Rattle.yaml_recognizers.proofs.Separation.CommentsForm.{comments_form_fit, comments_joined, joined_before}
-use Rattle.yaml_recognizers.proofs.Documents.DocumentsForm.{document_form, document_form_events, document_form_fits}
-use Rattle.yaml_recognizers.proofs.Documents.DocumentsForm.{document_form_text, document_open, explicit_stop}
+use Rattle.yaml_recognizers.proofs.Documents.DocumentsForm.{document_form, document_form_events, document_form_fits, document_form_text}
+use Rattle.yaml_recognizers.proofs.Documents.DocumentsForm.{document_open, explicit_stop}
 use Rattle.yaml_recognizers.proofs.Basics.LineStarts.{byte_len_joined, starts_joined}
 use Rattle.yaml_recognizers.proofs.Documents.StreamsFlat.{stream_sections, stream_sections_events, stream_sections_text}
 use Rattle.yaml_recognizers.proofs.Documents.StreamsFlatFit.{flat_document_fits, section_fits, sections_fit, stream_sections_fit}

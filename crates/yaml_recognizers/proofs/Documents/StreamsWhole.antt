@@ -1,18 +1,11 @@
 -- Streams, from recognizers of scalars alone: complete, sound, and so unique.
 use Rattle.std.proofs.Common.{ap, sym, ◌∙◌, ◌≡◌}
 use Rattle.std.specs.Prelude.{Bool, List, None, Option, Some, false, true, ℕ}
-use Rattle.yaml_grammar.specs.BlockNodes.{Node}
-use Rattle.yaml_grammar.specs.BlockScalars.{BlockScalar}
-use Rattle.yaml_grammar.specs.FlowScalars.{FlowContext, Scalar}
-use Rattle.yaml_recognizers.specs.BlockNodes.{whole_node}
+use Rattle.yaml_recognizers.proofs.Prelude.{Node, BlockScalar, FlowContext, Scalar}
+use Rattle.yaml_recognizers.specs.{BlockNodes.whole_node, Reading.Read, Scalars.ReadsBlocks, Scalars.ReadsScalars, Streams.read_stream}
 use Rattle.yaml_recognizers.specs.CanonicalStreams.{FlatStream, canonical_stream, flat_text}
-use Rattle.yaml_recognizers.specs.Reading.{Read}
-use Rattle.yaml_recognizers.specs.Scalars.{ReadsBlocks, ReadsScalars}
-use Rattle.yaml_recognizers.specs.Streams.{read_stream}
+use Rattle.yaml_recognizers.proofs.{Basics.Reading.none_some, Documents.StreamsComplete.stream_read, Documents.StreamsSound.stream_is}
 use Rattle.yaml_recognizers.proofs.Block.BlockNodesWhole.{whole_node_read, whole_node_sound}
-use Rattle.yaml_recognizers.proofs.Basics.Reading.{none_some}
-use Rattle.yaml_recognizers.proofs.Documents.StreamsComplete.{stream_read}
-use Rattle.yaml_recognizers.proofs.Documents.StreamsSound.{stream_is}
 
 module _ (read_scalar : ℕ → FlowContext → Bool → List ℕ → Read Scalar) (scalars : ReadsScalars read_scalar)
     (read_block : ℕ → List ℕ → Read BlockScalar) (blocks : ReadsBlocks read_block) where

@@ -1,18 +1,12 @@
 -- One step of the reading of a flow node over its open brackets.
 use Rattle.std.proofs.Common.{ap, refl, sym, ◌∙◌, ◌≡◌}
 use Rattle.std.specs.Prelude.{Bool, List, None, Option, Some, [], false, true, is_some, ℕ, ◌++◌, ◌==◌, ◌||◌, ◌&&◌, not, ◌∷◌}
-use Rattle.yaml_grammar.specs.FlowNodes.{Entries, Entry, Flow, Value, absent, empty, entry, given, is_plain, last, next, none, scalar}
-use Rattle.yaml_grammar.specs.FlowScalars.{FlowContext, in_flow, one_line}
-use Rattle.yaml_grammar.specs.Separation.{Sep, gap_text}
-use Rattle.yaml_grammar.specs.Texts.{first, starts_line}
-use Rattle.yaml_recognizers.specs.Ends.{is_colon}
-use Rattle.yaml_recognizers.specs.FlowFrames.{Bracket, DoneEntry, OpenFlow, asked_key, close_with, closer}
-use Rattle.yaml_recognizers.specs.FlowFrames.{collection_of, entries_of, entry_of, first_node, entries_onto}
-use Rattle.yaml_recognizers.specs.FlowFrames.{pair_value, plug, unwind}
+use Rattle.yaml_recognizers.proofs.Prelude.{Entries, Entry, Flow, absent, empty, given, is_plain, last, next, none, scalar}
+use Rattle.yaml_recognizers.proofs.Prelude.{FlowContext, in_flow, one_line, Sep, gap_text, first, starts_line}
+use Rattle.yaml_recognizers.specs.{Ends.is_colon, FlowScalars.read_scalar, Prefixes.past, Gaps.GapRead, Gaps.read_gap}
+use Rattle.yaml_recognizers.specs.FlowFrames.{Bracket, DoneEntry, OpenFlow, asked_key, close_with, closer, collection_of, entries_of}
+use Rattle.yaml_recognizers.specs.FlowFrames.{entry_of, first_node, entries_onto, plug, unwind}
 use Rattle.yaml_recognizers.specs.FlowNodes.{asked_entry, asked_with, ends_entry, is_asked, entry_if_short, next_entry}
-use Rattle.yaml_recognizers.specs.FlowScalars.{read_scalar}
-use Rattle.yaml_recognizers.specs.Prefixes.{past}
-use Rattle.yaml_recognizers.specs.Gaps.{GapRead, read_gap}
 use Rattle.yaml_recognizers.specs.Reading.{Read, read_closing, on}
 use Rattle.yaml_recognizers.specs.Recognizers.{flow_entries_at, flow_entry_at, flow_node_at, flow_value_at}
 use Rattle.yaml_recognizers.proofs.Flow.FlowNodesDepth.{entries_step, entry_step, flow_step, value_step}
@@ -58,11 +52,6 @@ pub is_scalar : (n : ℕ) (c : FlowContext) (bol : Bool) (text : List ℕ) → f
 is_scalar n c bol text h k = flow_step read_scalar reads_scalars n c bol text ∙ rw (h, k) refl
 
 -- ---- the start of an entry
-
--- a bracket that closes here is closed with its entries
-closed_here : (b : Bracket) (text : List ℕ) → close_with b (Some (none, text))
-    ≡ read_closing (closer b.in_seq) (collection_of b.in_seq b.gap (entries_onto b.done none)) text
-closed_here b text = refl
 
 -- at the closing bracket there is no further entry
 pub no_entry : (n : ℕ) (d : FlowContext) (bol : Bool) (b : Bracket) (text : List ℕ) → first (λ x. x == closer b.in_seq) text ≡ true
@@ -135,29 +124,6 @@ value_given : (n : ℕ) (d : FlowContext) (after_plain : Bool) (text : List ℕ)
     (λ f rest. Some (given (read_gap n (one_line d) text).0 (read_gap n (one_line d) (past (read_gap n (one_line d) text).1)).0 f, rest))
 value_given n d after_plain text h k = value_step read_scalar reads_scalars n d after_plain text ∙ rw (h, k) refl
 
--- at a `:` a value is awaited
-pub value_begins : (n : ℕ) (d : FlowContext) (in_seq bol : Bool) (key : Flow) (text : List ℕ)
-    → is_colon d (is_plain key) (read_gap n (one_line d) text).1 ≡ true
-    → ends_entry (read_gap n (one_line d) (past (read_gap n (one_line d) text).1)).1
-    || (is_plain key && not (is_some (read_gap n (one_line d) (past (read_gap n (one_line d) text).1)).0)) ≡ false
-    → entry_of n d in_seq (first_node bol) key text
-    ≡ on (flow_node_at n d (starts_line false (gap_text
-    (read_gap n (one_line d) (past (read_gap n (one_line d) text).1)).0))
-    (read_gap n (one_line d) (past (read_gap n (one_line d) text).1)).1)
-    (λ f rest. entry_of n d in_seq (pair_value None bol key (read_gap n (one_line d) text).0
-    (read_gap n (one_line d) (past (read_gap n (one_line d) text).1)).0) f rest)
-value_begins n d in_seq bol key text h k =
-    ap (λ r. on r (λ value rest. entry_if_short n d in_seq bol None key value rest)) (value_given n d (is_plain key) text h k)
-    ∙ on_on {A = Flow} {B = Value}
-    (flow_node_at n d (starts_line false (gap_text
-    (read_gap n (one_line d) (past (read_gap n (one_line d) text).1)).0))
-    (read_gap n (one_line d) (past (read_gap n (one_line d) text).1)).1)
-    (λ f rest. Some (
-      given (read_gap n (one_line d) text).0
-          (read_gap n (one_line d) (past (read_gap n (one_line d) text).1)).0 f,
-      rest,
-    )) (entry_if_short n d in_seq bol None key)
-
 -- without a `:` there is no value
 pub no_value : (n : ℕ) (d : FlowContext) (in_seq bol : Bool) (key : Flow) (text : List ℕ)
     → is_colon d (is_plain key) (read_gap n (one_line d) text).1 ≡ false
@@ -167,38 +133,6 @@ no_value n d in_seq bol key text h =
     value_step read_scalar reads_scalars n d (is_plain key) text ∙ rw h refl in
     ap (λ r. on r (λ value rest. entry_if_short n d in_seq bol None key value rest)) e
 
--- the same after a key that is asked for
-pub asked_value_begins : (n : ℕ) (d : FlowContext) (in_seq bol : Bool) (sep : Sep) (key : Flow) (text : List ℕ)
-    → is_colon d (is_plain key) (read_gap n (one_line d) text).1 ≡ true
-    → ends_entry (read_gap n (one_line d) (past (read_gap n (one_line d) text).1)).1
-    || (is_plain key && not (is_some (read_gap n (one_line d) (past (read_gap n (one_line d) text).1)).0)) ≡ false
-    → entry_of n d in_seq (asked_key sep) key text
-    ≡ on (flow_node_at n d (starts_line false (gap_text
-    (read_gap n (one_line d) (past (read_gap n (one_line d) text).1)).0))
-    (read_gap n (one_line d) (past (read_gap n (one_line d) text).1)).1)
-    (λ f rest. entry_of n d in_seq (pair_value (Some sep) bol key (read_gap n (one_line d) text).0
-    (read_gap n (one_line d) (past (read_gap n (one_line d) text).1)).0) f rest)
-asked_value_begins n d in_seq bol sep key text h k =
-    ap (λ r. on r (λ value rest. Some (entry (Some sep) key value, rest))) (value_given n d (is_plain key) text h k)
-    ∙ on_on {A = Flow} {B = Value} (flow_node_at n d
-    (starts_line false (gap_text (read_gap n (one_line d) (past (read_gap n (one_line d) text).1)).0))
-    (read_gap n (one_line d) (past (read_gap n (one_line d) text).1)).1)
-    (λ f rest. Some (
-      given (read_gap n (one_line d) text).0
-          (read_gap n (one_line d) (past (read_gap n (one_line d) text).1)).0 f,
-      rest,
-    ))
-    (λ value rest. Some (entry (Some sep) key value, rest))
-
--- the same after a key that is asked for
-pub asked_no_value : (n : ℕ) (d : FlowContext) (in_seq : Bool) (sep : Sep) (key : Flow) (text : List ℕ)
-    → is_colon d (is_plain key) (read_gap n (one_line d) text).1 ≡ false
-    → entry_of n d in_seq (asked_key sep) key text ≡ Some (entry (Some sep) key absent, text)
-asked_no_value n d in_seq sep key text h =
-    let e : flow_value_at n d (is_plain key) text ≡ Some (absent, text) =
-    value_step read_scalar reads_scalars n d (is_plain key) text ∙ rw h refl in
-    ap (λ r. on r (λ value rest. Some (entry (Some sep) key value, rest))) e
-
 -- a value that is left out after its `:`
 value_left_out : (n : ℕ) (d : FlowContext) (after_plain : Bool) (text : List ℕ)
     → is_colon d after_plain (read_gap n (one_line d) text).1 ≡ true
@@ -206,26 +140,6 @@ value_left_out : (n : ℕ) (d : FlowContext) (after_plain : Bool) (text : List �
     || (after_plain && not (is_some (read_gap n (one_line d) (past (read_gap n (one_line d) text).1)).0)) ≡ true
     → flow_value_at n d after_plain text ≡ Some (empty (read_gap n (one_line d) text).0, past (read_gap n (one_line d) text).1)
 value_left_out n d after_plain text h k = value_step read_scalar reads_scalars n d after_plain text ∙ rw (h, k) refl
-
--- a value is left out after its `:`
-pub value_is_left_out : (n : ℕ) (d : FlowContext) (in_seq bol : Bool) (key : Flow) (text : List ℕ)
-    → is_colon d (is_plain key) (read_gap n (one_line d) text).1 ≡ true
-    → ends_entry (read_gap n (one_line d) (past (read_gap n (one_line d) text).1)).1
-    || (is_plain key && not (is_some (read_gap n (one_line d) (past (read_gap n (one_line d) text).1)).0)) ≡ true
-    → entry_of n d in_seq (first_node bol) key text
-    ≡ entry_if_short n d in_seq bol None key (empty (read_gap n (one_line d) text).0) (past (read_gap n (one_line d) text).1)
-value_is_left_out n d in_seq bol key text h k =
-    ap (λ r. on r (λ value rest. entry_if_short n d in_seq bol None key value rest)) (value_left_out n d (is_plain key) text h k)
-
--- the same after a key that is asked for
-pub asked_value_left_out : (n : ℕ) (d : FlowContext) (in_seq : Bool) (sep : Sep) (key : Flow) (text : List ℕ)
-    → is_colon d (is_plain key) (read_gap n (one_line d) text).1 ≡ true
-    → ends_entry (read_gap n (one_line d) (past (read_gap n (one_line d) text).1)).1
-    || (is_plain key && not (is_some (read_gap n (one_line d) (past (read_gap n (one_line d) text).1)).0)) ≡ true
-    → entry_of n d in_seq (asked_key sep) key text
-    ≡ Some (entry (Some sep) key (empty (read_gap n (one_line d) text).0), past (read_gap n (one_line d) text).1)
-asked_value_left_out n d in_seq sep key text h k =
-    ap (λ r. on r (λ value rest. Some (entry (Some sep) key value, rest))) (value_left_out n d (is_plain key) text h k)
 
 -- an asked key wants a gap
 asked_without : (n : ℕ) (d : FlowContext) (gap : GapRead) → gap.0 ≡ None

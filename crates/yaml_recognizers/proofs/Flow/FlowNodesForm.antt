@@ -1,18 +1,14 @@
 -- The canonical form of flow nodes: their separation is canonical. Text and meaning stay.
 use Rattle.std.proofs.Common.{refl, ◌≡◌}
 use Rattle.std.specs.Prelude.{Bool, List, None, Option, Some, cond, false, is_some, not, true, ℕ, ◌&&◌, ◌++◌, ◌||◌, ◌∷◌}
-use Rattle.std.proofs.lemmas.Bool.{and_from, and_parts}
-use Rattle.yaml_grammar.specs.FlowNodes.{Entries, Entry, Flow, Value, absent, asked_text, before_colon, empty}
-use Rattle.yaml_grammar.specs.FlowNodes.{entries_events, entries_fit, entries_text, entry, entry_events, entry_fits}
-use Rattle.yaml_grammar.specs.FlowNodes.{entry_text, flow_events, flow_fits, flow_text, given, is_pair, is_plain}
-use Rattle.yaml_grammar.specs.FlowNodes.{last, map, next, none, scalar, seq, short_key, single_pair, value_events}
-use Rattle.yaml_grammar.specs.FlowNodes.{value_fits, value_text}
-use Rattle.yaml_grammar.specs.FlowScalars.{FlowContext, flow_key, in_flow, one_line, safe}
-use Rattle.yaml_grammar.specs.Separation.{Sep, gap_fits, gap_text}
-use Rattle.yaml_grammar.specs.Texts.{first, starts_line}
+use Rattle.yaml_recognizers.proofs.Prelude.{and_from, and_parts, Entries, Entry, Flow, Value, absent, asked_text, before_colon, empty}
+use Rattle.yaml_recognizers.proofs.Prelude.{entries_events, entries_fit, entries_text, entry, entry_events, entry_fits, entry_text}
+use Rattle.yaml_recognizers.proofs.Prelude.{flow_events, flow_fits, flow_text, given, is_pair, is_plain, last, map, next, none, scalar, seq}
+use Rattle.yaml_recognizers.proofs.Prelude.{short_key, single_pair, value_events, value_fits, value_text, FlowContext, flow_key, in_flow}
+use Rattle.yaml_recognizers.proofs.Prelude.{one_line, safe, Sep, gap_fits, gap_text, first, starts_line}
 use Rattle.yaml_recognizers.specs.CanonicalFlowNodes.{canonical_entries, canonical_entry, canonical_flow, canonical_value}
-use Rattle.yaml_recognizers.proofs.Flow.FlowNodesBegin.{bracket, entries_begin, flow_begins}
 use Rattle.yaml_recognizers.specs.Ends.{solid}
+use Rattle.yaml_recognizers.proofs.Flow.FlowNodesBegin.{bracket, entries_begin, flow_begins}
 use Rattle.yaml_recognizers.proofs.Separation.CommentsForm.{gap_form, gap_form_fits, gap_form_text, sep_form_text}
 
 abbrev mutual

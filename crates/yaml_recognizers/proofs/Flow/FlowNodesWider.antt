@@ -1,15 +1,11 @@
 -- What fits as a key, on one line, fits as a flow node in each wider context and at each indentation.
 use Rattle.std.proofs.Common.{refl, subst, ◌≡◌}
 use Rattle.std.specs.Prelude.{Bool, List, None, Option, Some, cond, false, not, true, ℕ, ◌&&◌, ◌||◌}
-use Rattle.std.proofs.lemmas.Bool.{and_from, and_parts, false≢true}
-use Rattle.yaml_grammar.specs.FlowNodes.{Entries, Entry, Flow, Value, absent, empty, entry, given, last, map, next}
-use Rattle.yaml_grammar.specs.FlowNodes.{none, scalar, seq, single_pair}
-use Rattle.yaml_grammar.specs.FlowScalars.{FlowContext, Scalar, block_key, flow_key, inner, in_flow, one_line, outer, safe, scalar_fits}
-use Rattle.yaml_grammar.specs.Separation.{Sep, inline, lines}
-use Rattle.yaml_grammar.specs.Texts.{first}
-use Rattle.yaml_recognizers.specs.CanonicalComments.{canonical_gap}
+use Rattle.yaml_recognizers.proofs.Prelude.{and_from, and_parts, false≢true, Entries, Entry, Flow, Value, absent, empty, entry, given, last}
+use Rattle.yaml_recognizers.proofs.Prelude.{map, next, none, scalar, seq, single_pair, FlowContext, Scalar, block_key, flow_key, inner}
+use Rattle.yaml_recognizers.proofs.Prelude.{in_flow, one_line, outer, safe, scalar_fits, Sep, inline, lines, first}
+use Rattle.yaml_recognizers.specs.{CanonicalComments.canonical_gap, OneLine.widens}
 use Rattle.yaml_recognizers.specs.CanonicalFlowNodes.{canonical_entries, canonical_entry, canonical_flow, canonical_value}
-use Rattle.yaml_recognizers.specs.OneLine.{widens}
 use Rattle.yaml_recognizers.proofs.Scalars.ScalarKeys.{first_same, fits_same, key_on_one_line}
 
 -- what holds of each of the four pairs holds of the two contexts

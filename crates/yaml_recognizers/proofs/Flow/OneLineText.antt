@@ -1,27 +1,20 @@
 -- A flow node is on one line exactly where its text has no break.
 use Rattle.std.proofs.Common.{ap, arith, refl, sym, ◌∙◌, ◌≡◌}
-use Rattle.std.specs.Prelude.{Bool, List, None, Option, Some, [], codes, cond, false, flat_map, not, true, ℕ, ◌&&◌}
-use Rattle.std.specs.Prelude.{◌++◌, ◌==◌, ◌||◌, ◌∷◌, if◌then◌else◌, is_some}
-use Rattle.std.specs.List.{list_all}
-use Rattle.std.proofs.lemmas.Bool.{and_from, and_parts, cond_both, false≢true}
-use Rattle.std.proofs.lemmas.Bool.Decides.{nat_tests}
-use Rattle.yaml_chars.specs.Classes.{is_in, line_break, nb_json, ns, white}
-use Rattle.yaml_grammar.specs.FlowNodes.{Entries, Entry, Flow, Value, absent, asked_text, before_colon, empty}
-use Rattle.yaml_grammar.specs.FlowNodes.{entries_text, entry, entry_text, flow_text, given, is_plain, last, map, next}
-use Rattle.yaml_grammar.specs.FlowNodes.{none, scalar, seq, short_key, single_pair, value_text}
-use Rattle.yaml_grammar.specs.FlowScalars.{FlowContext, block_key, inner, outer, QuotedChar, Line, Scalar, double}
-use Rattle.yaml_grammar.specs.FlowScalars.{quoted_char_fits, escape, flow_key, hex_digit, in_flow, quoted_char_text}
-use Rattle.yaml_grammar.specs.FlowScalars.{line_text, lines_text, number, one_line, plain, plain_line, plain_next}
-use Rattle.yaml_grammar.specs.FlowScalars.{plain_run, plain_text, raw, scalar_fits, scalar_text, single, single_text}
-use Rattle.yaml_grammar.specs.Separation.{Break, Sep, break_text, comment_line_fits, comment_text, comments_fit}
-use Rattle.yaml_grammar.specs.Separation.{comments_text, cr, cr_lf, gap_text, inline, lf, line_end_text, lines}
-use Rattle.yaml_grammar.specs.Separation.{stop_fits}
-use Rattle.yaml_grammar.specs.Texts.{is_empty, optional, starts_line}
-use Rattle.yaml_recognizers.specs.CanonicalComments.{canonical_gap, is_line_end}
-use Rattle.yaml_recognizers.proofs.Separation.LineEnds.{line_parts}
+use Rattle.std.specs.Prelude.{Bool, List, None, Option, Some, [], codes, cond, false, flat_map, not, true, ℕ, ◌&&◌, ◌++◌, ◌==◌, ◌||◌, ◌∷◌}
+use Rattle.std.specs.Prelude.{if◌then◌else◌, is_some}
+use Rattle.yaml_recognizers.proofs.Prelude.{list_all, and_from, and_parts, cond_both, false≢true, nat_tests, is_in, line_break, nb_json, ns}
+use Rattle.yaml_recognizers.proofs.Prelude.{white, Entries, Entry, Flow, Value, absent, asked_text, before_colon, empty, entries_text}
+use Rattle.yaml_recognizers.proofs.Prelude.{entry, entry_text, flow_text, given, is_plain, last, map, next, none, scalar, seq, short_key}
+use Rattle.yaml_recognizers.proofs.Prelude.{single_pair, value_text, FlowContext, block_key, inner, outer, QuotedChar, Line, Scalar, double}
+use Rattle.yaml_recognizers.proofs.Prelude.{quoted_char_fits, escape, flow_key, hex_digit, in_flow, quoted_char_text, line_text, lines_text}
+use Rattle.yaml_recognizers.proofs.Prelude.{number, one_line, plain, plain_line, plain_next, plain_run, plain_text, raw, scalar_fits}
+use Rattle.yaml_recognizers.proofs.Prelude.{scalar_text, single, single_text, Break, Sep, break_text, comment_line_fits, comment_text}
+use Rattle.yaml_recognizers.proofs.Prelude.{comments_fit, comments_text, cr, cr_lf, gap_text, inline, lf, line_end_text, lines, stop_fits}
+use Rattle.yaml_recognizers.proofs.Prelude.{is_empty, optional, starts_line}
+use Rattle.yaml_recognizers.specs.{CanonicalComments.canonical_gap, CanonicalComments.is_line_end, WholeScalars.stands_on_one_line}
 use Rattle.yaml_recognizers.specs.CanonicalFlowNodes.{canonical_entries, canonical_entry, canonical_flow, canonical_value}
 use Rattle.yaml_recognizers.specs.OneLine.{entries_on_one_line, entry_on_one_line, gap_on_one_line, on_one_line, value_on_one_line}
-use Rattle.yaml_recognizers.specs.WholeScalars.{stands_on_one_line}
+use Rattle.yaml_recognizers.proofs.Separation.LineEnds.{line_parts}
 
 -- the text has no break
 abbrev pub unbroken : List ℕ → Bool
@@ -233,14 +226,6 @@ bracketed a b g es h k =
 -- a break in three texts, joined, is one in one of them
 three : (xs ys zs : List ℕ) → unbroken (xs ++ ys ++ zs) ≡ (unbroken xs && unbroken ys) && unbroken zs
 three xs ys zs = unbroken_joined (xs ++ ys) zs ∙ ap (λ t. t && unbroken zs) (unbroken_joined xs ys)
-
--- with a character between that is no break
-apart_by : (x : ℕ) (xs ys : List ℕ) → line_break x ≡ false → unbroken (xs ++ (x ∷ []) ++ ys) ≡ unbroken xs && unbroken ys
-apart_by x xs ys h = three xs (x ∷ []) ys ∙ rw h (ap (λ t. t && unbroken ys) (and_true (unbroken xs)))
-  where
-    and_true : (b : Bool) → b && true ≡ b
-    and_true true = refl
-    and_true false = refl
 
 -- `?` has no break
 asked_same : (ask : Option Sep) → unbroken (asked_text ask) ≡ unbroken (gap_text ask)

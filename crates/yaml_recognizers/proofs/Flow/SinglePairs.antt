@@ -2,14 +2,10 @@
 -- the value.
 use Rattle.std.proofs.Common.{refl, sym, ◌≡◌}
 use Rattle.std.specs.Prelude.{Bool, List, None, Option, Some, false, true, ℕ, ◌&&◌, ◌++◌}
-use Rattle.std.proofs.lemmas.Bool.{and_parts}
-use Rattle.yaml_grammar.specs.FlowNodes.{Flow, Value, absent, before_colon, empty, given, has_colon, is_plain, short_key, value_text}
-use Rattle.yaml_grammar.specs.FlowScalars.{FlowContext, flow_key, one_line}
-use Rattle.yaml_grammar.specs.Separation.{Sep, inline, lines}
-use Rattle.yaml_recognizers.specs.CanonicalComments.{canonical_gap}
-use Rattle.yaml_recognizers.specs.CanonicalFlowNodes.{canonical_flow, canonical_value}
-use Rattle.yaml_recognizers.specs.FlowNodes.{key_is_short}
-use Rattle.yaml_recognizers.specs.OneLine.{gap_on_one_line, on_one_line, widens}
+use Rattle.yaml_recognizers.proofs.Prelude.{and_parts, Flow, Value, absent, before_colon, empty, given, has_colon, is_plain, short_key}
+use Rattle.yaml_recognizers.proofs.Prelude.{value_text, FlowContext, flow_key, one_line, Sep, inline, lines}
+use Rattle.yaml_recognizers.specs.{CanonicalComments.canonical_gap, CanonicalFlowNodes.canonical_flow, CanonicalFlowNodes.canonical_value}
+use Rattle.yaml_recognizers.specs.{FlowNodes.key_is_short, OneLine.gap_on_one_line, OneLine.on_one_line, OneLine.widens}
 use Rattle.yaml_recognizers.proofs.Flow.FlowNodesNarrower.{flow_key_line, flow_narrower}
 
 -- two tests that hold of the same

@@ -2,22 +2,10 @@
 -- white or a break.
 use Rattle.std.proofs.Common.{ap, arith, refl, ◌∙◌, ◌≡◌}
 use Rattle.std.specs.Prelude.{Bool, List, None, Some, false, true, ℕ, ◌&&◌, ◌==◌, ◌||◌, ◌∷◌}
-use Rattle.std.proofs.lemmas.Bool.Decides.{nat_tests}
-use Rattle.yaml_chars.specs.Classes.{line_break, ns, white}
-use Rattle.yaml_grammar.specs.FlowNodes.{Entry, Flow, absent, last, scalar}
-use Rattle.yaml_grammar.specs.FlowScalars.{FlowContext, one_line}
-use Rattle.yaml_grammar.specs.Texts.{first, no_marker}
-use Rattle.yaml_recognizers.specs.Ends.{is_colon}
-use Rattle.yaml_recognizers.specs.FlowFrames.{Bracket, close_with, closer, collection_of, entries_of, entries_onto}
-use Rattle.yaml_recognizers.specs.FlowNodes.{ends_entry}
-use Rattle.yaml_recognizers.specs.FlowScalars.{read_scalar}
-use Rattle.yaml_recognizers.specs.Gaps.{GapRead, read_gap}
-use Rattle.yaml_recognizers.specs.PlainScalars.{read_plain}
-use Rattle.yaml_recognizers.specs.Reading.{read_closing, on}
-use Rattle.yaml_recognizers.specs.Recognizers.{flow_node_at, flow_value_at}
-use Rattle.yaml_recognizers.proofs.Flow.FlowFrames.{is_scalar, last_entry}
-use Rattle.yaml_recognizers.proofs.Flow.FlowNodesDepth.{value_step}
-use Rattle.yaml_recognizers.proofs.Scalars.ScalarsInNodes.{reads_scalars}
+use Rattle.yaml_recognizers.proofs.Prelude.{nat_tests, line_break, ns, white, Flow, scalar, FlowContext, no_marker}
+use Rattle.yaml_recognizers.specs.{Ends.is_colon, FlowFrames.closer, FlowNodes.ends_entry, FlowScalars.read_scalar, PlainScalars.read_plain}
+use Rattle.yaml_recognizers.specs.{Reading.read_closing, Reading.on, Recognizers.flow_node_at}
+use Rattle.yaml_recognizers.proofs.Flow.FlowFrames.{is_scalar}
 
 -- whitespace or a break
 abbrev pub blank : ℕ → Bool
@@ -63,24 +51,7 @@ no_node n c bol x xs h =
     let s = no_sign x h in
     is_scalar n c bol (x ∷ xs) s.0 s.1 ∙ ap (λ r. on r (λ f rest. Some (scalar f, rest))) (no_scalar n c bol x xs h)
 
--- after a node: no value
-pub no_value_after : (n : ℕ) (d : FlowContext) (after_plain : Bool) (x : ℕ) (xs : List ℕ) → blank x ≡ true
-    → read_gap n (one_line d) (x ∷ xs) ≡ (None, x ∷ xs)
-    → flow_value_at n d after_plain (x ∷ xs) ≡ Some (absent, x ∷ xs)
-no_value_after n d after_plain x xs h g = value_step read_scalar reads_scalars n d after_plain (x ∷ xs)
-    ∙ rw (g, no_colon d after_plain x xs h) refl
-
 -- after an entry: no comma and no bracket
 not_closed : (in_seq : Bool) (f : Flow) (x : ℕ) (xs : List ℕ) → blank x ≡ true → read_closing (closer in_seq) f (x ∷ xs) ≡ None
 not_closed true f x xs h = rw ((no_sign x h).2) refl
 not_closed false f x xs h = rw ((no_sign x h).3) refl
-
--- no entries go on with it
-pub no_entries_after : (n : ℕ) (d : FlowContext) (b : Bracket) (e : Entry) (x : ℕ) (xs : List ℕ) → blank x ≡ true
-    → read_gap n (one_line d) (x ∷ xs) ≡ (None, x ∷ xs)
-    → close_with b (entries_of n d b.in_seq e (x ∷ xs)) ≡ None
-no_entries_after n d b e x xs h g =
-    last_entry n d b e (x ∷ xs) (ap (λ (r : GapRead). first (λ y. y == 44) r.1) g ∙ (no_sign x h).4)
-    ∙ (ap (λ (r : GapRead). read_closing (closer b.in_seq)
-    (collection_of b.in_seq b.gap (entries_onto b.done (last e r.0))) r.1) g
-    ∙ not_closed b.in_seq (collection_of b.in_seq b.gap (entries_onto b.done (last e None))) x xs h)

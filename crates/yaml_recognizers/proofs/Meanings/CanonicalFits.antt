@@ -1,22 +1,14 @@
 -- What is canonical fits, as the grammar says it.
 use Rattle.std.proofs.Common.{refl, ◌≡◌}
 use Rattle.std.specs.Prelude.{Bool, List, None, Option, Some, cond, false, not, suc, true, ℕ, ◌&&◌, ◌++◌, ◌+◌, ◌==◌}
-use Rattle.std.proofs.lemmas.Bool.{and_from, and_parts}
-use Rattle.yaml_chars.specs.Classes.{white}
-use Rattle.yaml_grammar.specs.BlockNodes.{Indented, Items, Node, Pair, Pairs, asked, asked_alone, block}
-use Rattle.yaml_grammar.specs.BlockNodes.{compact_items, compact_pairs, flow, indented_fits, item, item_and, items}
-use Rattle.yaml_grammar.specs.BlockNodes.{items_fit, keyed, keyed_alone, node, node_fits, omitted, pair, pair_and}
-use Rattle.yaml_grammar.specs.BlockNodes.{pair_fits, pairs, pairs_fit}
-use Rattle.yaml_grammar.specs.BlockScalars.{BlockScalar, block_fits}
-use Rattle.yaml_grammar.specs.FlowNodes.{Entries, Entry, Flow, Value, absent, empty, entries_fit, entry, entry_fits}
-use Rattle.yaml_grammar.specs.FlowNodes.{flow_fits, given, last, map, next, none, scalar, seq, single_pair}
-use Rattle.yaml_grammar.specs.FlowNodes.{value_fits}
-use Rattle.yaml_grammar.specs.FlowScalars.{FlowContext, block_key, flow_key, in_flow, one_line, outer}
-use Rattle.yaml_grammar.specs.Separation.{LineEnd, Sep, comments_fit, gap_fits, indents, inline, lines, sep_fits}
-use Rattle.yaml_grammar.specs.Streams.{Document, Explicit, bare, content, directed, document_fits, explicit}
-use Rattle.yaml_grammar.specs.Streams.{explicit_fits, explicit_text, nothing}
-use Rattle.std.specs.List.{list_all}
-use Rattle.yaml_grammar.specs.Texts.{is_empty}
+use Rattle.yaml_recognizers.proofs.Prelude.{and_from, and_parts, white, Indented, Items, Node, Pair, Pairs, asked, asked_alone, block}
+use Rattle.yaml_recognizers.proofs.Prelude.{compact_items, compact_pairs, flow, indented_fits, item, item_and, items, items_fit, keyed}
+use Rattle.yaml_recognizers.proofs.Prelude.{keyed_alone, node, node_fits, omitted, pair, pair_and, pair_fits, pairs, pairs_fit, BlockScalar}
+use Rattle.yaml_recognizers.proofs.Prelude.{block_fits, Entries, Entry, Flow, Value, absent, empty, entries_fit, entry, entry_fits}
+use Rattle.yaml_recognizers.proofs.Prelude.{flow_fits, given, last, map, next, none, scalar, seq, single_pair, value_fits, FlowContext}
+use Rattle.yaml_recognizers.proofs.Prelude.{block_key, flow_key, in_flow, one_line, outer, LineEnd, Sep, comments_fit, gap_fits, indents}
+use Rattle.yaml_recognizers.proofs.Prelude.{inline, lines, sep_fits, Document, Explicit, bare, content, directed, document_fits, explicit}
+use Rattle.yaml_recognizers.proofs.Prelude.{explicit_fits, explicit_text, nothing, list_all, is_empty}
 use Rattle.yaml_recognizers.specs.CanonicalBlockNodes.{canonical_indented, canonical_items, canonical_node, canonical_pair, canonical_pairs}
 use Rattle.yaml_recognizers.specs.CanonicalBlockScalars.{canonical_block}
 use Rattle.yaml_recognizers.specs.CanonicalComments.{canonical_comments, canonical_gap, canonical_sep}

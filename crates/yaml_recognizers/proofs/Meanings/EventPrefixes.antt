@@ -1,15 +1,10 @@
 -- The events of what is read of a collection are a prefix of the collection's events.
 use Rattle.std.proofs.Common.{ap, append_assoc, refl, sym, ◌∙◌, ◌≡◌}
 use Rattle.std.specs.Prelude.{Bool, List, [], ℕ, ◌++◌, ◌+◌, ◌∷◌}
-use Rattle.yaml_grammar.specs.BlockNodes.{Indented, Items, Pair, Pairs, indented_end, indented_events, indented_text}
-use Rattle.yaml_grammar.specs.BlockNodes.{item, items_end, items_events, pair, pair_end, pair_events, pair_text}
-use Rattle.yaml_grammar.specs.BlockNodes.{pairs_end, pairs_events}
-use Rattle.yaml_grammar.specs.Events.{Event}
-use Rattle.yaml_grammar.specs.FlowNodes.{Entries, entries_events, entry_events, entry_text}
-use Rattle.yaml_grammar.specs.Separation.{gap_text}
-use Rattle.yaml_grammar.specs.Texts.{byte_len}
-use Rattle.yaml_recognizers.specs.BlockFrames.{joined_items, joined_pairs}
-use Rattle.yaml_recognizers.specs.FlowFrames.{DoneEntry, entries_onto}
+use Rattle.yaml_recognizers.proofs.Prelude.{Indented, Items, Pair, Pairs, indented_end, indented_events, indented_text, item, items_end}
+use Rattle.yaml_recognizers.proofs.Prelude.{items_events, pair, pair_end, pair_events, pair_text, pairs_end, pairs_events, Event, Entries}
+use Rattle.yaml_recognizers.proofs.Prelude.{entries_events, entry_events, entry_text, gap_text, byte_len}
+use Rattle.yaml_recognizers.specs.{BlockFrames.joined_items, BlockFrames.joined_pairs, FlowFrames.DoneEntry, FlowFrames.entries_onto}
 
 -- ---- brackets
 

@@ -1,17 +1,11 @@
 -- A text has at most one meaning, whatever its presentations; and the recognizer of streams finds it.
 use Rattle.std.proofs.Common.{ap, sym, ◌∙◌, ◌≡◌}
 use Rattle.std.specs.Prelude.{Bool, List, None, Option, Some, true, ℕ}
-use Rattle.yaml_grammar.specs.BlockScalars.{BlockScalar}
-use Rattle.yaml_grammar.specs.Events.{Event}
-use Rattle.yaml_grammar.specs.FlowScalars.{FlowContext, Scalar}
-use Rattle.yaml_grammar.specs.Reads.{CanRead, Presents, Reads}
-use Rattle.yaml_grammar.specs.Streams.{Stream, stream_events}
-use Rattle.yaml_grammar.specs.Texts.{IsText}
-use Rattle.yaml_recognizers.specs.CanonicalForms.{IsCanonicalFormOf}
+use Rattle.yaml_recognizers.proofs.Prelude.{BlockScalar, Event, FlowContext, Scalar, CanRead, Presents, Reads, Stream, stream_events}
+use Rattle.yaml_recognizers.proofs.Prelude.{IsText}
+use Rattle.yaml_recognizers.specs.{CanonicalForms.IsCanonicalFormOf, Reading.Read, Streams.read_stream}
 use Rattle.yaml_recognizers.specs.CanonicalStreams.{FlatStream, canonical_stream, flat_events, flat_text}
-use Rattle.yaml_recognizers.specs.Reading.{Read}
 use Rattle.yaml_recognizers.specs.Scalars.{ReadsBlocks, ReadsScalars}
-use Rattle.yaml_recognizers.specs.Streams.{read_stream}
 use Rattle.yaml_recognizers.proofs.Documents.NestedStreams.{can_read}
 use Rattle.yaml_recognizers.proofs.Documents.StreamsForm.{stream_form, stream_form_is}
 use Rattle.yaml_recognizers.proofs.Documents.StreamsWhole.{whole_stream_is, whole_stream_read}

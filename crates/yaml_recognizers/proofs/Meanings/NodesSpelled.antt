@@ -1,25 +1,19 @@
 -- Each node of a presentation is spelled at its place.
 use Rattle.std.proofs.Common.{ap, append-nil, append_assoc, arith, refl, subst, sym, ◌∙◌, ◌≡◌}
-use Rattle.std.specs.Prelude.{All, Bool, List, None, Option, Some, [], codes, cond, false, flat_map, if◌then◌else◌}
-use Rattle.std.specs.Prelude.{is_some, suc, true, ℕ, ◌++◌, ◌+◌, ◌==◌, ◌∷◌}
-use Rattle.std.proofs.lemmas.List.Elements.{All-append, All-cons, All-nil}
-use Rattle.yaml_grammar.specs.BlockNodes.{Indented, Items, Node, Pair, Pairs, asked, asked_alone, block}
-use Rattle.yaml_grammar.specs.BlockNodes.{compact_items, compact_pairs, flow, indented_text, item, item_and, items}
-use Rattle.yaml_grammar.specs.BlockNodes.{items_text, keyed, keyed_alone, node, node_text, omitted, pair, pair_and}
-use Rattle.yaml_grammar.specs.BlockNodes.{pair_text, pairs, pairs_text}
-use Rattle.yaml_grammar.specs.FlowNodes.{Entries, Entry, Flow, Value, absent, asked_text, empty, entries_text, entry}
-use Rattle.yaml_grammar.specs.FlowNodes.{entry_text, flow_text, given, last, map, next, none, scalar, seq}
-use Rattle.yaml_grammar.specs.FlowNodes.{single_pair, value_text}
-use Rattle.yaml_grammar.specs.FlowScalars.{FlowContext, block_key, flow_key, in_flow, outer}
-use Rattle.yaml_grammar.specs.Separation.{comments_text, gap_text, sep_text}
-use Rattle.yaml_grammar.specs.Streams.{Document, Explicit, Part, Stream, bare, content, directed, directive_text}
-use Rattle.yaml_grammar.specs.Streams.{document_text, explicit, explicit_text, further, line, mark_text, nothing}
-use Rattle.yaml_grammar.specs.Streams.{part_text, parts_text, stream_text, suffix_text, suffixes}
-use Rattle.yaml_grammar.specs.Texts.{byte_len, optional, spaces, starts_line}
-use Rattle.yaml_recognizers.specs.NodePlaces.{NodePlace, NodeSpelled, SpelledAt, block_at, document_places}
-use Rattle.yaml_recognizers.specs.NodePlaces.{entries_places, entry_places, explicit_places, flow_at, flow_places}
-use Rattle.yaml_recognizers.specs.NodePlaces.{indented_places, items_places, node_places, optional_document_places}
-use Rattle.yaml_recognizers.specs.NodePlaces.{pair_places, pairs_places, part_places, parts_places, stream_places}
+use Rattle.std.specs.Prelude.{All, Bool, List, None, Option, Some, [], codes, cond, false, flat_map, if◌then◌else◌, is_some, suc, true, ℕ}
+use Rattle.std.specs.Prelude.{◌++◌, ◌+◌, ◌==◌, ◌∷◌}
+use Rattle.yaml_recognizers.proofs.Prelude.{All-append, All-cons, All-nil, Indented, Items, Node, Pair, Pairs, asked, asked_alone, block}
+use Rattle.yaml_recognizers.proofs.Prelude.{compact_items, compact_pairs, flow, indented_text, item, item_and, items, items_text, keyed}
+use Rattle.yaml_recognizers.proofs.Prelude.{keyed_alone, node, node_text, omitted, pair, pair_and, pair_text, pairs, pairs_text, Entries}
+use Rattle.yaml_recognizers.proofs.Prelude.{Entry, Flow, Value, absent, asked_text, empty, entries_text, entry, entry_text, flow_text}
+use Rattle.yaml_recognizers.proofs.Prelude.{given, last, map, next, none, scalar, seq, single_pair, value_text, FlowContext, block_key}
+use Rattle.yaml_recognizers.proofs.Prelude.{flow_key, in_flow, outer, comments_text, gap_text, sep_text, Document, Explicit, Part, Stream}
+use Rattle.yaml_recognizers.proofs.Prelude.{bare, content, directed, directive_text, document_text, explicit, explicit_text, further, line}
+use Rattle.yaml_recognizers.proofs.Prelude.{mark_text, nothing, part_text, parts_text, stream_text, suffix_text, suffixes, byte_len}
+use Rattle.yaml_recognizers.proofs.Prelude.{optional, spaces, starts_line}
+use Rattle.yaml_recognizers.specs.NodePlaces.{NodePlace, NodeSpelled, SpelledAt, block_at, document_places, entries_places, entry_places}
+use Rattle.yaml_recognizers.specs.NodePlaces.{explicit_places, flow_at, flow_places, indented_places, items_places, node_places}
+use Rattle.yaml_recognizers.specs.NodePlaces.{optional_document_places, pair_places, pairs_places, part_places, parts_places, stream_places}
 use Rattle.yaml_recognizers.specs.NodePlaces.{value_places}
 use Rattle.yaml_recognizers.proofs.Basics.LineStarts.{byte_len_joined}
 use Rattle.yaml_recognizers.proofs.Meanings.Ranges.{byte_len-spaces, len3, len4, mark_len}

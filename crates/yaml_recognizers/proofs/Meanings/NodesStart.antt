@@ -1,40 +1,29 @@
 -- Whether a line starts at each node of a presentation that fits.
 use Rattle.std.proofs.Common.{ap, append-nil, append_assoc, arith, length, length-append, refl, subst, sym, ◌∙◌, ◌≡◌, ◌≤◌}
-use Rattle.std.specs.Prelude.{All, Bool, List, None, Option, Some, [], codes, cond, false, flat_map, if◌then◌else◌}
-use Rattle.std.specs.Prelude.{nat_le, not, suc, true, zero, ℕ, ◌&&◌, ◌++◌, ◌+◌, ◌==◌, ◌∷◌}
-use Rattle.std.proofs.lemmas.Bool.{and_from, and_parts, false≢true, or_left}
-use Rattle.std.proofs.lemmas.Bool.Decides.{nat_tests}
-use Rattle.std.proofs.lemmas.List.Elements.{All-append, All-cons, All-nil}
-use Rattle.yaml_chars.specs.Classes.{line_break, ns}
-use Rattle.yaml_grammar.specs.BlockNodes.{Indented, Items, Node, Pair, Pairs, asked, asked_alone, block}
-use Rattle.yaml_grammar.specs.BlockNodes.{compact_items, compact_pairs, flow, indented_fits, indented_text}
-use Rattle.yaml_grammar.specs.BlockNodes.{is_omitted, item, item_and, items, items_fit, items_text, keyed}
-use Rattle.yaml_grammar.specs.BlockNodes.{keyed_alone, node, node_fits, node_text, omitted, pair, pair_and, pair_fits}
-use Rattle.yaml_grammar.specs.BlockNodes.{pair_text, pairs, pairs_fit, pairs_text}
-use Rattle.yaml_grammar.specs.BlockScalars.{BlockScalar, Body, BlockEmptyLine, Header, TextLine, bare_block_text}
-use Rattle.yaml_grammar.specs.BlockScalars.{block_fits, block_text, body_fits, body_text, chomping_text, digit_text}
-use Rattle.yaml_grammar.specs.BlockScalars.{block_empty_text, block_empties_text, header_text, text_line_fits}
-use Rattle.yaml_grammar.specs.BlockScalars.{text_line_text, text_lines_fit, text_lines_text, trail_fits}
-use Rattle.yaml_grammar.specs.FlowNodes.{Entries, Entry, Flow, Value, absent, empty, entries_text, entry, entry_text}
-use Rattle.yaml_grammar.specs.FlowNodes.{flow_text, given, last, map, next, none, scalar, seq, single_pair}
-use Rattle.yaml_grammar.specs.FlowNodes.{value_text}
-use Rattle.yaml_grammar.specs.FlowScalars.{FlowContext, block_key, flow_key, in_flow, outer}
-use Rattle.yaml_grammar.specs.Separation.{LineEnd, break_text, comments_fit, comments_text, gap_text, line_end_text}
-use Rattle.yaml_grammar.specs.Separation.{sep_text, stop_fits, comment_text}
-use Rattle.yaml_grammar.specs.Streams.{Document, Explicit, Part, Stream, bare, content, directed, directive_text}
-use Rattle.yaml_grammar.specs.Streams.{document_fits, document_text, explicit, explicit_fits, explicit_text, fits}
-use Rattle.yaml_grammar.specs.Streams.{further, line, mark_text, nothing, optional_document_fits, part_fits}
-use Rattle.yaml_grammar.specs.Streams.{part_text, parts_fit, parts_text, stream_text, suffix_fits, suffix_text}
-use Rattle.yaml_grammar.specs.Streams.{suffixes, suffixes_fit}
-use Rattle.yaml_grammar.specs.Texts.{byte_len, first, is_empty, optional, spaces, starts_line}
-use Rattle.yaml_recognizers.specs.NodePlaces.{NodePlace, NodeStarts, StartsAt, block_at, document_places}
-use Rattle.yaml_recognizers.specs.NodePlaces.{entries_places, entry_places, explicit_places, flow_at, flow_places}
-use Rattle.yaml_recognizers.specs.NodePlaces.{indented_places, items_places, node_places, optional_document_places}
-use Rattle.yaml_recognizers.specs.NodePlaces.{pair_places, pairs_places, part_places, parts_places, stream_places}
+use Rattle.std.specs.Prelude.{All, Bool, List, None, Option, Some, [], codes, cond, false, flat_map, if◌then◌else◌, nat_le, not, suc, true}
+use Rattle.std.specs.Prelude.{zero, ℕ, ◌&&◌, ◌++◌, ◌+◌, ◌==◌, ◌∷◌}
+use Rattle.yaml_recognizers.proofs.Prelude.{and_from, and_parts, false≢true, or_left, nat_tests, All-append, All-cons, All-nil, line_break}
+use Rattle.yaml_recognizers.proofs.Prelude.{ns, Indented, Items, Node, Pair, Pairs, asked, asked_alone, block, compact_items, compact_pairs}
+use Rattle.yaml_recognizers.proofs.Prelude.{flow, indented_fits, indented_text, is_omitted, item, item_and, items, items_fit, items_text}
+use Rattle.yaml_recognizers.proofs.Prelude.{keyed, keyed_alone, node, node_fits, node_text, omitted, pair, pair_and, pair_fits, pair_text}
+use Rattle.yaml_recognizers.proofs.Prelude.{pairs, pairs_fit, pairs_text, BlockScalar, Body, BlockEmptyLine, Header, TextLine}
+use Rattle.yaml_recognizers.proofs.Prelude.{bare_block_text, block_fits, block_text, body_fits, body_text, chomping_text, digit_text}
+use Rattle.yaml_recognizers.proofs.Prelude.{block_empty_text, block_empties_text, header_text, text_line_fits, text_line_text}
+use Rattle.yaml_recognizers.proofs.Prelude.{text_lines_fit, text_lines_text, trail_fits, Entries, Entry, Flow, Value, absent, empty}
+use Rattle.yaml_recognizers.proofs.Prelude.{entries_text, entry, entry_text, flow_text, given, last, map, next, none, scalar, seq}
+use Rattle.yaml_recognizers.proofs.Prelude.{single_pair, value_text, FlowContext, block_key, flow_key, in_flow, outer, LineEnd, break_text}
+use Rattle.yaml_recognizers.proofs.Prelude.{comments_fit, comments_text, gap_text, line_end_text, sep_text, stop_fits, comment_text}
+use Rattle.yaml_recognizers.proofs.Prelude.{Document, Explicit, Part, Stream, bare, content, directed, directive_text, document_fits}
+use Rattle.yaml_recognizers.proofs.Prelude.{document_text, explicit, explicit_fits, explicit_text, fits, further, line, mark_text, nothing}
+use Rattle.yaml_recognizers.proofs.Prelude.{optional_document_fits, part_fits, part_text, parts_fit, parts_text, stream_text, suffix_fits}
+use Rattle.yaml_recognizers.proofs.Prelude.{suffix_text, suffixes, suffixes_fit, byte_len, first, is_empty, optional, spaces, starts_line}
+use Rattle.yaml_recognizers.specs.NodePlaces.{NodePlace, NodeStarts, StartsAt, block_at, document_places, entries_places, entry_places}
+use Rattle.yaml_recognizers.specs.NodePlaces.{explicit_places, flow_at, flow_places, indented_places, items_places, node_places}
+use Rattle.yaml_recognizers.specs.NodePlaces.{optional_document_places, pair_places, pairs_places, part_places, parts_places, stream_places}
 use Rattle.yaml_recognizers.specs.NodePlaces.{value_places}
 use Rattle.yaml_recognizers.proofs.Flow.FlowNodesForm.{flow_form, flow_form_fits, flow_form_text}
-use Rattle.yaml_recognizers.proofs.Basics.LineStarts.{break_starts, comments_at, comments_start, line_not_end}
-use Rattle.yaml_recognizers.proofs.Basics.LineStarts.{line_or_end, starts_joined, stop_starts}
+use Rattle.yaml_recognizers.proofs.Basics.LineStarts.{break_starts, comments_at, comments_start, line_not_end, line_or_end, starts_joined}
+use Rattle.yaml_recognizers.proofs.Basics.LineStarts.{stop_starts}
 use Rattle.yaml_recognizers.proofs.Documents.StreamsBegin.{block_long, flow_long, items_long, pairs_long}
 use Rattle.yaml_recognizers.proofs.Documents.StreamsForm.{line_wider}
 

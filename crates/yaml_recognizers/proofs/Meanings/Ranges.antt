@@ -1,26 +1,20 @@
 -- The ranges of scalars are in order, in each part of a presentation.
 use Rattle.std.proofs.Common.{arith, refl, ◌≡◌, ◌≤◌}
-use Rattle.std.specs.Prelude.{Bool, List, None, Option, Some, [], codes, false, flat_map, if◌then◌else◌, not, suc}
-use Rattle.std.specs.Prelude.{true, zero, ℕ, ◌++◌, ◌+◌, ◌∷◌}
-use Rattle.yaml_grammar.specs.BlockNodes.{Indented, Items, Node, Pair, Pairs, asked, asked_alone, block}
-use Rattle.yaml_grammar.specs.BlockNodes.{compact_items, compact_pairs, flow, indented_end, indented_events}
-use Rattle.yaml_grammar.specs.BlockNodes.{indented_text, item, item_and, items, items_end, items_events, items_text}
-use Rattle.yaml_grammar.specs.BlockNodes.{keyed, keyed_alone, node, node_end, node_events, node_text, omitted, pair}
-use Rattle.yaml_grammar.specs.BlockNodes.{pair_and, pair_end, pair_events, pair_text, pairs, pairs_end, pairs_events}
-use Rattle.yaml_grammar.specs.BlockNodes.{pairs_text}
-use Rattle.yaml_grammar.specs.BlockScalars.{bare_block_text, block_text}
-use Rattle.yaml_grammar.specs.Events.{Event, as_document, as_map, as_seq, document_end, document_start, map_end}
-use Rattle.yaml_grammar.specs.Events.{map_start, omitted_at, scalar_event, seq_end, seq_start}
-use Rattle.yaml_grammar.specs.FlowNodes.{Entries, Entry, Flow, Value, absent, asked_text, empty, entries_events}
-use Rattle.yaml_grammar.specs.FlowNodes.{entries_text, entry, entry_events, entry_text, flow_events, flow_text, given}
-use Rattle.yaml_grammar.specs.FlowNodes.{is_pair, last, map, next, none, scalar, seq, value_events, value_text}
-use Rattle.yaml_grammar.specs.Separation.{comments_text, gap_text, sep_text}
-use Rattle.yaml_grammar.specs.Streams.{Document, Explicit, Part, Stream, bare, content, directed, directive_text}
-use Rattle.yaml_grammar.specs.Streams.{document_events, document_text, explicit, explicit_events, explicit_text}
-use Rattle.yaml_grammar.specs.Streams.{further, line, mark_text, stream_events, nothing, optional_document_events}
-use Rattle.yaml_grammar.specs.Streams.{part_events, part_text, parts_events, parts_text, stream_text, suffix_text}
-use Rattle.yaml_grammar.specs.Streams.{suffixes}
-use Rattle.yaml_grammar.specs.Texts.{byte_len, optional, spaces}
+use Rattle.std.specs.Prelude.{Bool, List, None, Option, Some, [], codes, false, flat_map, if◌then◌else◌, not, suc, true, zero, ℕ, ◌++◌, ◌+◌}
+use Rattle.std.specs.Prelude.{◌∷◌}
+use Rattle.yaml_recognizers.proofs.Prelude.{Indented, Items, Node, Pair, Pairs, asked, asked_alone, block, compact_items, compact_pairs}
+use Rattle.yaml_recognizers.proofs.Prelude.{flow, indented_end, indented_events, indented_text, item, item_and, items, items_end}
+use Rattle.yaml_recognizers.proofs.Prelude.{items_events, items_text, keyed, keyed_alone, node, node_end, node_events, node_text, omitted}
+use Rattle.yaml_recognizers.proofs.Prelude.{pair, pair_and, pair_end, pair_events, pair_text, pairs, pairs_end, pairs_events, pairs_text}
+use Rattle.yaml_recognizers.proofs.Prelude.{bare_block_text, block_text, Event, as_document, as_map, as_seq, document_end, document_start}
+use Rattle.yaml_recognizers.proofs.Prelude.{map_end, map_start, omitted_at, scalar_event, seq_end, seq_start, Entries, Entry, Flow, Value}
+use Rattle.yaml_recognizers.proofs.Prelude.{absent, asked_text, empty, entries_events, entries_text, entry, entry_events, entry_text}
+use Rattle.yaml_recognizers.proofs.Prelude.{flow_events, flow_text, given, is_pair, last, map, next, none, scalar, seq, value_events}
+use Rattle.yaml_recognizers.proofs.Prelude.{value_text, comments_text, gap_text, sep_text, Document, Explicit, Part, Stream, bare, content}
+use Rattle.yaml_recognizers.proofs.Prelude.{directed, directive_text, document_events, document_text, explicit, explicit_events}
+use Rattle.yaml_recognizers.proofs.Prelude.{explicit_text, further, line, mark_text, stream_events, nothing, optional_document_events}
+use Rattle.yaml_recognizers.proofs.Prelude.{part_events, part_text, parts_events, parts_text, stream_text, suffix_text, suffixes, byte_len}
+use Rattle.yaml_recognizers.proofs.Prelude.{optional, spaces}
 use Rattle.yaml_recognizers.specs.Ranges.{RangesInOrder}
 use Rattle.yaml_recognizers.proofs.Basics.LineStarts.{byte_len_joined}
 

@@ -1,11 +1,9 @@
 -- What the characters of words, quoted texts and literals in the one style are.
 use Rattle.std.proofs.Common.{◌≡◌, refl, ◌∙◌, ap, inl, inr, arith, ◌<◌, ◌≤◌}
 use Rattle.std.specs.Prelude.{ℕ, ◌+◌, ◌/◌, ◌%◌, Bool, true, false, not, ◌||◌, nat_lt, nat_le, ◌==◌, List, [], ◌∷◌, ◌++◌, codes}
-use Rattle.std.proofs.lemmas.Bool.{cond_both, and_parts, and_from, or_cases, eqb-true, le-leb, leb-true, ltb-true}
-use Rattle.std.proofs.lemmas.Bool.{agree_below, agree_below_at, false≢true}
-use Rattle.yaml_chars.specs.Classes.{in_range, is_in, code_point}
-use Rattle.std.specs.List.{list_all}
-use Rattle.yaml_grammar.specs.Style.{letter, word_char, shown, hex, letter_escape, quoted_char, quoted_chars}
+use Rattle.yaml_recognizers.proofs.Prelude.{cond_both, and_parts, and_from, or_cases, eqb-true, le-leb, leb-true, ltb-true, agree_below}
+use Rattle.yaml_recognizers.proofs.Prelude.{agree_below_at, false≢true, in_range, is_in, code_point, list_all, letter, word_char, shown}
+use Rattle.yaml_recognizers.proofs.Prelude.{hex, letter_escape, quoted_char, quoted_chars}
 
 -- ---- ranges and lists
 

@@ -1,10 +1,8 @@
 -- Closing lines in bytes that are joined, cut off, or have zeros after them.
 use Rattle.std.proofs.Common.{◌≡◌, refl, sym, ◌∙◌, ap, inl, inr, ◌⊎◌, arith, ◌≤◌, append_assoc, length-append}
 use Rattle.std.specs.Prelude.{ℕ, zero, suc, ◌+◌, Bool, true, false, not, ◌&&◌, ◌||◌, ◌==◌, List, [], ◌∷◌, ◌++◌, length, replicate, codes}
-use Rattle.std.proofs.lemmas.Bool.{false_from_ne_true, and_parts, and_from, or_cases, or_left, or_right, not-true, eqb-true, false≢true}
-use Rattle.std.specs.List.{list_all}
-use Rattle.yaml_grammar.specs.Texts.{begins}
-use Rattle.yaml_grammar.specs.Closings.{ends_line, ClosesAt}
+use Rattle.yaml_recognizers.proofs.Prelude.{false_from_ne_true, and_parts, and_from, or_cases, or_left, or_right, not-true, eqb-true}
+use Rattle.yaml_recognizers.proofs.Prelude.{false≢true, list_all, begins, ends_line, ClosesAt}
 
 -- a line starts after the bytes, where bol says whether one starts at their start
 abbrev pub ends_from : Bool → List ℕ → Bool

@@ -1,12 +1,8 @@
 -- The value of a literal's lines, with the chomping that its mark says, is the text that they were made from.
 use Rattle.std.proofs.Common.{◌≡◌, refl, sym, ◌∙◌, ap, inl, inr, arith}
 use Rattle.std.specs.Prelude.{ℕ, zero, suc, ◌+◌, Bool, true, false, cond, ◌==◌, List, [], ◌∷◌, ◌++◌, length, replicate, if◌then◌else◌}
-use Rattle.std.proofs.lemmas.Bool.{cases_Bool, cond-true, eqb-true, or_parts}
-use Rattle.std.proofs.lemmas.List.{append-nil, length-replicate}
-use Rattle.std.specs.List.{list_all}
-use Rattle.yaml_grammar.specs.Texts.{first}
-use Rattle.yaml_grammar.specs.BlockScalars.{TextLine, Chomping, strip, clip, keep, text_value, block_value}
-use Rattle.yaml_grammar.specs.Style.{feeds_at_end, space_or_feed}
+use Rattle.yaml_recognizers.proofs.Prelude.{cases_Bool, cond-true, eqb-true, or_parts, append-nil, length-replicate, list_all, first}
+use Rattle.yaml_recognizers.proofs.Prelude.{TextLine, Chomping, strip, clip, keep, text_value, block_value, feeds_at_end, space_or_feed}
 use Rattle.yaml_recognizers.proofs.OneStyle.Presented.{bare_empties, line_with, held_by, empties_in, lines_in, chomping_of}
 
 -- how many line feeds end the text, where n come before it

@@ -1,31 +1,19 @@
 -- The presentation of a tree means the events of that tree.
 use Rattle.std.proofs.Common.{◌≡◌, refl, sym, ◌∙◌, ap}
 use Rattle.std.specs.Prelude.{ℕ, ◌+◌, Bool, true, false, cond, not, ◌&&◌, List, [], ◌∷◌, ◌++◌}
-use Rattle.std.proofs.lemmas.List.{append-nil}
-use Rattle.std.proofs.lemmas.Bool.{and_parts, not-true}
-use Rattle.yaml_chars.specs.Classes.{code_point, is_in}
-use Rattle.std.specs.List.{list_all}
-use Rattle.yaml_grammar.specs.Texts.{IsText, first, byte_len}
-use Rattle.yaml_grammar.specs.Separation.{Sep}
-use Rattle.yaml_grammar.specs.FlowScalars.{char_value, quoted_char_value, values, plain, double}
-use Rattle.yaml_grammar.specs.FlowNodes.{scalar, flow_text, flow_events}
-use Rattle.yaml_grammar.specs.BlockNodes.{Node, flow, block, node_events, items_events, Indented, indented_text}
-use Rattle.yaml_grammar.specs.BlockNodes.{indented_events, node, Pair, pair_text, pair_events, pairs_events, asked}
-use Rattle.yaml_grammar.specs.BlockNodes.{keyed}
-use Rattle.yaml_grammar.specs.Streams.{stream_events}
-use Rattle.yaml_grammar.specs.Events.{Event, as_document, document_end, seq_start, seq_end, map_start, map_end}
-use Rattle.yaml_grammar.specs.Trees.{Tree, text, sequence, mapping, Elements, no_element, element, Members, no_member}
-use Rattle.yaml_grammar.specs.Trees.{member, Shape, scalar_of, seq_to, map_to, seq_from, map_from, shape}
-use Rattle.yaml_grammar.specs.Trees.{document_from, document_to, shapes, tree_shapes, elements_shapes, members_shapes}
-use Rattle.yaml_grammar.specs.Trees.{IsTextTree, AreTextElements, AreTextMembers, IsTreeOf}
-use Rattle.yaml_grammar.specs.Style.{plain_in_style, literal_in_style, long_key, space_or_feed, shown_or_feed}
-use Rattle.yaml_recognizers.proofs.OneStyle.Presented.{feed, one_space, items_of_text, word_flow, literal_block}
-use Rattle.yaml_recognizers.proofs.OneStyle.Presented.{scalar_node, pair_of, element_of, value_of, items_from}
-use Rattle.yaml_recognizers.proofs.OneStyle.Presented.{pairs_from, Place, at_start, after_marker, place_sep, top_node}
-use Rattle.yaml_recognizers.proofs.OneStyle.Presented.{presentation_of, framed_presentation_of}
-use Rattle.yaml_recognizers.proofs.OneStyle.Spelled.{two_more}
-use Rattle.yaml_recognizers.proofs.OneStyle.QuotedChars.{item_quotes}
-use Rattle.yaml_recognizers.proofs.OneStyle.Literals.{literal_meant}
+use Rattle.yaml_recognizers.proofs.Prelude.{append-nil, and_parts, not-true, code_point, is_in, list_all, IsText, first, byte_len, Sep}
+use Rattle.yaml_recognizers.proofs.Prelude.{char_value, quoted_char_value, values, plain, double, scalar, flow_text, flow_events, Node}
+use Rattle.yaml_recognizers.proofs.Prelude.{flow, block, node_events, items_events, Indented, indented_text, indented_events, node, Pair}
+use Rattle.yaml_recognizers.proofs.Prelude.{pair_text, pair_events, pairs_events, asked, keyed, stream_events, Event, as_document}
+use Rattle.yaml_recognizers.proofs.Prelude.{document_end, seq_start, seq_end, map_start, map_end, Tree, text, sequence, mapping, Elements}
+use Rattle.yaml_recognizers.proofs.Prelude.{no_element, element, Members, no_member, member, Shape, scalar_of, seq_to, map_to, seq_from}
+use Rattle.yaml_recognizers.proofs.Prelude.{map_from, shape, document_from, document_to, shapes, tree_shapes, elements_shapes}
+use Rattle.yaml_recognizers.proofs.Prelude.{members_shapes, IsTextTree, AreTextElements, AreTextMembers, IsTreeOf, plain_in_style}
+use Rattle.yaml_recognizers.proofs.Prelude.{literal_in_style, long_key, space_or_feed, shown_or_feed}
+use Rattle.yaml_recognizers.proofs.{OneStyle.Spelled.two_more, OneStyle.QuotedChars.item_quotes, OneStyle.Literals.literal_meant}
+use Rattle.yaml_recognizers.proofs.OneStyle.Presented.{feed, one_space, items_of_text, word_flow, literal_block, scalar_node, pair_of}
+use Rattle.yaml_recognizers.proofs.OneStyle.Presented.{element_of, value_of, items_from, pairs_from, Place, at_start, after_marker}
+use Rattle.yaml_recognizers.proofs.OneStyle.Presented.{place_sep, top_node, presentation_of, framed_presentation_of}
 
 -- the shapes of events, joined, are the shapes of each, joined
 shapes_joined : (one other : List Event) → shapes (one ++ other) ≡ shapes one ++ shapes other

@@ -1,15 +1,11 @@
 -- Bytes have one list of pieces, and the pieces of torn texts are the whole ones.
 use Rattle.std.proofs.Common.{◌≡◌, refl, sym, ◌∙◌, ap, inl, inr, arith, ◌<◌, ◌≤◌, append_assoc}
 use Rattle.std.specs.Prelude.{ℕ, true, List, [], ◌∷◌, ◌++◌, length, replicate, map}
-use Rattle.std.specs.List.{All, concat}
-use Rattle.std.proofs.lemmas.List.{append-nil}
-use Rattle.std.proofs.lemmas.List.Elements.{All-nil, All-cons, All-head, All-tail}
-use Rattle.std.proofs.lemmas.Bool.{cases_lt, false≢true}
-use Rattle.yaml_grammar.specs.Trees.{Tree}
-use Rattle.yaml_grammar.specs.Closings.{ClosesAt, ClosesOnce}
+use Rattle.yaml_recognizers.proofs.Prelude.{All, concat, append-nil, All-nil, All-cons, All-head, All-tail, cases_lt, false≢true, Tree}
+use Rattle.yaml_recognizers.proofs.Prelude.{ClosesAt, ClosesOnce}
 use Rattle.yaml_recognizers.specs.Closings.{framed_text_bytes, all_framed_bytes, TornPieces, TornInPieces, OnePieces}
-use Rattle.yaml_recognizers.proofs.OneStyle.Closings.{closes, closes_from, closes_at, piece_closes, padding_closed}
-use Rattle.yaml_recognizers.proofs.OneStyle.Closings.{closes_before_padding, closes_within}
+use Rattle.yaml_recognizers.proofs.OneStyle.Closings.{closes, closes_from, closes_at, piece_closes, padding_closed, closes_before_padding}
+use Rattle.yaml_recognizers.proofs.OneStyle.Closings.{closes_within}
 use Rattle.yaml_recognizers.proofs.OneStyle.FramedClosings.{framed_piece, framed_once, cut_after}
 
 -- ---- one list of pieces

@@ -1,16 +1,12 @@
 -- A presentation of each tree in the one style: which productions its text is made by.
-use Rattle.std.specs.Prelude.{ℕ, zero, suc, ◌+◌, ◌/◌, ◌%◌, Bool, true, false, ◌||◌, nat_le, ◌==◌, List, [], ◌∷◌, Some}
-use Rattle.std.specs.Prelude.{None, replicate, if◌then◌else◌}
-use Rattle.yaml_chars.specs.Classes.{in_range}
-use Rattle.yaml_grammar.specs.Separation.{lf, LineEnd, Sep, inline, lines}
-use Rattle.yaml_grammar.specs.FlowScalars.{QuotedChar, raw, escape, number, plain, double}
-use Rattle.yaml_grammar.specs.FlowNodes.{Flow, scalar, seq, map, none}
-use Rattle.yaml_grammar.specs.BlockScalars.{Chomping, strip, clip, keep, BlockEmptyLine, TextLine, BlockScalar}
-use Rattle.yaml_grammar.specs.BlockNodes.{Node, block, flow, items, pairs, Items, item, item_and, Pairs, pair}
-use Rattle.yaml_grammar.specs.BlockNodes.{pair_and, Pair, asked, keyed, Indented, compact_items, compact_pairs, node}
-use Rattle.yaml_grammar.specs.Streams.{Stream, bare, explicit, content, suffixes}
-use Rattle.yaml_grammar.specs.Trees.{Tree, text, sequence, mapping, Elements, no_element, element, Members, no_member, member}
-use Rattle.yaml_grammar.specs.Style.{shown, plain_in_style, literal_in_style, hex, letter_escape, feeds_at_end, long_key}
+use Rattle.std.specs.Prelude.{ℕ, zero, suc, ◌+◌, ◌/◌, ◌%◌, Bool, true, false, ◌||◌, nat_le, ◌==◌, List, [], ◌∷◌, Some, None, replicate}
+use Rattle.std.specs.Prelude.{if◌then◌else◌}
+use Rattle.yaml_recognizers.proofs.Prelude.{in_range, lf, LineEnd, Sep, inline, lines, QuotedChar, raw, escape, number, plain, double, Flow}
+use Rattle.yaml_recognizers.proofs.Prelude.{scalar, seq, map, none, Chomping, strip, clip, keep, BlockEmptyLine, TextLine, BlockScalar}
+use Rattle.yaml_recognizers.proofs.Prelude.{Node, block, flow, items, pairs, Items, item, item_and, Pairs, pair, pair_and, Pair, asked}
+use Rattle.yaml_recognizers.proofs.Prelude.{keyed, Indented, compact_items, compact_pairs, node, Stream, bare, explicit, content, suffixes}
+use Rattle.yaml_recognizers.proofs.Prelude.{Tree, text, sequence, mapping, Elements, no_element, element, Members, no_member, member, shown}
+use Rattle.yaml_recognizers.proofs.Prelude.{plain_in_style, literal_in_style, hex, letter_escape, feeds_at_end, long_key}
 
 -- the end of a line without a comment
 abbrev pub feed : LineEnd

@@ -1,14 +1,11 @@
 -- In the one style each text ends with a line's end, and no line begins with a dot.
 use Rattle.std.proofs.Common.{◌≡◌, refl, sym, ◌∙◌, ap, subst, arith, append_assoc}
 use Rattle.std.specs.Prelude.{ℕ, zero, suc, ◌+◌, Bool, true, false, cond, not, ◌&&◌, nat_lt, ◌==◌, List, [], ◌∷◌, ◌++◌, codes}
-use Rattle.std.proofs.lemmas.Bool.{cond_both, and_parts, and_from, not-true, not_from_false, ne_eqb, false≢true}
-use Rattle.std.specs.List.{list_all}
-use Rattle.yaml_grammar.specs.Texts.{spaces}
-use Rattle.yaml_grammar.specs.Trees.{Tree, text, sequence, mapping, Elements, no_element, element, Members, no_member, member}
-use Rattle.yaml_grammar.specs.Style.{letter, word_char, hex, quoted_chars, in_double_quotes, plain_in_style}
-use Rattle.yaml_grammar.specs.Style.{literal_in_style, literal_mark, literal_lines, feeds_at_end, scalar_lines}
-use Rattle.yaml_grammar.specs.Style.{key_text, long_key, key_lines, elements_at, elements_after, lines_after_dash}
-use Rattle.yaml_grammar.specs.Style.{members_at, members_after, value_at, style_text}
+use Rattle.yaml_recognizers.proofs.Prelude.{cond_both, and_parts, and_from, not-true, not_from_false, ne_eqb, false≢true, list_all, spaces}
+use Rattle.yaml_recognizers.proofs.Prelude.{Tree, text, sequence, mapping, Elements, no_element, element, Members, no_member, member}
+use Rattle.yaml_recognizers.proofs.Prelude.{letter, word_char, hex, quoted_chars, in_double_quotes, plain_in_style, literal_in_style}
+use Rattle.yaml_recognizers.proofs.Prelude.{literal_mark, literal_lines, feeds_at_end, scalar_lines, key_text, long_key, key_lines}
+use Rattle.yaml_recognizers.proofs.Prelude.{elements_at, elements_after, lines_after_dash, members_at, members_after, value_at, style_text}
 use Rattle.yaml_recognizers.proofs.OneStyle.Characters.{every_joined, of_letter, of_word, shown_low, Writes, quoted_chars_all}
 use Rattle.yaml_recognizers.proofs.OneStyle.Spelled.{item_regrouped, pair_regrouped}
 use Rattle.yaml_recognizers.proofs.OneStyle.Closings.{ends_from, dotless}

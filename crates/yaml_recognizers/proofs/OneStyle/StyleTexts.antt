@@ -1,16 +1,12 @@
 -- A tree of texts, in the one style, is a text.
 use Rattle.std.proofs.Common.{◌≡◌, refl, arith, ◌<◌, ◌≤◌}
 use Rattle.std.specs.Prelude.{ℕ, zero, suc, ◌+◌, Bool, true, false, nat_lt, ◌==◌, List, [], ◌∷◌, ◌++◌, codes}
-use Rattle.std.proofs.lemmas.Bool.{cond_both, and_parts, and_from, or_left, le-leb}
-use Rattle.yaml_chars.specs.Classes.{in_range, code_point}
-use Rattle.std.specs.List.{list_all}
-use Rattle.yaml_grammar.specs.Texts.{IsText, spaces}
-use Rattle.yaml_grammar.specs.Trees.{Tree, text, sequence, mapping, Elements, no_element, element, Members, no_member}
-use Rattle.yaml_grammar.specs.Trees.{member, IsTextTree, AreTextElements, AreTextMembers}
-use Rattle.yaml_grammar.specs.Style.{hex, quoted_chars, in_double_quotes, plain_in_style, literal_in_style}
-use Rattle.yaml_grammar.specs.Style.{literal_mark, literal_lines, feeds_at_end, scalar_lines, key_text, long_key}
-use Rattle.yaml_grammar.specs.Style.{key_lines, elements_at, elements_after, lines_after_dash, members_at}
-use Rattle.yaml_grammar.specs.Style.{members_after, value_at, style_text}
+use Rattle.yaml_recognizers.proofs.Prelude.{cond_both, and_parts, and_from, or_left, le-leb, in_range, code_point, list_all, IsText, spaces}
+use Rattle.yaml_recognizers.proofs.Prelude.{Tree, text, sequence, mapping, Elements, no_element, element, Members, no_member, member}
+use Rattle.yaml_recognizers.proofs.Prelude.{IsTextTree, AreTextElements, AreTextMembers, hex, quoted_chars, in_double_quotes}
+use Rattle.yaml_recognizers.proofs.Prelude.{plain_in_style, literal_in_style, literal_mark, literal_lines, feeds_at_end, scalar_lines}
+use Rattle.yaml_recognizers.proofs.Prelude.{key_text, long_key, key_lines, elements_at, elements_after, lines_after_dash, members_at}
+use Rattle.yaml_recognizers.proofs.Prelude.{members_after, value_at, style_text}
 use Rattle.yaml_recognizers.specs.Closings.{framed_text}
 use Rattle.yaml_recognizers.proofs.OneStyle.Characters.{every_joined, code_point_high, Writes, quoted_chars_all}
 

@@ -1,25 +1,18 @@
 -- Double-quoted scalars: what fits is read, and what is read fits.
 use Rattle.std.proofs.Common.{◌≡◌, refl, sym, ◌∙◌, ap, subst, append_assoc, arith, ◌≤◌, inl, inr, take-append-drop}
-use Rattle.std.proofs.Math.Seq.{take-append_seam, drop-append_seam}
-use Rattle.std.specs.Prelude.{ℕ, Bool, true, false, cond, ◌||◌, ◌==◌, List, [], ◌∷◌, ◌++◌, length, take, drop, Some}
-use Rattle.std.specs.Prelude.{None, codes, if◌then◌else◌}
-use Rattle.std.proofs.lemmas.Bool.{and_parts, and_from, or_cases, or_parts, or_from, eqb-true, false≢true}
-use Rattle.std.proofs.lemmas.Bool.{not_from_false, not-true, cond_both, cond-true, cond-false, cases_Bool}
-use Rattle.yaml_chars.specs.Classes.{white, nb_json, is_in}
-use Rattle.yaml_grammar.specs.Texts.{first}
-use Rattle.yaml_grammar.specs.Separation.{Break, lf, cr, cr_lf, break_text}
-use Rattle.yaml_grammar.specs.FlowScalars.{FlowContext, Line, QuotedChar, raw, escape, number, double}
-use Rattle.yaml_grammar.specs.FlowScalars.{quoted_char_text, is_blank_char, digits_after, quoted_char_fits}
-use Rattle.yaml_grammar.specs.FlowScalars.{lines_text, double_kind, quoted_lines, scalar_fits}
-use Rattle.yaml_recognizers.specs.Prefixes.{past}
-use Rattle.yaml_recognizers.specs.Reading.{Read, on}
+use Rattle.std.specs.Prelude.{ℕ, Bool, true, false, cond, ◌||◌, ◌==◌, List, [], ◌∷◌, ◌++◌, length, take, drop, Some, None, codes}
+use Rattle.std.specs.Prelude.{if◌then◌else◌}
+use Rattle.yaml_recognizers.proofs.Prelude.{take-append_seam, drop-append_seam, and_parts, and_from, or_cases, or_parts, or_from, eqb-true}
+use Rattle.yaml_recognizers.proofs.Prelude.{false≢true, not_from_false, not-true, cond_both, cond-true, cond-false, cases_Bool, white}
+use Rattle.yaml_recognizers.proofs.Prelude.{nb_json, is_in, first, Break, lf, cr, cr_lf, break_text, FlowContext, Line, QuotedChar, raw}
+use Rattle.yaml_recognizers.proofs.Prelude.{escape, number, double, quoted_char_text, is_blank_char, digits_after, quoted_char_fits}
+use Rattle.yaml_recognizers.proofs.Prelude.{lines_text, double_kind, quoted_lines, scalar_fits}
+use Rattle.yaml_recognizers.specs.{Prefixes.past, Reading.Read, Reading.on, FlowScalars.scalar_ends, FlowScalars.Stands}
 use Rattle.yaml_recognizers.specs.Joins.{at_break, read_join, after_blank}
 use Rattle.yaml_recognizers.specs.QuotedScalars.{read_held, read_quoted, read_number, read_escape, read_item, double_closes, read_double}
-use Rattle.yaml_recognizers.specs.FlowScalars.{scalar_ends, Stands}
-use Rattle.yaml_recognizers.proofs.Basics.Blanks.{inked}
-use Rattle.yaml_recognizers.proofs.Basics.Reading.{Sound, sound_on}
+use Rattle.yaml_recognizers.proofs.{Basics.Blanks.inked, Basics.Reading.Sound, Basics.Reading.sound_on}
+use Rattle.yaml_recognizers.proofs.{Scalars.SingleScalars.nb_json_unbroken, Scalars.SingleScalars.white_is}
 use Rattle.yaml_recognizers.proofs.Scalars.QuotedScalars.{OneOf, Readable, EndsLines, QuotedOf, quoted_read, quoted_sound}
-use Rattle.yaml_recognizers.proofs.Scalars.SingleScalars.{nb_json_unbroken, white_is}
 
 -- ---- one item
 

@@ -4,14 +4,11 @@
 -- here.
 use Rattle.std.proofs.Common.{◌≡◌, refl}
 use Rattle.std.specs.Prelude.{ℕ, true, List, [], ◌∷◌, Option, Some, None, codes}
-use Rattle.yaml_grammar.specs.FlowScalars.{FlowContext, outer, inner, block_key, flow_key, Scalar, scalar_value}
-use Rattle.yaml_recognizers.specs.Reading.{Read}
-use Rattle.yaml_recognizers.specs.Repeated.{repeated}
-use Rattle.yaml_recognizers.specs.Joins.{read_empty, after_blank, read_join}
-use Rattle.yaml_recognizers.specs.QuotedScalars.{read_held, read_quoted_line, read_quoted, read_single_one}
-use Rattle.yaml_recognizers.specs.QuotedScalars.{single_closes, read_single, read_item, double_closes, read_double}
-use Rattle.yaml_recognizers.specs.PlainScalars.{read_run, read_plain_line, read_plain}
-use Rattle.yaml_recognizers.specs.FlowScalars.{read_scalar}
+use Rattle.yaml_recognizers.proofs.Prelude.{FlowContext, outer, inner, block_key, flow_key, Scalar, scalar_value}
+use Rattle.yaml_recognizers.specs.{Reading.Read, Repeated.repeated, Joins.read_empty, Joins.after_blank, Joins.read_join}
+use Rattle.yaml_recognizers.specs.{PlainScalars.read_run, PlainScalars.read_plain_line, PlainScalars.read_plain, FlowScalars.read_scalar}
+use Rattle.yaml_recognizers.specs.QuotedScalars.{read_held, read_quoted_line, read_quoted, read_single_one, single_closes, read_single}
+use Rattle.yaml_recognizers.specs.QuotedScalars.{read_item, double_closes, read_double}
 
 -- the value that is read, and the rest
 abbrev value_of : Read Scalar → Option (List ℕ × List ℕ)

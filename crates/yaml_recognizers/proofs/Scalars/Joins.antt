@@ -1,20 +1,14 @@
 -- A join of two lines that fits is read, and what is read is one that fits.
 use Rattle.std.proofs.Common.{ap, append-nil, append_assoc, arith, inl, inr, length-append, refl, subst, sym, ◌∙◌, ◌≡◌, ◌≤◌}
-use Rattle.std.specs.Prelude.{Bool, List, None, Some, [], codes, cond, false, flat_map, if◌then◌else◌, length, not}
-use Rattle.std.specs.Prelude.{true, ℕ, ◌&&◌, ◌++◌, ◌==◌, ◌||◌, ◌∷◌}
-use Rattle.std.proofs.lemmas.Bool.{and_from, and_parts, cond-false, cond_both, eqb-true, false≢true, not-true, not_from_false, or_cases}
-use Rattle.yaml_chars.specs.Classes.{space, white}
-use Rattle.yaml_grammar.specs.FlowScalars.{FlowEmptyLine, Kind, Line, flow_empties_fit, flow_empties_text}
-use Rattle.yaml_grammar.specs.FlowScalars.{flow_empty_fits, flow_empty_text, ends, join_fits}
-use Rattle.yaml_grammar.specs.Separation.{Break, break_fits, break_text, cr, cr_lf, indents, lf}
-use Rattle.std.specs.List.{list_all}
-use Rattle.yaml_grammar.specs.Texts.{begins, first, is_empty, no_marker, spaces}
-use Rattle.yaml_recognizers.specs.Comments.{read_break}
-use Rattle.yaml_recognizers.specs.Prefixes.{drop_while, past, take_while}
-use Rattle.yaml_recognizers.specs.Joins.{Join, at_break, after_blank, prefix_text, join_of, line_of, read_empty}
-use Rattle.yaml_recognizers.specs.Joins.{read_join, join_text_then, with_lead}
-use Rattle.yaml_recognizers.specs.Reading.{Read, on}
-use Rattle.yaml_recognizers.specs.Repeated.{repeated}
+use Rattle.std.specs.Prelude.{Bool, List, None, Some, [], codes, cond, false, flat_map, if◌then◌else◌, length, not, true, ℕ, ◌&&◌, ◌++◌}
+use Rattle.std.specs.Prelude.{◌==◌, ◌||◌, ◌∷◌}
+use Rattle.yaml_recognizers.proofs.Prelude.{and_from, and_parts, cond-false, cond_both, eqb-true, false≢true, not-true, not_from_false}
+use Rattle.yaml_recognizers.proofs.Prelude.{or_cases, space, white, FlowEmptyLine, Kind, Line, flow_empties_fit, flow_empties_text}
+use Rattle.yaml_recognizers.proofs.Prelude.{flow_empty_fits, flow_empty_text, ends, join_fits, Break, break_fits, break_text, cr, cr_lf}
+use Rattle.yaml_recognizers.proofs.Prelude.{indents, lf, list_all, begins, first, is_empty, no_marker, spaces}
+use Rattle.yaml_recognizers.specs.{Comments.read_break, Prefixes.drop_while, Prefixes.past, Prefixes.take_while, Joins.Join, Joins.at_break}
+use Rattle.yaml_recognizers.specs.{Joins.after_blank, Joins.prefix_text, Joins.join_of, Joins.line_of, Joins.read_empty, Joins.read_join}
+use Rattle.yaml_recognizers.specs.{Joins.join_text_then, Joins.with_lead, Reading.Read, Reading.on, Repeated.repeated}
 use Rattle.yaml_recognizers.proofs.Basics.Blanks.{drop_while_first, inked, inked_no_white, inked_not_at_break, white_at_break}
 use Rattle.yaml_recognizers.proofs.Basics.Breaks.{BreakOf, break_first, break_read, break_sound, unbroken}
 use Rattle.yaml_recognizers.proofs.Basics.Prefixes.{drop_while_all, take_while_all, take_while_every, take_while_split}

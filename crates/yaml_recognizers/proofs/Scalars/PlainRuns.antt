@@ -1,13 +1,9 @@
 -- The plain characters of a line: a run that fits is read whole, and what is read fits and goes no further.
 use Rattle.std.proofs.Common.{◌≡◌, refl, sym, ◌∙◌, ap, subst, append-nil, inl, inr}
 use Rattle.std.specs.Prelude.{ℕ, Bool, true, false, cond, not, ◌&&◌, ◌||◌, ◌==◌, List, [], ◌∷◌, ◌++◌, length, drop}
-use Rattle.std.proofs.lemmas.Bool.{and_parts, and_from, and_left, or_cases, eqb-true, false≢true, not_from_false}
-use Rattle.std.proofs.lemmas.Bool.{not-true, cond_both, cases_Bool}
-use Rattle.yaml_chars.specs.Classes.{white, line_break, ns}
-use Rattle.std.specs.List.{list_all}
-use Rattle.yaml_grammar.specs.Texts.{is_empty}
-use Rattle.yaml_grammar.specs.Separation.{Break, lf, cr, cr_lf, break_text}
-use Rattle.yaml_grammar.specs.FlowScalars.{FlowContext, outer, inner, block_key, flow_key, safe, plain_next, plain_run, ends}
+use Rattle.yaml_recognizers.proofs.Prelude.{and_parts, and_from, and_left, or_cases, eqb-true, false≢true, not_from_false, not-true}
+use Rattle.yaml_recognizers.proofs.Prelude.{cond_both, cases_Bool, white, line_break, ns, list_all, is_empty, Break, lf, cr, cr_lf}
+use Rattle.yaml_recognizers.proofs.Prelude.{break_text, FlowContext, outer, inner, block_key, flow_key, safe, plain_next, plain_run, ends}
 use Rattle.yaml_recognizers.specs.PlainScalars.{read_run, last_of}
 use Rattle.yaml_recognizers.proofs.Scalars.SingleScalars.{white_is}
 

@@ -2,17 +2,12 @@
 -- character, a join or a line. A scanner's loop goes by these, and by `run_goes_on` over a run.
 use Rattle.std.proofs.Common.{◌≡◌, refl, ap}
 use Rattle.std.specs.Prelude.{ℕ, Bool, true, false, cond, ◌&&◌, List, [], ◌∷◌, length, drop, Some, None}
-use Rattle.std.proofs.lemmas.Bool.{cond-true, cond-false}
-use Rattle.yaml_chars.specs.Classes.{white}
-use Rattle.yaml_grammar.specs.Texts.{is_empty, no_marker}
-use Rattle.yaml_grammar.specs.FlowScalars.{FlowContext, one_line, Line, plain_first, plain_next}
-use Rattle.yaml_recognizers.specs.Reading.{Read, on}
-use Rattle.yaml_recognizers.specs.Repeated.{all_of}
-use Rattle.yaml_recognizers.specs.Joins.{Join, read_join}
+use Rattle.yaml_recognizers.proofs.Prelude.{cond-true, cond-false, white, is_empty, no_marker, FlowContext, one_line, Line, plain_first}
+use Rattle.yaml_recognizers.proofs.Prelude.{plain_next}
+use Rattle.yaml_recognizers.specs.{Reading.Read, Reading.on, Repeated.all_of, Joins.Join, Joins.read_join}
 use Rattle.yaml_recognizers.specs.PlainScalars.{read_run, with_run, read_plain_line, plain_lines_at, with_lines, read_plain}
+use Rattle.yaml_recognizers.proofs.{Scalars.PlainRuns.white_unplain, Scalars.PlainScalars.line_shrinks}
 use Rattle.yaml_recognizers.proofs.Basics.Repeated.{all_none, all_some}
-use Rattle.yaml_recognizers.proofs.Scalars.PlainRuns.{white_unplain}
-use Rattle.yaml_recognizers.proofs.Scalars.PlainScalars.{line_shrinks}
 
 -- ---- characters
 

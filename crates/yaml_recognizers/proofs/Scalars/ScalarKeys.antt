@@ -1,19 +1,12 @@
 -- A scalar on one line is read in a key's context as it is in the wider one: so a reader may read a node once, and then
 -- learn that it was a key.
 use Rattle.std.proofs.Common.{◌≡◌, refl, sym, ◌∙◌, ap}
-use Rattle.std.specs.Prelude.{ℕ, Bool, true, false, not, ◌||◌, List, [], ◌∷◌, ◌++◌, flat_map, Some, codes, if◌then◌else◌}
-use Rattle.std.proofs.lemmas.Bool.{and_parts, and_from, or_left, false≢true}
-use Rattle.yaml_chars.specs.Classes.{line_break}
-use Rattle.std.specs.List.{list_all}
-use Rattle.yaml_grammar.specs.Texts.{first, is_empty, no_marker}
-use Rattle.yaml_grammar.specs.Separation.{Break, lf, cr, cr_lf, break_text}
-use Rattle.yaml_grammar.specs.FlowScalars.{FlowContext, one_line, Line, Scalar, plain, single, double, safe}
-use Rattle.yaml_grammar.specs.FlowScalars.{plain_text, single_text, quoted_char_text, join_text, flow_empties_text}
-use Rattle.yaml_grammar.specs.FlowScalars.{line_text, lines_text, scalar_text, plain_first, plain_next, plain_run}
-use Rattle.yaml_grammar.specs.FlowScalars.{plain_line, scalar_fits}
-use Rattle.yaml_recognizers.specs.PlainScalars.{read_run, last_char, plain_ends}
-use Rattle.yaml_recognizers.specs.FlowScalars.{read_scalar, scalar_ends, Stands}
-use Rattle.yaml_recognizers.specs.WholeScalars.{stands_on_one_line}
+use Rattle.std.specs.Prelude.{ℕ, Bool, true, false, not, ◌||◌, List, [], ◌∷◌, ◌++◌, Some}
+use Rattle.yaml_recognizers.proofs.Prelude.{and_parts, and_from, or_left, false≢true, first, is_empty, no_marker, FlowContext, one_line}
+use Rattle.yaml_recognizers.proofs.Prelude.{Scalar, plain, single, double, safe, plain_text, lines_text, plain_first, plain_next, plain_run}
+use Rattle.yaml_recognizers.proofs.Prelude.{plain_line, scalar_fits}
+use Rattle.yaml_recognizers.specs.{PlainScalars.read_run, PlainScalars.last_char, PlainScalars.plain_ends, FlowScalars.read_scalar}
+use Rattle.yaml_recognizers.specs.{FlowScalars.scalar_ends, FlowScalars.Stands, WholeScalars.stands_on_one_line}
 use Rattle.yaml_recognizers.proofs.Scalars.FlowScalars.{complete, sound}
 
 -- two contexts with the same safe characters
@@ -91,51 +84,4 @@ key_on_one_line s n c bol after k h = by_style s h
     by_style (single prefix more) h = only (is_empty more) (one_line c) k (and_parts _ _ h).1
     by_style (double prefix more) h = only (is_empty more) (one_line c) k (and_parts _ _ h).1
 
--- and is read in each context with the same safe characters where it ends there
-pub key_read_wider : (c d : FlowContext) (same : (x : ℕ) → safe c x ≡ safe d x) (n m : ℕ) (bol : Bool) (text : List ℕ)
-    (s : Scalar) (rest : List ℕ) → one_line c ≡ true
-    → read_scalar n c bol text ≡ Some (s, rest) → scalar_ends m d s rest ≡ true → read_scalar m d bol text ≡ Some (s, rest)
-key_read_wider c d same n m bol text s rest k h e =
-    let here : Stands n c bol text s rest = sound n c bol text s rest h in
-    complete m d bol text s rest
-    (record {
-      spells = here.spells;
-      fits = fits_same c d same s n m bol rest
-          (key_on_one_line s n c bol rest k here.fits) here.fits;
-      ends = e;
-    })
-
 -- ---- a scalar whose text has no break is on one line
-
--- a test that passes two lists, joined, passes each
-every_parts : (p : ℕ → Bool) (xs ys : List ℕ) → list_all p (xs ++ ys) ≡ true → (list_all p xs ≡ true) × (list_all p ys ≡ true)
-every_parts p [] ys h = (refl, h)
-every_parts p (x ∷ xs) ys h = let q = and_parts _ _ h in let more = every_parts p xs ys q.1 in (and_from _ _ q.0 more.0, more.1)
-
--- a scalar of several lines has a break
-lines_broken : {A : Type 0} (spell : A → List ℕ) (prefix : List A) (l : Line A) (ls : List (Line A))
-    → list_all (λ x. not (line_break x)) (lines_text spell prefix (l ∷ ls)) ≡ true → ⊥
-lines_broken spell prefix l ls h =
-    let sign : List ℕ = if l.escaped then codes "\\" else [] in
-    let more = every_parts _ (flat_map spell prefix) _ h in
-    let line = every_parts _ (line_text spell l) _ more.1 in
-    let a = every_parts _ (join_text l ++ flow_empties_text l.empties ++ l.lead) (flat_map spell l.held) line.0 in
-    let b = every_parts _ (join_text l ++ flow_empties_text l.empties) l.lead a.0 in
-    let c = every_parts _ (join_text l) (flow_empties_text l.empties) b.0 in
-    unbroken l.stop (every_parts _ (l.blank ++ sign) (break_text l.stop) c.0).1
-  where
-    unbroken : (b : Break) → list_all (λ x. not (line_break x)) (break_text b) ≡ true → ⊥
-    unbroken lf h = false≢true h
-    unbroken cr h = false≢true h
-    unbroken cr_lf h = false≢true h
-
--- a scalar whose text has no break is on one line
-pub unbroken_on_one_line : (s : Scalar) → list_all (λ x. not (line_break x)) (scalar_text s) ≡ true → stands_on_one_line s ≡ true
-unbroken_on_one_line (plain prefix []) h = refl
-unbroken_on_one_line (single prefix []) h = refl
-unbroken_on_one_line (double prefix []) h = refl
-unbroken_on_one_line (plain prefix (l ∷ ls)) h = absurd (lines_broken plain_text prefix l ls h)
-unbroken_on_one_line (single prefix (l ∷ ls)) h =
-    absurd (lines_broken single_text prefix l ls (every_parts _ (lines_text single_text prefix (l ∷ ls)) (codes "'") h).0)
-unbroken_on_one_line (double prefix (l ∷ ls)) h =
-    absurd (lines_broken quoted_char_text prefix l ls (every_parts _ (lines_text quoted_char_text prefix (l ∷ ls)) (codes "\"") h).0)

@@ -2,19 +2,11 @@
 -- node.
 use Rattle.std.proofs.Common.{inl, inr, refl, subst, sym, ◌≡◌}
 use Rattle.std.specs.Prelude.{List, [], false, true, ℕ, ◌∷◌}
-use Rattle.std.proofs.lemmas.Bool.{and_parts, not-true, or_parts}
-use Rattle.yaml_chars.specs.Classes.{line_break, white}
-use Rattle.yaml_grammar.specs.FlowNodes.{is_plain, scalar}
-use Rattle.yaml_grammar.specs.FlowScalars.{FlowContext, Scalar}
-use Rattle.yaml_grammar.specs.Texts.{first}
-use Rattle.yaml_recognizers.specs.CanonicalComments.{is_line_end, stops}
+use Rattle.yaml_recognizers.proofs.Prelude.{and_parts, not-true, or_parts, line_break, white, is_plain, scalar, FlowContext, Scalar, first}
+use Rattle.yaml_recognizers.specs.{CanonicalComments.is_line_end, CanonicalComments.stops, FlowScalars.read_scalar, FlowScalars.scalar_ends}
+use Rattle.yaml_recognizers.specs.{Prefixes.drop_while, Joins.at_break, Scalars.ReadsScalars}
 use Rattle.yaml_recognizers.specs.Ends.{BeforeColon, BeforeComments, BetweenBrackets, Stops}
-use Rattle.yaml_recognizers.specs.FlowScalars.{read_scalar, scalar_ends}
-use Rattle.yaml_recognizers.specs.Prefixes.{drop_while}
-use Rattle.yaml_recognizers.specs.Joins.{at_break}
-use Rattle.yaml_recognizers.specs.Scalars.{ReadsScalars}
-use Rattle.yaml_recognizers.proofs.Meanings.CanonicalFits.{gap_fits_too}
-use Rattle.yaml_recognizers.proofs.Scalars.FlowScalars.{scalar_read, sound}
+use Rattle.yaml_recognizers.proofs.{Meanings.CanonicalFits.gap_fits_too, Scalars.FlowScalars.scalar_read, Scalars.FlowScalars.sound}
 use Rattle.yaml_recognizers.proofs.Scalars.ScalarEnds.{ends_before_colon, ends_before_comments, ends_between_brackets}
 
 -- where no line of comments begins there is no line of white

@@ -1,18 +1,13 @@
 -- Single-quoted scalars: what fits is read, and what is read fits.
 use Rattle.std.proofs.Common.{◌≡◌, refl, sym, ◌∙◌, ap, subst, append_assoc, arith, ◌≤◌, inl, inr}
 use Rattle.std.specs.Prelude.{ℕ, Bool, true, false, cond, ◌==◌, List, [], ◌∷◌, ◌++◌, length, Some, None, codes}
-use Rattle.std.proofs.lemmas.Bool.{and_parts, and_from, or_cases, or_from, eqb-true, false≢true, not_from_false}
-use Rattle.std.proofs.lemmas.Bool.{not-true, cond_both, cond-false, cases_Bool}
-use Rattle.yaml_chars.specs.Classes.{white, line_break, nb_json}
-use Rattle.yaml_grammar.specs.Texts.{first}
-use Rattle.yaml_grammar.specs.FlowScalars.{FlowContext, Line, single, single_text, lines_text, single_kind, quoted_lines, scalar_fits}
-use Rattle.yaml_recognizers.specs.Prefixes.{past}
-use Rattle.yaml_recognizers.specs.Reading.{Read, on}
+use Rattle.yaml_recognizers.proofs.Prelude.{and_parts, and_from, or_cases, or_from, eqb-true, false≢true, not_from_false, not-true}
+use Rattle.yaml_recognizers.proofs.Prelude.{cond_both, cond-false, cases_Bool, white, line_break, nb_json, first, FlowContext, Line, single}
+use Rattle.yaml_recognizers.proofs.Prelude.{single_text, lines_text, single_kind, quoted_lines, scalar_fits}
+use Rattle.yaml_recognizers.specs.{Prefixes.past, Reading.Read, Reading.on, FlowScalars.scalar_ends, FlowScalars.Stands}
 use Rattle.yaml_recognizers.specs.Joins.{at_break, read_join, after_blank}
 use Rattle.yaml_recognizers.specs.QuotedScalars.{read_held, read_quoted, quote, read_single_one, single_closes, read_single}
-use Rattle.yaml_recognizers.specs.FlowScalars.{scalar_ends, Stands}
-use Rattle.yaml_recognizers.proofs.Basics.Blanks.{inked}
-use Rattle.yaml_recognizers.proofs.Basics.Reading.{Sound, sound_on}
+use Rattle.yaml_recognizers.proofs.{Basics.Blanks.inked, Basics.Reading.Sound, Basics.Reading.sound_on}
 use Rattle.yaml_recognizers.proofs.Scalars.QuotedScalars.{OneOf, Readable, EndsLines, QuotedOf, quoted_read, quoted_sound}
 
 -- an nb-json is no break

@@ -1,16 +1,10 @@
 -- A gap that fits is read, where something solid comes after it.
 use Rattle.std.proofs.Common.{ap, append_assoc, arith, length-append, refl, ◌<◌, ◌∙◌, ◌≡◌}
 use Rattle.std.specs.Prelude.{Bool, List, None, Option, Some, [], false, length, true, ℕ, ◌++◌, ◌∷◌}
-use Rattle.std.proofs.lemmas.Bool.{and_parts, false≢true}
-use Rattle.yaml_chars.specs.Classes.{white}
-use Rattle.yaml_grammar.specs.FlowScalars.{FlowContext, safe}
-use Rattle.yaml_grammar.specs.Separation.{Sep, comment_line_fits, comments_text, gap_text, indents, inline, line_end_text, lines, sep_text}
-use Rattle.std.specs.List.{list_all}
-use Rattle.yaml_grammar.specs.Texts.{first}
+use Rattle.yaml_recognizers.proofs.Prelude.{and_parts, false≢true, white, FlowContext, safe, Sep, comment_line_fits, comments_text}
+use Rattle.yaml_recognizers.proofs.Prelude.{gap_text, indents, inline, line_end_text, lines, sep_text, list_all, first}
+use Rattle.yaml_recognizers.specs.{Comments.read_line_end, Ends.solid, Prefixes.drop_while}
 use Rattle.yaml_recognizers.specs.CanonicalComments.{canonical_comments, canonical_gap}
-use Rattle.yaml_recognizers.specs.Comments.{read_line_end}
-use Rattle.yaml_recognizers.specs.Ends.{solid}
-use Rattle.yaml_recognizers.specs.Prefixes.{drop_while}
 use Rattle.yaml_recognizers.specs.Gaps.{gap_after, gap_from, inline_gap, lines_gap, read_gap}
 use Rattle.yaml_recognizers.proofs.Separation.CommentsComplete.{comments_read, line_end_read, solid_no_line}
 use Rattle.yaml_recognizers.proofs.Basics.Prefixes.{drop_while_all, take_while_all}

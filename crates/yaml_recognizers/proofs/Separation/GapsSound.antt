@@ -1,19 +1,14 @@
 -- A gap that is read fits.
 use Rattle.std.proofs.Common.{ap, append_assoc, refl, subst, sym, ◌<◌, ◌∙◌, ◌≡◌}
 use Rattle.std.specs.Prelude.{Bool, List, None, Some, [], false, length, true, ℕ, ◌++◌, ◌∷◌}
-use Rattle.std.proofs.lemmas.Bool.{and_from, cond_both}
-use Rattle.yaml_chars.specs.Classes.{white}
-use Rattle.yaml_grammar.specs.Separation.{LineEnd, comment_line_fits, comments_text, gap_text, indents, line_end_text, lines}
-use Rattle.std.specs.List.{list_all}
+use Rattle.yaml_recognizers.proofs.Prelude.{and_from, cond_both, white, LineEnd, comment_line_fits, comments_text, gap_text, indents}
+use Rattle.yaml_recognizers.proofs.Prelude.{line_end_text, lines, list_all}
+use Rattle.yaml_recognizers.specs.{Comments.read_comments, Comments.read_line_end, Prefixes.drop_while, Prefixes.take_while, Reading.Read}
 use Rattle.yaml_recognizers.specs.CanonicalComments.{canonical_comments, canonical_gap, is_line_end}
-use Rattle.yaml_recognizers.specs.Comments.{read_comments, read_line_end}
-use Rattle.yaml_recognizers.specs.Prefixes.{drop_while, take_while}
 use Rattle.yaml_recognizers.specs.Gaps.{GapRead, gap_from, inline_gap, read_gap}
-use Rattle.yaml_recognizers.specs.Reading.{Read}
+use Rattle.yaml_recognizers.proofs.{Separation.LineEnds.comments_from, Basics.Reading.Sound}
 use Rattle.yaml_recognizers.proofs.Separation.CommentsSound.{CommentsOf, LineOf, comments_end, comments_sound, line_sound, shorter}
 use Rattle.yaml_recognizers.proofs.Basics.Prefixes.{take_while_every, take_while_split}
-use Rattle.yaml_recognizers.proofs.Separation.LineEnds.{comments_from}
-use Rattle.yaml_recognizers.proofs.Basics.Reading.{Sound}
 
 -- the gap fits at the start of the text, before the rest
 abbrev pub GapOf : ℕ → Bool → List ℕ → GapRead → Type 0

@@ -1,19 +1,12 @@
 -- The parts of a line's end and of comments, and what their text begins with.
 use Rattle.std.proofs.Common.{append_assoc, arith, inl, inr, length-append, refl, subst, sym, ◌≡◌, ◌≤◌}
 use Rattle.std.specs.Prelude.{Bool, List, None, Option, Some, [], false, length, not, true, ℕ, ◌&&◌, ◌++◌, ◌==◌, ◌||◌, ◌∷◌}
-use Rattle.std.proofs.lemmas.Bool.{and_from, and_parts, cases_Bool, eqb-true, false≢true, not-true, or_cases, or_parts}
-use Rattle.yaml_chars.specs.Classes.{nb, ns, space, white}
-use Rattle.yaml_grammar.specs.BlockScalars.{past_spaces}
-use Rattle.yaml_grammar.specs.FlowScalars.{FlowContext, block_key, flow_key, inner, outer, safe}
-use Rattle.yaml_grammar.specs.Separation.{Break, LineEnd, break_text, comment_fits, comment_line_fits, comment_text}
-use Rattle.yaml_grammar.specs.Separation.{comments_fit, comments_text, cr, cr_lf, lf, line_end_fits, line_end_text}
-use Rattle.yaml_grammar.specs.Separation.{stop_fits}
-use Rattle.std.specs.List.{list_all}
-use Rattle.yaml_grammar.specs.Texts.{first, is_empty, optional}
-use Rattle.yaml_recognizers.specs.CanonicalComments.{canonical_comments, is_line_end}
-use Rattle.yaml_recognizers.specs.Ends.{solid}
-use Rattle.yaml_recognizers.proofs.Basics.Prefixes.{spaces_passed}
-use Rattle.yaml_recognizers.proofs.Basics.Solid.{white_no_ns, white_unsolid}
+use Rattle.yaml_recognizers.proofs.Prelude.{and_from, and_parts, cases_Bool, eqb-true, false≢true, not-true, or_cases, or_parts, nb, ns}
+use Rattle.yaml_recognizers.proofs.Prelude.{space, white, past_spaces, FlowContext, block_key, flow_key, inner, outer, safe, Break, LineEnd}
+use Rattle.yaml_recognizers.proofs.Prelude.{break_text, comment_fits, comment_line_fits, comment_text, comments_fit, comments_text, cr}
+use Rattle.yaml_recognizers.proofs.Prelude.{cr_lf, lf, line_end_fits, line_end_text, stop_fits, list_all, first, is_empty, optional}
+use Rattle.yaml_recognizers.specs.{CanonicalComments.canonical_comments, CanonicalComments.is_line_end, Ends.solid}
+use Rattle.yaml_recognizers.proofs.{Basics.Prefixes.spaces_passed, Basics.Solid.white_no_ns, Basics.Solid.white_unsolid}
 
 -- what a comment line that fits has
 pub record LineParts (bol : Bool) (e : LineEnd) (rest : List ℕ) : Type 0 where

@@ -1,6 +1,6 @@
 -- A file was made of the copy that was read, or none was.
 use Rattle.std.proofs.Common.{Some, subst}
-use Rattle.conf_journal.specs.Store.{LeavesStoreOr}
+use Rattle.conf_history.proofs.Prelude.{LeavesStoreOr}
 use Rattle.conf_history.specs.Copies.{CreatesFile, RefusesFile}
 use Rattle.conf_history.proofs.CopyLemmas.{backs-up, copy-leaves, refuses-copy}
 use Rattle.conf_history.proofs.copying.back_up.Goals as goal

@@ -1,4 +1,4 @@
-use Rattle.std.proofs.lemmas.Result.{on_ok_weaker}
+use Rattle.conf_history.proofs.Prelude.{on_ok_weaker}
 use Rattle.conf_history.proofs.line.write_at.Goals as goal
 
 pub returns : goal.returns

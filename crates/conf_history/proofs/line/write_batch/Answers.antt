@@ -1,8 +1,6 @@
 use Rattle.std.proofs.Common.{[], codes, map, refl, sym, subst, arith}
-use Rattle.std.proofs.lemmas.List.{drop_all}
+use Rattle.conf_history.proofs.Prelude.{drop_all, edit_of, ascii}
 use Rattle.yaml_data.proofs.ListLemmas.{drop_item}
-use Rattle.conf_state.specs.Commands.{edit_of}
-use Rattle.conf_state.proofs.LineLemmas.{ascii}
 use Rattle.conf_history.specs.Logs.{edits_words}
 use Rattle.conf_history.proofs.LineLemmas.{ascii-text}
 use Rattle.conf_history.proofs.line.write_batch.Goals as goal

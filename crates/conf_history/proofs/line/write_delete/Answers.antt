@@ -1,8 +1,5 @@
 use Rattle.std.proofs.Common.{◌++◌, codes, refl, subst}
-use Rattle.std.specs.Str.{chars}
-use Rattle.std.proofs.lemmas.Result.{on_ok_weaker}
-use Rattle.yaml_grammar.specs.Style.{in_double_quotes}
-use Rattle.conf_state.proofs.LineLemmas.{ascii}
+use Rattle.conf_history.proofs.Prelude.{chars, on_ok_weaker, in_double_quotes, ascii}
 use Rattle.conf_history.proofs.line.write_delete.Goals as goal
 
 pub returns : goal.returns

@@ -1,9 +1,5 @@
 use Rattle.std.proofs.Common.{◌++◌, codes, subst, sym}
-use Rattle.std.specs.Str.{chars}
-use Rattle.std.proofs.lemmas.Result.{on_ok_weaker}
-use Rattle.yaml_grammar.specs.Style.{in_double_quotes}
-use Rattle.yaml_data.specs.Seen.{tree_of}
-use Rattle.conf_state.specs.Commands.{edit_of, text_of}
+use Rattle.conf_history.proofs.Prelude.{chars, on_ok_weaker, in_double_quotes, tree_of, edit_of, text_of}
 use Rattle.conf_history.specs.Logs.{edit_words, value_words}
 use Rattle.conf_history.proofs.line.write_edit.Goals as goal
 

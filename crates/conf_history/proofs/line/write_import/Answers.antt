@@ -1,6 +1,5 @@
 use Rattle.std.proofs.Common.{codes, refl, subst}
-use Rattle.std.proofs.lemmas.Result.{on_ok_weaker}
-use Rattle.conf_state.proofs.LineLemmas.{ascii}
+use Rattle.conf_history.proofs.Prelude.{on_ok_weaker, ascii}
 use Rattle.conf_history.proofs.line.write_import.Goals as goal
 
 pub returns : goal.returns

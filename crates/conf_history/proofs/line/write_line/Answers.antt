@@ -1,6 +1,5 @@
 use Rattle.std.proofs.Common.{subst, ◌∙◌}
-use Rattle.std.proofs.lemmas.Result.{on_ok_weaker}
-use Rattle.std.proofs.lemmas.Str.{chars-IsAscii}
+use Rattle.conf_history.proofs.Prelude.{on_ok_weaker, chars-IsAscii}
 use Rattle.conf_history.proofs.line.write_line.Goals as goal
 
 pub returns : goal.returns

@@ -1,8 +1,7 @@
 use Rattle.std.proofs.Common.{◌≤◌, ◌++◌, codes, subst, sym}
-use Rattle.std.proofs.lemmas.Result.{on_ok_weaker}
+use Rattle.conf_history.proofs.Prelude.{on_ok_weaker, tree_of}
 use Rattle.yaml_grammar.specs.Trees.{depth}
 use Rattle.yaml_data.specs.OwnLimits.{own_limits}
-use Rattle.yaml_data.specs.Seen.{tree_of}
 use Rattle.yaml_forms.specs.Json.{json_text}
 use Rattle.conf_history.specs.Logs.{value_words}
 use Rattle.conf_history.proofs.line.write_value.Goals as goal

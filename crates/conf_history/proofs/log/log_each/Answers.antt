@@ -1,204 +1,127 @@
--- Each turn performs and writes one piece.
-use Rattle.std.proofs.Common.{◌≡◌, ◌≢◌, ◌≤◌, ◌<◌, ◌+◌, ◌-◌, refl, sym, ◌∙◌, subst, [], ◌∷◌, ◌++◌}
-use Rattle.std.specs.Prelude.{false, Some, Ok}
-use Rattle.std.specs.Io.KnownBytes.{Appends}
-use Rattle.std.proofs.KnownBytes.{Appends-nil}
-use Rattle.std.proofs.lemmas.Result.{err_from_is_err_and}
-use Rattle.yaml_docs.specs.PieceReading.{piece_or_rest}
-use Rattle.conf_journal.specs.Store.{store_limit}
-use Rattle.conf_state.specs.declared.room.Room.TheVariants.{Enough}
-use Rattle.conf_state.proofs.RunLaws.{step-one}
-use Rattle.conf_history.specs.Walks.{IsAtPiece, AfterGoing, with_state}
-use Rattle.conf_history.specs.declared.place.Place.{Place}
-use Rattle.conf_history.proofs.WalkLemmas.{has-room, performs-on, passes}
-use Rattle.conf_history.proofs.ReadingLemmas.{before-number, next-number, refuses-before, refuses-after}
-use Rattle.conf_history.proofs.LogLemmas.{begins-empty, begin-fails, start-fails, next-fails, piece-fails}
-use Rattle.conf_history.proofs.LogLemmas.{number-fails, logs-all, logged-more}
+-- Each turn performs one piece, and writes what is told of its command.
+use Rattle.std.proofs.Common.{◌≡◌, ◌∙◌, inl, sym, ap, subst, ℕ, ◌+◌, ◌<◌, List, [], ◌∷◌, ◌++◌, length, take}
+use Rattle.std.specs.Prelude.{Ok}
+use Rattle.conf_history.proofs.Prelude.{Appends, Appends-nil, err_from_is_err_and, piece_or_rest}
+use Rattle.conf_history.specs.{Logs.TellsEntry, Logs.entry_bytes, Walks.with_state}
+use Rattle.conf_history.proofs.ReadingLemmas.{goes-further}
+use Rattle.conf_history.proofs.{LogLemmas.begins-empty, LogLemmas.cuts-log, LogLemmas.logged-more, LogLemmas.logs-all}
+use Rattle.conf_history.proofs.{LogLemmas.start-fails, LogLemmas.stops-log, WalkLemmas.some-map}
 use Rattle.conf_history.proofs.log.log_each.Goals as goal
 
 pub returns-in_err-walk-clause-refused : goal.returns-in_err-walk-clause-refused
 returns-in_err-walk-clause-refused g c =
-    let fails = begin-fails c.args.form (g.R.Read.remaining c.args.reader.now)
-    (g.W.Write.contents c.args.writer.now) c.args.at c.in_err-walk.field-0.0 c.in_err-walk.ensures.refused in
+    let given = g.R.Read.remaining c.args.reader.now in
+    let fails = start-fails c.args.form given (g.W.Write.contents c.args.writer.now) c.args.at c.in_err-walk.field-0.0
+    (some-map given _ _ (λ bytes r. inl r) c.in_err-walk.ensures.refused) in
     let p = err_from_is_err_and c.from_residual.result c.from_residual.ensures.1 in
     rw (p.1, p.2) fails
 
 pub returns-in_err-part-clause-refused : goal.returns-in_err-part-clause-refused
 returns-in_err-part-clause-refused g c =
     let given = g.R.Read.remaining c.args.reader.now in
-    let fails = begin-fails c.args.form given (g.W.Write.contents c.args.writer.now) c.args.at c.in_err-part.field-0.0
+    let fails = start-fails c.args.form given (g.W.Write.contents c.args.writer.now) c.args.at c.in_err-part.field-0.0
     (c.in_err-part.ensures.refused given (g.R.Read.remaining c.begin.new.reader) c.in_ok-walk.ensures.ok) in
     let p = err_from_is_err_and c.from_residual-in_err-part.result c.from_residual-in_err-part.ensures.1 in
     rw (p.1, p.2) fails
 
-pub returns-in_err-check_start-clause-refused : goal.returns-in_err-check_start-clause-refused
-returns-in_err-check_start-clause-refused g c =
-    let given = g.R.Read.remaining c.args.reader.now in
-    let left = g.R.Read.remaining c.begin.new.reader in
-    let walk = with_state c.take_base.new.self c.in_ok-part.part in
-    let begun = c.in_ok-part.ensures.ok given left c.in_ok-walk.ensures.ok in
-    let ensures = c.in_err-check_start.ensures in
-    let f = c.in_err-check_start.field-0.0 in
-    let refused = refuses-before given left walk (piece_or_rest c.in_ok-walk.walk.pieces ∷ []) walk.state
-    [] c.one_list_of_pieces.ensures.some begun refl c.args.at f ensures.fault
-    (ensures.before.0, ensures.before.1, subst (λ n. ensures.before.0 < n) c.count.ensures.count ensures.before.2) in
-    let fails = start-fails c.args.form given (g.W.Write.contents c.args.writer.now) c.args.at f ensures.fault refused in
-    let p = err_from_is_err_and c.from_residual-in_err-check_start.result c.from_residual-in_err-check_start.ensures.1 in
-    rw (p.1, p.2) fails
-
 pub records-init : goal.records-init
 records-init g c =
-    let part = c.in_ok-part.part in
     let pieces = piece_or_rest c.in_ok-walk.walk.pieces ∷ [] in
+    let held = g.W.Write.contents c.args.writer.now in
+    let part = c.in_ok-part.field-0.part in
     let begun = c.in_ok-part.ensures.ok (g.R.Read.remaining c.args.reader.now) (g.R.Read.remaining c.begin.new.reader)
     c.in_ok-walk.ensures.ok in
-    let held = g.W.Write.contents c.args.writer.now in
-    record {
-      walked = (
-        pieces,
-        part,
-        [],
-        begun,
-        subst (Appends held held) (sym (begins-empty c.args.form pieces part)) (Appends-nil held),
-      );
-      limits = begun.limits;
-      up_to = λ number is. subst (λ n. n ≤ number) c.count.ensures.count (c.in_ok-check_start.ensures.ok number is);
-    }
+    rw c.new-logged.ensures.part
+    (record {
+      walked = (pieces, part, [], begun, subst (Appends held held) (sym (begins-empty c.args.form pieces part)) (Appends-nil held));
+      form = c.new-logged.ensures.form;
+    })
 
-pub returns-in_err-goes_on-clause-refused : goal.returns-in_err-goes_on-clause-refused
-returns-in_err-goes_on-clause-refused g c =
+pub next-requires : goal.next-requires
+next-requires g c =
+    let walked = c.records.invariant.walked in
+    record { given = g.R.Read.remaining c.args.reader.now; pieces = walked.0; start = walked.1; commands = walked.2; on = walked.3 }
+
+pub returns-in_err-next-clause-refused : goal.returns-in_err-next-clause-refused
+returns-in_err-next-clause-refused g c =
     let given = g.R.Read.remaining c.args.reader.now in
-    let held = g.W.Write.contents c.args.writer.now in
-    let mid = g.W.Write.contents c.records.writer in
-    let inv = c.records.invariant in
-    let walked = inv.walked in
-    let walk = with_state c.goes_on.new.self c.records.part in
-    let left = g.R.Read.remaining c.goes_on.new.reader in
-    let some = c.one_list_of_pieces.ensures.some in
-    let fails = next-fails c.args.form given left walk walked.0 walked.1 walked.2 some held mid walked.4
-    (g.R.Read.remaining c.records.reader) (with_state c.records.walk c.records.part) walked.3 c.args.at
-    c.in_err-goes_on.field-0.0
-    (c.in_err-goes_on.ensures.walks given c.records.part walked.0 walked.1 walked.2 c.count-in-records.ensures.count walked.3) in
-    let p = err_from_is_err_and c.from_residual-in_err-goes_on.result c.from_residual-in_err-goes_on.ensures.1 in
+    let walked = c.records.invariant.walked in
+    let fails = stops-log c.args.form given (g.R.Read.remaining c.records.reader) (with_state c.records.walk c.records.logged.part)
+    walked.0 walked.1 walked.2 walked.3.between c.one_list_of_pieces.ensures.some
+    (g.W.Write.contents c.args.writer.now) (g.W.Write.contents c.records.writer) walked.4 c.args.at
+    (g.R.Read.remaining c.next.new.reader) (with_state c.next.new.self c.records.logged.part) c.in_err-next.field-0.0
+    (c.in_err-next.ensures.stops given walked.0 walked.1 walked.2 walked.3) in
+    let p = err_from_is_err_and c.from_residual-in_err-next.result c.from_residual-in_err-next.ensures.1 in
     rw (p.1, p.2) fails
 
-pub log_piece-requires : goal.log_piece-requires
-log_piece-requires g c =
+pub returns-in_err-put_bytes-clause-refused : goal.returns-in_err-put_bytes-clause-refused
+returns-in_err-put_bytes-clause-refused g c =
     let given = g.R.Read.remaining c.args.reader.now in
-    let held = g.W.Write.contents c.args.writer.now in
-    let mid = g.W.Write.contents c.records.writer in
-    let inv = c.records.invariant in
-    let walked = inv.walked in
-    let walk = with_state c.goes_on.new.self c.records.part in
-    let left = g.R.Read.remaining c.goes_on.new.reader in
-    let some = c.one_list_of_pieces.ensures.some in
-    let going : (c.args.at ≢ Some walk.state.count) × IsAtPiece given left walk walked.0 walked.1 walked.2 =
-    subst (λ b. AfterGoing c.args.at given left walk walked.0 walked.1 walked.2 (Ok b)) c.if-branch.true
-    (c.in_ok-goes_on.ensures.walks given c.records.part walked.0 walked.1 walked.2 c.count-in-records.ensures.count walked.3) in
-    has-room given left walk walked.0 walked.1 walked.2 going.1
+    let left = g.R.Read.remaining c.next.new.reader in
+    let walked = c.records.invariant.walked in
+    let old = with_state c.records.walk c.records.logged.part in
+    let piece = piece_or_rest c.next.new.self.pieces in
+    let goes = c.in_ok-next.ensures.goes given walked.0 walked.1 walked.2 walked.3 (ap Ok c.if-branch.true) in
+    let form : c.next.new.held.form ≡ c.args.form = goes.told.0 ∙ c.records.invariant.form in
+    let told = subst (λ form. TellsEntry form c.next.new.held.line (old.state.count + 1) goes.command) (sym goes.told.0) goes.told.1 in
+    let same : c.entry.result.now ≡ entry_bytes c.args.form (old.state.count + 1) piece goes.command =
+    c.entry.ensures (old.state.count + 1) goes.command told
+    ∙ ap (λ form. entry_bytes form (old.state.count + 1) c.piece.result.now goes.command) form
+    ∙ ap (λ bytes. entry_bytes c.args.form (old.state.count + 1) bytes goes.command) c.piece.ensures in
+    let Part : List ℕ → Type 0 = λ bytes. (kept : ℕ) × (kept < length bytes)
+    × Appends (g.W.Write.contents c.records.writer) (g.W.Write.contents c.put_bytes.new.writer) (take kept bytes) in
+    let fails = cuts-log c.args.form given (g.R.Read.remaining c.records.reader) old walked.0 walked.1 walked.2 walked.3.between
+    c.one_list_of_pieces.ensures.some (g.W.Write.contents c.args.writer.now) (g.W.Write.contents c.records.writer) walked.4
+    (g.W.Write.contents c.put_bytes.new.writer) piece goes.command c.args.at left (with_state c.next.new.self c.next.new.held.part)
+    goes.on.between (subst Part same c.in_err-put_bytes.ensures.part) c.in_err-put_bytes.field-0.0 c.in_err-put_bytes.ensures.fault in
+    let p = err_from_is_err_and c.from_residual-in_err-put_bytes.result c.from_residual-in_err-put_bytes.ensures.1 in
+    rw (p.1, p.2) fails
 
 pub records-smaller : goal.records-smaller
 records-smaller g c =
     let given = g.R.Read.remaining c.args.reader.now in
-    let held = g.W.Write.contents c.args.writer.now in
-    let mid = g.W.Write.contents c.records.writer in
-    let inv = c.records.invariant in
-    let walked = inv.walked in
-    let walk = with_state c.goes_on.new.self c.records.part in
-    let left = g.R.Read.remaining c.goes_on.new.reader in
-    let some = c.one_list_of_pieces.ensures.some in
-    let going : (c.args.at ≢ Some walk.state.count) × IsAtPiece given left walk walked.0 walked.1 walked.2 =
-    subst (λ b. AfterGoing c.args.at given left walk walked.0 walked.1 walked.2 (Ok b)) c.if-branch.true
-    (c.in_ok-goes_on.ensures.walks given c.records.part walked.0 walked.1 walked.2 c.count-in-records.ensures.count walked.3) in
-    let done = c.in_ok-log_piece.ensures.ok in
-    subst (λ (p : Place). store_limit - c.log_piece.new.walk.place.byte < store_limit - p.byte)
-    c.in_ok-goes_on.ensures.place (passes given left walk walked.0 walked.1 walked.2 going.1
-    (with_state c.log_piece.new.walk c.log_piece.new.part) done.0 done.1)
+    let walked = c.records.invariant.walked in
+    let goes = c.in_ok-next.ensures.goes given walked.0 walked.1 walked.2 walked.3 (ap Ok c.if-branch.true) in
+    goes-further given (g.R.Read.remaining c.records.reader) (g.R.Read.remaining c.next.new.reader)
+    (with_state c.records.walk c.records.logged.part) (with_state c.next.new.self c.next.new.held.part)
+    walked.0 (piece_or_rest c.next.new.self.pieces) walked.1 walked.2 (walked.2 ++ goes.command ∷ []) walked.3.between
+    goes.closes goes.on.between
 
 pub records-preserved : goal.records-preserved
 records-preserved g c =
     let given = g.R.Read.remaining c.args.reader.now in
-    let held = g.W.Write.contents c.args.writer.now in
-    let mid = g.W.Write.contents c.records.writer in
-    let inv = c.records.invariant in
-    let walked = inv.walked in
-    let walk = with_state c.goes_on.new.self c.records.part in
-    let left = g.R.Read.remaining c.goes_on.new.reader in
-    let some = c.one_list_of_pieces.ensures.some in
-    let going : (c.args.at ≢ Some walk.state.count) × IsAtPiece given left walk walked.0 walked.1 walked.2 =
-    subst (λ b. AfterGoing c.args.at given left walk walked.0 walked.1 walked.2 (Ok b)) c.if-branch.true
-    (c.in_ok-goes_on.ensures.walks given c.records.part walked.0 walked.1 walked.2 c.count-in-records.ensures.count walked.3) in
-    let new = with_state c.log_piece.new.walk c.log_piece.new.part in
-    let done = c.in_ok-log_piece.ensures.ok in
-    let next = performs-on given left walk walked.0 walked.1 walked.2 going.1 new done.0 done.1 in
-    let one : new.state.count ≡ walk.state.count + 1 = step-one walk.state new.state done.0 Enough done.1.done in
+    let left = g.R.Read.remaining c.next.new.reader in
+    let walked = c.records.invariant.walked in
+    let old = with_state c.records.walk c.records.logged.part in
+    let piece = piece_or_rest c.next.new.self.pieces in
+    let goes = c.in_ok-next.ensures.goes given walked.0 walked.1 walked.2 walked.3 (ap Ok c.if-branch.true) in
+    let form : c.next.new.held.form ≡ c.args.form = goes.told.0 ∙ c.records.invariant.form in
+    let told = subst (λ form. TellsEntry form c.next.new.held.line (old.state.count + 1) goes.command) (sym goes.told.0) goes.told.1 in
+    let same : c.entry.result.now ≡ entry_bytes c.args.form (old.state.count + 1) piece goes.command =
+    c.entry.ensures (old.state.count + 1) goes.command told
+    ∙ ap (λ form. entry_bytes form (old.state.count + 1) c.piece.result.now goes.command) form
+    ∙ ap (λ bytes. entry_bytes c.args.form (old.state.count + 1) bytes goes.command) c.piece.ensures in
     record {
       walked = (
-        walked.0 ++ piece_or_rest walk.pieces ∷ [],
+        walked.0 ++ piece ∷ [],
         walked.1,
-        walked.2 ++ done.0 ∷ [],
-        next,
-        logged-more c.args.form given left walk walked.0 walked.1 walked.2 some held mid walked.4
-            (g.W.Write.contents c.log_piece.new.writer) done.0 going.1.read.performed done.2,
+        walked.2 ++ goes.command ∷ [],
+        goes.on,
+        logged-more c.args.form given (g.R.Read.remaining c.records.reader) old walked.0 walked.1 walked.2 walked.3.between
+            c.one_list_of_pieces.ensures.some (g.W.Write.contents c.args.writer.now) (g.W.Write.contents c.records.writer) walked.4
+            (g.W.Write.contents c.put_bytes.new.writer) piece goes.command
+            (subst (Appends (g.W.Write.contents c.records.writer) (g.W.Write.contents c.put_bytes.new.writer)) same
+            c.in_ok-put_bytes.ensures.whole),
       );
-      limits = next.limits;
-      up_to = next-number c.args.at walk.state.count new.state.count going.0 one inv.up_to;
+      form = form;
     }
-
-pub returns-in_err-log_piece-clause-refused : goal.returns-in_err-log_piece-clause-refused
-returns-in_err-log_piece-clause-refused g c =
-    let given = g.R.Read.remaining c.args.reader.now in
-    let held = g.W.Write.contents c.args.writer.now in
-    let mid = g.W.Write.contents c.records.writer in
-    let inv = c.records.invariant in
-    let walked = inv.walked in
-    let walk = with_state c.goes_on.new.self c.records.part in
-    let left = g.R.Read.remaining c.goes_on.new.reader in
-    let some = c.one_list_of_pieces.ensures.some in
-    let going : (c.args.at ≢ Some walk.state.count) × IsAtPiece given left walk walked.0 walked.1 walked.2 =
-    subst (λ b. AfterGoing c.args.at given left walk walked.0 walked.1 walked.2 (Ok b)) c.if-branch.true
-    (c.in_ok-goes_on.ensures.walks given c.records.part walked.0 walked.1 walked.2 c.count-in-records.ensures.count walked.3) in
-    let before = before-number c.args.at walk.state.count going.0 inv.up_to in
-    let fails = piece-fails c.args.form given left walk walked.0 walked.1 walked.2 some held mid walked.4 c.args.at
-    before (g.W.Write.contents c.log_piece.new.writer) going.1
-    c.in_err-log_piece.field-0.0 c.in_err-log_piece.ensures.refused in
-    let p = err_from_is_err_and c.from_residual-in_err-log_piece.result c.from_residual-in_err-log_piece.ensures.1 in
-    rw (p.1, p.2) fails
-
-pub returns-in_err-check_end-clause-refused : goal.returns-in_err-check_end-clause-refused
-returns-in_err-check_end-clause-refused g c =
-    let given = g.R.Read.remaining c.args.reader.now in
-    let held = g.W.Write.contents c.args.writer.now in
-    let mid = g.W.Write.contents c.records.writer in
-    let inv = c.records.invariant in
-    let walked = inv.walked in
-    let walk = with_state c.goes_on.new.self c.records.part in
-    let left = g.R.Read.remaining c.goes_on.new.reader in
-    let some = c.one_list_of_pieces.ensures.some in
-    let ended : AfterGoing c.args.at given left walk walked.0 walked.1 walked.2 (Ok false) =
-    subst (λ b. AfterGoing c.args.at given left walk walked.0 walked.1 walked.2 (Ok b)) c.if-branch.false
-    (c.in_ok-goes_on.ensures.walks given c.records.part walked.0 walked.1 walked.2 c.count-in-records.ensures.count walked.3) in
-    let ensures = c.in_err-check_end.ensures in
-    let f = c.in_err-check_end.field-0.0 in
-    let refused = refuses-after given left walk walked.0 walked.1 walked.2 c.args.at ended inv.up_to f ensures.fault
-    (ensures.other.0, ensures.other.1, subst (λ n. n ≢ ensures.other.0) c.count-2.ensures.count ensures.other.2) in
-    let fails = number-fails c.args.form given left walk walked.0 walked.1 walked.2 some held mid walked.4 c.args.at
-    ended f ensures.fault refused in
-    let p = err_from_is_err_and c.from_residual-in_err-check_end.result c.from_residual-in_err-check_end.ensures.1 in
-    rw (p.1, p.2) fails
 
 pub returns-clause-ok : goal.returns-clause-ok
 returns-clause-ok g c =
     let given = g.R.Read.remaining c.args.reader.now in
-    let held = g.W.Write.contents c.args.writer.now in
-    let mid = g.W.Write.contents c.records.writer in
-    let inv = c.records.invariant in
-    let walked = inv.walked in
-    let walk = with_state c.goes_on.new.self c.records.part in
-    let left = g.R.Read.remaining c.goes_on.new.reader in
-    let some = c.one_list_of_pieces.ensures.some in
-    let ended : AfterGoing c.args.at given left walk walked.0 walked.1 walked.2 (Ok false) =
-    subst (λ b. AfterGoing c.args.at given left walk walked.0 walked.1 walked.2 (Ok b)) c.if-branch.false
-    (c.in_ok-goes_on.ensures.walks given c.records.part walked.0 walked.1 walked.2 c.count-in-records.ensures.count walked.3) in
-    logs-all c.args.form given left walk walked.0 walked.1 walked.2 some held mid walked.4 c.args.at ended
-    (λ number is. sym c.count-2.ensures.count ∙ c.in_ok-check_end.ensures.ok number is)
+    let walked = c.records.invariant.walked in
+    let ended = c.in_ok-next.ensures.ended given walked.0 walked.1 walked.2 walked.3 (ap Ok c.if-branch.false) in
+    logs-all c.args.form given (g.R.Read.remaining c.records.reader) (with_state c.records.walk c.records.logged.part)
+    walked.0 walked.1 walked.2 walked.3.between c.one_list_of_pieces.ensures.some
+    (g.W.Write.contents c.args.writer.now) (g.W.Write.contents c.records.writer) walked.4 c.args.at
+    (g.R.Read.remaining c.next.new.reader) (with_state c.next.new.self c.next.new.held.part) ended.0

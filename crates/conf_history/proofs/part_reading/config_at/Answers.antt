@@ -1,4 +1,4 @@
-use Rattle.std.proofs.lemmas.Result.{err_from_is_err_and}
+use Rattle.conf_history.proofs.Prelude.{err_from_is_err_and}
 use Rattle.conf_history.proofs.WalkLemmas.{any-bytes}
 use Rattle.conf_history.proofs.part_reading.config_at.Goals as goal
 

@@ -1,8 +1,7 @@
 -- Each turn goes past one piece.
 use Rattle.std.proofs.Common.{◌+◌, arith, subst}
 use Rattle.std.specs.Prelude.{Ok}
-use Rattle.yaml_docs.specs.PieceReading.{Advances, AdvancesToPiece}
-use Rattle.conf_journal.specs.Store.{store_limit}
+use Rattle.conf_history.proofs.Prelude.{Advances, AdvancesToPiece, store_limit}
 use Rattle.conf_history.proofs.SurveyLemmas.{counts-none, counts-more, counts-few, counts-smaller}
 use Rattle.conf_history.proofs.WalkLemmas.{own-limits}
 use Rattle.conf_history.proofs.survey.count_pieces.Goals as goal

@@ -1,7 +1,6 @@
 -- What was read since is pieces, and bytes that are in no piece yet.
 use Rattle.std.proofs.Common.{◌≤◌, ◌-◌, ◌+◌, length}
-use Rattle.yaml_docs.specs.PieceReading.{ahead, bytes_read}
-use Rattle.conf_journal.specs.Store.{store_limit}
+use Rattle.conf_history.proofs.Prelude.{ahead, bytes_read, store_limit}
 use Rattle.conf_history.proofs.SurveyLemmas.{CountsSoFar}
 use Rattle.conf_history.proofs.survey.count_pieces.Given as goal
 

@@ -1,18 +1,14 @@
 -- What was read is pieces that were performed, from the base on.
 use Rattle.std.proofs.Common.{◌≡◌, ◌-◌, ℕ, List}
-use Rattle.conf_journal.specs.Store.{store_limit}
-use Rattle.conf_state.specs.Commands.{Command}
-use Rattle.conf_state.specs.States.{Contents}
-use Rattle.conf_history.specs.Walks.{HasLimits, IsBetween, with_state}
+use Rattle.std.specs.Prelude.{None}
+use Rattle.conf_history.proofs.Prelude.{store_limit, Command, Contents}
+use Rattle.conf_history.specs.Walks.{IsOn, with_state}
 use Rattle.conf_history.proofs.survey.survey_pieces.Given as goal
 
 abbrev pub invariant-records : goal.invariant-records
-invariant-records g l = record {
-  walked : (pieces : List (List ℕ)) × (start : Contents) × (commands : List Command)
-      × IsBetween (g.R.Read.remaining l.fn.reader) (g.R.Read.remaining l.reader)
-      (with_state l.walk (g.T.Replayed.contents l.held)) pieces start commands × (l.base ≡ start.count);
-  limits : HasLimits l.walk.pieces;
-}
+invariant-records g l = (pieces : List (List ℕ)) × (start : Contents) × (commands : List Command)
+    × IsOn None (g.R.Read.remaining l.fn.reader) (g.R.Read.remaining l.reader)
+    (with_state l.walk (g.T.Replayed.contents l.held)) pieces start commands × (l.base ≡ start.count)
 
 abbrev pub decreases-records : goal.decreases-records
 decreases-records g l = store_limit - l.walk.place.byte

@@ -1,9 +1,7 @@
 use Rattle.std.proofs.Common.{[], ◌∷◌}
-use Rattle.conf_disk.specs.Folder.{Append}
-use Rattle.conf_disk.specs.declared.disk.Name.TheVariants.{Next}
+use Rattle.conf_journal.proofs.Prelude.{Append, Next}
+use Rattle.conf_journal.proofs.{Runs.run-call, Runs.run-grown, Stores.staging-run}
 use Rattle.conf_journal.proofs.Reading.{append_next-leaves_store, appended_next-reads, performed-reads}
-use Rattle.conf_journal.proofs.Runs.{run-call, run-grown}
-use Rattle.conf_journal.proofs.Stores.{staging-run}
 use Rattle.conf_journal.proofs.next.append_next.Goals as goal
 
 pub returns-clause-any_moment : goal.returns-clause-any_moment

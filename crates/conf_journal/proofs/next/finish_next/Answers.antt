@@ -1,13 +1,8 @@
 use Rattle.std.proofs.Common.{◌≡◌, ◌⊎◌, inl, inr, ⊎_elim, ℕ, List, [], ◌∷◌, Some, None, OnOk, subst, rules}
-use Rattle.conf_disk.specs.Folder.{Folder, Sync, RenameNext, SyncFolder, after}
-use Rattle.conf_disk.specs.Image.{Image, IsImage, synced_file}
-use Rattle.conf_disk.specs.declared.disk.Name.TheVariants.{Next}
-use Rattle.conf_disk.proofs.Moments.{LeavesOnly-weaker}
-use Rattle.conf_journal.specs.Held.{HoldsStore}
-use Rattle.conf_journal.specs.Store.{ReadsAs}
-use Rattle.conf_journal.proofs.Fails.{fails-passed, fails-then}
+use Rattle.conf_journal.proofs.Prelude.{Folder, Sync, RenameNext, SyncFolder, after, Image, IsImage, synced_file, Next, LeavesOnly-weaker}
+use Rattle.conf_journal.specs.{Held.HoldsStore, Store.ReadsAs}
+use Rattle.conf_journal.proofs.{Fails.fails-passed, Fails.fails-then, Stores.finished-leaves}
 use Rattle.conf_journal.proofs.Runs.{LeftDuring, left-grown, run-known, run-then}
-use Rattle.conf_journal.proofs.Stores.{finished-leaves}
 use Rattle.conf_journal.proofs.next.finish_next.Goals as goal
 
 -- what is left before the first sync, or after it

@@ -1,12 +1,8 @@
 use Rattle.std.proofs.Common.{[], ◌∷◌, ◌∙◌, ap}
-use Rattle.conf_disk.specs.Folder.{CreateNext, Append, Sync, RemoveNext}
-use Rattle.conf_disk.specs.Image.{Image}
-use Rattle.conf_disk.specs.declared.disk.Name.TheVariants.{Next}
+use Rattle.conf_journal.proofs.Prelude.{CreateNext, Append, Sync, RemoveNext, Image, Next}
 use Rattle.conf_journal.specs.Store.{file_with_bytes}
-use Rattle.conf_journal.proofs.Reading.{OnOk-always}
+use Rattle.conf_journal.proofs.{Reading.OnOk-always, Fails.fails-then, Stores.staging-run, Stores.file_there}
 use Rattle.conf_journal.proofs.Runs.{run-known, run-then, run-grown}
-use Rattle.conf_journal.proofs.Fails.{fails-then}
-use Rattle.conf_journal.proofs.Stores.{staging-run, file_there}
 use Rattle.conf_journal.proofs.next.stage_next.Goals as goal
 
 pub returns-in_err-begin_next-clause-any_moment : goal.returns-in_err-begin_next-clause-any_moment

@@ -1,8 +1,6 @@
 use Rattle.std.proofs.Common.{[], ◌∙◌, ap, rules}
-use Rattle.conf_disk.specs.Image.{image_now}
-use Rattle.conf_disk.specs.declared.disk.Name.TheVariants.{Store}
-use Rattle.conf_journal.proofs.Fails.{counts-passed, counts-then}
-use Rattle.conf_journal.proofs.Reading.{sync-reads_same, sync_folder-reads_same}
+use Rattle.conf_journal.proofs.Prelude.{image_now, Store}
+use Rattle.conf_journal.proofs.{Fails.counts-passed, Fails.counts-then, Reading.sync-reads_same, Reading.sync_folder-reads_same}
 use Rattle.conf_journal.proofs.Runs.{run-call, run-read, run-then, run-grown}
 use Rattle.conf_journal.proofs.read.load.Goals as goal
 

@@ -1,8 +1,6 @@
 use Rattle.std.proofs.Common.{[], ◌∷◌}
-use Rattle.conf_disk.specs.Folder.{Append, Sync}
-use Rattle.conf_disk.specs.declared.disk.Name.TheVariants.{Store}
-use Rattle.conf_journal.proofs.Appends.{leaves-with_pending}
-use Rattle.conf_journal.proofs.Runs.{run-known, run-then, run-grown}
+use Rattle.conf_journal.proofs.Prelude.{Append, Sync, Store}
+use Rattle.conf_journal.proofs.{Appends.leaves-with_pending, Runs.run-known, Runs.run-then, Runs.run-grown}
 use Rattle.conf_journal.proofs.store.append_closed.Goals as goal
 
 pub returns-clause-leaves : goal.returns-clause-leaves

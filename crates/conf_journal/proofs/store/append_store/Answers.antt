@@ -1,9 +1,7 @@
 use Rattle.std.proofs.Common.{[]}
-use Rattle.conf_disk.specs.Folder.{Append}
-use Rattle.conf_disk.specs.declared.disk.Name.TheVariants.{Store}
-use Rattle.conf_journal.proofs.Appends.{leaves-with_pending}
-use Rattle.conf_journal.proofs.Reading.{appended_store-reads, performed-reads}
-use Rattle.conf_journal.proofs.Runs.{run-call, run-grown}
+use Rattle.conf_journal.proofs.Prelude.{Append, Store}
+use Rattle.conf_journal.proofs.{Appends.leaves-with_pending, Reading.appended_store-reads, Reading.performed-reads, Runs.run-call}
+use Rattle.conf_journal.proofs.{Runs.run-grown}
 use Rattle.conf_journal.proofs.store.append_store.Goals as goal
 
 pub returns-clause-leaves : goal.returns-clause-leaves

@@ -1,7 +1,6 @@
 use Rattle.std.proofs.Common.{[]}
-use Rattle.conf_disk.specs.declared.disk.Name.TheVariants.{Store}
-use Rattle.conf_journal.proofs.Reading.{sync-reads_same}
-use Rattle.conf_journal.proofs.Runs.{run-call, run-grown}
+use Rattle.conf_journal.proofs.Prelude.{Store}
+use Rattle.conf_journal.proofs.{Reading.sync-reads_same, Runs.run-call, Runs.run-grown}
 use Rattle.conf_journal.proofs.store.sync_store.Goals as goal
 
 pub returns-clause-any_moment : goal.returns-clause-any_moment

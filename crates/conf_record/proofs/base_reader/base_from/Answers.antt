@@ -1,24 +1,24 @@
-use Rattle.std.proofs.Common.{◌≡◌, false, true, sym, ap, subst, ◌∙◌}
-use Rattle.yaml_config.specs.Kept.{IsKept}
-use Rattle.yaml_data.specs.Seen.{tree_of, members_of}
-use Rattle.yaml_data.proofs.SeenLemmas.{tree_of-Text, tree_of-Seq, tree_of-Map}
+use Rattle.std.proofs.Common.{◌≡◌, false, true, sym, ap, subst, ◌∙◌, refl}
+use Rattle.conf_record.proofs.Prelude.{IsKept, tree_of, members_of, tree_of-Text, tree_of-Seq, tree_of-Map}
 use Rattle.conf_record.specs.RecordsRead.{base_of, keys_are, base_keys}
 use Rattle.conf_record.proofs.PieceLemmas.{parts_kept}
-use Rattle.conf_record.proofs.TreeLemmas.{base_text, base_sequence, base_keyed, base_other, base_texts, asked}
+use Rattle.conf_record.proofs.TreeLemmas.{base_keyed, base_other, asked, texts_ascii}
 use Rattle.conf_record.proofs.base_reader.base_from.Goals as goal
 
 pub returns-in-Text-clause-read : goal.returns-in-Text-clause-read
-returns-in-Text-clause-read c = sym (ap base_of (ap tree_of c.in-Text.is ∙ tree_of-Text c.in-Text.field-0) ∙ base_text _)
+unfolding base_of
+returns-in-Text-clause-read c = sym (ap base_of (ap tree_of c.in-Text.is ∙ tree_of-Text c.in-Text.field-0))
 
 pub returns-in-Seq-clause-read : goal.returns-in-Seq-clause-read
-returns-in-Seq-clause-read c = sym (ap base_of (ap tree_of c.in-Seq.is ∙ tree_of-Seq c.in-Seq.field-0) ∙ base_sequence _)
+unfolding base_of
+returns-in-Seq-clause-read c = sym (ap base_of (ap tree_of c.in-Seq.is ∙ tree_of-Seq c.in-Seq.field-0))
 
 pub returns-then-not-keys_are-clause-read : goal.returns-then-not-keys_are-clause-read
 returns-then-not-keys_are-clause-read c =
     let ms = members_of c.in-Map.pairs.items in
     let seen = ap base_of (ap tree_of c.in-Map.is ∙ tree_of-Map c.in-Map.pairs) in
     let other : keys_are base_keys ms ≡ false =
-    asked _ base_keys c.deref.result.now _ _ false c.keys_are.ensures base_texts c.deref.ensures.value
+    asked _ base_keys c.deref.result.now _ _ false c.keys_are.ensures (texts_ascii base_keys refl) c.deref.ensures.value
     c.if-not-keys_are.true in
     sym (seen ∙ base_other ms other)
 
@@ -34,5 +34,5 @@ returns-clause-read c =
     let ms = members_of c.in-Map.pairs.items in
     let seen = ap base_of (ap tree_of c.in-Map.is ∙ tree_of-Map c.in-Map.pairs) in
     let keyed : keys_are base_keys ms ≡ true = asked _ base_keys c.deref.result.now _ _ true c.keys_are.ensures
-    base_texts c.deref.ensures.value c.if-not-keys_are.false in
+    (texts_ascii base_keys refl) c.deref.ensures.value c.if-not-keys_are.false in
     c.contents_from.ensures.read ∙ sym (seen ∙ base_keyed ms keyed)

@@ -1,7 +1,5 @@
 use Rattle.std.proofs.Common.{◌≡◌, ◌||◌, true, false, codes, refl, ap, sym, ◌∙◌}
-use Rattle.std.specs.Str.{chars}
-use Rattle.yaml_grammar.specs.Texts.{same_text}
-use Rattle.conf_state.proofs.LineLemmas.{ascii}
+use Rattle.conf_record.proofs.Prelude.{chars, same_text, ascii}
 use Rattle.conf_record.proofs.base_reader.is_format.Goals as goal
 
 pub returns-then-is_same : goal.returns-then-is_same

@@ -1,14 +1,9 @@
-use Rattle.std.proofs.Common.{◌≡◌, ◌++◌, ◌∷◌, [], List, None, string_bytes, length, refl, sym, subst, ◌∙◌, rules}
-use Rattle.std.proofs.lemmas.Str.{IsUtf8-string_bytes}
-use Rattle.std.specs.Map.{lookup}
+use Rattle.std.proofs.Common.{◌≡◌, ◌++◌, ◌∷◌, [], None, string_bytes, length, refl, sym, ◌∙◌, rules}
+use Rattle.conf_record.proofs.Prelude.{IsUtf8-string_bytes, lookup, text_of, is_name}
 use Rattle.std.specs.String.{string_eq}
 use Rattle.indexmap.proofs.CallerLemmas.{insert_entry-new}
 use Rattle.indexmap.specs.IndexMap.{get}
 use Rattle.conf_state.proofs.PlaceLemmas.{is_none}
-use Rattle.conf_state.specs.Commands.{text_of}
-use Rattle.conf_state.specs.Configs.{is_name}
-use Rattle.conf_state.specs.States.{Entry}
-use Rattle.conf_record.specs.BaseSpans.{AreFound}
 use Rattle.conf_record.proofs.BaseSpanLemmas.{Named, found_more, lookup_named, lookup_none}
 use Rattle.conf_record.proofs.base_spans.find_spans.Goals as goal
 
@@ -35,6 +30,4 @@ entries-preserved c =
     )
 
 pub returns-then-is_end : goal.returns-then-is_end
-returns-then-is_end c =
-    subst (λ left. (es : List Entry) × AreFound c.args.lines.now c.entries.spans.entries es left)
-    (c.is_end.ensures c.if-is_end.true) c.entries.invariant.0
+returns-then-is_end c = rw (c.is_end.ensures c.if-is_end.true) at c.entries.invariant.0

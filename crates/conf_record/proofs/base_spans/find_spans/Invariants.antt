@@ -1,7 +1,7 @@
 use Rattle.std.proofs.Common.{List}
+use Rattle.conf_record.proofs.Prelude.{Entry}
 use denote.Shadow.{shadow}
 use denote.Text.{Utf8}
-use Rattle.conf_state.specs.States.{Entry}
 use Rattle.conf_record.specs.BaseSpans.{AreFound}
 use Rattle.conf_record.proofs.base_spans.find_spans.Given as goal
 

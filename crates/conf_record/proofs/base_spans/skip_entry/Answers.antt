@@ -1,8 +1,5 @@
 use Rattle.std.proofs.Common.{◌≡◌, ◌++◌, ◌≤◌, codes, true, sym, ap, subst, ◌∙◌, rules, arith}
-use Rattle.std.specs.Str.{chars}
-use Rattle.yaml_grammar.specs.Trees.{Tree}
-use Rattle.yaml_data.specs.TextBytes.{text_bytes}
-use Rattle.conf_state.specs.Names.{good_name}
+use Rattle.conf_record.proofs.Prelude.{chars, Tree, text_bytes, good_name}
 use Rattle.conf_record.specs.BaseSpans.{IsGoodEntry}
 use Rattle.conf_record.proofs.BaseSpanLemmas.{good_entry}
 use Rattle.conf_record.proofs.base_spans.skip_entry.Goals as goal

@@ -1,6 +1,5 @@
 use Rattle.std.proofs.Common.{◌++◌, string_bytes, encode_utf8_all, ap, sym, ◌∙◌}
-use Rattle.std.proofs.lemmas.Str.{chars_from_encodes, IsUtf8-string_bytes}
-use Rattle.conf_state.specs.BaseTexts.{base_text, base_bytes}
+use Rattle.conf_record.proofs.Prelude.{chars_from_encodes, IsUtf8-string_bytes, base_text, base_bytes}
 use Rattle.conf_record.proofs.base_writer.base_text.Goals as goal
 
 pub returns-clause-text : goal.returns-clause-text

@@ -1,5 +1,5 @@
 use Rattle.std.proofs.Common.{subst}
-use Rattle.yaml_data.specs.Seen.{elements_of}
+use Rattle.conf_record.proofs.Prelude.{elements_of}
 use Rattle.conf_record.specs.Reading.{AreKept}
 use Rattle.conf_record.proofs.PieceLemmas.{items_kept}
 use Rattle.conf_record.proofs.command_reader.batch_from.Goals as goal

@@ -1,7 +1,5 @@
 use Rattle.std.proofs.Common.{codes, refl, ap, ◌∙◌}
-use Rattle.std.proofs.lemmas.Result.{IfOk-weaker}
-use Rattle.yaml_data.specs.Seen.{members_of}
-use Rattle.conf_state.proofs.LineLemmas.{ascii}
+use Rattle.conf_record.proofs.Prelude.{IfOk-weaker, members_of, ascii}
 use Rattle.conf_record.specs.RecordsRead.{if_good, edit_under}
 use Rattle.conf_record.proofs.command_reader.edit_from.Goals as goal
 

@@ -1,7 +1,5 @@
 use Rattle.std.proofs.Common.{ap, subst, ◌∙◌}
-use Rattle.yaml_config.specs.Kept.{IsKept}
-use Rattle.yaml_data.specs.Seen.{tree_of, members_of}
-use Rattle.yaml_data.proofs.SeenLemmas.{tree_of-Map}
+use Rattle.conf_record.proofs.Prelude.{IsKept, tree_of, members_of, tree_of-Map}
 use Rattle.conf_record.proofs.PieceLemmas.{parts_kept}
 use Rattle.conf_record.proofs.command_reader.edit_in.Goals as goal
 

@@ -1,7 +1,6 @@
-use Rattle.std.proofs.Common.{option_map, length, ap, sym, subst, ◌∙◌, arith}
-use Rattle.std.specs.Vec.Iter.{into_iter_items}
-use Rattle.conf_state.specs.Commands.{edit_of}
-use Rattle.conf_record.proofs.PieceLemmas.{ReadSoFar, one_read}
+use Rattle.std.proofs.Common.{option_map, length, ap, sym, ◌∙◌, arith}
+use Rattle.conf_record.proofs.Prelude.{into_iter_items, edit_of}
+use Rattle.conf_record.proofs.PieceLemmas.{one_read}
 use Rattle.conf_record.proofs.command_reader.edits_from.Goals as goal
 
 pub loop-item-preserved : goal.loop-item-preserved
@@ -11,7 +10,7 @@ loop-item-preserved c =
     let was = c.loop-item.invariant.1 in (
       one_read c.args.items.items c.loop-item.edits.items c.in-Some.item (into_iter_items c.next.new.self) c.in-Some-2.edit
           (ap (option_map edit_of) (sym c.in-Some-2.is) ∙ c.in_ok-edit.ensures)
-          (subst (ReadSoFar c.args.items.items c.loop-item.edits.items) c.in-Some.ensures.steps.0 c.loop-item.invariant.0)
+          (rw c.in-Some.ensures.steps.0 at c.loop-item.invariant.0)
           c.push.new.self.items c.in_ok-push.ensures.items,
       omega arith,
     )

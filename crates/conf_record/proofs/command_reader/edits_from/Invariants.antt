@@ -1,5 +1,5 @@
 use Rattle.std.proofs.Common.{◌≡◌, length}
-use Rattle.std.specs.Vec.Iter.{into_iter_items, into_iter_len}
+use Rattle.conf_record.proofs.Prelude.{into_iter_items, into_iter_len}
 use Rattle.conf_record.proofs.PieceLemmas.{ReadSoFar}
 use Rattle.conf_record.proofs.command_reader.edits_from.Given as goal
 

@@ -1,18 +1,16 @@
 use Rattle.std.proofs.Common.{sym, ap, subst, ◌∙◌}
-use Rattle.yaml_config.specs.Kept.{IsKept}
-use Rattle.yaml_data.specs.Seen.{tree_of, members_of}
-use Rattle.yaml_data.proofs.SeenLemmas.{tree_of-Text, tree_of-Seq, tree_of-Map}
-use Rattle.conf_record.specs.RecordsRead.{values, record_of}
-use Rattle.conf_record.specs.Reading.{AreKept}
+use Rattle.conf_record.proofs.Prelude.{IsKept, tree_of, members_of, tree_of-Text, tree_of-Seq, tree_of-Map}
+use Rattle.conf_record.specs.{RecordsRead.values, RecordsRead.record_of, Reading.AreKept}
 use Rattle.conf_record.proofs.PieceLemmas.{parts_kept}
-use Rattle.conf_record.proofs.TreeLemmas.{record_text, record_sequence}
 use Rattle.conf_record.proofs.command_reader.record_from.Goals as goal
 
 pub returns-in-Text : goal.returns-in-Text
-returns-in-Text c = sym (ap record_of (ap tree_of c.in-Text.is ∙ tree_of-Text c.in-Text.field-0) ∙ record_text _)
+unfolding record_of
+returns-in-Text c = sym (ap record_of (ap tree_of c.in-Text.is ∙ tree_of-Text c.in-Text.field-0))
 
 pub returns-in-Seq : goal.returns-in-Seq
-returns-in-Seq c = sym (ap record_of (ap tree_of c.in-Seq.is ∙ tree_of-Seq c.in-Seq.field-0) ∙ record_sequence _)
+unfolding record_of
+returns-in-Seq c = sym (ap record_of (ap tree_of c.in-Seq.is ∙ tree_of-Seq c.in-Seq.field-0))
 
 pub command_from-requires : goal.command_from-requires
 command_from-requires c =

@@ -1,17 +1,13 @@
 use Rattle.std.proofs.Common.{codes, refl, sym, ap, ◌∙◌}
-use Rattle.std.specs.Str.{chars}
-use Rattle.yaml_grammar.specs.Texts.{same_text}
-use Rattle.yaml_grammar.specs.Trees.{mapping, member}
-use Rattle.yaml_data.specs.Seen.{tree_of, members_of}
-use Rattle.yaml_data.specs.TextBytes.{text_bytes}
-use Rattle.conf_state.proofs.LineLemmas.{ascii}
+use Rattle.conf_record.proofs.Prelude.{chars, same_text, mapping, member, tree_of, members_of, text_bytes, ascii}
 use Rattle.conf_record.specs.RecordsRead.{number_from_digits, record_of}
-use Rattle.conf_record.proofs.TreeLemmas.{record_empty, record_numbered, record_other, record_textless, record_numberless}
+use Rattle.conf_record.proofs.TreeLemmas.{record_numbered, record_other, record_textless, record_numberless}
 use Rattle.conf_record.proofs.command_reader.split_number.Goals as goal
 
 pub returns-in_err-key-clause-read : goal.returns-in_err-key-clause-read
+unfolding record_of
 returns-in_err-key-clause-read c =
-    rw c.from_residual.ensures (ap (λ ps. record_of (mapping (members_of ps))) c.in_err-key.ensures ∙ record_empty)
+    rw c.from_residual.ensures (ap (λ ps. record_of (mapping (members_of ps))) c.in_err-key.ensures)
 
 pub returns-then-not-is_same-clause-read : goal.returns-then-not-is_same-clause-read
 returns-then-not-is_same-clause-read c =

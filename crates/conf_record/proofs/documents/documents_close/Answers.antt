@@ -1,6 +1,5 @@
 use Rattle.std.proofs.Common.{subst}
-use Rattle.yaml_grammar.specs.Closings.{ClosesOnce}
-use Rattle.conf_state.specs.BaseTexts.{base_tree}
+use Rattle.conf_record.proofs.Prelude.{ClosesOnce, base_tree}
 use Rattle.conf_record.specs.Records.{record_tree}
 use Rattle.conf_record.proofs.DocumentLemmas.{record_framed, base_framed, records_tear}
 use Rattle.conf_record.proofs.documents.documents_close.Goals as goal

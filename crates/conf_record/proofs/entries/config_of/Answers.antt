@@ -1,6 +1,6 @@
 use Rattle.std.proofs.Common.{ap, arith}
-use Rattle.yaml_data.specs.Seen.{tree_of}
-use Rattle.conf_record.proofs.EntryLemmas.{style_within}
+use Rattle.conf_record.proofs.Prelude.{tree_of}
+use Rattle.conf_record.proofs.SizeLemmas.{element_least}
 use Rattle.conf_record.proofs.entries.config_of.Goals as goal
 
 pub with_size-requires-clause-kept : goal.with_size-requires-clause-kept
@@ -12,5 +12,5 @@ with_size-requires-clause-kept c =
       texts = sound.texts;
       keys = sound.keys;
       deep = omega (arith, sound.shallow);
-      long = omega (arith, bytes, style_within t);
+      long = omega (arith, bytes, element_least t);
     }

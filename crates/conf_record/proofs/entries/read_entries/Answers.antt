@@ -1,8 +1,5 @@
 use Rattle.std.proofs.Common.{ap, refl, sym, subst, rules}
-use Rattle.std.specs.Str.{chars}
-use Rattle.yaml_data.specs.Seen.{tree_of}
-use Rattle.yaml_data.specs.TextBytes.{text_bytes}
-use Rattle.conf_state.specs.Kept.{entries_of}
+use Rattle.conf_record.proofs.Prelude.{chars, tree_of, text_bytes, entries_of}
 use Rattle.conf_record.specs.Entries.{AreEntries}
 use Rattle.conf_record.proofs.EntryLemmas.{Part, entries_and, entries_pushed}
 use Rattle.conf_record.proofs.entries.read_entries.Goals as goal
@@ -29,5 +26,4 @@ entries-preserved c =
     )
 
 pub returns-then-is_end : goal.returns-then-is_end
-returns-then-is_end c =
-    subst (AreEntries c.args.lines.now (entries_of c.entries.parts.items)) (c.is_end.ensures c.if-is_end.true) c.entries.invariant.0
+returns-then-is_end c = rw (c.is_end.ensures c.if-is_end.true) at c.entries.invariant.0

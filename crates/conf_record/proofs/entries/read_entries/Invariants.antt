@@ -1,6 +1,6 @@
+use Rattle.conf_record.proofs.Prelude.{entries_of}
 use denote.Shadow.{shadow}
 use denote.Text.{Utf8}
-use Rattle.conf_state.specs.Kept.{entries_of}
 use Rattle.conf_record.specs.Entries.{AreEntries}
 use Rattle.conf_record.proofs.entries.read_entries.Given as goal
 

@@ -1,12 +1,7 @@
 use Rattle.std.proofs.Common.{◌≡◌, List, [], ◌∷◌, length, get_or, vec_len, refl, sym, ap, ◌∙◌, arith}
-use Rattle.std.proofs.lemmas.Bool.{eqb-true, eqb-false}
-use Rattle.std.specs.List.{remove}
-use Rattle.yaml_data.specs.Seen.{Pair}
+use Rattle.std.proofs.lemmas.List.{nil_from_length}
+use Rattle.conf_record.proofs.Prelude.{eqb-true, eqb-false, remove, Pair}
 use Rattle.conf_record.proofs.fields.split_first.Goals as goal
-
-none_there : (ps : List Pair) → length ps ≡ 0 → ps ≡ []
-none_there [] e = refl
-none_there (p ∷ ps) e = absurd (omega arith)
 
 first_there : (ps : List Pair) (p : Pair) → (length ps ≡ 0 → ⊥) → p ≡ get_or ps 0 p → ps ≡ p ∷ remove ps 0
 first_there [] p some is = absurd (some refl)
@@ -16,7 +11,7 @@ pub returns-then-is_empty : goal.returns-then-is_empty
 returns-then-is_empty c =
     let none : vec_len c.args.pairs ≡ 0 = eqb-true _ _ (sym c.is_empty.ensures ∙ c.if-is_empty.true) in
     let counted = c.args.pairs.ok in
-    none_there c.args.pairs.items (omega (arith, counted, none))
+    nil_from_length c.args.pairs.items (omega (arith, counted, none))
 
 pub returns : goal.returns
 returns c =

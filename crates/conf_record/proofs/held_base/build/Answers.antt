@@ -1,12 +1,8 @@
 use Rattle.std.proofs.Common.{◌≡◌, ◌≤◌, length, sym, ap, subst, ◌∙◌, arith}
-use Rattle.std.proofs.lemmas.Bool.{eqb-true}
-use Rattle.std.specs.Str.{chars}
-use Rattle.yaml_data.proofs.CharacterLemmas.{same_text-true}
-use Rattle.yaml_data.specs.Seen.{tree_of}
-use Rattle.yaml_data.specs.TextBytes.{text_bytes}
+use Rattle.conf_record.proofs.Prelude.{eqb-true, chars, same_text-true, tree_of, text_bytes}
 use Rattle.conf_record.specs.BaseSpans.{bytes_at, IsBuilt}
-use Rattle.conf_record.proofs.BaseCopyLemmas.{built_from, no_bytes}
-use Rattle.conf_record.proofs.EntryLemmas.{style_within}
+use Rattle.std.proofs.lemmas.List.{nil_from_length}
+use Rattle.conf_record.proofs.{BaseCopyLemmas.built_from, SizeLemmas.element_least}
 use Rattle.conf_record.proofs.held_base.build.Goals as goal
 
 pub with_size-requires-clause-kept : goal.with_size-requires-clause-kept
@@ -19,7 +15,7 @@ with_size-requires-clause-kept c =
       texts = sound.texts;
       keys = sound.keys;
       deep = omega (arith, sound.shallow);
-      long = omega (arith, bytes, style_within t);
+      long = omega (arith, bytes, element_least t);
     }
 
 pub returns : goal.returns
@@ -29,7 +25,7 @@ returns c =
     let name = chars c.args.name.now in
     let key = chars (text_bytes entry.name) in
     let small : entry.size.bytes ≤ 4194304 = omega arith in
-    let none = no_bytes entry.rest.now (eqb-true (length entry.rest.now) 0 (sym c.if-not-is_empty.ensures)) in
+    let none = nil_from_length entry.rest.now (eqb-true (length entry.rest.now) 0 (sym c.if-not-is_empty.ensures)) in
     let same = same_text-true (chars c.deref.result.now) name (sym c.if-not-is_same.ensures) in
     let named : key ≡ name = ap chars (sym c.deref.ensures) ∙ same in
     subst (λ t. IsBuilt at name t) (sym (ap tree_of c.with_size.ensures))

@@ -1,5 +1,5 @@
 use Rattle.std.proofs.Common.{subst}
-use Rattle.std.specs.Option.{IfNone}
+use Rattle.conf_record.proofs.Prelude.{IfNone}
 use Rattle.conf_record.specs.Documents.{IsNoBase}
 use Rattle.conf_record.proofs.held_base.copy_in_base.Goals as goal
 

@@ -1,5 +1,5 @@
 use Rattle.std.proofs.Common.{◌≡◌, ◌++◌, map}
-use Rattle.conf_state.specs.Commands.{text_of}
+use Rattle.conf_record.proofs.Prelude.{text_of}
 use Rattle.conf_record.specs.BaseSpans.{names_under}
 use Rattle.conf_record.proofs.held_base.names_in.Given as goal
 

@@ -1,14 +1,9 @@
-use Rattle.std.proofs.Common.{◌≡◌, ◌≤◌, ℕ, Some, ap, sym, subst, ◌∙◌}
-use Rattle.yaml_grammar.specs.Reads.{Gives}
-use Rattle.yaml_grammar.specs.Trees.{Tree}
+use Rattle.std.proofs.Common.{◌≤◌, ℕ, ap, sym, subst, ◌∙◌}
+use Rattle.conf_record.proofs.Prelude.{Gives, Tree, own_limits, base_tree, base_text, closed_document, Command, count_limit}
+use Rattle.std.proofs.lemmas.Option.{same_Some}
 use Rattle.yaml_recognizers.specs.StyleLaws.{FramedReads}
-use Rattle.yaml_config.specs.Kept.{own_limits}
-use Rattle.conf_state.specs.BaseTexts.{base_tree, base_text, closed_document}
-use Rattle.conf_state.specs.Commands.{Command}
-use Rattle.conf_record.specs.Records.{record_tree, record_text, FitsRecord}
+use Rattle.conf_record.specs.{Records.record_tree, Records.record_text, Records.FitsRecord, SmallCommands.IsSmallCommand}
 use Rattle.conf_record.specs.RecordsRead.{record_of, base_of, IsCommand, ReadsRecord}
-use Rattle.conf_record.specs.SmallCommands.{IsSmallCommand}
-use Rattle.conf_state.specs.States.{count_limit}
 use Rattle.conf_record.proofs.AcceptedLemmas.{accepted}
 use Rattle.conf_record.proofs.RecordLemmas.{FramedGood, framed_document, record_good, record_tells, base_good, base_tells}
 use Rattle.conf_record.proofs.laws.records_read.Goals as goal
@@ -17,12 +12,6 @@ use Rattle.conf_record.proofs.laws.records_read.Goals as goal
 document_gives : FramedReads → (t : Tree) → FramedGood t → Gives (closed_document t) own_limits t
 document_gives reads t framed = subst (λ source. Gives source own_limits t) (framed_document t)
     (reads t own_limits framed.good framed.short)
-
-some_same : {A : Type 0} (x y : A) → Some x ≡ Some y → y ≡ x
-some_same x y e = cc
-
-pair_same : (own other : Command × ℕ) → Some own ≡ Some other → (other.0 ≡ own.0) × (other.1 ≡ own.1)
-pair_same own other e = let same = some_same own other e in (ap (λ p. p.0) same, ap (λ p. p.1) same)
 
 pub returns-clause-base : goal.returns-clause-base
 unfolding base_text
@@ -39,7 +28,7 @@ unfolding base_text
 returns-clause-one_base c = λ s other kept reads.
     let own = document_gives c.style_reads.ensures.framed (base_tree s) (base_good s kept) in
     let same = c.one_tree.ensures (closed_document (base_tree s)) own_limits own_limits (base_tree s) reads.tree own reads.gives in
-    some_same s other (sym (base_tells s kept.numbered) ∙ ap base_of same ∙ reads.tells)
+    same_Some other s (sym reads.tells ∙ sym (ap base_of same) ∙ base_tells s kept.numbered)
 
 -- the record of a small command is read back
 small_reads : FramedReads → (command : Command) (number : ℕ) → IsCommand command → IsSmallCommand command
@@ -66,4 +55,6 @@ returns-clause-one_record c = λ s new command other room number read kept is do
     let own = document_gives c.style_reads.ensures.framed (record_tree command number) (record_good command number is ok numbered fits) in
     let same = c.one_tree.ensures (closed_document (record_tree command number)) own_limits own_limits
     (record_tree command number) reads.tree own reads.gives in
-    pair_same (command, number) (other, read) (sym (record_tells command number ok numbered) ∙ ap record_of same ∙ reads.tells)
+    let pair = same_Some (other, read) (command, number)
+    (sym reads.tells ∙ sym (ap record_of same) ∙ record_tells command number ok numbered) in
+    (ap (λ p. p.0) pair, ap (λ p. p.1) pair)

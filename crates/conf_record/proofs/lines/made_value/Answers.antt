@@ -1,8 +1,5 @@
 use Rattle.std.proofs.Common.{ap, ◌∙◌}
-use Rattle.std.specs.Str.{chars}
-use Rattle.yaml_data.specs.Seen.{tree_of}
-use Rattle.yaml_data.proofs.SeenLemmas.{tree_of-Text}
-use Rattle.yaml_grammar.specs.Trees.{text}
+use Rattle.conf_record.proofs.Prelude.{chars, tree_of, tree_of-Text, text}
 use Rattle.conf_record.proofs.WrittenLemmas.{text_config, value_size}
 use Rattle.conf_record.proofs.lines.made_value.Goals as goal
 

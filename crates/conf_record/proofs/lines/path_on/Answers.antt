@@ -1,6 +1,5 @@
 use Rattle.std.proofs.Common.{rules, IsUtf8, sym, ◌∙◌, arith}
-use Rattle.yaml_config.proofs.TextTreeLemmas.{chars-IsText}
-use Rattle.yaml_writer.proofs.ByteLemmas.{byte_len-chars}
+use Rattle.conf_record.proofs.Prelude.{chars-IsText, byte_len-chars}
 use Rattle.conf_record.proofs.lines.path_on.Goals as goal
 
 pub returns : goal.returns

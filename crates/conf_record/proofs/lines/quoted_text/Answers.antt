@@ -1,7 +1,5 @@
 use Rattle.std.proofs.Common.{Some, sym, ap, ◌∙◌, lit<}
-use Rattle.std.proofs.lemmas.Str.Pattern.{strip_suffix_char}
-use Rattle.std.specs.List.{list_all}
-use Rattle.yaml_writer.specs.Runs.{stands_alone}
+use Rattle.conf_record.proofs.Prelude.{strip_suffix_char, list_all, stands_alone}
 use Rattle.conf_record.proofs.WrittenLemmas.{quoted_line}
 use Rattle.conf_record.proofs.lines.quoted_text.Goals as goal
 

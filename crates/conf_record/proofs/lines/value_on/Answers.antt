@@ -1,5 +1,5 @@
 use Rattle.std.proofs.Common.{rules, refl, arith}
-use Rattle.yaml_config.proofs.TextTreeLemmas.{chars-IsText}
+use Rattle.conf_record.proofs.Prelude.{chars-IsText}
 use Rattle.conf_record.proofs.lines.value_on.Goals as goal
 
 pub returns : goal.returns

@@ -1,6 +1,5 @@
 use Rattle.std.proofs.Common.{◌≡◌, ◌+◌, ◌<◌, ◌++◌, codes, decimal, encode_utf8_all, rules, ap, sym, ◌∙◌, arith}
-use Rattle.std.proofs.lemmas.Fmt.{IsAscii-decimal}
-use Rattle.std.proofs.lemmas.Str.{encodes-IsAscii}
+use Rattle.conf_record.proofs.Prelude.{IsAscii-decimal, encodes-IsAscii}
 use Rattle.conf_record.proofs.next_record.lines_after.Goals as goal
 
 pub returns-clause-lines : goal.returns-clause-lines

@@ -1,5 +1,5 @@
 use Rattle.std.proofs.Common.{◌+◌, sym, subst}
-use Rattle.conf_state.specs.Commands.{command_of}
+use Rattle.conf_record.proofs.Prelude.{command_of}
 use Rattle.conf_record.specs.Written.{IsWritten}
 use Rattle.conf_record.proofs.WrittenLemmas.{follows_is}
 use Rattle.conf_record.proofs.next_record.read_next.Goals as goal

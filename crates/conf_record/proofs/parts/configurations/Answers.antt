@@ -1,19 +1,16 @@
-use Rattle.std.proofs.Common.{rules, [], length, ap, sym, subst, ◌∙◌, arith}
-use Rattle.std.specs.Vec.Iter.{into_iter_items}
-use Rattle.conf_record.specs.Reading.{AreKept, trees_of}
-use Rattle.conf_record.proofs.PieceLemmas.{MovedSoFar, none_moved, one_moved, all_moved}
+use Rattle.std.proofs.Common.{rules, length, ap, ◌∙◌, arith}
+use Rattle.conf_record.proofs.Prelude.{into_iter_items}
+use Rattle.conf_record.proofs.PieceLemmas.{none_moved, one_moved, all_moved}
 use Rattle.conf_record.proofs.parts.configurations.Goals as goal
 
 pub loop-name-init : goal.loop-name-init
 loop-name-init c = (
-  subst (λ done. MovedSoFar c.args.pairs.items done (into_iter_items c.into_iter-name-iterator.result)) (sym c.in_ok-configs.ensures.items)
-      (subst (MovedSoFar c.args.pairs.items []) (sym c.into_iter-name-iterator.ensures.into_iter_gives.0)
-      (none_moved c.args.pairs.items c.requires)),
+  rw (c.in_ok-configs.ensures.items, c.into_iter-name-iterator.ensures.into_iter_gives.0) (none_moved c.args.pairs.items c.requires),
   search rules,
 )
 
 pub part-requires : goal.part-requires
-part-requires c = (subst (λ xs. AreKept (trees_of xs)) c.in-Some.ensures.steps.0 c.loop-name.invariant.0.kept).0
+part-requires c = (rw c.in-Some.ensures.steps.0 at c.loop-name.invariant.0.kept).0
 
 pub loop-name-preserved : goal.loop-name-preserved
 loop-name-preserved c =
@@ -23,7 +20,7 @@ loop-name-preserved c =
       one_moved c.args.pairs.items c.loop-name.configs.items
           (into_iter_items c.next.new.self) c.in-Some.name c.in_ok-name.name c.in-Some.tree c.part.result
           c.in_ok-name.ensures c.part.ensures
-          (subst (MovedSoFar c.args.pairs.items c.loop-name.configs.items) c.in-Some.ensures.steps.0 c.loop-name.invariant.0)
+          (rw c.in-Some.ensures.steps.0 at c.loop-name.invariant.0)
           c.push.new.self.items c.in_ok-push.ensures.items,
       omega arith,
     )

@@ -1,4 +1,4 @@
-use Rattle.yaml_config.specs.Kept.{own_limits}
+use Rattle.conf_record.proofs.Prelude.{own_limits}
 use Rattle.conf_record.proofs.read.read_tree.Goals as goal
 
 pub returns-in_ok-unless_out_of_memory-in-Err : goal.returns-in_ok-unless_out_of_memory-in-Err

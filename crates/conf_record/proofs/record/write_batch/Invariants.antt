@@ -1,8 +1,6 @@
 use Rattle.std.proofs.Common.{drop, map}
-use Rattle.yaml_grammar.specs.Style.{elements_after}
-use Rattle.conf_state.specs.Commands.{edit_of}
-use Rattle.conf_record.specs.Records.{edit_elements}
-use Rattle.conf_record.specs.RecordsRead.{AreEdits}
+use Rattle.conf_record.proofs.Prelude.{elements_after, edit_of}
+use Rattle.conf_record.specs.{Records.edit_elements, RecordsRead.AreEdits}
 use Rattle.conf_record.proofs.record.write_batch.Given as goal
 
 -- what ends the edits from here ends them all from the start

@@ -1,9 +1,5 @@
 use Rattle.std.proofs.Common.{◌+◌, ◌++◌, codes, refl, subst}
-use Rattle.std.proofs.lemmas.Result.{on_ok_weaker}
-use Rattle.std.specs.Str.{chars}
-use Rattle.yaml_grammar.specs.Style.{scalar_lines}
-use Rattle.yaml_config.proofs.TextTreeLemmas.{chars-IsText}
-use Rattle.conf_state.proofs.LineLemmas.{ascii}
+use Rattle.conf_record.proofs.Prelude.{on_ok_weaker, chars, scalar_lines, chars-IsText, ascii}
 use Rattle.conf_record.proofs.EditLines.{delete_lines_at}
 use Rattle.conf_record.proofs.record.write_delete.Goals as goal
 

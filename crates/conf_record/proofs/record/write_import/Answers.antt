@@ -1,10 +1,5 @@
 use Rattle.std.proofs.Common.{◌+◌, ◌++◌, codes, refl, subst}
-use Rattle.std.proofs.lemmas.Result.{on_ok_weaker}
-use Rattle.std.specs.Str.{chars}
-use Rattle.yaml_grammar.specs.Style.{scalar_lines, value_at}
-use Rattle.yaml_grammar.specs.Texts.{spaces}
-use Rattle.yaml_data.specs.Seen.{tree_of}
-use Rattle.conf_state.proofs.LineLemmas.{ascii}
+use Rattle.conf_record.proofs.Prelude.{on_ok_weaker, chars, scalar_lines, value_at, spaces, tree_of, ascii}
 use Rattle.conf_record.proofs.EditLines.{import_at}
 use Rattle.conf_record.proofs.record.write_import.Goals as goal
 

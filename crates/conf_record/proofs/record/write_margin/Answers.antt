@@ -1,5 +1,5 @@
 use Rattle.std.proofs.Common.{sym, subst}
-use Rattle.yaml_grammar.specs.Texts.{spaces}
+use Rattle.conf_record.proofs.Prelude.{spaces}
 use Rattle.conf_record.proofs.record.write_margin.Goals as goal
 
 pub returns-then-indent-eq0 : goal.returns-then-indent-eq0

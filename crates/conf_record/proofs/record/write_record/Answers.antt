@@ -1,10 +1,6 @@
 use Rattle.std.proofs.Common.{codes, decimal, refl, subst}
-use Rattle.std.proofs.lemmas.Result.{on_ok_weaker}
-use Rattle.yaml_grammar.specs.Style.{members_after}
-use Rattle.yaml_grammar.specs.Trees.{text}
-use Rattle.conf_state.specs.Commands.{command_of}
+use Rattle.conf_record.proofs.Prelude.{on_ok_weaker, members_after, text, command_of, ascii, line, framed_line}
 use Rattle.conf_record.specs.Records.{command_members, record_text}
-use Rattle.conf_state.proofs.LineLemmas.{ascii, line, framed_line}
 use Rattle.conf_record.proofs.record.write_record.Goals as goal
 
 pub returns-clause-takes : goal.returns-clause-takes

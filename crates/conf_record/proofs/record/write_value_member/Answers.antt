@@ -1,4 +1,4 @@
-use Rattle.std.proofs.lemmas.Result.{on_ok_weaker}
+use Rattle.conf_record.proofs.Prelude.{on_ok_weaker}
 use Rattle.conf_record.proofs.record.write_value_member.Goals as goal
 
 pub returns-clause-takes : goal.returns-clause-takes

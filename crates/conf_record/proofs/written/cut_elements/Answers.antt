@@ -1,8 +1,7 @@
-use Rattle.std.proofs.Common.{rules, codes, map, ap, sym, subst, ◌∙◌}
-use Rattle.conf_state.specs.Commands.{edit_of}
-use Rattle.conf_record.specs.EditLines.{lines_of}
-use Rattle.conf_record.specs.Written.{ElementsWritten}
-use Rattle.conf_record.proofs.PieceLemmas.{edits-one}
+use Rattle.std.proofs.Common.{rules, [], ◌∷◌, codes, map, ap, sym, subst, ◌∙◌}
+use Rattle.conf_record.proofs.Prelude.{edit_of}
+use Rattle.conf_record.specs.{EditLines.lines_of, Written.ElementsWritten}
+use Rattle.std.proofs.lemmas.List.{map-append}
 use Rattle.conf_record.proofs.WrittenLemmas.{one_written}
 use Rattle.conf_record.proofs.written.cut_elements.Goals as goal
 
@@ -12,7 +11,7 @@ loop-left-preserved c =
     let elements = c.args.elements.now in
     let own = lines_of c.in-Some.members (codes "tree: ") in (
       subst (λ es. ElementsWritten elements es c.in-Some.after.now)
-          (sym (ap (map edit_of) c.in_ok-push.ensures.items ∙ edits-one l.edits.items c.in_ok-edit.edit))
+          (sym (ap (map edit_of) c.in_ok-push.ensures.items ∙ map-append edit_of l.edits.items (c.in_ok-edit.edit ∷ [])))
           (one_written elements l.left.now c.in-Some.after.now own (map edit_of l.edits.items)
           (edit_of c.in_ok-edit.edit) l.invariant.0 c.in-Some.ensures c.in_ok-edit.ensures),
       search rules,

@@ -1,7 +1,7 @@
 use Rattle.std.proofs.Common.{length, map}
+use Rattle.conf_record.proofs.Prelude.{edit_of}
 use denote.Shadow.{shadow}
 use denote.Text.{Utf8}
-use Rattle.conf_state.specs.Commands.{edit_of}
 use Rattle.conf_record.specs.Written.{ElementsWritten}
 use Rattle.conf_record.proofs.written.cut_elements.Given as goal
 

@@ -1,6 +1,5 @@
 use Rattle.std.proofs.Common.{codes, sym, subst}
-use Rattle.conf_record.specs.EditLines.{lines_of}
-use Rattle.conf_record.specs.Written.{IsWrittenAs}
+use Rattle.conf_record.specs.{EditLines.lines_of, Written.IsWrittenAs}
 use Rattle.conf_record.proofs.written.made_edit.Goals as goal
 
 pub returns : goal.returns

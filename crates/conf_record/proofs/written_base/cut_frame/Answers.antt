@@ -1,5 +1,5 @@
 use Rattle.std.proofs.Common.{◌≡◌, ◌++◌, ◌∷◌, [], codes, decimal, encode_utf8_all, Some, append_assoc, ap, ◌∙◌, lit<, rules}
-use Rattle.std.proofs.lemmas.Str.Pattern.{strip_suffix_char}
+use Rattle.conf_record.proofs.Prelude.{strip_suffix_char}
 use Rattle.conf_record.proofs.written_base.cut_frame.Goals as goal
 
 pub returns : goal.returns

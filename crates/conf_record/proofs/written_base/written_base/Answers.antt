@@ -1,11 +1,5 @@
 use Rattle.std.proofs.Common.{◌≡◌, ◌≤◌, sym, subst, ap, ◌∙◌, arith}
-use Rattle.std.proofs.lemmas.Bool.{eqb-false}
-use Rattle.std.specs.Option.{IfSome}
-use Rattle.std.specs.Vec.{vec_len}
-use Rattle.conf_state.specs.Kept.{entries_of}
-use Rattle.conf_state.specs.BaseTexts.{base_bytes}
-use Rattle.conf_state.specs.Limits.{IsState}
-use Rattle.conf_state.specs.States.{Contents}
+use Rattle.conf_record.proofs.Prelude.{eqb-false, IfSome, vec_len, entries_of, base_bytes, IsState, Contents}
 use Rattle.conf_record.specs.Documents.{IsBase}
 use Rattle.conf_record.proofs.EntryLemmas.{whole_base, some_entries}
 use Rattle.conf_record.proofs.written_base.written_base.Goals as goal

@@ -1,7 +1,5 @@
 use Rattle.std.proofs.Common.{◌++◌, ap, ◌∙◌}
-use Rattle.std.specs.Str.{chars}
-use Rattle.yaml_recognizers.specs.Closings.{framed_text_bytes}
-use Rattle.yaml_data.specs.Seen.{tree_of}
+use Rattle.conf_session.proofs.Prelude.{chars, framed_text_bytes, tree_of}
 use Rattle.conf_session.specs.Answers.{one}
 use Rattle.conf_session.proofs.answer.answer.Goals as goal
 

@@ -1,17 +1,7 @@
 use Rattle.std.proofs.Common.{◌≡◌, ⊎_elim, refl, ap, sym, subst, ◌∙◌}
 use Rattle.std.specs.Prelude.{IfOk, codes}
-use Rattle.std.specs.Str.{chars}
-use Rattle.yaml_grammar.specs.Style.{style_text}
-use Rattle.yaml_grammar.specs.Trees.{text}
-use Rattle.yaml_recognizers.specs.Closings.{framed_text_bytes}
-use Rattle.yaml_data.specs.Seen.{tree_of}
-use Rattle.yaml_data.specs.declared.tree.Tree.{Text}
-use Rattle.yaml_data.proofs.SeenLemmas.{tree_of-Text}
-use Rattle.conf_state.proofs.LineLemmas.{ascii}
-use Rattle.conf_session.specs.Requests.{exporting}
-use Rattle.conf_session.specs.Answers.{one, answered}
-use Rattle.conf_session.specs.Replies.{Replies, refused_as}
-use Rattle.conf_session.specs.Runs.{stored_of}
+use Rattle.conf_session.proofs.Prelude.{chars, style_text, text, framed_text_bytes, tree_of, Text, tree_of-Text, ascii}
+use Rattle.conf_session.specs.{Requests.exporting, Answers.one, Answers.answered, Replies.Replies, Replies.refused_as, Runs.stored_of}
 use Rattle.conf_session.proofs.RefusalLemmas.{OnlyMemory, named-memory, refused-memory}
 use Rattle.conf_session.proofs.ReplyLemmas.{export-text, export-refused}
 use Rattle.conf_session.proofs.answer.export_answer.Goals as goal

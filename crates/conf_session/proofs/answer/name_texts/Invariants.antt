@@ -1,8 +1,6 @@
 -- The names so far and those that are left are all names.
 use Rattle.std.proofs.Common.{◌≡◌}
-use Rattle.conf_state.specs.States.{names_of}
-use Rattle.yaml_data.specs.Seen.{elements_of}
-use Rattle.yaml_data.proofs.SeenLemmas.{join_elements}
+use Rattle.conf_session.proofs.Prelude.{names_of, elements_of, join_elements}
 use Rattle.conf_session.specs.Answers.{text_elements}
 use Rattle.conf_session.proofs.answer.name_texts.Given as goal
 

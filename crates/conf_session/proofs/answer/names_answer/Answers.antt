@@ -1,16 +1,8 @@
 use Rattle.std.proofs.Common.{◌≡◌, refl, ap, ◌∙◌}
 use Rattle.std.specs.Prelude.{codes}
-use Rattle.yaml_recognizers.specs.Closings.{framed_text_bytes}
-use Rattle.yaml_grammar.specs.Trees.{sequence}
-use Rattle.yaml_data.specs.Seen.{tree_of}
-use Rattle.yaml_data.specs.declared.tree.Tree.{Seq}
-use Rattle.yaml_data.proofs.SeenLemmas.{tree_of-Seq}
-use Rattle.conf_state.specs.States.{names_of}
-use Rattle.conf_state.proofs.LineLemmas.{ascii}
-use Rattle.conf_session.specs.Answers.{one, text_elements}
-use Rattle.conf_session.specs.Runs.{stored_of}
-use Rattle.conf_session.proofs.AnswerLemmas.{names-shallow}
-use Rattle.conf_session.proofs.ReplyLemmas.{names-listed}
+use Rattle.conf_session.proofs.Prelude.{framed_text_bytes, sequence, tree_of, Seq, tree_of-Seq, names_of, ascii}
+use Rattle.conf_session.specs.{Answers.one, Answers.text_elements, Runs.stored_of}
+use Rattle.conf_session.proofs.{AnswerLemmas.names-shallow, ReplyLemmas.names-listed}
 use Rattle.conf_session.proofs.answer.names_answer.Goals as goal
 
 pub answer-requires : goal.answer-requires

@@ -1,8 +1,5 @@
 use Rattle.std.proofs.Common.{codes, refl, subst}
-use Rattle.std.proofs.lemmas.Result.{on_ok_weaker}
-use Rattle.std.specs.Str.{chars}
-use Rattle.yaml_data.specs.Seen.{tree_of}
-use Rattle.conf_state.proofs.LineLemmas.{ascii}
+use Rattle.conf_session.proofs.Prelude.{on_ok_weaker, chars, tree_of, ascii}
 use Rattle.conf_session.proofs.WordLemmas.{framed-one}
 use Rattle.conf_session.proofs.answer.write_answer.Goals as goal
 

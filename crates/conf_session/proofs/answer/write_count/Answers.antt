@@ -1,8 +1,5 @@
 use Rattle.std.proofs.Common.{codes, decimal, subst, ◌∙◌, refl, arith}
-use Rattle.std.proofs.lemmas.Fmt.{decimal_is_IsNumeral}
-use Rattle.std.proofs.lemmas.Result.{on_ok_weaker}
-use Rattle.std.proofs.lemmas.Str.{chars-IsAscii}
-use Rattle.conf_state.proofs.LineLemmas.{ascii}
+use Rattle.conf_session.proofs.Prelude.{decimal_is_IsNumeral, on_ok_weaker, chars-IsAscii, ascii}
 use Rattle.conf_session.proofs.AnswerLemmas.{framed-count}
 use Rattle.conf_session.proofs.answer.write_count.Goals as goal
 

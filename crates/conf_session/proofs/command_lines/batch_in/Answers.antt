@@ -1,10 +1,9 @@
 use Rattle.std.proofs.Common.{IfSome, [], ◌∷◌, ◌≡◌, List, length, codes, sym, subst, refl, arith}
-use Rattle.std.proofs.lemmas.Bool.{eqb-false}
+use Rattle.conf_session.proofs.Prelude.{eqb-false}
 use Rattle.std.specs.Vec.{vec_len}
-use Rattle.conf_session.specs.Said.{parts_seen}
-use Rattle.conf_session.specs.declared.parts.Part as code
-use Rattle.conf_session.specs.CommandLines.{ArePartLines}
+use Rattle.conf_session.specs.{Said.parts_seen, CommandLines.ArePartLines}
 use Rattle.conf_session.proofs.CommandLineLemmas.{batch_lines}
+use Rattle.conf_session.specs.declared.parts.Part as code
 use Rattle.conf_session.proofs.command_lines.batch_in.Goals as goal
 
 some_left : (ps : List code.Part) → (length ps ≡ 0 → ⊥) → parts_seen ps ≡ [] → ⊥

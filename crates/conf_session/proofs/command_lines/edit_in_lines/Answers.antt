@@ -1,12 +1,14 @@
-use Rattle.std.proofs.lemmas.Option.{IfSome_then}
-use Rattle.std.proofs.lemmas.Result.{IfOk-weaker}
-use Rattle.conf_state.specs.Commands.{command_of}
-use Rattle.conf_session.specs.PartLines.{part_cut}
+use Rattle.std.proofs.Common.{◌≡◌, IfSome, sym, ◌∙◌, ap, subst}
+use Rattle.conf_session.proofs.Prelude.{command_of, edit_of}
+use Rattle.conf_session.specs.{PartLines.part_cut, Said.part_seen, Said.plain}
 use Rattle.conf_session.proofs.RequestLemmas.{edit_asked}
 use Rattle.conf_session.proofs.command_lines.edit_in_lines.Goals as goal
 
-pub returns-in-Some : goal.returns-in-Some
-returns-in-Some c =
-    IfOk-weaker c.made_command.result _ _
-    (λ made is. IfSome_then made is (λ command so.
-    edit_asked c.args.piece.now (part_cut c.in-Some.texts) (command_of command) c.in-Some.ensures so)) c.made_command.ensures
+pub returns-in-Some-Plain : goal.returns-in-Some-Plain
+returns-in-Some-Plain c =
+    let texts = c.in-Some.texts in
+    let edit = c.in-Some-Plain.edit in
+    let made : part_seen c.in-Some-Plain.field-0 ≡ part_cut texts =
+    subst (λ made. IfSome made (λ part. part_seen part ≡ part_cut texts)) c.in-Some-Plain.is c.in_ok-edit.ensures in
+    let same : plain (edit_of edit) ≡ part_cut texts = ap part_seen (sym c.in-Some-Plain.field-0-is) ∙ made in
+    edit_asked c.args.piece.now (part_cut texts) (command_of c.from.result) c.in-Some.ensures (edit_of edit, c.from.ensures, sym same)

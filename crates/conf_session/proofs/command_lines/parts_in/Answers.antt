@@ -1,8 +1,6 @@
 use Rattle.std.proofs.Common.{rules, IfSome, [], ◌∷◌, codes, ap, sym, subst, ◌∙◌}
-use Rattle.std.proofs.lemmas.List.{map-append}
-use Rattle.conf_record.specs.EditLines.{lines_of}
-use Rattle.conf_session.specs.Said.{part_seen, parts_seen}
-use Rattle.conf_session.specs.CommandLines.{ArePartLines, SpellsPart}
+use Rattle.conf_session.proofs.Prelude.{map-append, lines_of}
+use Rattle.conf_session.specs.{Said.part_seen, Said.parts_seen, CommandLines.ArePartLines, CommandLines.SpellsPart}
 use Rattle.conf_session.proofs.CommandLineLemmas.{no_part_lines, one_part_line}
 use Rattle.conf_session.proofs.command_lines.parts_in.Goals as goal
 

@@ -1,8 +1,7 @@
 use Rattle.std.proofs.Common.{length}
 use denote.Shadow.{shadow}
 use denote.Text.{Utf8}
-use Rattle.conf_session.specs.Said.{parts_seen}
-use Rattle.conf_session.specs.CommandLines.{ArePartLines}
+use Rattle.conf_session.specs.{Said.parts_seen, CommandLines.ArePartLines}
 use Rattle.conf_session.proofs.command_lines.parts_in.Given as goal
 
 abbrev pub invariant-loop-left : goal.invariant-loop-left

@@ -1,7 +1,5 @@
 use Rattle.std.proofs.Common.{◌≡◌, IfSome, subst, sym}
-use Rattle.conf_session.specs.PartLines.{part_cut}
-use Rattle.conf_session.specs.Said.{part_seen, single_part}
-use Rattle.conf_session.specs.CommandLines.{IsCommandLines}
+use Rattle.conf_session.specs.{PartLines.part_cut, Said.part_seen, Said.single_part, CommandLines.IsCommandLines}
 use Rattle.conf_session.proofs.command_lines.single_in.Goals as goal
 
 pub returns : goal.returns

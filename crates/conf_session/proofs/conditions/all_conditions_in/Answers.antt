@@ -1,9 +1,7 @@
 use Rattle.std.proofs.Common.{option_map, length, ap, sym, subst, ◌∙◌, arith}
-use Rattle.std.specs.Vec.Iter.{into_iter_items}
-use Rattle.yaml_data.specs.Seen.{elements_of}
-use Rattle.conf_record.specs.Reading.{AreKeptElements}
-use Rattle.conf_conditions.specs.Conditions.{condition_of}
-use Rattle.conf_session.proofs.SaidConditionLemmas.{FoundSoFar, one-found, all-found}
+use Rattle.conf_session.proofs.Prelude.{into_iter_items, elements_of, AreKeptElements, condition_of}
+use Rattle.conf_session.specs.SaidConditions.{condition_in}
+use Rattle.conf_session.proofs.PartLemmas.{FoundSoFar, one-found, all-found}
 use Rattle.conf_session.proofs.conditions.all_conditions_in.Goals as goal
 
 pub condition_in-requires : goal.condition_in-requires
@@ -14,15 +12,17 @@ loop-element-preserved c =
     let gone = c.in-Some.ensures.steps.1 in
     let one = ap length c.in-Some.ensures.steps.0 in
     let was = c.loop-element.invariant.1 in (
-      one-found c.args.elements.items c.loop-element.conditions.items c.in-Some.element
+      one-found condition_of condition_in c.args.elements.items c.loop-element.conditions.items c.in-Some.element
           (into_iter_items c.next.new.self) c.in-Some-2.condition
           (ap (option_map condition_of) (sym c.in-Some-2.is) ∙ c.in_ok-condition.ensures)
-          (subst (FoundSoFar c.args.elements.items c.loop-element.conditions.items) c.in-Some.ensures.steps.0 c.loop-element.invariant.0)
+          (subst (FoundSoFar condition_of condition_in c.args.elements.items c.loop-element.conditions.items)
+          c.in-Some.ensures.steps.0 c.loop-element.invariant.0)
           c.push.new.self.items c.in_ok-push.ensures.items,
       omega arith,
     )
 
 pub returns : goal.returns
 returns c =
-    all-found c.args.elements.items c.loop-element.conditions.items (into_iter_items c.loop-element.element-iterator)
+    all-found condition_of condition_in c.args.elements.items c.loop-element.conditions.items
+    (into_iter_items c.loop-element.element-iterator)
     (c.loop-element.invariant.1 ∙ c.in-None.ensures.steps.0) c.loop-element.invariant.0

@@ -1,5 +1,5 @@
 use Rattle.std.proofs.Common.{◌∙◌}
-use Rattle.std.proofs.lemmas.Result.{IfOk-weaker}
+use Rattle.conf_session.proofs.Prelude.{IfOk-weaker}
 use Rattle.conf_session.proofs.conditions.condition_from.Goals as goal
 
 pub returns-in-Some : goal.returns-in-Some

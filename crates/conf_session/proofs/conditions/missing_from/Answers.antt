@@ -1,11 +1,5 @@
 use Rattle.std.proofs.Common.{rules, ◌≡◌, [], ◌∷◌, Some, ap, sym, ◌∙◌}
-use Rattle.std.proofs.lemmas.Str.{chars-nil}
-use Rattle.std.specs.Str.{chars}
-use Rattle.yaml_grammar.specs.Trees.{text}
-use Rattle.yaml_data.specs.Seen.{members_of}
-use Rattle.yaml_data.specs.TextBytes.{text_bytes}
-use Rattle.conf_record.specs.RecordsRead.{values}
-use Rattle.conf_conditions.specs.Conditions.{absent_at}
+use Rattle.conf_session.proofs.Prelude.{chars-nil, chars, text, members_of, text_bytes, values, absent_at}
 use Rattle.conf_session.specs.SaidConditions.{missing_in}
 use Rattle.conf_session.proofs.conditions.missing_from.Goals as goal
 

@@ -1,14 +1,9 @@
 -- A checkpoint is begun, or there is no memory for it and nothing is done.
 use Rattle.std.proofs.Common.{◌≡◌, ◌⊎◌, inr, ⊎_elim, [], ◌∷◌, refl, sym, ◌∙◌, ap, subst}
 use Rattle.std.specs.Prelude.{Err}
-use Rattle.std.proofs.lemmas.Bool.{false≢true}
-use Rattle.conf_state.specs.declared.fault.StoreFault.{StoreFault}
-use Rattle.conf_state.specs.declared.fault.StoreFault.TheVariants.{Reopen, Device, OutOfMemory}
-use Rattle.conf_store.specs.View.{StoreView}
-use Rattle.conf_session.specs.Groups.{begun}
-use Rattle.conf_session.specs.Gathering.{PerformsTurns}
-use Rattle.conf_session.proofs.GatherLemmas.{stops-short}
-use Rattle.conf_session.proofs.TendLemmas.{begins, stays}
+use Rattle.conf_session.proofs.Prelude.{false≢true, StoreFault, Reopen, Device, OutOfMemory, StoreView}
+use Rattle.conf_session.specs.{Groups.begun, Gathering.PerformsTurns}
+use Rattle.conf_session.proofs.{GatherLemmas.stops-short, TendLemmas.begins, TendLemmas.stays}
 use Rattle.conf_session.proofs.groups.begin_checkpoint.Goals as goal
 
 -- the fault is that of the device
@@ -50,9 +45,12 @@ returns-in_default-fault g c =
     let opened : f ≡ Reopen → ⊥ = λ e. absurd (false≢true (sym c.requires.sound ∙ c.in-Err.ensures.reopen.0 (ap Err e))) in
     let device : f ≡ Device = is-device f c.in-Err.ensures.refused opened c.in_default-fault.not-OutOfMemory in
     record {
-      tends = stops-short d.model c.args.store.now c.begin_checkpoint.new.self f c.requires.sound (λ e. absurd (opened e)) (inr device)
-          (λ e. c.in-Err.ensures.device (ap Err e)) c.begin_checkpoint.ensures.state
-          (λ h. c.begin_checkpoint.ensures.any_moment h c.requires.sound);
+      tends = (
+        refl,
+        stops-short d.model c.args.store.now c.begin_checkpoint.new.self f c.requires.sound (λ e. absurd (opened e)) (inr device)
+            (λ e. c.in-Err.ensures.device (ap Err e)) c.begin_checkpoint.ensures.state
+            (λ h. c.begin_checkpoint.ensures.any_moment h c.requires.sound),
+      );
       failures = record {
         cause = λ e. c.begin_checkpoint.ensures.cause (c.in-Err.is ∙ ap Err device);
         risen = c.begin_checkpoint.ensures.risen;

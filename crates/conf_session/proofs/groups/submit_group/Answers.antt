@@ -1,13 +1,12 @@
 -- Each turn performs one piece. What was read closes the next one, or the group ends.
-use Rattle.std.proofs.Common.{◌≡◌, ◌++◌, false, List, ℕ, length, refl, sym, ◌∙◌, subst, arith}
+use Rattle.std.proofs.Common.{◌++◌, List, ℕ, length, refl, sym, ◌∙◌, subst, arith}
 use Rattle.std.specs.Prelude.{Err}
-use Rattle.std.proofs.lemmas.Result.{err_from_is_err_and}
-use Rattle.conf_session.specs.Input.{AdvancesAhead, AdvancesWithin, ahead, bytes_read, piece_or_rest as piece_of}
-use Rattle.conf_session.specs.Replies.{PerformsAll}
-use Rattle.conf_session.specs.Gathering.{HasRoomFor, GathersPieces}
-use Rattle.conf_session.proofs.GatherLemmas.{submits-none, submits-more, submits-failing, submits-starved, not-full, shorter-piece}
-use Rattle.conf_session.specs.declared.fault.SessionFault.{SessionFault}
-use Rattle.conf_session.specs.declared.fault.SessionFault.TheVariants.{Device}
+use Rattle.conf_session.proofs.Prelude.{err_from_is_err_and}
+use Rattle.conf_session.specs.Input.{piece_or_rest as piece_of}
+use Rattle.conf_session.specs.{Gathering.HasRoomFor, Gathering.GathersPieces}
+use Rattle.conf_session.specs.Input.{AdvancesWithin, ahead, bytes_read}
+use Rattle.conf_session.proofs.GatherLemmas.{submits-none, submits-more, submits-failing, submits-starved, some-more, has-room}
+use Rattle.conf_session.proofs.GatherLemmas.{not-full, shorter-piece}
 use Rattle.conf_session.proofs.RequestLemmas.{failures-after, failures-none}
 use Rattle.conf_session.proofs.groups.submit_group.Goals as goal
 
@@ -22,6 +21,7 @@ pieces-init g c =
       room = c.requires.can.room;
       read = refl;
       less = omega arith;
+      first = λ e. refl;
       so_far = submits-none d.model store (piece_of c.args.input.now ++ ahead c.args.input.now) c.args.answers.now
           c.requires.can.sound c.requires.can.room.within
           (λ image h is. g.met.D.Disk.only_now store.disk image h is) c.requires.can.means;
@@ -34,8 +34,9 @@ returns-in_err-submit_piece-clause-submits g c =
     let inv = c.pieces.invariant in
     let bytes = piece_of c.args.input.now ++ ahead c.args.input.now in
     let ends = submits-failing d.model bytes (piece_of c.pieces.input)
-    (ahead c.pieces.input) c.args.store.now c.pieces.store c.submit_piece.new.store
-    c.args.answers.now c.pieces.answers c.submit_piece.new.answers inv.so_far inv.piece.piece inv.piece.short
+    (ahead c.pieces.input) c.args.store.now c.pieces.store
+    c.args.answers.now c.pieces.answers inv.so_far inv.first inv.piece.piece inv.piece.short c.submit_piece.new.store
+    c.submit_piece.new.answers
     c.in_err-submit_piece.ensures.kept
     c.in_err-submit_piece.field-0.0 c.in_err-submit_piece.ensures.fails c.pieces.input in
     let p = err_from_is_err_and c.from_residual.result c.from_residual.ensures.1 in
@@ -47,8 +48,11 @@ returns-then-is_full-clause-submits g c =
     let inv = c.pieces.invariant in
     let bytes = piece_of c.args.input.now ++ ahead c.args.input.now in (
       inv.piece.sound,
+      some-more d.model bytes (piece_of c.pieces.input)
+          (ahead c.pieces.input) c.args.store.now c.pieces.store c.args.answers.now c.pieces.answers inv.so_far inv.first
+          inv.piece.piece inv.piece.short c.submit_piece.new.store c.submit_piece.new.answers c.in_ok-submit_piece.ensures.ok,
       submits-more d.model bytes (piece_of c.pieces.input)
-          (ahead c.pieces.input) c.args.store.now c.pieces.store c.args.answers.now c.pieces.answers inv.so_far
+          (ahead c.pieces.input) c.args.store.now c.pieces.store c.args.answers.now c.pieces.answers inv.so_far inv.first
           inv.piece.piece inv.piece.short c.submit_piece.new.store c.submit_piece.new.answers c.in_ok-submit_piece.ensures.ok,
     )
 
@@ -77,10 +81,11 @@ pieces-preserved g c =
           c.in_ok-submit_piece.ensures.room);
       read = advances.total ∙ inv.read;
       less = omega (arith, shorter, inv.less);
-      so_far = subst (λ (l : List ℕ). GathersPieces
-          (PerformsAll false d.model) bytes l c.args.store.now new c.args.answers.now after) advances.joined
+      first = λ e. absurd (has-room after c.is_full.result c.is_full.ensures c.if-is_full.false
+          (one.keeps.limit ∙ inv.so_far.keeps.limit ∙ e));
+      so_far = subst (λ (l : List ℕ). GathersPieces d.model bytes l c.args.store.now new c.args.answers.now after) advances.joined
           (submits-more d.model bytes (piece_of c.pieces.input)
-          (ahead c.pieces.input) c.args.store.now c.pieces.store c.args.answers.now c.pieces.answers inv.so_far
+          (ahead c.pieces.input) c.args.store.now c.pieces.store c.args.answers.now c.pieces.answers inv.so_far inv.first
           inv.piece.piece inv.piece.short new after one);
       risen = omega (arith, inv.risen, c.submit_piece.ensures.failures.risen);
     }
@@ -93,7 +98,7 @@ returns-in_err-advance_ahead-clause-submits g c =
     let new = c.submit_piece.new.store in
     let after = c.submit_piece.new.answers in
     let so_far = submits-more d.model bytes (piece_of c.pieces.input)
-    (ahead c.pieces.input) c.args.store.now c.pieces.store c.args.answers.now c.pieces.answers inv.so_far
+    (ahead c.pieces.input) c.args.store.now c.pieces.store c.args.answers.now c.pieces.answers inv.so_far inv.first
     inv.piece.piece inv.piece.short new after c.in_ok-submit_piece.ensures.ok in
     let ends = submits-starved d.model bytes (ahead c.pieces.input) c.args.store.now new c.args.answers.now after
     so_far c.pieces.input c.advance_ahead.new.self
@@ -121,6 +126,4 @@ returns-in_err-advance_ahead-clause-failures g c =
     let p = err_from_is_err_and c.from_residual-in_err-advance_ahead.result c.from_residual-in_err-advance_ahead.ensures.1 in
     failures-none g.D.Disk.model c.args.store.now c.submit_piece.new.store c.from_residual-in_err-advance_ahead.result
     (omega (arith, c.pieces.invariant.risen, c.submit_piece.ensures.failures.risen))
-    (λ e.
-    let device : c.in_err-advance_ahead.field-0.0 ≡ Device = cc (e, p.1, p.2) in
-    subst (λ (f : SessionFault). AdvancesAhead c.pieces.input c.advance_ahead.new.self (Err f)) device c.in_err-advance_ahead.ensures)
+    (λ e. cc (e, p.1, p.2, c.in_err-advance_ahead.ensures))

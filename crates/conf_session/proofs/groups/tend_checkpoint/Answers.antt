@@ -7,12 +7,14 @@ pub returns-in_default-clause-tends : goal.returns-in_default-clause-tends
 returns-in_default-clause-tends g c =
     let d = g.D.Disk in
     let store = c.args.store.now in (
-      [],
-      refl,
-      λ e. refl,
-      λ h bytes e. tt,
-      stays d.model store c.requires.sound
-          (λ image h is. g.met.D.Disk.only_now store.disk image h is) c.requires.flushed c.requires.now,
+      λ e. (refl, refl),
+      (
+        [],
+        refl,
+        λ h bytes e. tt,
+        stays d.model store c.requires.sound
+            (λ image h is. g.met.D.Disk.only_now store.disk image h is) c.requires.flushed c.requires.now,
+      ),
     )
 
 pub returns-then-running-clause-tends : goal.returns-then-running-clause-tends
@@ -25,12 +27,14 @@ pub returns-then-grown-bytes-clause-tends : goal.returns-then-grown-bytes-clause
 returns-then-grown-bytes-clause-tends g c =
     let d = g.D.Disk in
     let store = c.args.store.now in (
-      [],
-      refl,
-      λ e. refl,
-      λ h bytes e. tt,
-      stays d.model store c.requires.sound
-          (λ image h is. g.met.D.Disk.only_now store.disk image h is) c.requires.flushed c.requires.now,
+      λ e. (refl, refl),
+      (
+        [],
+        refl,
+        λ h bytes e. tt,
+        stays d.model store c.requires.sound
+            (λ image h is. g.met.D.Disk.only_now store.disk image h is) c.requires.flushed c.requires.now,
+      ),
     )
 
 pub returns-clause-tends : goal.returns-clause-tends

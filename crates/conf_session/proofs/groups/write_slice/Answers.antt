@@ -1,8 +1,7 @@
 -- A slice finishes the checkpoint, or leaves some of it.
-use Rattle.std.proofs.Common.{ap}
+use Rattle.std.proofs.Common.{refl, ap}
 use Rattle.std.specs.Prelude.{Err}
-use Rattle.conf_session.proofs.GatherLemmas.{stops-short}
-use Rattle.conf_session.proofs.TendLemmas.{slices}
+use Rattle.conf_session.proofs.{GatherLemmas.stops-short, TendLemmas.slices}
 use Rattle.conf_session.proofs.groups.write_slice.Goals as goal
 
 pub returns-in-Ok-clause-tends : goal.returns-in-Ok-clause-tends
@@ -16,7 +15,9 @@ returns-in-Ok-clause-tends g c =
 
 pub returns-in-Err-clause-tends : goal.returns-in-Err-clause-tends
 returns-in-Err-clause-tends g c =
-    let d = g.D.Disk in
-    stops-short d.model c.args.store.now c.slice.new.self c.in-Err.field-0 c.requires.sound
-    (λ e. c.in-Err.ensures.reopen.0 (ap Err e)) c.in-Err.ensures.refused
-    (λ e. c.in-Err.ensures.device (ap Err e)) c.slice.ensures.state (λ h. c.slice.ensures.any_moment h c.requires.sound)
+    let d = g.D.Disk in (
+      refl,
+      stops-short d.model c.args.store.now c.slice.new.self c.in-Err.field-0 c.requires.sound
+          (λ e. c.in-Err.ensures.reopen.0 (ap Err e)) c.in-Err.ensures.refused
+          (λ e. c.in-Err.ensures.device (ap Err e)) c.slice.ensures.state (λ h. c.slice.ensures.any_moment h c.requires.sound),
+    )

@@ -1,6 +1,5 @@
 use Rattle.std.proofs.Common.{◌≡◌, ap}
-use Rattle.std.specs.Str.{chars}
-use Rattle.conf_state.specs.Commands.{delete_at, text_of}
+use Rattle.conf_session.proofs.Prelude.{chars, delete_at, text_of}
 use Rattle.conf_session.specs.Said.{plain}
 use Rattle.conf_session.proofs.part_lines.made_delete.Goals as goal
 

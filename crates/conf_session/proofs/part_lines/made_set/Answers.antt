@@ -1,8 +1,5 @@
 use Rattle.std.proofs.Common.{◌≡◌, IfSome, subst, ap}
-use Rattle.std.specs.Str.{chars}
-use Rattle.yaml_grammar.specs.Trees.{text}
-use Rattle.yaml_data.specs.Seen.{tree_of}
-use Rattle.conf_state.specs.Commands.{set_at, text_of}
+use Rattle.conf_session.proofs.Prelude.{chars, text, tree_of, set_at, text_of}
 use Rattle.conf_session.specs.Said.{plain}
 use Rattle.conf_session.proofs.part_lines.made_set.Goals as goal
 

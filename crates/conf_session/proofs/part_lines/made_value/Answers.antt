@@ -1,9 +1,5 @@
 use Rattle.std.proofs.Common.{subst, sym, ap, ◌∙◌, arith}
-use Rattle.std.specs.Str.{chars}
-use Rattle.yaml_grammar.specs.Trees.{text}
-use Rattle.yaml_config.specs.Kept.{IsKept}
-use Rattle.yaml_data.specs.Seen.{tree_of}
-use Rattle.yaml_data.proofs.SeenLemmas.{tree_of-Text}
+use Rattle.conf_session.proofs.Prelude.{chars, text, IsKept, tree_of, tree_of-Text}
 use Rattle.conf_session.proofs.CommandLineLemmas.{short_kept}
 use Rattle.conf_session.proofs.part_lines.made_value.Goals as goal
 

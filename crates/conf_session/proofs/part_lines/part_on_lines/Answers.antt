@@ -1,7 +1,5 @@
 use Rattle.std.proofs.Common.{codes, sym, subst}
-use Rattle.std.proofs.lemmas.Option.{IfSome_then}
-use Rattle.std.proofs.lemmas.Result.{IfOk-weaker}
-use Rattle.conf_record.specs.EditLines.{lines_of}
+use Rattle.conf_session.proofs.Prelude.{IfSome_then, IfOk-weaker, lines_of}
 use Rattle.conf_session.specs.CommandLines.{SpellsPart}
 use Rattle.conf_session.proofs.part_lines.part_on_lines.Goals as goal
 

@@ -1,10 +1,6 @@
 use Rattle.std.proofs.Common.{codes, sym, subst}
-use Rattle.std.specs.Str.{chars}
-use Rattle.yaml_grammar.specs.Trees.{text}
-use Rattle.conf_state.specs.Commands.{set_at, delete_at}
-use Rattle.conf_record.specs.EditLines.{lines_of}
-use Rattle.conf_session.specs.Said.{import_text, plain}
-use Rattle.conf_session.specs.CommandLines.{SpellsPart}
+use Rattle.conf_session.proofs.Prelude.{chars, text, set_at, delete_at, lines_of}
+use Rattle.conf_session.specs.{Said.import_text, Said.plain, CommandLines.SpellsPart}
 use Rattle.conf_session.proofs.CommandLineLemmas.{import_spelled, set_spelled, delete_spelled}
 use Rattle.conf_session.proofs.part_lines.texts_on_lines.Goals as goal
 

@@ -1,9 +1,5 @@
 use Rattle.std.proofs.Common.{sym, ap, ◌∙◌}
-use Rattle.std.specs.Str.{chars}
-use Rattle.yaml_data.specs.Seen.{tree_of}
-use Rattle.yaml_data.specs.TextBytes.{text_bytes}
-use Rattle.yaml_data.proofs.SeenLemmas.{tree_of-Text, tree_of-Seq, tree_of-Map}
-use Rattle.conf_state.specs.Commands.{import_as}
+use Rattle.conf_session.proofs.Prelude.{chars, tree_of, text_bytes, tree_of-Text, tree_of-Seq, tree_of-Map, import_as}
 use Rattle.conf_session.specs.Said.{as_part}
 use Rattle.conf_session.proofs.parts.import_with.Goals as goal
 

@@ -1,9 +1,5 @@
 use Rattle.std.proofs.Common.{codes, refl, ap, Some, None, ◌∙◌}
-use Rattle.std.proofs.lemmas.Result.{IfOk-weaker}
-use Rattle.yaml_data.specs.Seen.{members_of}
-use Rattle.conf_state.proofs.LineLemmas.{ascii}
-use Rattle.conf_record.specs.RecordsRead.{edit_under}
-use Rattle.conf_record.specs.Reading.{edit_seen}
+use Rattle.conf_session.proofs.Prelude.{IfOk-weaker, members_of, ascii, edit_under, edit_seen}
 use Rattle.conf_session.proofs.SaidLemmas.{part_read}
 use Rattle.conf_session.proofs.parts.part_from.Goals as goal
 

@@ -1,8 +1,6 @@
 use Rattle.std.proofs.Common.{option_map, length, ap, sym, subst, ◌∙◌, arith}
-use Rattle.std.specs.Vec.Iter.{into_iter_items}
-use Rattle.yaml_data.specs.Seen.{elements_of}
-use Rattle.conf_record.specs.Reading.{AreKeptElements}
-use Rattle.conf_session.specs.Said.{part_seen}
+use Rattle.conf_session.proofs.Prelude.{into_iter_items, elements_of, AreKeptElements}
+use Rattle.conf_session.specs.Said.{part_of, part_seen}
 use Rattle.conf_session.proofs.PartLemmas.{FoundSoFar, one-found, all-found}
 use Rattle.conf_session.proofs.parts.parts_of.Goals as goal
 
@@ -14,14 +12,16 @@ loop-element-preserved c =
     let gone = c.in-Some.ensures.steps.1 in
     let one = ap length c.in-Some.ensures.steps.0 in
     let was = c.loop-element.invariant.1 in (
-      one-found c.args.elements.items c.loop-element.parts.items c.in-Some.element (into_iter_items c.next.new.self) c.in-Some-2.part
+      one-found part_seen part_of c.args.elements.items c.loop-element.parts.items c.in-Some.element
+          (into_iter_items c.next.new.self) c.in-Some-2.part
           (ap (option_map part_seen) (sym c.in-Some-2.is) ∙ c.in_ok-part.ensures)
-          (subst (FoundSoFar c.args.elements.items c.loop-element.parts.items) c.in-Some.ensures.steps.0 c.loop-element.invariant.0)
+          (subst (FoundSoFar part_seen part_of c.args.elements.items c.loop-element.parts.items)
+          c.in-Some.ensures.steps.0 c.loop-element.invariant.0)
           c.push.new.self.items c.in_ok-push.ensures.items,
       omega arith,
     )
 
 pub returns : goal.returns
 returns c =
-    all-found c.args.elements.items c.loop-element.parts.items (into_iter_items c.loop-element.element-iterator)
+    all-found part_seen part_of c.args.elements.items c.loop-element.parts.items (into_iter_items c.loop-element.element-iterator)
     (c.loop-element.invariant.1 ∙ c.in-None.ensures.steps.0) c.loop-element.invariant.0

@@ -1,12 +1,7 @@
 -- The text is given a tree, or refused.
 use Rattle.std.proofs.Common.{ap, sym, subst, ◌∙◌}
-use Rattle.std.proofs.lemmas.Str.{encodes-chars}
-use Rattle.std.specs.Str.{chars}
-use Rattle.yaml_grammar.specs.Reads.{Gives}
-use Rattle.yaml_data.specs.Seen.{tree_of}
+use Rattle.conf_session.proofs.Prelude.{encodes-chars, chars, Gives, tree_of, config_limits, import_as}
 use Rattle.yaml_tree.specs.Reading.{Refuses}
-use Rattle.yaml_config.specs.Limits.{config_limits}
-use Rattle.conf_state.specs.Commands.{import_as}
 use Rattle.conf_session.proofs.parts.read_import.Goals as goal
 
 pub returns-in_ok-name-in-Ok-clause-ok : goal.returns-in_ok-name-in-Ok-clause-ok

@@ -1,10 +1,7 @@
 use Rattle.std.proofs.Common.{◌≡◌, ◌≢◌, IfOk, IfErr, ap, sym, subst, ◌∙◌}
-use Rattle.std.specs.Str.{chars}
-use Rattle.yaml_data.specs.TextBytes.{text_bytes}
+use Rattle.conf_session.proofs.Prelude.{chars, text_bytes, edit_of}
 use Rattle.yaml_events.specs.declared.read_fault.ReadFault.TheVariants.{OutOfMemory}
-use Rattle.conf_state.specs.Commands.{edit_of}
-use Rattle.conf_session.specs.Said.{import_text, part_seen}
-use Rattle.conf_session.specs.Requests.{IsReadAs, RefusesPart}
+use Rattle.conf_session.specs.{Said.import_text, Said.part_seen, Requests.IsReadAs, Requests.RefusesPart}
 use Rattle.conf_session.proofs.parts.read_part.Goals as goal
 
 pub returns-in-Import-clause-ok : goal.returns-in-Import-clause-ok

@@ -1,7 +1,5 @@
 use Rattle.std.proofs.Common.{sym, ap, subst}
-use Rattle.conf_session.specs.Said.{change_seen}
-use Rattle.conf_session.specs.Requests.{MeansRequest}
-use Rattle.conf_session.specs.ReadChanges.{ReadsAsked}
+use Rattle.conf_session.specs.{Said.change_seen, Requests.MeansRequest, ReadChanges.ReadsAsked}
 use Rattle.conf_session.proofs.reading.read_change.Goals as goal
 
 pub returns-in-Single : goal.returns-in-Single

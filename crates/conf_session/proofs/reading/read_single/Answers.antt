@@ -1,12 +1,8 @@
 use Rattle.std.proofs.Common.{◌≡◌, sym, ap, ◌∙◌, subst}
 use Rattle.std.specs.Prelude.{IfErr, IfOk}
-use Rattle.std.specs.Str.{chars}
-use Rattle.yaml_data.specs.TextBytes.{text_bytes}
-use Rattle.conf_state.specs.Commands.{command_of}
-use Rattle.conf_store.specs.Imports.{IsImportOf, RefusesText}
+use Rattle.conf_session.proofs.Prelude.{chars, text_bytes, command_of, IsImportOf, RefusesText}
+use Rattle.conf_session.specs.{Requests.MeansRequest, Requests.changing, ReadChanges.ReadsAsked}
 use Rattle.conf_session.specs.Said.{import_text, single_part, part_seen}
-use Rattle.conf_session.specs.Requests.{MeansRequest, changing}
-use Rattle.conf_session.specs.ReadChanges.{ReadsAsked}
 use Rattle.conf_session.proofs.ConditionalLemmas.{reads-import}
 use Rattle.conf_session.proofs.reading.read_single.Goals as goal
 

@@ -1,6 +1,5 @@
 use Rattle.std.proofs.Common.{◌≡◌, IfSome, subst, sym}
-use Rattle.std.proofs.lemmas.Result.{err_from_is_err_and}
-use Rattle.conf_state.specs.Commands.{command_of}
+use Rattle.conf_session.proofs.Prelude.{err_from_is_err_and, command_of}
 use Rattle.conf_session.specs.Requests.{Asks, changing}
 use Rattle.conf_session.proofs.RequestLemmas.{handles-none, handles-retold}
 use Rattle.conf_session.proofs.reply.answer_piece.Goals as goal

@@ -1,19 +1,11 @@
 -- What the store did with the command.
-use Rattle.std.proofs.Common.{◌≡◌, refl, ap, sym, ◌∙◌, subst, true, false, ◌+◌}
-use Rattle.std.proofs.lemmas.Bool.{false≢true}
-use Rattle.std.proofs.lemmas.Result.{err_from_is_err_and}
+use Rattle.std.proofs.Common.{◌≡◌, refl, ap, sym, ◌∙◌, subst, true, ◌+◌}
 use Rattle.std.specs.Prelude.{min, Ok, Err}
-use Rattle.conf_state.specs.Commands.{command_of}
-use Rattle.conf_state.specs.States.{count_limit}
-use Rattle.conf_store.specs.Calls.{RefusesCommand, outcome, room_for, journal_length}
-use Rattle.conf_store.specs.View.{StoreView}
-use Rattle.conf_session.specs.Requests.{changing}
-use Rattle.conf_session.specs.Answers.{longest}
-use Rattle.conf_session.specs.Replies.{Did, Performs}
-use Rattle.conf_session.specs.Runs.{stored_of}
-use Rattle.conf_session.proofs.RequestLemmas.{longest-of, count-after, accepted-reply, refused-reply, refused-outcome}
-use Rattle.conf_session.proofs.RequestLemmas.{did-refused, command-performed, command-refused, did-asked}
-use Rattle.conf_session.proofs.RequestLemmas.{handles-none}
+use Rattle.conf_session.proofs.Prelude.{false≢true, err_from_is_err_and, command_of, count_limit, RefusesCommand, outcome, room_for}
+use Rattle.conf_session.proofs.Prelude.{journal_length, StoreView}
+use Rattle.conf_session.specs.{Requests.changing, Answers.longest, Replies.Did, Replies.Performs, Runs.stored_of}
+use Rattle.conf_session.proofs.RequestLemmas.{longest-of, count-after, accepted-reply, refused-reply, refused-outcome, did-refused}
+use Rattle.conf_session.proofs.RequestLemmas.{command-performed, command-refused, did-asked, handles-none}
 use Rattle.conf_session.proofs.RefusalLemmas.{ended-by-device}
 use Rattle.conf_session.proofs.reply.change.Goals as goal
 
@@ -81,7 +73,7 @@ returns-in-Err g c =
           let same = c.in-Err.ensures.unchanged other in (
             refused-reply (stored_of old) c.count.ensures.limits command f reason here is,
             ap (λ (s : StoreView g.row.D.Denot). s.reopen) same ∙ off,
-            subst (λ s. Performs false d.model old s (changing command)) (sym same)
+            subst (λ s. Performs d.model old s (changing command)) (sym same)
                 (command-refused d.model old off command f refused
                 (λ image h is. g.met.D.Disk.only_now old.disk image h is) c.requires.means),
           ))));

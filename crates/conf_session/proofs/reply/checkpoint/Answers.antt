@@ -1,15 +1,9 @@
 -- What the store did at the checkpoint.
 use Rattle.std.proofs.Common.{rules, ◌≡◌, sym, ap, ◌∙◌, refl}
-use Rattle.std.proofs.lemmas.Bool.{false≢true}
-use Rattle.std.proofs.lemmas.Result.{err_from_is_err_and}
 use Rattle.std.specs.Prelude.{decimal, codes, Err}
-use Rattle.yaml_grammar.specs.Trees.{text}
-use Rattle.yaml_recognizers.specs.Closings.{framed_text_bytes}
-use Rattle.conf_session.specs.Answers.{one}
-use Rattle.conf_session.specs.Requests.{checkpointing}
-use Rattle.conf_session.specs.Runs.{stored_of}
-use Rattle.conf_session.proofs.LengthLemmas.{answer-short}
-use Rattle.conf_session.proofs.RequestLemmas.{checkpointed, handles-none}
+use Rattle.conf_session.proofs.Prelude.{false≢true, err_from_is_err_and, text, framed_text_bytes}
+use Rattle.conf_session.specs.{Answers.one, Requests.checkpointing, Runs.stored_of}
+use Rattle.conf_session.proofs.{LengthLemmas.answer-short, RequestLemmas.checkpointed, RequestLemmas.handles-none}
 use Rattle.conf_session.proofs.reply.checkpoint.Goals as goal
 
 pub returns-in_err-answer : goal.returns-in_err-answer

@@ -1,6 +1,6 @@
 -- The first closing line is at the end, or the bytes are not closed once.
 use Rattle.std.proofs.Common.{length}
-use Rattle.std.proofs.lemmas.Bool.{eqb-true, eq-eqb, false≢true}
+use Rattle.conf_session.proofs.Prelude.{eqb-true, eq-eqb, false≢true}
 use Rattle.conf_session.proofs.RoundLemmas.{once-at, once-nowhere}
 use Rattle.conf_session.proofs.rounds.closes_once.Goals as goal
 

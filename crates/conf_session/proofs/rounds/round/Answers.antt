@@ -1,12 +1,11 @@
 -- Each turn performs and answers one piece. The flush comes last.
 use Rattle.std.proofs.Common.{◌≡◌, ◌≤◌, ◌+◌, false, refl, sym, ◌∙◌, ap, subst, arith, length}
 use Rattle.std.specs.Prelude.{ℕ, List, [], ◌∷◌, ◌++◌, take}
-use Rattle.std.proofs.lemmas.Result.{err_from_is_err_and}
+use Rattle.conf_session.proofs.Prelude.{err_from_is_err_and}
 use Rattle.conf_session.specs.Answers.{answer_bytes as answer_to}
-use Rattle.conf_session.specs.Runs.{stored_of}
-use Rattle.conf_session.specs.Rounds.{answer_bytes, piece_bytes}
-use Rattle.conf_session.proofs.RoundLemmas.{RoundSoFar, round-none, round-more, next-piece, all-pieces, one-more}
-use Rattle.conf_session.proofs.RoundLemmas.{ends-failing, ends-flushed, ends-failed}
+use Rattle.conf_session.specs.{Runs.stored_of, Rounds.answer_bytes, Rounds.piece_bytes}
+use Rattle.conf_session.proofs.RoundLemmas.{RoundSoFar, round-none, round-more, next-piece, all-pieces, one-more, ends-failing}
+use Rattle.conf_session.proofs.RoundLemmas.{ends-flushed, ends-unflushed}
 use Rattle.conf_session.proofs.rounds.round.Goals as goal
 
 pub turns-init : goal.turns-init
@@ -84,6 +83,6 @@ returns-in-Err-clause-rounds g c =
     let all = piece_bytes c.args.pieces.now in
     let long = all-pieces c.args.pieces.now in
     let upto : i ≤ length c.args.pieces.now = c.turns.auto.piece-index-end in
-    ends-failed d.model c.args.store.now c.turns.store (take i all)
+    ends-unflushed d.model c.args.store.now c.turns.store (take i all)
     (answer_bytes c.turns.answers.items) inv.so_far all i (omega (arith, long, upto)) refl
-    c.flush_all.new.store c.in-Err.field-0 c.in-Err.ensures.flushes
+    c.flush_all.new.store c.in-Err.ensures.flushes.1

@@ -1,8 +1,5 @@
 use Rattle.std.proofs.Common.{subst, sym, ap, ◌∙◌}
-use Rattle.std.proofs.lemmas.Result.{IfOk-weaker}
-use Rattle.yaml_data.specs.Seen.{elements_of}
-use Rattle.conf_record.specs.Reading.{AreKept}
-use Rattle.conf_record.proofs.PieceLemmas.{items_kept}
+use Rattle.conf_session.proofs.Prelude.{IfOk-weaker, elements_of, AreKept, items_kept}
 use Rattle.conf_session.specs.Said.{batch_said}
 use Rattle.conf_session.proofs.said.batch_said.Goals as goal
 

@@ -1,9 +1,5 @@
 use Rattle.std.proofs.Common.{◌≡◌, codes, get_or, length, refl, sym, ap, ◌∙◌}
-use Rattle.std.proofs.lemmas.Bool.{eqb-false}
-use Rattle.std.specs.Str.{chars}
-use Rattle.yaml_grammar.specs.Texts.{same_text}
-use Rattle.yaml_data.specs.TextBytes.{text_bytes}
-use Rattle.conf_state.proofs.LineLemmas.{ascii}
+use Rattle.conf_session.proofs.Prelude.{eqb-false, chars, same_text, text_bytes, ascii}
 use Rattle.conf_session.proofs.SaidLemmas.{first-if}
 use Rattle.conf_session.proofs.said.begins_with_if.Goals as goal
 

@@ -1,8 +1,5 @@
 use Rattle.std.proofs.Common.{◌≡◌, false, true, sym, ◌∙◌}
-use Rattle.std.proofs.lemmas.Result.{IfOk-weaker}
-use Rattle.yaml_data.specs.Seen.{members_of}
-use Rattle.conf_record.specs.RecordsRead.{keys_are}
-use Rattle.conf_record.proofs.TreeLemmas.{asked}
+use Rattle.conf_session.proofs.Prelude.{IfOk-weaker, members_of, keys_are, asked}
 use Rattle.conf_session.specs.Said.{batch_keys}
 use Rattle.conf_session.proofs.SaidLemmas.{batch_texts, change-batch, change-part}
 use Rattle.conf_session.proofs.said.change_said.Goals as goal

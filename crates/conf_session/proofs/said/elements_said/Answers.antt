@@ -1,6 +1,5 @@
 use Rattle.std.proofs.Common.{option_map, Vec, Global, ap, sym, ◌∙◌}
-use Rattle.conf_session.specs.Said.{parts_seen, parts_said}
-use Rattle.conf_session.specs.declared.parts.Part.{Part}
+use Rattle.conf_session.specs.{Said.parts_seen, Said.parts_said, declared.parts.Part.Part}
 use Rattle.conf_session.proofs.said.elements_said.Goals as goal
 
 pub returns-in-Some : goal.returns-in-Some

@@ -1,11 +1,5 @@
 use Rattle.std.proofs.Common.{rules, ◌≡◌, [], ◌∷◌, ap, sym, ◌∙◌}
-use Rattle.std.proofs.lemmas.Str.{chars-nil}
-use Rattle.std.specs.Str.{chars}
-use Rattle.yaml_grammar.specs.Texts.{same_text}
-use Rattle.yaml_grammar.specs.Trees.{text}
-use Rattle.yaml_data.specs.Seen.{members_of}
-use Rattle.yaml_data.specs.TextBytes.{text_bytes}
-use Rattle.conf_record.specs.RecordsRead.{values}
+use Rattle.conf_session.proofs.Prelude.{chars-nil, chars, same_text, text, members_of, text_bytes, values}
 use Rattle.conf_session.specs.Said.{is_empty_text}
 use Rattle.conf_session.proofs.said.is_empty_text.Goals as goal
 

@@ -1,16 +1,10 @@
 -- The keys are asked for in the order of the definition.
-use Rattle.std.proofs.Common.{◌≡◌, false, true, sym, ap, subst, ◌∙◌}
-use Rattle.std.proofs.lemmas.Result.{IfOk-weaker}
-use Rattle.yaml_config.specs.Kept.{IsKept}
-use Rattle.yaml_data.specs.Seen.{tree_of, members_of}
-use Rattle.yaml_data.proofs.SeenLemmas.{tree_of-Text, tree_of-Seq, tree_of-Map}
-use Rattle.conf_record.specs.RecordsRead.{keys_are}
-use Rattle.conf_record.proofs.PieceLemmas.{parts_kept}
-use Rattle.conf_record.proofs.TreeLemmas.{asked}
+use Rattle.std.proofs.Common.{◌≡◌, false, true, refl, sym, ap, subst, ◌∙◌}
+use Rattle.conf_session.proofs.Prelude.{IfOk-weaker, IsKept, tree_of, members_of, tree_of-Text, tree_of-Seq, tree_of-Map, keys_are}
+use Rattle.conf_session.proofs.Prelude.{parts_kept, asked}
 use Rattle.conf_session.specs.Said.{said_by, begins_with_if, batch_keys, get_keys, export_keys, names_keys, checkpoint_keys}
-use Rattle.conf_session.proofs.SaidLemmas.{said-text, said-sequence, said-batch, said-get, said-export, said-names}
-use Rattle.conf_session.proofs.SaidLemmas.{said-checkpoint, said-conditional, said-part, batch_texts, get_texts}
-use Rattle.conf_session.proofs.SaidLemmas.{export_texts, names_texts, checkpoint_texts}
+use Rattle.conf_session.proofs.SaidLemmas.{said-text, said-sequence, said-mapping, batch_texts, get_texts, export_texts, names_texts}
+use Rattle.conf_session.proofs.SaidLemmas.{checkpoint_texts}
 use Rattle.conf_session.proofs.said.said_by.Goals as goal
 
 pub returns-in-Text : goal.returns-in-Text
@@ -33,7 +27,7 @@ returns-then-keys_are c =
     let seen = ap said_by (ap tree_of c.in-Map.is ∙ tree_of-Map c.in-Map.pairs) in
     let e0 : keys_are batch_keys ms ≡ true = asked _ batch_keys c.deref.result.now _ _ true c.keys_are.ensures
     batch_texts c.deref.ensures.value c.if-keys_are.true in
-    IfOk-weaker c.batch_said.result _ _ (λ said e. e ∙ sym (seen ∙ said-batch ms e0)) c.batch_said.ensures
+    IfOk-weaker c.batch_said.result _ _ (λ said e. e ∙ sym (seen ∙ said-mapping ms e0 refl refl refl refl refl)) c.batch_said.ensures
 
 pub returns-then-keys_are-2 : goal.returns-then-keys_are-2
 returns-then-keys_are-2 c =
@@ -43,7 +37,7 @@ returns-then-keys_are-2 c =
     batch_texts c.deref.ensures.value c.if-keys_are.false in
     let e1 : keys_are get_keys ms ≡ true = asked _ get_keys c.deref-else-keys_are.result.now _ _ true
     c.keys_are-else-keys_are.ensures get_texts c.deref-else-keys_are.ensures.value c.if-keys_are-2.true in
-    c.get_said.ensures ∙ sym (seen ∙ said-get ms e0 e1)
+    c.get_said.ensures ∙ sym (seen ∙ said-mapping ms e0 e1 refl refl refl refl)
 
 pub returns-then-keys_are-3 : goal.returns-then-keys_are-3
 returns-then-keys_are-3 c =
@@ -55,7 +49,7 @@ returns-then-keys_are-3 c =
     c.keys_are-else-keys_are.ensures get_texts c.deref-else-keys_are.ensures.value c.if-keys_are-2.false in
     let e2 : keys_are export_keys ms ≡ true = asked _ export_keys c.deref-else-keys_are-2.result.now _ _ true
     c.keys_are-else-keys_are-2.ensures export_texts c.deref-else-keys_are-2.ensures.value c.if-keys_are-3.true in
-    c.export_said.ensures ∙ sym (seen ∙ said-export ms e0 e1 e2)
+    c.export_said.ensures ∙ sym (seen ∙ said-mapping ms e0 e1 e2 refl refl refl)
 
 pub returns-then-keys_are-4 : goal.returns-then-keys_are-4
 returns-then-keys_are-4 c =
@@ -69,7 +63,7 @@ returns-then-keys_are-4 c =
     c.keys_are-else-keys_are-2.ensures export_texts c.deref-else-keys_are-2.ensures.value c.if-keys_are-3.false in
     let e3 : keys_are names_keys ms ≡ true = asked _ names_keys c.deref-else-keys_are-3.result.now _ _ true
     c.keys_are-else-keys_are-3.ensures names_texts c.deref-else-keys_are-3.ensures.value c.if-keys_are-4.true in
-    c.names_said.ensures ∙ sym (seen ∙ said-names ms e0 e1 e2 e3)
+    c.names_said.ensures ∙ sym (seen ∙ said-mapping ms e0 e1 e2 e3 refl refl)
 
 pub returns-then-keys_are-5 : goal.returns-then-keys_are-5
 returns-then-keys_are-5 c =
@@ -86,7 +80,7 @@ returns-then-keys_are-5 c =
     let e4 : keys_are checkpoint_keys ms ≡ true =
     asked _ checkpoint_keys c.deref-else-keys_are-4.result.now _ _ true c.keys_are-else-keys_are-4.ensures
     checkpoint_texts c.deref-else-keys_are-4.ensures.value c.if-keys_are-5.true in
-    c.checkpoint_said.ensures ∙ sym (seen ∙ said-checkpoint ms e0 e1 e2 e3 e4)
+    c.checkpoint_said.ensures ∙ sym (seen ∙ said-mapping ms e0 e1 e2 e3 e4 refl)
 
 pub returns-then-begins_with_if : goal.returns-then-begins_with_if
 returns-then-begins_with_if c =
@@ -105,7 +99,7 @@ returns-then-begins_with_if c =
     checkpoint_texts c.deref-else-keys_are-4.ensures.value c.if-keys_are-5.false in
     let e5 : begins_with_if ms ≡ true = ap (λ ps. begins_with_if (members_of ps))
     (sym c.deref-else-keys_are-5.ensures.value) ∙ sym c.begins_with_if.ensures ∙ c.if-begins_with_if.true in
-    IfOk-weaker c.conditional_said.result _ _ (λ said e. e ∙ sym (seen ∙ said-conditional ms e0 e1 e2 e3 e4 e5)) c.conditional_said.ensures
+    IfOk-weaker c.conditional_said.result _ _ (λ said e. e ∙ sym (seen ∙ said-mapping ms e0 e1 e2 e3 e4 e5)) c.conditional_said.ensures
 
 pub returns-else-begins_with_if : goal.returns-else-begins_with_if
 returns-else-begins_with_if c =
@@ -124,7 +118,7 @@ returns-else-begins_with_if c =
     checkpoint_texts c.deref-else-keys_are-4.ensures.value c.if-keys_are-5.false in
     let e5 : begins_with_if ms ≡ false = ap (λ ps. begins_with_if (members_of ps))
     (sym c.deref-else-keys_are-5.ensures.value) ∙ sym c.begins_with_if.ensures ∙ c.if-begins_with_if.false in
-    IfOk-weaker c.part_said.result _ _ (λ said e. e ∙ sym (seen ∙ said-part ms e0 e1 e2 e3 e4 e5)) c.part_said.ensures
+    IfOk-weaker c.part_said.result _ _ (λ said e. e ∙ sym (seen ∙ said-mapping ms e0 e1 e2 e3 e4 e5)) c.part_said.ensures
 
 pub conditional_said-requires : goal.conditional_said-requires
 conditional_said-requires c = parts_kept (members_of c.in-Map.pairs.items)

@@ -1,10 +1,5 @@
 use Rattle.std.proofs.Common.{◌++◌, ap, arith}
-use Rattle.std.specs.Str.{chars}
-use Rattle.yaml_grammar.specs.Texts.{spaces}
-use Rattle.yaml_grammar.specs.Style.{key_lines, value_at}
-use Rattle.yaml_data.specs.Seen.{tree_of}
-use Rattle.yaml_writer.specs.BudgetLaws.{byte_len-append}
-use Rattle.yaml_writer.specs.Sizes.{length_at}
+use Rattle.conf_state.proofs.Prelude.{chars, spaces, key_lines, value_at, tree_of, byte_len-append, length_at}
 use Rattle.conf_state.specs.BaseTexts.{entry_length}
 use Rattle.conf_state.proofs.base.entry_length.Goals as goal
 

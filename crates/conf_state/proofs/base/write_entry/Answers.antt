@@ -1,9 +1,5 @@
 use Rattle.std.proofs.Common.{subst, ◌++◌}
-use Rattle.std.proofs.lemmas.Result.{on_ok_weaker}
-use Rattle.std.specs.Str.{chars}
-use Rattle.yaml_grammar.specs.Texts.{spaces}
-use Rattle.yaml_grammar.specs.Style.{key_lines, value_at}
-use Rattle.yaml_data.specs.Seen.{tree_of}
+use Rattle.conf_state.proofs.Prelude.{on_ok_weaker, chars, spaces, key_lines, value_at, tree_of}
 use Rattle.conf_state.proofs.base.write_entry.Goals as goal
 
 pub returns : goal.returns

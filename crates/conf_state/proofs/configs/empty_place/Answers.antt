@@ -1,8 +1,6 @@
 use Rattle.std.proofs.Common.{ap, sym, ◌∙◌}
-use Rattle.std.specs.Option.{option_copied_mut}
-use Rattle.std.specs.Map.{set_value}
-use Rattle.conf_state.specs.Configs.{is_name}
-use Rattle.conf_state.specs.Places.{present}
+use Rattle.conf_state.proofs.Prelude.{option_copied_mut, set_value}
+use Rattle.conf_state.specs.{Configs.is_name, Places.present}
 use Rattle.conf_state.proofs.PlaceLemmas.{in_place, lookup-present, present-cut, cut-absent}
 use Rattle.conf_state.proofs.configs.empty_place.Goals as goal
 

@@ -1,8 +1,6 @@
 use Rattle.std.proofs.Common.{◌≡◌, ◌≤◌}
-use Rattle.std.specs.String.{string_eq}
-use Rattle.indexmap.specs.IndexMap.{IsUnique, spare}
-use Rattle.conf_state.specs.Configs.{cut_each}
-use Rattle.conf_state.specs.Places.{present}
+use Rattle.conf_state.proofs.Prelude.{string_eq, IsUnique, spare}
+use Rattle.conf_state.specs.{Configs.cut_each, Places.present}
 use Rattle.conf_state.proofs.configs.empty_places.Given as goal
 
 -- what is left makes of the places what all made of them at first

@@ -1,8 +1,6 @@
 use Rattle.std.proofs.Common.{◌≡◌, map}
-use Rattle.std.specs.Vec.Iter.{into_iter_items}
-use Rattle.conf_state.specs.Commands.{edit_of}
-use Rattle.conf_state.specs.Drafts.{drafted, IsDraftOf}
-use Rattle.conf_state.specs.Steps.{all_edited}
+use Rattle.conf_state.proofs.Prelude.{into_iter_items}
+use Rattle.conf_state.specs.{Commands.edit_of, Drafts.drafted, Drafts.IsDraftOf, Steps.all_edited}
 use Rattle.conf_state.proofs.drafting.draft_edits.Given as goal
 
 -- the edits that are left make of the draft what all make of the one at first

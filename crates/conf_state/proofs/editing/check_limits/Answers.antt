@@ -1,5 +1,5 @@
 use Rattle.std.proofs.Common.{arith}
-use Rattle.yaml_data.specs.Seen.{tree_of}
+use Rattle.conf_state.proofs.Prelude.{tree_of}
 use Rattle.conf_state.proofs.StepLemmas.{checked_tree-deep, checked_tree-large, checked_tree-within}
 use Rattle.conf_state.proofs.editing.check_limits.Goals as goal
 

@@ -1,9 +1,6 @@
 use Rattle.std.proofs.Common.{Err, ap, sym, subst, ◌∙◌}
-use Rattle.std.specs.Str.{chars}
-use Rattle.yaml_data.specs.Seen.{tree_of}
-use Rattle.conf_state.specs.Commands.{text_of, import_as}
-use Rattle.conf_state.specs.Names.{good_name}
-use Rattle.conf_state.specs.declared.fault.StoreFault.TheVariants.{BadName}
+use Rattle.conf_state.proofs.Prelude.{chars, tree_of}
+use Rattle.conf_state.specs.{Commands.text_of, Commands.import_as, Names.good_name, declared.fault.StoreFault.TheVariants.BadName}
 use Rattle.conf_state.proofs.StepLemmas.{edited-named, edited-unnamed}
 use Rattle.conf_state.proofs.editing.import.Goals as goal
 

@@ -1,8 +1,6 @@
 use Rattle.std.proofs.Common.{ap, sym, subst, ◌∙◌}
-use Rattle.std.specs.Str.{chars}
-use Rattle.yaml_data.specs.Seen.{tree_of}
-use Rattle.conf_state.specs.Commands.{edit_of, text_of, set_at, delete_at}
-use Rattle.conf_state.specs.Steps.{edited}
+use Rattle.conf_state.proofs.Prelude.{chars, tree_of}
+use Rattle.conf_state.specs.{Commands.edit_of, Commands.text_of, Commands.set_at, Commands.delete_at, Steps.edited}
 use Rattle.conf_state.proofs.editing.make_edit.Goals as goal
 
 pub returns-in-Import : goal.returns-in-Import

@@ -1,6 +1,5 @@
 use Rattle.std.proofs.Common.{Err, sym, subst}
-use Rattle.std.proofs.lemmas.Result.{err_from_is_err_and}
-use Rattle.yaml_data.specs.Seen.{tree_of}
+use Rattle.conf_state.proofs.Prelude.{err_from_is_err_and, tree_of}
 use Rattle.conf_state.specs.Commands.{text_of}
 use Rattle.conf_state.proofs.StepLemmas.{import-checked, import-refused}
 use Rattle.conf_state.proofs.editing.put_within.Goals as goal

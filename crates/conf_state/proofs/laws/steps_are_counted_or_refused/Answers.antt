@@ -1,5 +1,4 @@
-use Rattle.conf_state.proofs.RefusalLemmas.{accepted-room, step-refusal}
-use Rattle.conf_state.proofs.RunLaws.{step-one}
+use Rattle.conf_state.proofs.{RefusalLemmas.accepted-room, RefusalLemmas.step-refusal, RunLaws.step-one}
 use Rattle.conf_state.proofs.laws.steps_are_counted_or_refused.Goals as goal
 
 pub returns-clause-room : goal.returns-clause-room

@@ -1,10 +1,6 @@
 use Rattle.std.proofs.Common.{Ok, ap, subst, ◌∙◌}
-use Rattle.std.specs.Str.{chars}
-use Rattle.yaml_data.specs.Seen.{tree_of}
-use Rattle.yaml_config.specs.Changes.{Changes}
-use Rattle.yaml_config.specs.Edits.{tree_after_edit}
-use Rattle.conf_state.proofs.EditLemmas.{same_edit}
-use Rattle.conf_state.proofs.PlanningLemmas.{plan-made}
+use Rattle.conf_state.proofs.Prelude.{chars, tree_of, Changes, tree_after_edit}
+use Rattle.conf_state.proofs.{EditLemmas.same_edit, PlanningLemmas.plan-made}
 use Rattle.conf_state.proofs.planning.edit_config.Goals as goal
 
 -- the edit makes the tree that was planned

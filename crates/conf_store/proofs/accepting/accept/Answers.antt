@@ -1,13 +1,8 @@
 use Rattle.std.proofs.Common.{rules, ◌≡◌, inl, inr, ⊎_elim, ◌+◌, min, max, ◌∙◌, ap}
 use Rattle.std.specs.Prelude.{string_bytes}
-use Rattle.conf_state.specs.Commands.{command_of}
-use Rattle.conf_state.specs.States.{count_limit}
-use Rattle.conf_record.specs.Records.{record_bytes}
-use Rattle.conf_store.specs.Stagings.{staged_of}
-use Rattle.conf_store.specs.Calls.{next_number}
-use Rattle.conf_store.specs.Staged.{staged_length}
-use Rattle.conf_store.proofs.RefusalLemmas.{of-state}
-use Rattle.conf_store.proofs.StoreLemmas.{accepted, refused-outcome, room-next}
+use Rattle.conf_store.proofs.Prelude.{command_of, count_limit, record_bytes}
+use Rattle.conf_store.specs.{Stagings.staged_of, Calls.next_number, Staged.staged_length}
+use Rattle.conf_store.proofs.{RefusalLemmas.of-state, StoreLemmas.accepted, StoreLemmas.refused-outcome, StoreLemmas.room-next}
 use Rattle.conf_store.proofs.accepting.accept.Goals as goal
 
 pub returns-in-Ok-clause-ok : goal.returns-in-Ok-clause-ok

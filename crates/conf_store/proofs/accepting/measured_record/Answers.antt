@@ -1,5 +1,5 @@
 use Rattle.std.proofs.Common.{◌≡◌, Bool, true, false}
-use Rattle.conf_state.specs.Commands.{command_of}
+use Rattle.conf_store.proofs.Prelude.{command_of}
 use Rattle.conf_store.proofs.StoreLemmas.{room-measured}
 use Rattle.conf_store.proofs.accepting.measured_record.Goals as goal
 

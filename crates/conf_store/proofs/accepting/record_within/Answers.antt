@@ -1,7 +1,5 @@
 use Rattle.std.proofs.Common.{◌≡◌, IfSome, length, string_bytes, rules, subst}
-use Rattle.conf_state.specs.Commands.{command_of}
-use Rattle.conf_record.specs.Records.{record_bytes}
-use Rattle.conf_record.specs.RecordsRead.{IsCommand}
+use Rattle.conf_store.proofs.Prelude.{command_of, record_bytes, IsCommand}
 use Rattle.conf_store.proofs.StoreLemmas.{made-measured}
 use Rattle.conf_store.proofs.accepting.record_within.Goals as goal
 

@@ -1,4 +1,4 @@
-use Rattle.conf_state.specs.BaseTexts.{base_bytes}
+use Rattle.conf_store.proofs.Prelude.{base_bytes}
 use Rattle.conf_store.proofs.CreateLemmas.{creation-leaves, creation-reads}
 use Rattle.conf_store.proofs.creating.create_store.Goals as goal
 

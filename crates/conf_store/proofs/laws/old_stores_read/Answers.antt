@@ -1,13 +1,10 @@
 use Rattle.std.proofs.Common.{ℕ, ◌+◌, List, [], ◌∷◌, arith}
-use Rattle.std.specs.Str.{chars}
+use Rattle.conf_store.proofs.Prelude.{chars, single, Contents, IsRecord, IsBase}
 use Rattle.yaml_data.specs.OwnLimits.{own_limits}
-use Rattle.conf_state.specs.Commands.{single}
-use Rattle.conf_state.specs.States.{Contents}
-use Rattle.conf_record.specs.Documents.{IsRecord, IsBase}
-use Rattle.conf_store.specs.First as first
 use Rattle.conf_store.specs.Meaning.{AreRecords, PiecesMean}
 use Rattle.conf_store.proofs.FirstStepLemmas.{gives-wider, as_edit, as_commands, after-accepted, state-wider}
 use Rattle.conf_store.proofs.FirstReadLemmas.{record-more, base-more}
+use Rattle.conf_store.specs.First as first
 use Rattle.conf_store.proofs.laws.old_stores_read.Goals as goal
 
 record-reads : (bytes : List ℕ) (c : first.Command) (n : ℕ) → first.IsRecord bytes c n → IsRecord bytes (single (as_edit c)) n

@@ -1,8 +1,6 @@
 use Rattle.std.proofs.Common.{◌≡◌, ℕ, ◌+◌, ◌-◌, take, ap, sym, subst, ◌∙◌, arith}
-use Rattle.std.proofs.lemmas.List.{replicate-append-replicate, take-replicate, get_or-replicate}
-use Rattle.yaml_grammar.specs.Texts.{spaces}
-use Rattle.conf_store.specs.Room.{AppendsWithin}
-use Rattle.conf_store.specs.RoomLaws.{AppendsWithin-none, AppendsWithin-joined}
+use Rattle.conf_store.proofs.Prelude.{replicate-append-replicate, take-replicate, get_or-replicate, spaces}
+use Rattle.conf_store.specs.{Room.AppendsWithin, RoomLaws.AppendsWithin-none, RoomLaws.AppendsWithin-joined}
 use Rattle.conf_store.proofs.part_text.append_spaces.Goals as goal
 
 pub loop-left-init : goal.loop-left-init

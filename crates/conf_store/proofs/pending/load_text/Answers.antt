@@ -1,6 +1,5 @@
 use Rattle.std.proofs.Common.{length, option_map, unwrap_or, string_bytes, encode_utf8_all, ap, sym, ◌∙◌, arith}
-use Rattle.std.specs.Str.{chars}
-use Rattle.conf_state.specs.EntryTexts.{entry_named}
+use Rattle.conf_store.proofs.Prelude.{chars, entry_named}
 use Rattle.conf_store.proofs.pending.load_text.Goals as goal
 
 pub returns-in-Some-clause-rest : goal.returns-in-Some-clause-rest

@@ -1,8 +1,6 @@
 -- What is found in the file is what the read tells of it, and a read changes nothing.
-use Rattle.conf_disk.specs.Folder.{bytes_under}
-use Rattle.conf_disk.specs.declared.disk.Name.TheVariants.{Store}
-use Rattle.conf_store.proofs.FileLemmas.{read-stays}
-use Rattle.conf_store.proofs.OpenLemmas.{found-means, refused-nothing}
+use Rattle.conf_store.proofs.Prelude.{bytes_under, Store}
+use Rattle.conf_store.proofs.{FileLemmas.read-stays, OpenLemmas.found-means, OpenLemmas.refused-nothing}
 use Rattle.conf_store.proofs.reading.read_state.Goals as goal
 
 pub returns-in-Err-Device-clause-stays : goal.returns-in-Err-Device-clause-stays

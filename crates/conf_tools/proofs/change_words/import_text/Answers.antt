@@ -1,7 +1,6 @@
 -- The text that was read is the one that is imported.
 use Rattle.std.proofs.Common.{subst}
-use Rattle.conf_tools.specs.Outcomes.{status_of_ending}
-use Rattle.conf_tools.specs.Performs.{ImportsBytes, access_of}
+use Rattle.conf_tools.specs.{Outcomes.status_of_ending, Performs.ImportsBytes, Performs.access_of}
 use Rattle.conf_tools.proofs.OutcomeLemmas.{never_done}
 use Rattle.conf_tools.proofs.change_words.import_text.Goals as goal
 

@@ -1,9 +1,7 @@
 -- The change was made, or refused, on the store that was opened, whose disk is handed back.
 use Rattle.std.proofs.Common.{true, false, Err, ap, sym, subst}
-use Rattle.conf_store.specs.Calls.{HasFailed}
+use Rattle.conf_tools.proofs.Prelude.{HasFailed, AllImagesMean, failed-later}
 use Rattle.conf_store.specs.Changing.{store_file}
-use Rattle.conf_store.specs.Durable.{AllImagesMean}
-use Rattle.conf_store.proofs.OpenLemmas.{failed-later}
 use Rattle.conf_tools.specs.Changes.{KeepsChange, ReadsChanged}
 use Rattle.conf_tools.proofs.ChangeLemmas.{keeps-made, keeps-refused, never-reopen}
 use Rattle.conf_tools.proofs.changes.change_store.Goals as goal

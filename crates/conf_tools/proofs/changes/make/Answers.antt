@@ -1,7 +1,7 @@
 -- Nothing waits before the change, so a crash leaves one of two states.
 use Rattle.std.proofs.Common.{[]}
+use Rattle.conf_tools.proofs.Prelude.{command_of}
 use Rattle.std.proofs.lemmas.Result.{on_ok_weaker}
-use Rattle.conf_state.specs.Commands.{command_of}
 use Rattle.conf_tools.proofs.ChangeLemmas.{checkpoint-leaves, command-leaves}
 use Rattle.conf_tools.proofs.changes.make.Goals as goal
 

@@ -1,12 +1,7 @@
 -- A crash while the file is looked for leaves no more than one before, and then what one of the opening leaves.
 use Rattle.std.proofs.Common.{sym, subst}
-use Rattle.conf_disk.specs.Moments.{LeavesOnly}
-use Rattle.conf_store.specs.Opens.{MeantAtEntry}
-use Rattle.conf_disk.specs.Folder.{Reads}
-use Rattle.conf_disk.specs.declared.disk.Content.{Content}
-use Rattle.conf_disk.specs.declared.disk.Name.TheVariants.{Store}
-use Rattle.conf_tools.proofs.ChangeLemmas.{looked-leaves}
-use Rattle.conf_tools.proofs.MadeLemmas.{made-empty}
+use Rattle.conf_tools.proofs.Prelude.{LeavesOnly, MeantAtEntry, Reads, Content, Store}
+use Rattle.conf_tools.proofs.{ChangeLemmas.looked-leaves, MadeLemmas.made-empty}
 use Rattle.conf_tools.proofs.changes.make_store.Goals as goal
 
 pub returns-in-Ok-open_told-clause-made : goal.returns-in-Ok-open_told-clause-made

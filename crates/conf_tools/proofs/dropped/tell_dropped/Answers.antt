@@ -1,6 +1,6 @@
 -- The line is that for more than one byte.
 use Rattle.std.proofs.Common.{◌≢◌, rules, arith}
-use Rattle.std.proofs.lemmas.Grind.{common_steps}
+use Rattle.conf_tools.proofs.Prelude.{common_steps}
 use Rattle.conf_tools.specs.Dropped.{dropped_line}
 use Rattle.conf_tools.proofs.DroppedLemmas.{some_told}
 use Rattle.conf_tools.proofs.dropped.tell_dropped.Goals as goal

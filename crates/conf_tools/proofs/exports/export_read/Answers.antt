@@ -1,12 +1,6 @@
 -- The configuration is that of the state that the bytes mean.
 use Rattle.std.proofs.Common.{◌≡◌, ◌∙◌, ◌⊎◌, Ok, Err, inr, arith, subst}
-use Rattle.std.specs.Str.{chars}
-use Rattle.conf_disk.specs.Folder.{Reads, bytes_under}
-use Rattle.conf_disk.specs.declared.disk.Content.{Content}
-use Rattle.conf_disk.specs.declared.disk.Name.TheVariants.{Store}
-use Rattle.conf_journal.specs.Store.{store_limit}
-use Rattle.conf_state.specs.declared.fault.StoreFault.TheVariants.{OutOfMemory}
-use Rattle.conf_store.specs.Opens.{RecoversTo}
+use Rattle.conf_tools.proofs.Prelude.{chars, Reads, bytes_under, Content, Store, store_limit, OutOfMemory, RecoversTo}
 use Rattle.conf_tools.specs.Reads.{tree_or}
 use Rattle.conf_tools.proofs.ExportLemmas.{bytes-find, bytes-lack, bytes-whole, leaves-same}
 use Rattle.conf_tools.proofs.HeldLemmas.{tree_lent}

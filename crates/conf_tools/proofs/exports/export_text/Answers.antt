@@ -1,13 +1,10 @@
 -- The file was read, which changed nothing; or the device failed at that.
 use Rattle.std.proofs.Common.{◌≡◌, ◌∙◌, Err, inl, ap, sym, subst, string_bytes}
 use Rattle.std.specs.Prelude.{OnOk}
-use Rattle.std.specs.Str.{chars}
-use Rattle.conf_disk.specs.Folder.{Tells}
-use Rattle.conf_disk.specs.Image.{Image}
-use Rattle.conf_journal.specs.Store.{store_limit}
+use Rattle.conf_tools.proofs.Prelude.{chars, Tells, Image, store_limit}
 use Rattle.conf_tools.specs.Exports.{disk_back}
-use Rattle.conf_tools.proofs.ExportLemmas.{dropped-before, dropped-since, leaves-both, leaves-meant, leaves-since}
-use Rattle.conf_tools.proofs.ExportLemmas.{no-rest-before, refused-before, refused-since, text-before, text-since}
+use Rattle.conf_tools.proofs.ExportLemmas.{dropped-before, dropped-since, leaves-both, leaves-meant, leaves-since, no-rest-before}
+use Rattle.conf_tools.proofs.ExportLemmas.{refused-before, refused-since, text-before, text-since}
 use Rattle.conf_tools.proofs.exports.export_text.Goals as goal
 
 pub export_read-requires : goal.export_read-requires

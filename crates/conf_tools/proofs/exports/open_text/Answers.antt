@@ -1,11 +1,7 @@
 -- The store was opened, or its file was read after the device failed.
 use Rattle.std.proofs.Common.{refl, sym, subst, string_bytes}
-use Rattle.std.specs.Str.{chars}
-use Rattle.conf_disk.specs.Moments.{LeavesOnly}
-use Rattle.conf_store.specs.Opens.{MeantAtEntry}
-use Rattle.conf_store.specs.declared.fault.OpenFault.{OpenFault}
-use Rattle.conf_tools.specs.Exports.{HasNoText, HasText}
-use Rattle.conf_tools.specs.Stores.{CannotOpen}
+use Rattle.conf_tools.proofs.Prelude.{chars, LeavesOnly, MeantAtEntry, OpenFault}
+use Rattle.conf_tools.specs.{Exports.HasNoText, Exports.HasText, Stores.CannotOpen}
 use Rattle.conf_tools.proofs.ExportLemmas.{dropped-since, leaves-since, opened-finds, refused-since, text-since}
 use Rattle.conf_tools.proofs.exports.open_text.Goals as goal
 

@@ -1,6 +1,6 @@
 -- What was read is what the file holds, and a read changes nothing.
 use Rattle.std.specs.Prelude.{string_bytes}
-use Rattle.std.specs.Str.{chars}
+use Rattle.conf_tools.proofs.Prelude.{chars}
 use Rattle.conf_tools.proofs.ExportLemmas.{lacks-read, text-read}
 use Rattle.conf_tools.proofs.exports.read_text.Goals as goal
 

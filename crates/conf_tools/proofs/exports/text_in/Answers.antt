@@ -1,14 +1,8 @@
 -- A missing file means the empty state, and bytes that were read the state of the file.
 use Rattle.std.proofs.Common.{◌≡◌, ◌∙◌, ◌⊎◌, Err, subst, string_bytes}
 use Rattle.std.specs.Prelude.{IfErr, IfOk}
-use Rattle.std.specs.Str.{chars}
-use Rattle.conf_disk.specs.Folder.{Tells}
-use Rattle.conf_disk.specs.declared.disk.Content.{Content}
-use Rattle.conf_journal.specs.Store.{store_limit}
-use Rattle.conf_state.specs.declared.fault.StoreFault.TheVariants.{OutOfMemory}
-use Rattle.conf_store.specs.Meaning.{empty_state}
-use Rattle.conf_tools.specs.Exports.{IsTextOfFound}
-use Rattle.conf_tools.specs.Reads.{tree_or}
+use Rattle.conf_tools.proofs.Prelude.{chars, Tells, Content, store_limit, OutOfMemory, empty_state}
+use Rattle.conf_tools.specs.{Exports.IsTextOfFound, Reads.tree_or}
 use Rattle.conf_tools.proofs.ExportLemmas.{bytes-mean, bytes-none, found-named, missing-means, exports-none, exports-text}
 use Rattle.conf_tools.proofs.HeldLemmas.{tree_lent}
 use Rattle.conf_tools.proofs.exports.text_in.Goals as goal

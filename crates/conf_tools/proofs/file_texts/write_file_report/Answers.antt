@@ -1,6 +1,6 @@
 -- One more line is written.
 use Rattle.std.proofs.Common.{◌∙◌}
-use Rattle.std.proofs.lemmas.List.{drop_more}
+use Rattle.conf_tools.proofs.Prelude.{drop_more}
 use Rattle.conf_tools.proofs.FileLemmas.{one_line_written}
 use Rattle.conf_tools.proofs.file_texts.write_file_report.Goals as goal
 

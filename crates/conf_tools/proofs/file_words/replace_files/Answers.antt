@@ -1,9 +1,8 @@
 -- One more file.
 use Rattle.std.proofs.Common.{ap}
-use Rattle.std.proofs.lemmas.List.{drop_more}
 use Rattle.std.specs.Prelude.{map}
-use Rattle.conf_tools.proofs.OutcomeLemmas.{worst_silently}
-use Rattle.conf_tools.proofs.WordLemmas.{one_replaced}
+use Rattle.conf_tools.proofs.Prelude.{drop_more}
+use Rattle.conf_tools.proofs.{OutcomeLemmas.worst_silently, WordLemmas.one_replaced}
 use Rattle.conf_tools.proofs.file_words.replace_files.Goals as goal
 
 pub loop-file-preserved : goal.loop-file-preserved

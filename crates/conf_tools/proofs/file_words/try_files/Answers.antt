@@ -1,10 +1,9 @@
 -- One more file.
 use Rattle.std.proofs.Common.{ap, sym, ◌∙◌}
-use Rattle.std.proofs.lemmas.List.{drop_more}
 use Rattle.std.specs.Prelude.{map}
+use Rattle.conf_tools.proofs.Prelude.{drop_more}
 use Rattle.conf_tools.specs.TextWords.{status_of_report}
-use Rattle.conf_tools.proofs.OutcomeLemmas.{reported_silently, worst_silently}
-use Rattle.conf_tools.proofs.WordLemmas.{last_one, one_more}
+use Rattle.conf_tools.proofs.{OutcomeLemmas.reported_silently, OutcomeLemmas.worst_silently, WordLemmas.last_one, WordLemmas.one_more}
 use Rattle.conf_tools.proofs.file_words.try_files.Goals as goal
 
 pub returns-then-stops_all-clause-reports : goal.returns-then-stops_all-clause-reports

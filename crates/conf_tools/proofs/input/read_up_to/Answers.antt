@@ -1,11 +1,8 @@
 -- What was read so far and what the last read gave are what the reader lost.
 use Rattle.std.proofs.Common.{[], ◌++◌, ◌≤◌, length, take, sym, Ok, refl, ap, ◌∙◌, append-nil, subst, arith}
-use Rattle.std.proofs.KnownBytes.{Consumes-trans, Consumes-kept}
-use Rattle.std.proofs.lemmas.Grind.{common_steps}
-use Rattle.std.proofs.lemmas.List.{take-append-le}
-use Rattle.std.specs.Io.KnownBytes.{Consumes, ReadConsumes}
-use Rattle.conf_tools.proofs.input.read_up_to.Goals as goal
+use Rattle.conf_tools.proofs.Prelude.{Consumes-trans, Consumes-kept, common_steps, take-append-le, Consumes, ReadConsumes}
 use Rattle.conf_tools.proofs.input.read_up_to.Goals.{in-Ok+in_ok-extend_from_slice-in-Ok, in-Err}
+use Rattle.conf_tools.proofs.input.read_up_to.Goals as goal
 
 pub returns-then-room-eq0-clause-ok : goal.returns-then-room-eq0-clause-ok
 returns-then-room-eq0-clause-ok g c =

@@ -1,6 +1,6 @@
 -- What was read so far is what the reader lost, and no more than asked for.
 use Rattle.std.proofs.Common.{◌≤◌, length}
-use Rattle.std.specs.Io.KnownBytes.{Consumes}
+use Rattle.conf_tools.proofs.Prelude.{Consumes}
 use Rattle.conf_tools.proofs.input.read_up_to.Given as goal
 
 abbrev pub invariant-loop : goal.invariant-loop

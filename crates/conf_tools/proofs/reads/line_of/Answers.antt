@@ -1,7 +1,6 @@
 -- The text and its line feed are put one after the other.
 use Rattle.std.proofs.Common.{[], ◌∷◌, ◌++◌, ap, ◌∙◌, string_bytes, encode_utf8_all}
-use Rattle.std.specs.Str.{chars}
-use Rattle.yaml_writer.specs.Encoded.{encoded_both}
+use Rattle.conf_tools.proofs.Prelude.{chars, encoded_both}
 use Rattle.conf_tools.proofs.reads.line_of.Goals as goal
 
 pub returns : goal.returns

@@ -1,9 +1,7 @@
 -- The array and its line feed are put one after the other.
 use Rattle.std.proofs.Common.{[], codes, string_bytes}
 use Rattle.std.specs.Prelude.{map}
-use Rattle.conf_state.specs.Commands.{text_of}
-use Rattle.yaml_forms.specs.Json.{json_texts}
-use Rattle.yaml_writer.specs.Encoded.{encoded_both}
+use Rattle.conf_tools.proofs.Prelude.{text_of, json_texts, encoded_both}
 use Rattle.conf_tools.proofs.reads.name_array.Goals as goal
 
 pub returns : goal.returns

@@ -1,8 +1,7 @@
 -- Whatever follows, the array with the names that are left is that of all of them.
 use Rattle.std.proofs.Common.{◌≡◌, drop}
 use Rattle.std.specs.Prelude.{encode_utf8_all, map}
-use Rattle.conf_state.specs.Commands.{text_of}
-use Rattle.yaml_forms.specs.Json.{json_texts}
+use Rattle.conf_tools.proofs.Prelude.{text_of, json_texts}
 use Rattle.yaml_forms.specs.TextArrays.{bytes_with}
 use Rattle.conf_tools.proofs.reads.names_array.Given as goal
 

@@ -1,7 +1,6 @@
 -- What was found is shown, or what stands for it.
 use Rattle.std.proofs.Common.{string_bytes}
-use Rattle.std.specs.Str.{chars}
-use Rattle.yaml_data.specs.Seen.{tree_of}
+use Rattle.conf_tools.proofs.Prelude.{chars, tree_of}
 use Rattle.conf_tools.specs.Reads.{tree_found, value_in}
 use Rattle.conf_tools.proofs.FoundLemmas.{found-lacks-all, found-shown-all, missing-lacks-all, missing-shown-all}
 use Rattle.conf_tools.proofs.reads.value_text.Goals as goal

@@ -1,6 +1,6 @@
 -- What was found is of a state that the file holds.
 use Rattle.std.proofs.Common.{◌∙◌, string_bytes}
-use Rattle.std.specs.Str.{chars}
+use Rattle.conf_tools.proofs.Prelude.{chars}
 use Rattle.conf_tools.specs.Reads.{tree_found}
 use Rattle.conf_tools.proofs.HeldLemmas.{TreeFound, keeps_same, tree_lent, value_cut, value_refused, value_written}
 use Rattle.conf_tools.proofs.reads.write_value.Goals as goal

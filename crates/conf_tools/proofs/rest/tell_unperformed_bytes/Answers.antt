@@ -1,6 +1,6 @@
 -- The line is that for more than one byte.
 use Rattle.std.proofs.Common.{rules, arith}
-use Rattle.std.proofs.lemmas.Grind.{common_steps}
+use Rattle.conf_tools.proofs.Prelude.{common_steps}
 use Rattle.conf_tools.proofs.rest.tell_unperformed_bytes.Goals as goal
 
 pub returns-in_default : goal.returns-in_default

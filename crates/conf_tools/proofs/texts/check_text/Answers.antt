@@ -1,5 +1,5 @@
 -- Nothing is written of a text that is refused.
-use Rattle.std.proofs.KnownBytes.{Keeps-refl}
+use Rattle.conf_tools.proofs.Prelude.{Keeps-refl}
 use Rattle.conf_tools.proofs.texts.check_text.Goals as goal
 
 pub returns-in-Err-clause-stops : goal.returns-in-Err-clause-stops

@@ -1,8 +1,7 @@
 -- Nothing is written of a text that is refused, and else the text of its tree.
 use Rattle.std.proofs.Common.{◌≡◌, ℕ, List, subst}
 use Rattle.std.specs.Prelude.{string_bytes}
-use Rattle.std.specs.Io.KnownBytes.{Appends}
-use Rattle.std.proofs.KnownBytes.{Keeps-refl}
+use Rattle.conf_tools.proofs.Prelude.{Appends, Keeps-refl}
 use Rattle.conf_tools.proofs.Formatting.{formatted}
 use Rattle.conf_tools.proofs.texts.format_text.Goals as goal
 

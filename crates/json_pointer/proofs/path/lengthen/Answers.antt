@@ -1,11 +1,7 @@
 use Rattle.std.proofs.Common.{◌≡◌, [], ◌∷◌, ◌++◌, option_to_list, string_bytes, ap, subst, sym, ◌∙◌}
-use Rattle.std.specs.Cow.{cow_str_bytes}
-use Rattle.std.specs.Str.{IsUtf8}
-use Rattle.std.specs.declared.borrow.CowStr.TheVariants.{Owned}
-use Rattle.std.proofs.lemmas.Str.{IsUtf8-string_bytes}
+use Rattle.json_pointer.proofs.Prelude.{cow_str_bytes, IsUtf8, Owned, IsUtf8-string_bytes}
 use lib.Utf8.{encode}
-use Rattle.json_pointer.specs.Pointers.{pointer_text, char_text}
-use Rattle.json_pointer.specs.Tokens.{texts}
+use Rattle.json_pointer.specs.{Pointers.pointer_text, Pointers.char_text, Tokens.texts}
 use Rattle.json_pointer.proofs.Pointers.{pointer_text-lengthened}
 use Rattle.json_pointer.proofs.path.lengthen.Goals as goal
 

@@ -1,8 +1,7 @@
 use Rattle.std.proofs.Common.{arith, ap, sym, ◌∙◌, get_or}
+use Rattle.json_pointer.proofs.Prelude.{run_is, IsCharBoundary-start}
 use Rattle.json_pointer.specs.Pointers.{unescaped}
-use Rattle.yaml_chars.proofs.Runs.{run_is}
 use Rattle.json_pointer.proofs.Pointers.{blind-unescaped}
-use Rattle.std.proofs.lemmas.Str.{IsCharBoundary-start}
 use Rattle.json_pointer.proofs.path.unescaped_end.Goals as goal
 
 pub returns-else-is_unescaped : goal.returns-else-is_unescaped

@@ -1,5 +1,5 @@
 use Rattle.std.proofs.Common.{◌∙◌, sym}
-use Rattle.std.specs.Str.Iter.{chars_rest}
+use Rattle.json_pointer.proofs.Prelude.{chars_rest}
 use Rattle.json_pointer.proofs.Escapes.{itself-passed, escape-read-on, stray-found, end-passed}
 use Rattle.json_pointer.proofs.pointer.has_whole_escapes.Goals as goal
 

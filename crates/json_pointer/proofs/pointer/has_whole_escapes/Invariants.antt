@@ -1,7 +1,6 @@
 use Rattle.std.proofs.Common.{◌≡◌, length}
 use Rattle.std.specs.Prelude.{is_none}
-use Rattle.std.specs.Str.{chars, IsUtf8}
-use Rattle.std.specs.Str.Iter.{chars_rest}
+use Rattle.json_pointer.proofs.Prelude.{chars, IsUtf8, chars_rest}
 use Rattle.json_pointer.specs.Pointers.{first_stray}
 use Rattle.json_pointer.proofs.pointer.has_whole_escapes.Given as goal
 

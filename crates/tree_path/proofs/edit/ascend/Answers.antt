@@ -1,14 +1,8 @@
 use Rattle.std.proofs.Common.{◌≡◌, ◌-◌, length, take, sym, ap, ap₂, subst, ◌∙◌, refl, arith}
-use Rattle.std.specs.Cow.{cow_str_bytes}
-use Rattle.std.specs.Result.{IsOk}
-use Rattle.std.specs.Str.{chars}
-use Rattle.yaml_data.specs.Seen.{tree_of}
-use Rattle.tree_path.specs.Paths.{child, put}
-use Rattle.tree_path.specs.Steps.{step_place, KnowsStep, Lowered, Rebuilt}
-use Rattle.json_pointer.specs.Tokens.{texts}
+use Rattle.tree_path.proofs.Prelude.{cow_str_bytes, IsOk, chars, tree_of, texts, take_all}
+use Rattle.tree_path.specs.{Paths.child, Paths.put, Steps.step_place, Steps.KnowsStep, Steps.Lowered, Steps.Rebuilt}
 use Rattle.tree_path.proofs.Descents.{texts-back, at_from-Lowered, Lowered-pop, Lowered-there, Rebuilt-step}
 use Rattle.tree_path.proofs.Ways.{knows-step, knows-above, place-there}
-use Rattle.std.proofs.lemmas.List.{take_all}
 use Rattle.tree_path.proofs.edit.ascend.Goals as goal
 
 pub loop-left-init : goal.loop-left-init

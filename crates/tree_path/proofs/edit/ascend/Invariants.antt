@@ -1,8 +1,6 @@
 use Rattle.std.proofs.Common.{◌≤◌, length, take}
-use Rattle.yaml_grammar.specs.Trees.{Tree}
-use Rattle.yaml_data.specs.Seen.{tree_of}
+use Rattle.tree_path.proofs.Prelude.{Tree, tree_of, texts}
 use Rattle.tree_path.specs.Steps.{Lowered, Rebuilt}
-use Rattle.json_pointer.specs.Tokens.{texts}
 use Rattle.tree_path.proofs.edit.ascend.Given as goal
 
 abbrev pub invariant-loop-left : goal.invariant-loop-left

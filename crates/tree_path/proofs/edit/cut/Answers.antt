@@ -1,13 +1,7 @@
 use Rattle.std.proofs.Common.{Ok, rules, ap, ◌∙◌, sym}
-use Rattle.std.proofs.lemmas.Result.{IfOk-weaker, on_ok_weaker}
-use Rattle.std.specs.Str.{chars}
-use Rattle.yaml_grammar.specs.Trees.{mapping}
-use Rattle.yaml_data.specs.Seen.{tree_of, members_of}
-use Rattle.yaml_data.specs.declared.tree.Tree.{the_lemmas}
-use Rattle.yaml_data.proofs.SeenLemmas.{tree_of-Text, tree_of-Map}
+use Rattle.tree_path.proofs.Prelude.{IfOk-weaker, on_ok_weaker, chars, mapping, tree_of, members_of, the_lemmas, tree_of-Text, tree_of-Map}
 use Rattle.tree_path.specs.Paths.{child, cut, key_in}
-use Rattle.tree_path.proofs.Places.{place_of-pairs}
-use Rattle.tree_path.proofs.Steps.{cut-Text}
+use Rattle.tree_path.proofs.{Places.place_of-pairs, Steps.cut-Text}
 use Rattle.tree_path.proofs.edit.cut.Goals as goal
 
 pub returns-in-Text-clause-missed : goal.returns-in-Text-clause-missed

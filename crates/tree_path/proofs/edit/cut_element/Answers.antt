@@ -1,8 +1,5 @@
 use Rattle.std.proofs.Common.{Ok, ap, ◌∙◌, sym}
-use Rattle.std.proofs.lemmas.Result.{err_from_is_err_and}
-use Rattle.std.specs.Str.{chars}
-use Rattle.yaml_grammar.specs.Trees.{sequence}
-use Rattle.yaml_data.specs.Seen.{tree_of, elements_of}
+use Rattle.tree_path.proofs.Prelude.{err_from_is_err_and, chars, sequence, tree_of, elements_of}
 use Rattle.tree_path.proofs.Steps.{child-Seq, cut-Seq, cut-Seq-missed, index-counted}
 use Rattle.tree_path.proofs.edit.cut_element.Goals as goal
 

@@ -1,8 +1,5 @@
 use Rattle.std.proofs.Common.{Ok, Err, refl, ap, ◌∙◌, sym, rules}
-use Rattle.std.proofs.lemmas.Result.{err_from_is_err_and}
-use Rattle.std.specs.Str.{chars}
-use Rattle.yaml_grammar.specs.Trees.{mapping}
-use Rattle.yaml_data.specs.Seen.{tree_of, members_of}
+use Rattle.tree_path.proofs.Prelude.{err_from_is_err_and, chars, mapping, tree_of, members_of}
 use Rattle.tree_path.proofs.Steps.{child-Map, cut-Map, cut-Map-missed, place-within, place-found, place-missed}
 use Rattle.tree_path.proofs.edit.cut_pair.Goals as goal
 

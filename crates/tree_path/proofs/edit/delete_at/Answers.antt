@@ -1,16 +1,8 @@
 use Rattle.std.proofs.Common.{◌≡◌, Err, [], ◌∷◌, ◌+◌, length, Global, sym, ap, subst, ◌∙◌, arith}
-use Rattle.std.specs.Cow.{cow_str_bytes}
-use Rattle.std.specs.declared.borrow.CowStr.{CowStr}
-use Rattle.std.specs.Str.{chars}
-use Rattle.std.proofs.lemmas.List.{length-map}
-use Rattle.std.proofs.lemmas.Result.{err_from_is_err_and}
-use Rattle.yaml_data.specs.Seen.{tree_of}
-use Rattle.tree_path.specs.Paths.{child, cut, key_in}
-use Rattle.tree_path.specs.Steps.{KnowsLast, Rebuilt}
-use Rattle.json_pointer.specs.Tokens.{texts}
-use Rattle.tree_path.proofs.Descents.{texts-append, Rebuilt-same, at_from-Lowered}
+use Rattle.tree_path.proofs.Prelude.{cow_str_bytes, CowStr, chars, length-map, err_from_is_err_and, tree_of, texts}
+use Rattle.tree_path.specs.{Paths.child, Paths.cut, Paths.key_in, Steps.KnowsLast, Steps.Rebuilt}
+use Rattle.tree_path.proofs.{Descents.texts-append, Descents.Rebuilt-same, Descents.at_from-Lowered, Ways.knows-way, Ways.knows-last}
 use Rattle.tree_path.proofs.Edits.{delete-Rebuilt, delete-missed, delete-refused, at-last}
-use Rattle.tree_path.proofs.Ways.{knows-way, knows-last}
 use Rattle.tree_path.proofs.edit.delete_at.Goals as goal
 
 pub returns-in_err-descend-clause-refused : goal.returns-in_err-descend-clause-refused

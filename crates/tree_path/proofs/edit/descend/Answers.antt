@@ -1,9 +1,6 @@
 use Rattle.std.proofs.Common.{Err, [], ◌∷◌, ◌++◌, take, drop, ◌+◌, sym, ap, subst, ◌∙◌}
-use Rattle.std.specs.Cow.{cow_str_bytes}
-use Rattle.std.specs.Str.{chars}
-use Rattle.yaml_data.specs.Seen.{tree_of}
+use Rattle.tree_path.proofs.Prelude.{cow_str_bytes, chars, tree_of, texts}
 use Rattle.tree_path.specs.Steps.{step_place, KnowsStep, KnowsWay, Lowered}
-use Rattle.json_pointer.specs.Tokens.{texts}
 use Rattle.tree_path.proofs.Descents.{texts-split, texts-turn, at_from-missed, at_from-Lowered, Lowered-push, Rebuilt-same}
 use Rattle.tree_path.proofs.Ways.{knows-prefix, knows-step, place-missed}
 use Rattle.tree_path.proofs.edit.descend.Goals as goal

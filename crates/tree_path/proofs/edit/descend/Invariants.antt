@@ -1,7 +1,6 @@
 use Rattle.std.proofs.Common.{take}
-use Rattle.yaml_data.specs.Seen.{tree_of}
+use Rattle.tree_path.proofs.Prelude.{tree_of, texts}
 use Rattle.tree_path.specs.Steps.{Lowered}
-use Rattle.json_pointer.specs.Tokens.{texts}
 use Rattle.tree_path.proofs.edit.descend.Given as goal
 
 abbrev pub invariant-loop-passed : goal.invariant-loop-passed

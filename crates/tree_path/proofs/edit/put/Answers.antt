@@ -1,12 +1,7 @@
 use Rattle.std.proofs.Common.{Ok, sym, ap, ◌∙◌, inr}
-use Rattle.std.specs.Str.{chars}
-use Rattle.yaml_grammar.specs.Trees.{mapping}
-use Rattle.yaml_data.specs.Seen.{tree_of, members_of}
-use Rattle.yaml_data.proofs.SeenLemmas.{tree_of-Text, tree_of-Map}
-use Rattle.tree_path.specs.Paths.{put, key_in}
-use Rattle.tree_path.proofs.Places.{place_of-pairs}
-use Rattle.tree_path.proofs.Steps.{put-Text}
-use Rattle.tree_path.specs.Paths.{at_step}
+use Rattle.tree_path.proofs.Prelude.{chars, mapping, tree_of, members_of, tree_of-Text, tree_of-Map}
+use Rattle.tree_path.specs.Paths.{put, key_in, at_step}
+use Rattle.tree_path.proofs.{Places.place_of-pairs, Steps.put-Text}
 use Rattle.tree_path.proofs.edit.put.Goals as goal
 
 pub returns-in-Text-clause-refused : goal.returns-in-Text-clause-refused

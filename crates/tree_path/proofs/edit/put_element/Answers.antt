@@ -1,9 +1,7 @@
 use Rattle.std.proofs.Common.{Ok, Err, [], ◌∷◌, ◌++◌, ap, ◌∙◌, sym, inr}
-use Rattle.std.specs.Str.{chars}
-use Rattle.yaml_grammar.specs.Trees.{sequence}
-use Rattle.yaml_data.specs.Seen.{tree_of, elements_of}
-use Rattle.tree_path.proofs.Steps.{put-Seq-last, put-Seq-missed, bytes_eq-dash, put-Seq, index-counted}
+use Rattle.tree_path.proofs.Prelude.{chars, sequence, tree_of, elements_of}
 use Rattle.tree_path.specs.Paths.{at_step}
+use Rattle.tree_path.proofs.Steps.{put-Seq-last, put-Seq-missed, bytes_eq-dash, put-Seq, index-counted}
 use Rattle.tree_path.proofs.edit.put_element.Goals as goal
 
 pub returns-then-eq-clause-ok : goal.returns-then-eq-clause-ok

@@ -1,9 +1,6 @@
 use Rattle.std.proofs.Common.{Ok, [], ◌∷◌, ◌++◌, set, ap, ◌∙◌, sym, rules}
-use Rattle.std.specs.Str.{chars}
-use Rattle.yaml_grammar.specs.Trees.{mapping}
-use Rattle.yaml_data.specs.Seen.{members_of}
-use Rattle.tree_path.proofs.Steps.{put-Map-last, put-Map, place-within}
-use Rattle.tree_path.proofs.StepLaws.{none-other}
+use Rattle.tree_path.proofs.Prelude.{chars, mapping, members_of}
+use Rattle.tree_path.proofs.{Steps.put-Map-last, Steps.put-Map, Steps.place-within, StepLaws.none-other}
 use Rattle.tree_path.proofs.edit.put_pair.Goals as goal
 
 pub index_mut-requires : goal.index_mut-requires

@@ -1,6 +1,5 @@
 use Rattle.std.proofs.Common.{Err, sym, ap, ◌∙◌}
-use Rattle.std.specs.Str.{chars}
-use Rattle.yaml_data.specs.Seen.{tree_of}
+use Rattle.tree_path.proofs.Prelude.{chars, tree_of}
 use Rattle.tree_path.specs.Paths.{child}
 use Rattle.tree_path.proofs.Descents.{at_from-turn, at_from-missed}
 use Rattle.tree_path.proofs.edit.value_at.Goals as goal

@@ -1,7 +1,6 @@
 use Rattle.std.proofs.Common.{◌≡◌, Ok, take}
-use Rattle.yaml_data.specs.Seen.{tree_of}
+use Rattle.tree_path.proofs.Prelude.{tree_of, texts}
 use Rattle.tree_path.specs.Paths.{at}
-use Rattle.json_pointer.specs.Tokens.{texts}
 use Rattle.tree_path.proofs.edit.value_at.Given as goal
 
 abbrev pub invariant-loop-passed : goal.invariant-loop-passed

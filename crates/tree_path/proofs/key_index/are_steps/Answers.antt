@@ -1,9 +1,6 @@
 use Rattle.std.proofs.Common.{[], ◌∷◌, ◌++◌, ◌<◌, length, sym, ap₂, ◌∙◌, arith}
-use Rattle.std.specs.Cow.{cow_str_bytes}
-use Rattle.std.specs.Str.{chars}
-use Rattle.yaml_data.specs.TextBytes.{text_bytes}
-use Rattle.tree_path.proofs.Descents.{texts-turn}
-use Rattle.tree_path.proofs.IndexLemmas.{same_key, steps-take}
+use Rattle.tree_path.proofs.Prelude.{cow_str_bytes, chars, text_bytes}
+use Rattle.tree_path.proofs.{Descents.texts-turn, IndexLemmas.same_key, IndexLemmas.steps-take}
 use Rattle.tree_path.proofs.key_index.are_steps.Goals as goal
 
 pub loop-place-preserved : goal.loop-place-preserved

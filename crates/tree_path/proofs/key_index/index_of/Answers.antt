@@ -1,7 +1,5 @@
 use Rattle.std.proofs.Common.{Ok, sym, ap, ◌∙◌}
-use Rattle.yaml_grammar.specs.Trees.{mapping}
-use Rattle.yaml_data.specs.Seen.{tree_of, members_of}
-use Rattle.yaml_data.proofs.SeenLemmas.{tree_of-Map}
+use Rattle.tree_path.proofs.Prelude.{mapping, tree_of, members_of, tree_of-Map}
 use Rattle.tree_path.proofs.key_index.index_of.Goals as goal
 
 pub returns-in-Ok : goal.returns-in-Ok

@@ -1,8 +1,5 @@
 use Rattle.std.proofs.Common.{ap, subst, ◌∙◌}
-use Rattle.std.specs.Cow.{cow_str_bytes}
-use Rattle.std.specs.Str.{IsUtf8, bytes_eq}
-use Rattle.yaml_data.specs.TextBytes.{text_bytes}
-use Rattle.yaml_data.proofs.TextLemmas.{IsUtf8-text_bytes}
+use Rattle.tree_path.proofs.Prelude.{cow_str_bytes, IsUtf8, bytes_eq, text_bytes, IsUtf8-text_bytes}
 use Rattle.tree_path.proofs.Places.{bytes_eq-chars}
 use Rattle.tree_path.proofs.key_index.is_same.Goals as goal
 

@@ -1,9 +1,6 @@
 use Rattle.std.proofs.Common.{[], ◌∷◌, sym, ap, ◌∙◌}
-use Rattle.std.specs.Cow.{cow_str_bytes}
-use Rattle.std.specs.Str.{chars}
-use Rattle.json_pointer.specs.Tokens.{texts}
-use Rattle.tree_path.proofs.Descents.{texts-append}
-use Rattle.tree_path.proofs.IndexLemmas.{last-same}
+use Rattle.tree_path.proofs.Prelude.{cow_str_bytes, chars, texts}
+use Rattle.tree_path.proofs.{Descents.texts-append, IndexLemmas.last-same}
 use Rattle.tree_path.proofs.key_index.last_of.Goals as goal
 
 pub returns : goal.returns

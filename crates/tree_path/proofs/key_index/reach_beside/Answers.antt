@@ -1,6 +1,5 @@
 use Rattle.std.proofs.Common.{inr, refl, ap, ◌∙◌}
-use Rattle.yaml_data.specs.Seen.{members_of, tree_of}
-use Rattle.yaml_data.proofs.SeenLemmas.{tree_of-Map}
+use Rattle.tree_path.proofs.Prelude.{members_of, tree_of, tree_of-Map}
 use Rattle.tree_path.proofs.key_index.reach_beside.Goals as goal
 
 pub returns-in-Map : goal.returns-in-Map

@@ -1,4 +1,4 @@
-use Rattle.json_pointer.specs.Tokens.{texts}
+use Rattle.tree_path.proofs.Prelude.{texts}
 use Rattle.tree_path.proofs.IndexLemmas.{table-told}
 use Rattle.tree_path.proofs.key_index.table_at.Goals as goal
 

@@ -1,8 +1,7 @@
 use Rattle.std.proofs.Common.{[], ◌∷◌, ◌++◌, sym, ap, ap₂, ◌∙◌}
-use Rattle.std.specs.Str.{chars}
+use Rattle.tree_path.proofs.Prelude.{chars}
 use Rattle.tree_path.specs.Tables.{steps_of}
-use Rattle.tree_path.proofs.Descents.{texts-turn}
-use Rattle.tree_path.proofs.IndexLemmas.{steps-append}
+use Rattle.tree_path.proofs.{Descents.texts-turn, IndexLemmas.steps-append}
 use Rattle.tree_path.proofs.key_index.texts_of.Goals as goal
 
 pub loop-place-preserved : goal.loop-place-preserved

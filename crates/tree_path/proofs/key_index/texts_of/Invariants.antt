@@ -1,5 +1,5 @@
 use Rattle.std.proofs.Common.{◌≡◌, take}
-use Rattle.json_pointer.specs.Tokens.{texts}
+use Rattle.tree_path.proofs.Prelude.{texts}
 use Rattle.tree_path.specs.Tables.{steps_of}
 use Rattle.tree_path.proofs.key_index.texts_of.Given as goal
 

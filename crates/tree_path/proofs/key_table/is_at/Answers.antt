@@ -1,11 +1,6 @@
 use Rattle.std.proofs.Common.{◌≡◌, ◌<◌, length, get_or, sym, ap, ◌∙◌, arith}
-use Rattle.std.specs.Str.{chars, bytes_eq}
-use Rattle.yaml_grammar.specs.Texts.{same_text}
-use Rattle.yaml_data.specs.TextBytes.{text_bytes}
-use Rattle.yaml_data.proofs.TextLemmas.{IsUtf8-text_bytes}
-use Rattle.tree_path.proofs.IndexLemmas.{keys-place}
-use Rattle.tree_path.proofs.KeyLemmas.{key_place-at, key_place-same}
-use Rattle.tree_path.proofs.Places.{bytes_eq-chars}
+use Rattle.tree_path.proofs.Prelude.{chars, bytes_eq, same_text, text_bytes, IsUtf8-text_bytes}
+use Rattle.tree_path.proofs.{IndexLemmas.keys-place, KeyLemmas.key_place-at, KeyLemmas.key_place-same, Places.bytes_eq-chars}
 use Rattle.tree_path.proofs.key_table.is_at.Goals as goal
 
 pub returns-clause-found : goal.returns-clause-found

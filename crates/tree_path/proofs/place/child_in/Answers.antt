@@ -1,10 +1,7 @@
 use Rattle.std.proofs.Common.{Ok, sym, ap, ◌∙◌, rules}
-use Rattle.yaml_data.specs.Seen.{tree_of}
-use Rattle.yaml_data.proofs.SeenLemmas.{tree_of-Text, tree_of-Seq, tree_of-Map}
-use Rattle.tree_path.specs.Paths.{child}
-use Rattle.tree_path.specs.Steps.{step_place}
-use Rattle.tree_path.proofs.Steps.{child-Seq, child-Map, place-within}
-use Rattle.tree_path.proofs.Ways.{no-place, index-placed, key-placed}
+use Rattle.tree_path.proofs.Prelude.{tree_of, tree_of-Text, tree_of-Seq, tree_of-Map}
+use Rattle.tree_path.specs.{Paths.child, Steps.step_place}
+use Rattle.tree_path.proofs.{Steps.child-Seq, Steps.child-Map, Steps.place-within, Ways.no-place, Ways.index-placed, Ways.key-placed}
 use Rattle.tree_path.proofs.place.child_in.Goals as goal
 
 pub unreachable-requires : goal.unreachable-requires

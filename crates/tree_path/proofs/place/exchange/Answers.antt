@@ -1,10 +1,7 @@
 use Rattle.std.proofs.Common.{rules, ◌≡◌, Ok, sym, ap, ◌∙◌}
-use Rattle.yaml_grammar.specs.Trees.{sequence, mapping}
-use Rattle.yaml_data.specs.Seen.{tree_of, elements_of, members_of}
-use Rattle.yaml_data.specs.declared.tree.Tree.{the_lemmas}
-use Rattle.yaml_data.proofs.SeenLemmas.{tree_of-Text, tree_of-Seq, tree_of-Map}
-use Rattle.tree_path.specs.Paths.{child, put}
-use Rattle.tree_path.specs.Steps.{step_place}
+use Rattle.tree_path.proofs.Prelude.{sequence, mapping, tree_of, elements_of, members_of, the_lemmas, tree_of-Text, tree_of-Seq}
+use Rattle.tree_path.proofs.Prelude.{tree_of-Map}
+use Rattle.tree_path.specs.{Paths.child, Paths.put, Steps.step_place}
 use Rattle.tree_path.proofs.Ways.{no-place}
 use Rattle.tree_path.proofs.place.exchange.Goals as goal
 

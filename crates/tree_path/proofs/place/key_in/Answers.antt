@@ -1,9 +1,6 @@
 use Rattle.std.proofs.Common.{ap, sym, ◌∙◌}
-use Rattle.std.specs.Str.{chars}
-use Rattle.yaml_data.specs.Seen.{tree_of}
-use Rattle.yaml_data.proofs.SeenLemmas.{tree_of-Map}
-use Rattle.tree_path.specs.Paths.{key_in}
-use Rattle.tree_path.specs.Steps.{key_place}
+use Rattle.tree_path.proofs.Prelude.{chars, tree_of, tree_of-Map}
+use Rattle.tree_path.specs.{Paths.key_in, Steps.key_place}
 use Rattle.tree_path.proofs.Places.{place_of-pairs}
 use Rattle.tree_path.proofs.place.key_in.Goals as goal
 

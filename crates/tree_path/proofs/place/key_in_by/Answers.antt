@@ -1,11 +1,6 @@
 use Rattle.std.proofs.Common.{◌≡◌, true, IfSome, sym, ap, subst, ◌∙◌}
-use Rattle.std.specs.Str.{chars}
-use Rattle.yaml_grammar.specs.Trees.{distinct, members_distinct}
-use Rattle.yaml_data.specs.Seen.{tree_of, members_of}
-use Rattle.yaml_data.proofs.SeenLemmas.{tree_of-Map}
-use Rattle.tree_path.specs.Paths.{key_in}
-use Rattle.tree_path.specs.Steps.{key_place}
-use Rattle.tree_path.specs.Tables.{Lists, ListsIn, keys_of}
+use Rattle.tree_path.proofs.Prelude.{chars, distinct, members_distinct, tree_of, members_of, tree_of-Map}
+use Rattle.tree_path.specs.{Paths.key_in, Steps.key_place, Tables.Lists, Tables.ListsIn, Tables.keys_of}
 use Rattle.tree_path.proofs.Places.{place_of-pairs}
 use Rattle.tree_path.proofs.place.key_in_by.Goals as goal
 

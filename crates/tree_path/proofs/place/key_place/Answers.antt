@@ -1,8 +1,5 @@
 use Rattle.std.proofs.Common.{◌≡◌, suc, ◌+◌, Some, cond, option_map, drop, sym, ap, ◌∙◌, arith}
-use Rattle.std.specs.Str.{chars, bytes_eq}
-use Rattle.yaml_grammar.specs.Texts.{same_text}
-use Rattle.yaml_data.specs.TextBytes.{text_bytes}
-use Rattle.yaml_data.proofs.TextLemmas.{IsUtf8-text_bytes}
+use Rattle.tree_path.proofs.Prelude.{chars, bytes_eq, same_text, text_bytes, IsUtf8-text_bytes}
 use Rattle.tree_path.specs.Steps.{key_place}
 use Rattle.tree_path.proofs.Places.{bytes_eq-chars, key_place-start, key_place-turn, key_place-next, key_place-end}
 use Rattle.tree_path.proofs.place.key_place.Goals as goal

@@ -1,8 +1,5 @@
 use Rattle.std.proofs.Common.{◌≡◌, ◌+◌, None, Some, [], ◌∷◌, ◌++◌, refl, sym, ap, ◌∙◌, arith, length, option_map}
-use Rattle.std.proofs.lemmas.Iterator.{YieldsList-from_chars}
-use Rattle.std.proofs.lemmas.Iterator.Consumers.{YieldsList-turn, YieldsList-end}
-use Rattle.std.proofs.lemmas.List.{at_drop_all, length_push}
-use Rattle.std.specs.Str.{chars}
+use Rattle.tree_path.proofs.Prelude.{YieldsList-from_chars, YieldsList-turn, YieldsList-end, at_drop_all, length_push, chars}
 use Rattle.tree_path.specs.Steps.{number_of, as_usize}
 use Rattle.tree_path.proofs.Numbers.{read_on, read_on-None, read_on-other, digit-true, digit-false, next-None, next-Some, next-zero}
 use Rattle.tree_path.proofs.place.number.Goals as goal

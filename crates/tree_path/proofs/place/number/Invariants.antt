@@ -1,5 +1,5 @@
 use Rattle.std.proofs.Common.{◌≡◌, ℕ, length, drop, Option, option_map}
-use Rattle.std.specs.Str.{chars}
+use Rattle.tree_path.proofs.Prelude.{chars}
 use Rattle.tree_path.specs.Steps.{number_of, as_usize}
 use Rattle.tree_path.proofs.Numbers.{read_on}
 use Rattle.tree_path.proofs.place.number.Given as goal

@@ -1,13 +1,7 @@
 use Rattle.std.proofs.Common.{◌≡◌, true, IfSome, sym, ap, subst, ◌∙◌}
-use Rattle.std.specs.Str.{chars}
-use Rattle.yaml_grammar.specs.Trees.{distinct, members_distinct}
-use Rattle.yaml_data.specs.Seen.{tree_of, members_of}
-use Rattle.yaml_data.proofs.SeenLemmas.{tree_of-Text, tree_of-Seq, tree_of-Map}
-use Rattle.tree_path.specs.Paths.{present}
-use Rattle.tree_path.specs.Steps.{key_place, step_place}
-use Rattle.tree_path.specs.Tables.{Lists, ListsIn, keys_of}
-use Rattle.tree_path.proofs.Steps.{index-counted}
-use Rattle.tree_path.proofs.Ways.{ok_or-present, step_place-Text, step_place-Seq, step_place-Map}
+use Rattle.tree_path.proofs.Prelude.{chars, distinct, members_distinct, tree_of, members_of, tree_of-Text, tree_of-Seq, tree_of-Map}
+use Rattle.tree_path.specs.{Paths.present, Steps.key_place, Steps.step_place, Tables.Lists, Tables.ListsIn, Tables.keys_of}
+use Rattle.tree_path.proofs.{Steps.index-counted, Ways.ok_or-present, Ways.step_place-Text, Ways.step_place-Seq, Ways.step_place-Map}
 use Rattle.tree_path.proofs.place.step_place_by.Goals as goal
 
 pub returns-in-Text : goal.returns-in-Text

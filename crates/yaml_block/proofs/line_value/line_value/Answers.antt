@@ -1,6 +1,5 @@
 use Rattle.std.proofs.Common.{arith, sym, ◌+◌, ◌∙◌}
-use Rattle.yaml_scan.proofs.ByteSigns.{IsSign, sign_there}
-use Rattle.yaml_scan.proofs.Outcomes.{some_so}
+use Rattle.yaml_block.proofs.Prelude.{IsSign, sign_there, some_so}
 use Rattle.yaml_block.proofs.LineValueSteps.{lead_to, past_space, spaced_colon}
 use Rattle.yaml_block.proofs.line_value.line_value.Goals as goal
 

@@ -1,10 +1,5 @@
 use Rattle.std.proofs.Common.{arith}
-use Rattle.yaml_chars.specs.Places.{between}
-use Rattle.yaml_grammar.specs.Events.{plain_style}
-use Rattle.yaml_grammar.specs.FlowScalars.{outer}
-use Rattle.yaml_scan.proofs.LineSteps.{closes_after_end, line_after_end}
-use Rattle.yaml_flow_scalars.specs.Standing.{ScalarAt}
-use Rattle.yaml_flow_scalars.proofs.InsideLines.{ends_inside_line}
+use Rattle.yaml_block.proofs.Prelude.{between, plain_style, outer, closes_after_end, line_after_end, ScalarAt, ends_inside_line}
 use Rattle.yaml_block.proofs.FurtherLines.{no_further_line}
 use Rattle.yaml_block.proofs.line_value.rest_of_line.Goals as goal
 

@@ -1,8 +1,8 @@
 use Rattle.std.proofs.Common.{◌<◌, ap, arith, get_or, length, sym}
 use Rattle.yaml_block_scalars.proofs.FirstLines.{digit_above, digit_at_end, digit_below, digit_there}
-use Rattle.yaml_block_scalars.proofs.first_line.digit_at.Goals as goal
 use Rattle.yaml_block_scalars.proofs.first_line.digit_at.Goals.{then-byte-lt49-via-then-byte-lt49}
 use Rattle.yaml_block_scalars.proofs.first_line.digit_at.Goals.{then-byte-lt49-via-else-byte-lt49+then-byte-gt57}
+use Rattle.yaml_block_scalars.proofs.first_line.digit_at.Goals as goal
 
 pub returns-then-at-bytes : goal.returns-then-at-bytes
 returns-then-at-bytes c = digit_at_end c.args.text.now c.args.at c.requires (omega (arith, c.as_bytes-bytes.ensures.len))

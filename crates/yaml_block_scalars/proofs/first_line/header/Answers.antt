@@ -1,11 +1,10 @@
 use Rattle.std.proofs.Common.{◌≡◌, ◌<◌, ◌⊎◌, ap, arith, get_or, inl, inr, length, sym}
-use Rattle.std.proofs.lemmas.Str.{IsCharBoundary-after_ascii}
-use Rattle.yaml_block_scalars.specs.Meant.{chomping_of}
-use Rattle.yaml_block_scalars.specs.HeaderPlaces.{IsHeaderEnd}
+use Rattle.yaml_block_scalars.proofs.Prelude.{IsCharBoundary-after_ascii}
+use Rattle.yaml_block_scalars.specs.{Meant.chomping_of, HeaderPlaces.IsHeaderEnd}
 use Rattle.yaml_block_scalars.proofs.FirstLines.{header_at_end, header_open, header_there, header_unsigned}
-use Rattle.yaml_block_scalars.proofs.first_line.header.Goals as goal
 use Rattle.yaml_block_scalars.proofs.first_line.header.Goals.{else-sign-ne124-via-then-sign-ne124+else-sign-ne62}
 use Rattle.yaml_block_scalars.proofs.first_line.header.Goals.{else-sign-ne124-via-else-sign-ne124}
+use Rattle.yaml_block_scalars.proofs.first_line.header.Goals as goal
 
 pub returns-then-at-bytes-clause-none : goal.returns-then-at-bytes-clause-none
 returns-then-at-bytes-clause-none c = header_at_end c.args.text.now c.args.at (omega (arith, c.as_bytes-bytes.ensures.len))

@@ -1,14 +1,9 @@
 use Rattle.std.proofs.Common.{◌≡◌, ◌∙◌, None, ap, subst, w64}
-use Rattle.std.specs.Cow.{cow_str_bytes, IsBorrowedStr}
 use Rattle.std.specs.Prelude.{IfErr, IfOk}
+use Rattle.yaml_block_scalars.proofs.Prelude.{cow_str_bytes, IsBorrowedStr, rest, Refuses, NoBody, find_indent, empties_at, lines_at}
+use Rattle.yaml_block_scalars.proofs.Prelude.{IsLineStart, fault_passed, faults_so}
 use Rattle.std.proofs.lemmas.Int.{to_z-of_z}
 use Rattle.std.proofs.lemmas.Result.{IfOk-weaker, err_from_is_err_and}
-use Rattle.yaml_chars.specs.Places.{rest}
-use Rattle.yaml_events.specs.EventPlaces.{Refuses}
-use Rattle.yaml_recognizers.specs.BlockScalarFacts.{NoBody}
-use Rattle.yaml_recognizers.specs.BlockScalars.{find_indent, empties_at, lines_at}
-use Rattle.yaml_scan.specs.Lines.{IsLineStart}
-use Rattle.yaml_scan.proofs.Outcomes.{fault_passed, faults_so}
 use Rattle.yaml_block_scalars.specs.Found.{AreLines, ArePiece, IsBodyAt, IsPieceAt}
 use Rattle.yaml_block_scalars.specs.Meant.{chomping_of, is_folded, least_indent}
 use Rattle.yaml_block_scalars.proofs.Bodies.{body_there, no_body_indent, no_body_lines, piece_there}

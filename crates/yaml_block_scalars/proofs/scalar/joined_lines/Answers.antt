@@ -1,6 +1,5 @@
 use Rattle.std.proofs.Common.{◌≡◌, ◌++◌, ap, ◌∙◌}
-use Rattle.std.specs.String.{string_bytes}
-use Rattle.yaml_grammar.specs.FlowScalars.{line_feeds}
+use Rattle.yaml_block_scalars.proofs.Prelude.{string_bytes, line_feeds}
 use Rattle.yaml_block_scalars.proofs.scalar.joined_lines.Goals as goal
 
 pub returns-clause-found : goal.returns-clause-found

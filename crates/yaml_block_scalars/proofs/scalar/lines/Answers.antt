@@ -1,12 +1,6 @@
 use Rattle.std.proofs.Common.{◌≡◌, None, refl}
-use Rattle.std.specs.Cow.{cow_str_bytes, IsBorrowedStr}
-use Rattle.yaml_grammar.specs.FlowScalars.{line_feeds}
-use Rattle.yaml_chars.specs.Places.{rest}
-use Rattle.yaml_recognizers.specs.BlockScalars.{empties_at, lines_at}
-use Rattle.yaml_scan.proofs.Outcomes.{faults_so, ok_so}
-use Rattle.yaml_block_scalars.specs.Found.{AreLines, ArePiece}
-use Rattle.yaml_block_scalars.specs.Lines.{ArePushed}
-use Rattle.yaml_block_scalars.specs.Meant.{chomping_of}
+use Rattle.yaml_block_scalars.proofs.Prelude.{cow_str_bytes, IsBorrowedStr, line_feeds, rest, empties_at, lines_at, faults_so, ok_so}
+use Rattle.yaml_block_scalars.specs.{Found.AreLines, Found.ArePiece, Lines.ArePushed, Meant.chomping_of}
 use Rattle.yaml_block_scalars.proofs.Bodies.{lines_missing, lines_none, lines_piece, lines_pushed, piece_more}
 use Rattle.yaml_block_scalars.proofs.EmptyLines.{empties_past}
 use Rattle.yaml_block_scalars.proofs.scalar.lines.Goals as goal

@@ -1,6 +1,5 @@
-use Rattle.yaml_block_scalars.specs.Lines.{IsTextStart}
-use Rattle.yaml_chars.specs.Places.{rest}
-use Rattle.yaml_block_scalars.specs.Meant.{chomping_of}
+use Rattle.yaml_block_scalars.proofs.Prelude.{rest}
+use Rattle.yaml_block_scalars.specs.{Lines.IsTextStart, Meant.chomping_of}
 use Rattle.yaml_block_scalars.proofs.Bodies.{piece_ended, piece_unfed}
 use Rattle.yaml_block_scalars.proofs.scalar.piece_end.Goals as goal
 

@@ -1,6 +1,5 @@
 use Rattle.std.proofs.Common.{◌++◌, ap, ◌∙◌}
-use Rattle.std.specs.String.{string_bytes}
-use Rattle.std.proofs.lemmas.Str.{IsUtf8-string_bytes}
+use Rattle.yaml_block_scalars.proofs.Prelude.{string_bytes, IsUtf8-string_bytes}
 use Rattle.yaml_block_scalars.specs.Meant.{chomping_of}
 use Rattle.yaml_block_scalars.proofs.Values.{pushed_all, pushed_more}
 use Rattle.yaml_block_scalars.proofs.scalar.push_lines.Goals as goal

@@ -1,11 +1,6 @@
 use Rattle.std.proofs.Common.{◌≡◌, ◌+◌, ◌*◌, ℕ, sym, ap, subst, ◌∙◌, arith}
-use Rattle.yaml_grammar.specs.Style.{lines_after_dash, style_text}
-use Rattle.yaml_grammar.specs.Texts.{byte_len}
-use Rattle.yaml_grammar.specs.Trees.{Tree}
-use Rattle.yaml_data.specs.Seen.{tree_of, elements_of, members_of}
-use Rattle.yaml_data.proofs.SeenLemmas.{tree_of-Text, tree_of-Seq, tree_of-Map}
-use Rattle.yaml_writer.specs.Sizes.{indented}
-use Rattle.yaml_writer.proofs.SizeLaws.{elements_law, members_law}
+use Rattle.yaml_config.proofs.Prelude.{lines_after_dash, style_text, byte_len, Tree, tree_of, elements_of, members_of, tree_of-Text}
+use Rattle.yaml_config.proofs.Prelude.{tree_of-Seq, tree_of-Map, indented, elements_law, members_law}
 use Rattle.yaml_config.proofs.config.dash_indent.Goals as goal
 
 -- the lines after a `- ` are so many spaces deeper

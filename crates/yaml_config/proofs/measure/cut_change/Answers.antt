@@ -1,13 +1,7 @@
 use Rattle.std.proofs.Common.{ap, ◌∙◌, arith}
-use Rattle.std.proofs.lemmas.Result.{err_from_is_err_and}
-use Rattle.std.specs.Str.{chars}
-use Rattle.yaml_data.specs.Seen.{tree_of}
-use Rattle.yaml_data.proofs.SeenLemmas.{tree_of-Text, tree_of-Seq, tree_of-Map}
+use Rattle.yaml_config.proofs.Prelude.{err_from_is_err_and, chars, tree_of, tree_of-Text, tree_of-Seq, tree_of-Map, cut, cut-Text}
 use Rattle.yaml_config.specs.Changes.{row_of_element, row_of_member}
-use Rattle.tree_path.specs.Paths.{cut}
-use Rattle.tree_path.proofs.Steps.{cut-Text}
-use Rattle.yaml_config.proofs.ChangeLaws.{cut-missed}
-use Rattle.yaml_config.proofs.Located.{child-within}
+use Rattle.yaml_config.proofs.{ChangeLaws.cut-missed, Located.child-within}
 use Rattle.yaml_config.proofs.Measured.{some_elements, some_members, taken_element, taken_member, vec_counted}
 use Rattle.yaml_config.proofs.measure.cut_change.Goals as goal
 

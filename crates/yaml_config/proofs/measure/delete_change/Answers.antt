@@ -1,18 +1,8 @@
 use Rattle.std.proofs.Common.{◌≡◌, ◌<◌, Ok, Err, length, sym, ap, subst, ◌∙◌, arith}
-use Rattle.std.specs.Cow.{cow_str_bytes}
-use Rattle.std.specs.Str.{chars}
-use Rattle.std.proofs.lemmas.Result.{err_from_is_err_and}
-use Rattle.yaml_grammar.specs.Trees.{Tree}
-use Rattle.yaml_data.specs.Seen.{tree_of}
-use Rattle.yaml_config.specs.Changes.{ChangesSmall}
-use Rattle.tree_path.specs.Paths.{cut, key_in}
-use Rattle.tree_path.specs.Steps.{KnowsLast}
-use Rattle.json_pointer.specs.Tokens.{texts}
-use Rattle.tree_path.proofs.Edits.{delete-refused}
-use Rattle.tree_path.proofs.Ways.{knows-way, knows-last}
-use Rattle.yaml_config.specs.declared.change.Slot.TheVariants.{Value}
-use Rattle.yaml_config.proofs.Located.{at_from-Located}
-use Rattle.yaml_config.proofs.Measured.{delete_changes, delete_misses}
+use Rattle.yaml_config.proofs.Prelude.{cow_str_bytes, chars, err_from_is_err_and, Tree, tree_of, cut, key_in, KnowsLast, texts}
+use Rattle.yaml_config.proofs.Prelude.{delete-refused, knows-way, knows-last}
+use Rattle.yaml_config.specs.{Changes.ChangesSmall, declared.change.Slot.TheVariants.Value}
+use Rattle.yaml_config.proofs.{Located.at_from-Located, Measured.delete_changes, Measured.delete_misses}
 use Rattle.yaml_config.proofs.Planned.{split, node-small, changes-shifted}
 use Rattle.yaml_config.proofs.measure.delete_change.Goals as goal
 

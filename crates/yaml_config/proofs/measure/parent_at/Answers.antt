@@ -1,13 +1,7 @@
 use Rattle.std.proofs.Common.{◌+◌, Err, take, sym, ap, subst, ◌∙◌}
-use Rattle.std.specs.Cow.{cow_str_bytes}
-use Rattle.std.specs.Str.{chars}
-use Rattle.yaml_data.specs.Seen.{tree_of}
-use Rattle.yaml_config.specs.Changes.{Located, slot_in}
-use Rattle.tree_path.specs.Steps.{step_place, KnowsStep}
-use Rattle.json_pointer.specs.Tokens.{texts}
-use Rattle.yaml_config.specs.declared.change.Slot.TheVariants.{Value}
-use Rattle.tree_path.proofs.Descents.{at_from-missed, texts-turn}
-use Rattle.tree_path.proofs.Ways.{knows-step, place-missed}
+use Rattle.yaml_config.proofs.Prelude.{cow_str_bytes, chars, tree_of, step_place, KnowsStep, texts, at_from-missed, texts-turn, knows-step}
+use Rattle.yaml_config.proofs.Prelude.{place-missed}
+use Rattle.yaml_config.specs.{Changes.Located, Changes.slot_in, declared.change.Slot.TheVariants.Value}
 use Rattle.yaml_config.proofs.Located.{Located-push, at_from-Located}
 use Rattle.yaml_config.proofs.measure.parent_at.Goals as goal
 

@@ -1,10 +1,5 @@
 use Rattle.std.proofs.Common.{inl, inr, ⊎_elim, sym, ap, ◌∙◌}
-use Rattle.std.proofs.lemmas.Result.{err_from_is_err_and}
-use Rattle.yaml_data.specs.Seen.{tree_of}
-use Rattle.tree_path.specs.Paths.{at}
-use Rattle.tree_path.specs.Steps.{parents_of}
-use Rattle.tree_path.proofs.Edits.{delete-refused}
-use Rattle.tree_path.proofs.Ways.{path-split}
+use Rattle.yaml_config.proofs.Prelude.{err_from_is_err_and, tree_of, at, parents_of, delete-refused, path-split}
 use Rattle.yaml_config.proofs.measure.plan_delete.Goals as goal
 
 pub returns-in_err-places-clause-refused : goal.returns-in_err-places-clause-refused

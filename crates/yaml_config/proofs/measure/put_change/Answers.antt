@@ -1,12 +1,7 @@
 use Rattle.std.proofs.Common.{◌≡◌, sym, ap, subst, ◌∙◌, Err, arith}
-use Rattle.std.specs.Str.{chars}
-use Rattle.yaml_data.specs.Seen.{tree_of}
-use Rattle.yaml_data.proofs.SeenLemmas.{tree_of-Text, tree_of-Seq, tree_of-Map}
+use Rattle.yaml_config.proofs.Prelude.{chars, tree_of, tree_of-Text, tree_of-Seq, tree_of-Map, child, put, bytes_eq-dash, not_last}
 use Rattle.yaml_config.specs.Changes.{child_size, row_of_element, row_of_member}
-use Rattle.tree_path.specs.Paths.{child, put}
-use Rattle.tree_path.proofs.Steps.{bytes_eq-dash, not_last}
-use Rattle.yaml_config.proofs.ChangeLaws.{put_sequence-missed, put_text-missed}
-use Rattle.yaml_config.proofs.Located.{child-within}
+use Rattle.yaml_config.proofs.{ChangeLaws.put_sequence-missed, ChangeLaws.put_text-missed, Located.child-within}
 use Rattle.yaml_config.proofs.Measured.{replaced, pushed, added, vec_counted, dash_index}
 use Rattle.yaml_config.proofs.SizeLemmas.{element-fits, value-fits, child-fits}
 use Rattle.yaml_config.proofs.measure.put_change.Goals as goal

@@ -1,5 +1,5 @@
 use Rattle.std.proofs.Common.{◌<◌}
-use Rattle.std.specs.List.{AllAdjacentBelow}
+use Rattle.yaml_data.proofs.Prelude.{AllAdjacentBelow}
 use Rattle.yaml_data.proofs.prints.ascend.Given as goal
 
 -- the numbers before this place ascend

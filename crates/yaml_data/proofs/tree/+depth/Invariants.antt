@@ -1,5 +1,5 @@
 use Rattle.std.proofs.Common.{◌≡◌, max, min, drop}
-use Rattle.yaml_grammar.specs.Trees.{elements_depth, members_depth}
+use Rattle.yaml_data.proofs.Prelude.{elements_depth, members_depth}
 use Rattle.yaml_data.specs.Seen.{elements_of, members_of}
 use Rattle.yaml_data.proofs.tree.+depth.Given as goal
 

@@ -1,12 +1,7 @@
 use Rattle.std.proofs.Common.{◌≡◌, ℕ, ◌+◌, ◌-◌, List, ◌++◌, sym, ◌∙◌, subst, arith, inl, inr, length, take, drop}
-use Rattle.std.proofs.lemmas.Slice.Eq.{starts_is}
-use Rattle.std.proofs.lemmas.Bool.{false≢true, cases_lt}
-use Rattle.std.proofs.lemmas.Bool.Decides.{Decides-eqb}
-use Rattle.std.proofs.lemmas.List.{take_rest}
-use Rattle.yaml_grammar.specs.Closings.{ClosesAt}
-use Rattle.memchr.specs.Find.{OccursAt}
-use Rattle.yaml_docs.proofs.ClosingLines.{closing_line, line_and_closing_line, starts_after, lies_within, closes_here, closes_after, shown}
+use Rattle.yaml_docs.proofs.Prelude.{starts_is, false≢true, cases_lt, Decides-eqb, take_rest, ClosesAt, OccursAt}
 use Rattle.yaml_docs.specs.NextClosing.{StartsLine}
+use Rattle.yaml_docs.proofs.ClosingLines.{closing_line, line_and_closing_line, starts_after, lies_within, closes_here, closes_after, shown}
 use Rattle.yaml_docs.proofs.closing.next_close.Goals as goal
 
 -- a closing line, and so the start of a line after it

@@ -1,7 +1,5 @@
 use Rattle.std.proofs.Common.{ℕ, ◌-◌, sym, ◌∙◌, ap, List, ◌++◌, take, drop, length, ◌≡◌}
-use Rattle.std.proofs.lemmas.Slice.Eq.{starts_is}
-use Rattle.std.proofs.lemmas.Bool.Decides.{Decides-eqb}
-use Rattle.std.proofs.lemmas.List.{take_rest}
+use Rattle.yaml_docs.proofs.Prelude.{starts_is, Decides-eqb, take_rest}
 use Rattle.yaml_docs.proofs.ClosingLines.{closing_line}
 use Rattle.yaml_docs.proofs.cutter.completes.Goals as goal
 

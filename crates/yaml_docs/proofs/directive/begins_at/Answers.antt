@@ -1,9 +1,6 @@
 use Rattle.std.proofs.Common.{List, drop, subst, ℕ, ◌≡◌}
+use Rattle.yaml_docs.proofs.Prelude.{starts_with, Decides-eqb, starts_is, IsUtf8-drop}
 use Rattle.std.proofs.Math.Dec.{eqb}
-use Rattle.std.specs.List.{starts_with}
-use Rattle.std.proofs.lemmas.Bool.Decides.{Decides-eqb}
-use Rattle.std.proofs.lemmas.Slice.Eq.{starts_is}
-use Rattle.std.proofs.lemmas.Str.{IsUtf8-drop}
 use Rattle.yaml_chars.proofs.Breaks.{bytes_from}
 use Rattle.yaml_docs.proofs.Words.{word_begins}
 use Rattle.yaml_docs.proofs.directive.begins_at.Goals as goal

@@ -1,8 +1,5 @@
 use Rattle.std.specs.Prelude.{false, true, ◌≡◌}
-use Rattle.yaml_chars.specs.Places.{rest}
-use Rattle.yaml_recognizers.specs.Comments.{all_comments, closes_line}
-use Rattle.yaml_scan.proofs.Outcomes.{none_so}
-use Rattle.yaml_scan.specs.Lines.{IsLineStart, IsSolidLine}
+use Rattle.yaml_docs.proofs.Prelude.{rest, all_comments, closes_line, none_so, IsLineStart, IsSolidLine}
 use Rattle.yaml_docs.specs.Directives.{IsDirective, NoDirective}
 use Rattle.yaml_docs.proofs.DirectiveSteps.{directive_there, none_open, some_by_three}
 use Rattle.yaml_docs.proofs.directive.directive_end.Goals as goal

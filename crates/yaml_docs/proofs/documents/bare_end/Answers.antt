@@ -1,11 +1,6 @@
-use Rattle.std.proofs.lemmas.Result.{err_from_is_err_and}
 use Rattle.std.specs.Prelude.{None, ◌≡◌}
-use Rattle.yaml_chars.specs.Places.{rest}
-use Rattle.yaml_events.specs.EventPlaces.{line_starts}
-use Rattle.yaml_recognizers.specs.Recognizers.{document_node_at}
-use Rattle.yaml_scan.proofs.Outcomes.{fault_passed}
-use Rattle.yaml_docs.specs.Sections.{read_as}
-use Rattle.yaml_docs.specs.declared.documents.Section.TheVariants.{Bare}
+use Rattle.yaml_docs.proofs.Prelude.{err_from_is_err_and, rest, line_starts, document_node_at, fault_passed}
+use Rattle.yaml_docs.specs.{Sections.read_as, declared.documents.Section.TheVariants.Bare}
 use Rattle.yaml_docs.proofs.DocumentSteps.{bare_found, bare_missing}
 use Rattle.yaml_docs.proofs.documents.bare_end.Goals as goal
 

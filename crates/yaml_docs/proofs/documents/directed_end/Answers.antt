@@ -1,9 +1,6 @@
 use Rattle.std.specs.Prelude.{None, ◌≡◌}
 use Rattle.std.proofs.Common.{sym, ◌∙◌}
-use Rattle.yaml_chars.specs.Places.{rest}
-use Rattle.yaml_recognizers.specs.Recognizers.{document_node_at}
-use Rattle.yaml_recognizers.specs.Streams.{read_directed, read_explicit}
-use Rattle.yaml_scan.proofs.Outcomes.{faults_so, ok_so}
+use Rattle.yaml_docs.proofs.Prelude.{rest, document_node_at, read_directed, read_explicit, faults_so, ok_so}
 use Rattle.yaml_docs.specs.Documents.{DocumentRead, ExplicitRead}
 use Rattle.yaml_docs.proofs.DocumentSteps.{document_found, document_missing, no_explicit}
 use Rattle.yaml_docs.proofs.documents.directed_end.Goals as goal

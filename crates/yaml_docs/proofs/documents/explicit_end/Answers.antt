@@ -1,10 +1,5 @@
-use Rattle.std.proofs.lemmas.Result.{err_from_is_err_and}
 use Rattle.std.specs.Prelude.{None, false, ◌+◌, ◌≡◌}
-use Rattle.yaml_chars.specs.Places.{rest}
-use Rattle.yaml_recognizers.specs.Comments.{all_comments}
-use Rattle.yaml_recognizers.specs.Recognizers.{document_node_at}
-use Rattle.yaml_recognizers.specs.Streams.{explicit_with, read_explicit}
-use Rattle.yaml_scan.proofs.Outcomes.{fault_passed}
+use Rattle.yaml_docs.proofs.Prelude.{err_from_is_err_and, rest, all_comments, document_node_at, explicit_with, read_explicit, fault_passed}
 use Rattle.yaml_docs.proofs.DocumentSteps.{dashes_there, explicit_found, explicit_is, inside_line}
 use Rattle.yaml_docs.proofs.documents.explicit_end.Goals as goal
 

@@ -1,12 +1,6 @@
 use Rattle.std.specs.Prelude.{None, false, ◌≡◌}
-use Rattle.yaml_chars.specs.Places.{rest}
-use Rattle.yaml_events.specs.EventPlaces.{line_starts}
-use Rattle.yaml_recognizers.specs.Comments.{all_comments}
-use Rattle.yaml_recognizers.specs.Recognizers.{document_node_at}
-use Rattle.yaml_recognizers.specs.Streams.{explicit_with}
-use Rattle.yaml_scan.proofs.Outcomes.{faults_so, ok_so}
+use Rattle.yaml_docs.proofs.Prelude.{rest, line_starts, all_comments, document_node_at, explicit_with, faults_so, ok_so, BlockNodeRead}
 use Rattle.yaml_docs.specs.Documents.{ExplicitNodeRead}
-use Rattle.yaml_block.specs.Found.{BlockNodeRead}
 use Rattle.yaml_docs.proofs.DocumentSteps.{content_missing, content_read, nothing_read}
 use Rattle.yaml_docs.proofs.documents.explicit_node_end.Goals as goal
 

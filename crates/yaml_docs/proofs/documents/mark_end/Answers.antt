@@ -1,10 +1,7 @@
 use Rattle.std.proofs.Common.{ap, arith, length, ◌+◌, ◌<◌, ◌∙◌, ◌≡◌}
 use Rattle.std.specs.Prelude.{ℕ, ◌∷◌}
-use Rattle.std.proofs.lemmas.Bool.{false≢true}
-use Rattle.std.proofs.lemmas.Str.{IsCharBoundary-start}
+use Rattle.yaml_docs.proofs.Prelude.{false≢true, IsCharBoundary-start, rest, rest-end}
 use Rattle.std.specs.Char.{len_utf8}
-use Rattle.yaml_chars.specs.Places.{rest}
-use Rattle.yaml_chars.proofs.Places.{rest-end}
 use Rattle.yaml_docs.proofs.MarkEnds.{empty_text, mark_there, other_prefix}
 use Rattle.yaml_docs.proofs.documents.mark_end.Goals as goal
 

@@ -1,7 +1,5 @@
 use Rattle.std.proofs.Common.{arith, false, length, sym, ◌∙◌, ◌<◌}
-use Rattle.yaml_chars.specs.Places.{rest}
-use Rattle.yaml_chars.proofs.Places.{rest-end}
-use Rattle.yaml_recognizers.specs.Comments.{all_comments}
+use Rattle.yaml_docs.proofs.Prelude.{rest, rest-end, all_comments}
 use Rattle.yaml_docs.proofs.DocumentSteps.{no_omission, omits_at_end, some_left}
 use Rattle.yaml_docs.proofs.documents.omitted_end.Goals as goal
 

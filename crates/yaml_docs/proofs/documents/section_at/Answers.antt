@@ -1,5 +1,5 @@
 use Rattle.std.proofs.Common.{sym, ◌∙◌}
-use Rattle.yaml_chars.specs.Places.{rest}
+use Rattle.yaml_docs.proofs.Prelude.{rest}
 use Rattle.yaml_docs.proofs.SectionCases.{at_bare, at_directed, at_explicit, at_suffix, not_opened}
 use Rattle.yaml_docs.proofs.documents.section_at.Goals as goal
 

@@ -1,10 +1,6 @@
 use Rattle.std.proofs.Common.{arith, length, subst, sym, ◌<◌, ◌∙◌, ◌≡◌}
 use Rattle.std.specs.Prelude.{Bool, None, true}
-use Rattle.std.specs.Str.{chars}
-use Rattle.std.proofs.lemmas.Result.{err_from_is_err_and}
-use Rattle.yaml_chars.specs.Places.{rest}
-use Rattle.yaml_recognizers.specs.Recognizers.{section_at}
-use Rattle.yaml_scan.proofs.Outcomes.{fault_passed}
+use Rattle.yaml_docs.proofs.Prelude.{chars, err_from_is_err_and, rest, section_at, fault_passed}
 use Rattle.yaml_docs.specs.Sections.{ReadUpTo, read_as, stream_meaning}
 use Rattle.yaml_docs.proofs.DocumentSteps.{some_left}
 use Rattle.yaml_docs.proofs.StreamSteps.{SectionPassed, lines_passed, no_meaning, section_passed, starts_here, text_ends}

@@ -1,6 +1,5 @@
 use Rattle.std.proofs.Common.{◌≡◌, ◌-◌, ◌≤◌, length, take, drop, subst, arith, length-drop}
-use Rattle.std.specs.Io.KnownBytes.{Appends}
-use Rattle.std.proofs.lemmas.List.{take_all}
+use Rattle.yaml_docs.proofs.Prelude.{Appends, take_all}
 use Rattle.yaml_docs.proofs.OutputLemmas.{appends-more}
 use Rattle.yaml_docs.proofs.output.write_or_count.Goals as goal
 

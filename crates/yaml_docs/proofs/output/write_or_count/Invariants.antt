@@ -1,5 +1,5 @@
 use Rattle.std.proofs.Common.{◌≤◌, ◌-◌, length, take}
-use Rattle.std.specs.Io.KnownBytes.{Appends}
+use Rattle.yaml_docs.proofs.Prelude.{Appends}
 use Rattle.yaml_docs.proofs.output.write_or_count.Given as goal
 
 abbrev pub invariant-parts : goal.invariant-parts

@@ -1,5 +1,5 @@
 use Rattle.std.proofs.Common.{arith}
-use Rattle.std.proofs.lemmas.Str.{IsCharBoundary-start}
+use Rattle.yaml_docs.proofs.Prelude.{IsCharBoundary-start}
 use Rattle.yaml_docs.proofs.place.place_at.Goals as goal
 
 pub loop-place-init : goal.loop-place-init

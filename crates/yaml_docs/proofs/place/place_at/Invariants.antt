@@ -1,5 +1,5 @@
 use Rattle.std.proofs.Common.{length, ◌+◌, ◌-◌, ◌≤◌}
-use Rattle.std.specs.Str.{IsCharBoundary}
+use Rattle.yaml_docs.proofs.Prelude.{IsCharBoundary}
 use Rattle.yaml_docs.proofs.place.place_at.Given as goal
 
 abbrev pub invariant-loop-place : goal.invariant-loop-place

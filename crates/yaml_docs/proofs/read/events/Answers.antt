@@ -1,8 +1,6 @@
 use Rattle.std.proofs.Common.{refl, subst, ◌≡◌}
 use Rattle.std.specs.Prelude.{List, None, Some, ℕ}
-use Rattle.std.specs.Str.{IsUtf8, chars}
-use Rattle.yaml_events.specs.Meant.{events_of}
-use Rattle.yaml_events.specs.EventPlaces.{Refuses}
+use Rattle.yaml_docs.proofs.Prelude.{IsUtf8, chars, events_of, Refuses}
 use Rattle.yaml_events.specs.declared.fault.ScanFault.{ScanFault}
 use Rattle.yaml_docs.specs.Sections.{stream_meaning}
 use Rattle.yaml_docs.proofs.Readings.{bytes_read, ranges_read, syntax_refused}

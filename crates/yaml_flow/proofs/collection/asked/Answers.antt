@@ -1,11 +1,6 @@
-use Rattle.std.proofs.lemmas.Result.{err_from_is_err_and}
 use Rattle.std.proofs.Common.{arith, ◌<◌, refl}
-use Rattle.yaml_chars.specs.Places.{rest}
-use Rattle.yaml_events.specs.Meant.{context_of}
-use Rattle.yaml_scan.specs.Gaps.{NoGap}
-use Rattle.yaml_scan.proofs.Outcomes.{fault_passed, refuses}
-use Rattle.yaml_flow.specs.declared.collection.Part.TheVariants.{Asked}
-use Rattle.yaml_flow.specs.Frames.{in_sequence}
+use Rattle.yaml_flow.proofs.Prelude.{err_from_is_err_and, rest, context_of, NoGap, fault_passed, refuses}
+use Rattle.yaml_flow.specs.{declared.collection.Part.TheVariants.Asked, Frames.in_sequence}
 use Rattle.yaml_flow.proofs.FlowSteps.{asks, asks_dead, asks_nothing}
 use Rattle.yaml_flow.proofs.collection.asked.Goals as goal
 

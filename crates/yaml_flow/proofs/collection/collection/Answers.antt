@@ -1,5 +1,4 @@
-use Rattle.yaml_events.specs.Meant.{context_of}
-use Rattle.yaml_scan.proofs.Outcomes.{fault_kept}
+use Rattle.yaml_flow.proofs.Prelude.{context_of, fault_kept}
 use Rattle.yaml_flow.specs.FlowNodes.{NoFlowNodeFound}
 use Rattle.yaml_flow.proofs.collection.collection.Goals as goal
 

@@ -1,16 +1,11 @@
-use Rattle.std.proofs.lemmas.Result.{err_from_is_err_and}
 use Rattle.std.proofs.Common.{◌+◌, ◌<◌, sym, ap, ◌∙◌, subst, arith, refl}
 use Rattle.std.specs.Prelude.{[]}
-use Rattle.std.proofs.lemmas.List.Elements.{All-nil, All-same}
-use Rattle.yaml_events.specs.Meant.{context_of}
-use Rattle.yaml_grammar.specs.FlowScalars.{in_flow}
-use Rattle.yaml_scan.proofs.Outcomes.{fault_passed}
+use Rattle.yaml_flow.proofs.Prelude.{err_from_is_err_and, All-nil, All-same, context_of, in_flow, fault_passed}
 use Rattle.yaml_flow.specs.declared.collection.Next.TheVariants.{Entry, Node, AfterEntry, Closed}
 use Rattle.yaml_flow.specs.Frames.{BeforeGap, Collection, LineMoves, Onward, Started, WholeRead, in_sequence, place_of, steps_left}
-use Rattle.yaml_flow.proofs.FlowSteps.{in_flow_twice, opened}
-use Rattle.yaml_flow.proofs.Signs.{opener_starts}
-use Rattle.yaml_flow.proofs.Stacks.{before, closed, kept_on, kept_once, outermost, refused, stack_none, started}
-use Rattle.yaml_flow.proofs.Stacks.{starts_pop, starts_push, stepped, turned, whole_read}
+use Rattle.yaml_flow.proofs.{FlowSteps.in_flow_twice, FlowSteps.opened, Signs.opener_starts}
+use Rattle.yaml_flow.proofs.Stacks.{before, closed, kept_on, kept_once, outermost, refused, stack_none, started, starts_pop, starts_push}
+use Rattle.yaml_flow.proofs.Stacks.{stepped, turned, whole_read}
 use Rattle.yaml_flow.proofs.collection.collection_end.Goals as goal
 
 pub pass-requires-clause-inside_line : goal.pass-requires-clause-inside_line

@@ -1,6 +1,5 @@
 use Rattle.std.proofs.Common.{◌≡◌}
-use Rattle.yaml_events.specs.Meant.{context_of}
-use Rattle.yaml_grammar.specs.FlowScalars.{in_flow}
+use Rattle.yaml_flow.proofs.Prelude.{context_of, in_flow}
 use Rattle.yaml_flow.specs.Frames.{steps_left}
 use Rattle.yaml_flow.proofs.Stacks.{Reading, outermost}
 use Rattle.yaml_flow.proofs.collection.collection_end.Given as goal

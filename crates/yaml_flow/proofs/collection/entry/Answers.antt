@@ -1,21 +1,13 @@
 use Rattle.std.proofs.Common.{◌≡◌, true, false, sym, ap, ◌∙◌, arith, length, ◌+◌, ◌-◌, ◌*◌, ◌<◌, refl}
 use Rattle.std.specs.Prelude.{◌==◌}
-use Rattle.yaml_chars.specs.Places.{rest}
-use Rattle.yaml_events.specs.Meant.{context_of}
-use Rattle.yaml_grammar.specs.Texts.{first}
-use Rattle.yaml_recognizers.specs.FlowFrames.{closer}
-use Rattle.yaml_recognizers.specs.FlowNodes.{is_asked}
-use Rattle.yaml_scan.proofs.Outcomes.{faults_so, ok_so}
+use Rattle.yaml_flow.proofs.Prelude.{rest, context_of, first, closer, is_asked, faults_so, ok_so, sign_there}
 use Rattle.yaml_flow.specs.declared.collection.Part.TheVariants.{First}
 use Rattle.yaml_flow.specs.Frames.{Onward, bracket_end, in_sequence, place_of, steps_left}
-use Rattle.yaml_flow.proofs.Appends.{appended_one}
-use Rattle.yaml_flow.proofs.FlowSteps.{begins, closes, question}
-use Rattle.yaml_flow.proofs.SameLines.{closer_line, sign_then}
-use Rattle.yaml_scan.proofs.ByteSigns.{sign_there}
+use Rattle.yaml_flow.proofs.{Appends.appended_one, FlowSteps.begins, FlowSteps.closes, FlowSteps.question, SameLines.closer_line}
+use Rattle.yaml_flow.proofs.{SameLines.sign_then, collection.entry.Goals.then-not-stands_at-via-then-not-stands_at}
+use Rattle.yaml_flow.proofs.{collection.entry.Goals.then-not-stands_at-via-else-not-stands_at+then-safe_at}
 use Rattle.yaml_flow.proofs.Signs.{closer_starts, closer_there, no_question, not_starting, question_asks, safe_after}
 use Rattle.yaml_flow.proofs.collection.entry.Goals as goal
-use Rattle.yaml_flow.proofs.collection.entry.Goals.{then-not-stands_at-via-then-not-stands_at}
-use Rattle.yaml_flow.proofs.collection.entry.Goals.{then-not-stands_at-via-else-not-stands_at+then-safe_at}
 
 pub returns-then-stands_at-clause-onward : goal.returns-then-stands_at-clause-onward
 returns-then-stands_at-clause-onward c =

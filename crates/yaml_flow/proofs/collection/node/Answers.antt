@@ -1,15 +1,9 @@
 use Rattle.std.proofs.Common.{sym, subst, arith, ◌+◌, ◌-◌, ◌*◌, ◌<◌, refl, length}
 use Rattle.std.specs.Prelude.{◌∷◌}
-use Rattle.yaml_chars.specs.Places.{rest}
-use Rattle.yaml_events.specs.Meant.{context_of}
-use Rattle.yaml_events.specs.EventPlaces.{line_starts}
-use Rattle.yaml_recognizers.specs.Recognizers.{flow_node_at}
-use Rattle.yaml_scan.proofs.Outcomes.{faults_so, ok_so, refuses}
+use Rattle.yaml_flow.proofs.Prelude.{rest, context_of, line_starts, flow_node_at, faults_so, ok_so, refuses}
 use Rattle.yaml_flow.specs.Frames.{BeforeGap, Collection, Onward, in_sequence, place_of, steps_left}
-use Rattle.yaml_flow.proofs.FlowSteps.{opened}
+use Rattle.yaml_flow.proofs.{FlowSteps.opened, SameLines.opener_then, Signs.opener_starts}
 use Rattle.yaml_flow.proofs.NodeSteps.{at_start, node_at_end, node_missing}
-use Rattle.yaml_flow.proofs.SameLines.{opener_then}
-use Rattle.yaml_flow.proofs.Signs.{opener_starts}
 use Rattle.yaml_flow.proofs.collection.node.Goals as goal
 
 pub returns-then-at-text-clause-none : goal.returns-then-at-text-clause-none

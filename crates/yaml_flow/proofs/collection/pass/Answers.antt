@@ -1,8 +1,4 @@
-use Rattle.std.proofs.lemmas.Result.{err_from_is_err_and}
-use Rattle.yaml_chars.specs.Places.{rest}
-use Rattle.yaml_events.specs.Meant.{context_of}
-use Rattle.yaml_scan.specs.Gaps.{NoGap}
-use Rattle.yaml_scan.proofs.Outcomes.{fault_passed}
+use Rattle.yaml_flow.proofs.Prelude.{err_from_is_err_and, rest, context_of, NoGap, fault_passed}
 use Rattle.yaml_flow.specs.Frames.{in_sequence}
 use Rattle.yaml_flow.proofs.FlowSteps.{not_passed, passed}
 use Rattle.yaml_flow.proofs.collection.pass.Goals as goal

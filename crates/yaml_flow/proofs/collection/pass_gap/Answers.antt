@@ -1,4 +1,4 @@
-use Rattle.yaml_events.specs.Meant.{context_of}
+use Rattle.yaml_flow.proofs.Prelude.{context_of}
 use Rattle.yaml_flow.proofs.GapPlaces.{gap_passes, gap_line, gap_same_line}
 use Rattle.yaml_flow.proofs.collection.pass_gap.Goals as goal
 

@@ -1,17 +1,12 @@
 use Rattle.std.proofs.Common.{◌≡◌, sym, subst, arith, ◌-◌, ◌*◌, ◌<◌, length}
 use Rattle.std.specs.Prelude.{not}
-use Rattle.yaml_events.specs.Meant.{context_of}
-use Rattle.yaml_scan.specs.ScanPlaces.{unbroken_between}
-use Rattle.yaml_scan.proofs.Outcomes.{fault_kept, faults_so, ok_so}
-use Rattle.yaml_flow.specs.Scalars.{NoFlowScalar}
-use Rattle.yaml_flow.specs.Frames.{LineMoves, Onward, place_of, steps_left}
-use Rattle.yaml_flow.proofs.NodeSteps.{node_missing}
-use Rattle.yaml_flow.proofs.GapPlaces.{broken_by, unbroken_by}
+use Rattle.yaml_flow.proofs.Prelude.{context_of, unbroken_between, fault_kept, faults_so, ok_so}
+use Rattle.yaml_flow.specs.{Scalars.NoFlowScalar, Frames.LineMoves, Frames.Onward, Frames.place_of, Frames.steps_left}
+use Rattle.yaml_flow.proofs.{NodeSteps.node_missing, GapPlaces.broken_by, GapPlaces.unbroken_by, ScalarSteps.scalar_missing}
+use Rattle.yaml_flow.proofs.{ScalarSteps.scalar_node, Stacks.kept_then, collection.scalar.Goals.then-is_over_lines}
+use Rattle.yaml_flow.proofs.{collection.scalar.Goals.else-is_over_lines}
 use Rattle.yaml_flow.proofs.SameLines.{line_follows, line_stays, line_then, same_line_here}
-use Rattle.yaml_flow.proofs.ScalarSteps.{scalar_missing, scalar_node}
-use Rattle.yaml_flow.proofs.Stacks.{kept_then}
 use Rattle.yaml_flow.proofs.collection.scalar.Goals as goal
-use Rattle.yaml_flow.proofs.collection.scalar.Goals.{then-is_over_lines, else-is_over_lines}
 
 pub returns-in-Err-clause-none : goal.returns-in-Err-clause-none
 returns-in-Err-clause-none c =

@@ -1,8 +1,5 @@
-use Rattle.std.proofs.lemmas.Result.{err_from_is_err_and}
-use Rattle.yaml_events.specs.Meant.{context_of}
-use Rattle.yaml_scan.proofs.Outcomes.{fault_passed, ok_so}
-use Rattle.yaml_flow.specs.FlowNodes.{FlowNodeRead}
-use Rattle.yaml_flow.specs.Scalars.{NoFlowScalar}
+use Rattle.yaml_flow.proofs.Prelude.{err_from_is_err_and, context_of, fault_passed, ok_so}
+use Rattle.yaml_flow.specs.{FlowNodes.FlowNodeRead, Scalars.NoFlowScalar}
 use Rattle.yaml_flow.proofs.ScalarSteps.{scalar_missing, scalar_node_read}
 use Rattle.yaml_flow.proofs.node.any_scalar.Goals as goal
 

@@ -1,8 +1,4 @@
-use Rattle.yaml_chars.specs.Places.{rest}
-use Rattle.yaml_events.specs.Meant.{context_of}
-use Rattle.yaml_events.specs.EventPlaces.{line_starts}
-use Rattle.yaml_grammar.specs.FlowNodes.{flow_events}
-use Rattle.yaml_scan.proofs.Outcomes.{refuses_so}
+use Rattle.yaml_flow.proofs.Prelude.{rest, context_of, line_starts, flow_events, refuses_so}
 use Rattle.yaml_flow.proofs.Appends.{appended_means}
 use Rattle.yaml_flow.proofs.node.flow_node.Goals as goal
 

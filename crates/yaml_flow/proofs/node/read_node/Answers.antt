@@ -1,5 +1,4 @@
-use Rattle.yaml_events.specs.Meant.{context_of}
-use Rattle.yaml_scan.proofs.Outcomes.{ok_so}
+use Rattle.yaml_flow.proofs.Prelude.{context_of, ok_so}
 use Rattle.yaml_flow.specs.FlowNodes.{FlowNodeRead}
 use Rattle.yaml_flow.proofs.ScalarSteps.{scalar_node_read}
 use Rattle.yaml_flow.proofs.node.read_node.Goals as goal

@@ -1,10 +1,7 @@
 use Rattle.std.proofs.Common.{true, sym, ap, ◌∙◌, arith}
 use Rattle.std.specs.Prelude.{not}
-use Rattle.yaml_chars.specs.Places.{rest}
-use Rattle.yaml_events.specs.Meant.{context_of}
-use Rattle.yaml_recognizers.specs.Ends.{is_colon}
+use Rattle.yaml_flow.proofs.Prelude.{rest, context_of, is_colon, sign_there}
 use Rattle.yaml_flow.specs.Frames.{ends_plain}
-use Rattle.yaml_scan.proofs.ByteSigns.{sign_there}
 use Rattle.yaml_flow.proofs.pair.colon_at.Goals as goal
 
 pub safe_at-requires : goal.safe_at-requires

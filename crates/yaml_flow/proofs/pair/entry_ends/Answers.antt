@@ -1,11 +1,6 @@
 use Rattle.std.proofs.Common.{◌≡◌, true, false, sym, ap, ◌∙◌, arith, refl, ℕ, ◌+◌}
-use Rattle.std.specs.Char.{len_utf8}
 use Rattle.std.specs.Prelude.{Bool, ◌==◌, ◌||◌, List, ◌∷◌}
-use Rattle.yaml_chars.specs.Places.{rest}
-use Rattle.yaml_chars.proofs.Places.{char_at, rest-end}
-use Rattle.yaml_grammar.specs.Texts.{first}
-use Rattle.yaml_recognizers.specs.FlowNodes.{ends_entry}
-use Rattle.yaml_scan.proofs.ByteSigns.{sign_there}
+use Rattle.yaml_flow.proofs.Prelude.{len_utf8, rest, char_at, rest-end, first, ends_entry, sign_there}
 use Rattle.yaml_flow.proofs.pair.entry_ends.Goals as goal
 
 or_false : (b : Bool) → b ≡ b || false

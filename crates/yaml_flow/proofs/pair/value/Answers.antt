@@ -1,24 +1,12 @@
-use Rattle.std.proofs.lemmas.Result.{err_from_is_err_and}
 use Rattle.std.proofs.Common.{◌≡◌, true, false, sym, subst, ap, ◌∙◌, arith, length, ℕ, ◌+◌, ◌-◌, ◌*◌, ◌<◌, ◌≤◌, refl}
 use Rattle.std.specs.Prelude.{Bool, not, ◌||◌, ◌&&◌, nat_lt, List, []}
-use Rattle.yaml_chars.specs.Places.{rest}
-use Rattle.yaml_events.specs.Meant.{context_of}
-use Rattle.yaml_grammar.specs.Events.{omitted_at, omitted_style, scalar_event}
-use Rattle.yaml_grammar.specs.FlowScalars.{FlowContext, one_line}
-use Rattle.yaml_recognizers.specs.FlowNodes.{ends_entry}
-use Rattle.yaml_recognizers.specs.Gaps.{read_gap}
-use Rattle.yaml_scan.specs.Gaps.{NoGap}
-use Rattle.yaml_scan.proofs.Outcomes.{fault_passed, ok_so}
+use Rattle.yaml_flow.proofs.Prelude.{err_from_is_err_and, rest, context_of, omitted_at, omitted_style, scalar_event, FlowContext, one_line}
+use Rattle.yaml_flow.proofs.Prelude.{ends_entry, read_gap, NoGap, fault_passed, ok_so, sign_there}
 use Rattle.yaml_flow.specs.declared.collection.Part.TheVariants.{Value}
 use Rattle.yaml_flow.specs.Frames.{LineMoves, Onward, Passes, Stands, ends_plain, in_sequence, pair_end, place_of, steps_left}
+use Rattle.yaml_flow.proofs.{Results.ok_two, PairKeys.left_out, SameLines.sign_then, Stacks.kept_then, Signs.not_starting}
 use Rattle.yaml_flow.proofs.Appends.{appended_one, appended_then}
 use Rattle.yaml_flow.proofs.ColonSteps.{pair_without_value, value_dead, value_waits}
-use Rattle.yaml_flow.proofs.Results.{ok_two}
-use Rattle.yaml_flow.proofs.PairKeys.{left_out}
-use Rattle.yaml_flow.proofs.SameLines.{sign_then}
-use Rattle.yaml_flow.proofs.Stacks.{kept_then}
-use Rattle.yaml_scan.proofs.ByteSigns.{sign_there}
-use Rattle.yaml_flow.proofs.Signs.{not_starting}
 use Rattle.yaml_flow.proofs.pair.value.Goals as goal
 
 -- the code's test is the recognizer's

@@ -1,8 +1,5 @@
 use Rattle.std.proofs.Common.{ap, refl, subst, sym}
-use Rattle.std.specs.Str.{chars}
-use Rattle.yaml_events.specs.Meant.{context_of}
-use Rattle.yaml_flow_scalars.specs.Standing.{ScalarAt}
-use Rattle.yaml_grammar.specs.Events.{plain_style}
+use Rattle.yaml_flow.proofs.Prelude.{chars, context_of, ScalarAt, plain_style}
 use Rattle.yaml_flow.proofs.ScalarKinds.{scalar_read}
 use Rattle.yaml_flow.proofs.scalar.plain_line_at.Goals as goal
 

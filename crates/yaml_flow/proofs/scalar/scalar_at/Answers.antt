@@ -1,10 +1,6 @@
-use Rattle.std.proofs.lemmas.Result.{err_from_is_err_and}
 use Rattle.std.proofs.Common.{refl, sym, ◌∙◌}
-use Rattle.yaml_events.specs.Meant.{context_of}
+use Rattle.yaml_flow.proofs.Prelude.{err_from_is_err_and, context_of, NoScalarAt, double_style, plain_style, single_style, fault_passed}
 use Rattle.yaml_events.specs.declared.event.Style.TheVariants.{Double, Plain, Single}
-use Rattle.yaml_flow_scalars.specs.Standing.{NoScalarAt}
-use Rattle.yaml_grammar.specs.Events.{double_style, plain_style, single_style}
-use Rattle.yaml_scan.proofs.Outcomes.{fault_passed}
 use Rattle.yaml_flow.proofs.ScalarKinds.{double_there, none_read, plain_there, scalar_read, single_there}
 use Rattle.yaml_flow.proofs.scalar.scalar_at.Goals as goal
 

@@ -1,13 +1,7 @@
 use Rattle.std.proofs.Common.{◌≡◌, refl, sym, subst, arith, ◌+◌, None}
-use Rattle.std.specs.String.{string_bytes}
 use Rattle.std.specs.Prelude.{slice_range}
-use Rattle.std.specs.Str.{chars}
-use Rattle.yaml_chars.specs.Places.{rest, IsRun}
-use Rattle.yaml_grammar.specs.Events.{double_style}
-use Rattle.yaml_events.specs.Meant.{context_of}
-use Rattle.yaml_scan.proofs.Outcomes.{fault_kept}
-use Rattle.yaml_flow_scalars.specs.Standing.{ScalarAt, NoScalarAt}
-use Rattle.yaml_flow_scalars.specs.DoubleScan.{double_value, raw_char}
+use Rattle.yaml_flow_scalars.proofs.Prelude.{string_bytes, chars, rest, IsRun, double_style, context_of, fault_kept}
+use Rattle.yaml_flow_scalars.specs.{Standing.ScalarAt, Standing.NoScalarAt, DoubleScan.double_value, DoubleScan.raw_char}
 use Rattle.yaml_flow_scalars.proofs.DoublePlaces.{stands, stands_not, after_byte, raw_run}
 use Rattle.yaml_flow_scalars.proofs.DoubleFound.{no_quote_at, none_after, scalar_there, run_closes, not_verbatim}
 use Rattle.yaml_flow_scalars.proofs.InsideLines.{ends_inside_line}

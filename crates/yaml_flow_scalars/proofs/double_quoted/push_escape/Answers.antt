@@ -1,10 +1,5 @@
 use Rattle.std.proofs.Common.{◌≡◌, arith, ◌+◌, [], None, true}
-use Rattle.std.specs.String.{string_bytes}
-use Rattle.std.proofs.lemmas.Result.{err_from_is_err_and}
-use Rattle.std.proofs.lemmas.Str.{IsUtf8-string_bytes}
-use Rattle.yaml_chars.specs.Places.{rest}
-use Rattle.yaml_events.specs.Meant.{context_of}
-use Rattle.yaml_scan.proofs.Outcomes.{fault_passed}
+use Rattle.yaml_flow_scalars.proofs.Prelude.{string_bytes, err_from_is_err_and, IsUtf8-string_bytes, rest, context_of, fault_passed}
 use Rattle.yaml_flow_scalars.specs.DoubleScan.{double_value, NoJoinAt}
 use Rattle.yaml_flow_scalars.proofs.DoublePlaces.{after_byte}
 use Rattle.yaml_flow_scalars.proofs.DoubleAdds.{escape_adds, begins_escaped, escaped_join_adds}

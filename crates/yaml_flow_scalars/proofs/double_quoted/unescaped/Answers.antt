@@ -1,9 +1,5 @@
 use Rattle.std.proofs.Common.{◌≡◌, ◌∙◌, ap, subst, arith, ◌++◌, ◌<◌, [], inl, inr, length, get_or}
-use Rattle.std.proofs.lemmas.Bool.{cases_lt}
-use Rattle.std.specs.String.{string_bytes}
-use Rattle.std.proofs.lemmas.Str.{IsUtf8-string_bytes}
-use Rattle.yaml_events.specs.Meant.{context_of}
-use Rattle.yaml_recognizers.specs.Joins.{at_break}
+use Rattle.yaml_flow_scalars.proofs.Prelude.{cases_lt, string_bytes, IsUtf8-string_bytes, context_of, at_break}
 use Rattle.yaml_flow_scalars.proofs.DoublePlaces.{stands, stands_not, byte_read, after_byte, raw_run}
 use Rattle.yaml_flow_scalars.proofs.DoubleAdds.{adds_more, run_adds, closes}
 use Rattle.yaml_flow_scalars.proofs.double_quoted.unescaped.Goals as goal

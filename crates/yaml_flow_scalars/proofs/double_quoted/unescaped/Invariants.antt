@@ -1,7 +1,5 @@
 use Rattle.std.proofs.Common.{◌≤◌, ◌-◌, length, []}
-use Rattle.std.specs.String.{string_bytes}
-use Rattle.yaml_chars.specs.Places.{IsRun}
-use Rattle.yaml_events.specs.Meant.{context_of}
+use Rattle.yaml_flow_scalars.proofs.Prelude.{string_bytes, IsRun, context_of}
 use Rattle.yaml_flow_scalars.specs.DoubleScan.{raw_char, Adds}
 use Rattle.yaml_flow_scalars.proofs.double_quoted.unescaped.Given as goal
 

@@ -1,11 +1,9 @@
 use Rattle.std.proofs.Common.{inl, inr, sym, ◌∙◌}
-use Rattle.std.proofs.lemmas.Bool.{not-false, not-true}
-use Rattle.yaml_chars.specs.Places.{rest}
-use Rattle.yaml_recognizers.proofs.Scalars.JoinSteps.{no_break}
+use Rattle.yaml_flow_scalars.proofs.Prelude.{not-false, not-true, rest, no_break}
 use Rattle.yaml_flow_scalars.proofs.FoldSteps.{fold_there, folding_goes_on, no_fold_there}
-use Rattle.yaml_flow_scalars.proofs.fold.fold_at.Goals as goal
 use Rattle.yaml_flow_scalars.proofs.fold.fold_at.Goals.{then-not-prefix-via-then-not-prefix}
 use Rattle.yaml_flow_scalars.proofs.fold.fold_at.Goals.{then-not-prefix-via-else-not-prefix+then-is_marker}
+use Rattle.yaml_flow_scalars.proofs.fold.fold_at.Goals as goal
 
 pub returns-in_default-clause-none : goal.returns-in_default-clause-none
 returns-in_default-clause-none c = λ escaped blank.

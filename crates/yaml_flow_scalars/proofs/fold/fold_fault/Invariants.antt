@@ -1,5 +1,5 @@
 use Rattle.std.proofs.Common.{◌-◌, length}
-use Rattle.std.specs.Str.{IsCharBoundary}
+use Rattle.yaml_flow_scalars.proofs.Prelude.{IsCharBoundary}
 use Rattle.yaml_flow_scalars.proofs.fold.fold_fault.Given as goal
 
 abbrev pub invariant-lines : goal.invariant-lines

@@ -1,5 +1,5 @@
 use Rattle.std.proofs.Common.{◌≡◌, ℕ, ◌<◌, ◌≤◌, true, slice_index}
-use Rattle.yaml_chars.specs.Classes.{white}
+use Rattle.yaml_flow_scalars.proofs.Prelude.{white}
 use Rattle.yaml_flow_scalars.proofs.fold.white_start.Given as goal
 
 abbrev pub invariant-loop-start : goal.invariant-loop-start

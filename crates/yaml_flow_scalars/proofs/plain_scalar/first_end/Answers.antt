@@ -1,8 +1,5 @@
 use Rattle.std.proofs.Common.{◌≡◌, ◌<◌, ◌≤◌, ℕ, Bool, true, false, ap, inl, inr, length, sym, ◌∙◌}
-use Rattle.std.proofs.lemmas.Bool.{cases_lt, false≢true}
-use Rattle.yaml_events.specs.Meant.{context_of}
-use Rattle.yaml_events.specs.EventPlaces.{line_starts}
-use Rattle.yaml_chars.proofs.Places.{rest-end}
+use Rattle.yaml_flow_scalars.proofs.Prelude.{cases_lt, false≢true, context_of, line_starts, rest-end}
 use Rattle.yaml_flow_scalars.specs.PlainPlaces.{begins_plain}
 use Rattle.yaml_flow_scalars.proofs.PlainWords.{letter_begins_at}
 use Rattle.yaml_flow_scalars.proofs.plain_scalar.first_end.Goals as goal

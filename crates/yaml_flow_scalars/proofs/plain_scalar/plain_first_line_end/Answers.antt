@@ -1,9 +1,7 @@
 use Rattle.std.proofs.Common.{◌∙◌, ◌++◌, ◌+◌, ap, append-nil, arith, sym}
-use Rattle.yaml_chars.specs.Places.{between}
-use Rattle.yaml_events.specs.Meant.{context_of}
+use Rattle.yaml_flow_scalars.proofs.Prelude.{between, context_of}
+use Rattle.yaml_flow_scalars.proofs.{PlainLines.lines_stop, PlainWords.letter_begins_at}
 use Rattle.yaml_flow_scalars.proofs.PlainFound.{first_line_unbroken, plain_found}
-use Rattle.yaml_flow_scalars.proofs.PlainLines.{lines_stop}
-use Rattle.yaml_flow_scalars.proofs.PlainWords.{letter_begins_at}
 use Rattle.yaml_flow_scalars.proofs.plain_scalar.plain_first_line_end.Goals as goal
 
 pub plain_run_end-requires : goal.plain_run_end-requires

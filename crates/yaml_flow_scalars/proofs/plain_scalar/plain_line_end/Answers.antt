@@ -1,6 +1,4 @@
-use Rattle.yaml_chars.specs.Places.{between}
-use Rattle.yaml_events.specs.Meant.{context_of}
-use Rattle.yaml_grammar.specs.Events.{plain_style}
+use Rattle.yaml_flow_scalars.proofs.Prelude.{between, context_of, plain_style}
 use Rattle.yaml_flow_scalars.proofs.InsideLines.{ends_inside_line}
 use Rattle.yaml_flow_scalars.proofs.plain_scalar.plain_line_end.Goals as goal
 

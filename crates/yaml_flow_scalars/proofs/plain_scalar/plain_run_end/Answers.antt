@@ -1,8 +1,6 @@
 use Rattle.std.proofs.Common.{◌∙◌, ap, arith, subst, sym}
 use Rattle.std.specs.Prelude.{◌&&◌, ◌||◌, ◌==◌, nat_lt, slice_index}
-use Rattle.yaml_chars.specs.Places.{IsRun}
-use Rattle.yaml_events.specs.Meant.{context_of}
-use Rattle.yaml_scan.specs.Classes.{word}
+use Rattle.yaml_flow_scalars.proofs.Prelude.{IsRun, context_of, word}
 use Rattle.yaml_flow_scalars.specs.PlainPlaces.{is_content, IsPlainPiece, NoPlainPiece}
 use Rattle.yaml_flow_scalars.proofs.PlainPieces.{goes_from, piece_more, run_ends_at}
 use Rattle.yaml_flow_scalars.proofs.PlainWords.{white_after, words_more}

@@ -1,6 +1,5 @@
 use Rattle.std.proofs.Common.{◌-◌, ◌≤◌, length}
-use Rattle.std.specs.Str.{IsCharBoundary}
-use Rattle.yaml_events.specs.Meant.{context_of}
+use Rattle.yaml_flow_scalars.proofs.Prelude.{IsCharBoundary, context_of}
 use Rattle.yaml_flow_scalars.specs.PlainPlaces.{is_content}
 use Rattle.yaml_flow_scalars.proofs.PlainPieces.{GoesOn}
 use Rattle.yaml_flow_scalars.proofs.plain_scalar.plain_run_end.Given as goal

@@ -1,10 +1,5 @@
 use Rattle.std.proofs.Common.{◌≡◌, ◌∙◌, ◌++◌, arith}
-use Rattle.std.specs.Str.{chars}
-use Rattle.std.specs.String.{string_bytes}
-use Rattle.std.proofs.lemmas.Str.{IsUtf8-string_bytes}
-use Rattle.yaml_chars.specs.Places.{between}
-use Rattle.yaml_events.specs.Meant.{context_of}
-use Rattle.yaml_grammar.specs.FlowScalars.{folded_break}
+use Rattle.yaml_flow_scalars.proofs.Prelude.{chars, string_bytes, IsUtf8-string_bytes, between, context_of, folded_break}
 use Rattle.yaml_flow_scalars.specs.PlainPlaces.{lines_value}
 use Rattle.yaml_flow_scalars.proofs.PlainLines.{line_pushed, lines_step, lines_stop, line_next, line_last}
 use Rattle.yaml_flow_scalars.proofs.plain_scalar.push_lines.Goals as goal

@@ -1,10 +1,5 @@
 use Rattle.std.proofs.Common.{◌≡◌, ◌-◌, ◌≤◌, ◌++◌, length}
-use Rattle.std.specs.Str.{IsCharBoundary, chars}
-use Rattle.std.specs.String.{string_bytes}
-use Rattle.yaml_chars.specs.Places.{rest, between}
-use Rattle.yaml_events.specs.Meant.{context_of}
-use Rattle.yaml_grammar.specs.FlowScalars.{folded_break}
-use Rattle.yaml_recognizers.specs.PlainScalars.{plain_lines_at}
+use Rattle.yaml_flow_scalars.proofs.Prelude.{IsCharBoundary, chars, string_bytes, rest, between, context_of, folded_break, plain_lines_at}
 use Rattle.yaml_flow_scalars.specs.PlainPlaces.{lines_value}
 use Rattle.yaml_flow_scalars.proofs.plain_scalar.push_lines.Given as goal
 

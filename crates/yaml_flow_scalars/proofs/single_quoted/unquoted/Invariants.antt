@@ -1,9 +1,5 @@
 use Rattle.std.proofs.Common.{◌≡◌, ℕ, ◌<◌, ◌≤◌, ◌-◌, length, false, slice_index}
-use Rattle.std.specs.Str.{IsCharBoundary, chars}
-use Rattle.std.specs.String.{string_bytes}
-use Rattle.yaml_chars.specs.Places.{rest}
-use Rattle.yaml_events.specs.Meant.{context_of}
-use Rattle.yaml_recognizers.specs.QuotedSteps.{with_prefix}
+use Rattle.yaml_flow_scalars.proofs.Prelude.{IsCharBoundary, chars, string_bytes, rest, context_of, with_prefix}
 use Rattle.yaml_flow_scalars.specs.SingleScalars.{read_inside, is_unchanged}
 use Rattle.yaml_flow_scalars.proofs.single_quoted.unquoted.Given as goal
 

@@ -1,5 +1,5 @@
 use Rattle.std.proofs.Common.{length}
-use Rattle.std.specs.Str.{chars}
+use Rattle.yaml_forms.proofs.Prelude.{chars}
 use denote.Shadow.{shadow}
 use denote.Text.{Utf8}
 use Rattle.yaml_forms.specs.Json.{json_chars}

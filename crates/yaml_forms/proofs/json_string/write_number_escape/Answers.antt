@@ -1,4 +1,4 @@
-use Rattle.std.proofs.lemmas.Result.{on_ok_weaker}
+use Rattle.yaml_forms.proofs.Prelude.{on_ok_weaker}
 use Rattle.yaml_forms.proofs.json_string.write_number_escape.Goals as goal
 
 pub returns : goal.returns

@@ -1,5 +1,5 @@
 use Rattle.std.proofs.Common.{drop}
-use Rattle.yaml_data.specs.Seen.{elements_of, members_of}
+use Rattle.yaml_forms.proofs.Prelude.{elements_of, members_of}
 use Rattle.yaml_forms.proofs.WalkLemmas.{elements_led, members_led}
 use Rattle.yaml_forms.proofs.json_tree.+json.Given as goal
 

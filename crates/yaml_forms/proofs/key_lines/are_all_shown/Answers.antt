@@ -1,8 +1,8 @@
 use Rattle.std.proofs.Common.{rules}
+use Rattle.yaml_forms.proofs.Prelude.{shown}
 use Rattle.std.proofs.lemmas.Iterator.{YieldsList-from_chars}
 use Rattle.std.proofs.lemmas.Iterator.Search.{all_from_yields_List}
 use borrow.Author.Tests.{tests}
-use Rattle.yaml_grammar.specs.Style.{shown}
 use Rattle.yaml_forms.proofs.key_lines.are_all_shown.Goals as goal
 
 pub returns : goal.returns

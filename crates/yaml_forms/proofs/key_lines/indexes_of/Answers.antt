@@ -1,6 +1,5 @@
 use Rattle.std.proofs.Common.{◌+◌, ◌++◌, drop, encode_utf8_all, string_bytes, sym, ap, ◌∙◌, arith}
-use Rattle.std.proofs.lemmas.List.{append-nil, drop_all}
-use Rattle.yaml_data.specs.Seen.{elements_of}
+use Rattle.yaml_forms.proofs.Prelude.{append-nil, drop_all, elements_of}
 use Rattle.yaml_forms.specs.KeyLines.{index_lines}
 use Rattle.yaml_forms.proofs.LineLemmas.{line_pushed, index_here}
 use Rattle.yaml_forms.proofs.key_lines.indexes_of.Goals as goal

@@ -1,5 +1,5 @@
 use Rattle.std.proofs.Common.{◌≡◌, ◌++◌, drop, encode_utf8_all, string_bytes}
-use Rattle.yaml_data.specs.Seen.{elements_of}
+use Rattle.yaml_forms.proofs.Prelude.{elements_of}
 use Rattle.yaml_forms.specs.KeyLines.{index_lines}
 use Rattle.yaml_forms.proofs.key_lines.indexes_of.Given as goal
 

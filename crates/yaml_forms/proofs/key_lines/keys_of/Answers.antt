@@ -1,8 +1,5 @@
 use Rattle.std.proofs.Common.{◌+◌, ◌++◌, drop, codes, encode_utf8_all, string_bytes, sym, ap, ◌∙◌, arith}
-use Rattle.std.proofs.lemmas.List.{append-nil, drop_all}
-use Rattle.std.specs.Str.{chars}
-use Rattle.yaml_data.specs.Seen.{members_of}
-use Rattle.yaml_data.proofs.ListLemmas.{drop_item}
+use Rattle.yaml_forms.proofs.Prelude.{append-nil, drop_all, chars, members_of, drop_item}
 use Rattle.yaml_forms.specs.KeyLines.{key_in_line, member_lines}
 use Rattle.yaml_forms.proofs.LineLemmas.{line_pushed}
 use Rattle.yaml_forms.proofs.key_lines.keys_of.Goals as goal

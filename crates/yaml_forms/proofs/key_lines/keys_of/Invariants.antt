@@ -1,5 +1,5 @@
 use Rattle.std.proofs.Common.{◌≡◌, ◌++◌, drop, encode_utf8_all, string_bytes}
-use Rattle.yaml_data.specs.Seen.{members_of}
+use Rattle.yaml_forms.proofs.Prelude.{members_of}
 use Rattle.yaml_forms.specs.KeyLines.{member_lines}
 use Rattle.yaml_forms.proofs.key_lines.keys_of.Given as goal
 

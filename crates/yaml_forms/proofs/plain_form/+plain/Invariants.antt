@@ -1,6 +1,5 @@
 use Rattle.std.proofs.Common.{◌+◌, ◌*◌, ◌<◌, drop}
-use Rattle.yaml_grammar.specs.Trees.{elements_depth, members_depth}
-use Rattle.yaml_data.specs.Seen.{elements_of, members_of}
+use Rattle.yaml_forms.proofs.Prelude.{elements_depth, members_depth, elements_of, members_of}
 use Rattle.yaml_forms.proofs.PlainWalk.{elements_led, members_led}
 use Rattle.yaml_forms.proofs.plain_form.+plain.Given as goal
 

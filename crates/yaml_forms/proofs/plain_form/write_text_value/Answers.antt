@@ -1,4 +1,4 @@
-use Rattle.std.proofs.lemmas.Result.{on_ok_weaker}
+use Rattle.yaml_forms.proofs.Prelude.{on_ok_weaker}
 use Rattle.yaml_forms.proofs.plain_form.write_text_value.Goals as goal
 
 pub returns : goal.returns

@@ -1,6 +1,5 @@
 use Rattle.std.proofs.Common.{not, ◌&&◌, ap, ◌∙◌}
-use Rattle.std.specs.List.{list_all}
-use Rattle.yaml_grammar.specs.FlowScalars.{hex_digit}
+use Rattle.yaml_forms.proofs.Prelude.{list_all, hex_digit}
 use Rattle.yaml_forms.proofs.typed.are_hex_digits.Goals as goal
 
 pub returns-then-not-is_empty : goal.returns-then-not-is_empty

@@ -1,7 +1,6 @@
 use Rattle.std.proofs.Common.{◌∙◌}
-use Rattle.std.proofs.lemmas.Bool.Decides.{same_from_decides}
+use Rattle.yaml_forms.proofs.Prelude.{same_from_decides, same_text-Decides}
 use Rattle.std.proofs.lemmas.Slice.Eq.{bytes_eq-Decides}
-use Rattle.yaml_data.proofs.CharacterLemmas.{same_text-Decides}
 use Rattle.yaml_forms.proofs.typed.is_word.Goals as goal
 
 pub returns : goal.returns

@@ -1,5 +1,4 @@
-use Rattle.yaml_recognizers.proofs.OneStyle.PieceLists.{one_list}
-use Rattle.yaml_recognizers.proofs.OneStyle.PiecesFound.{some_pieces}
+use Rattle.yaml_recognizers.proofs.{OneStyle.PieceLists.one_list, OneStyle.PiecesFound.some_pieces}
 use Rattle.yaml_recognizers.proofs.closings.one_list_of_pieces.Goals as goal
 
 pub returns-clause-some : goal.returns-clause-some

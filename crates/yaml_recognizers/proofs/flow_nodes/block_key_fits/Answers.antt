@@ -1,6 +1,5 @@
 use Rattle.yaml_recognizers.specs.FlowScalars.{read_scalar}
-use Rattle.yaml_recognizers.proofs.Block.BlockKeysWhole.{block_key_is}
-use Rattle.yaml_recognizers.proofs.Scalars.ScalarsInNodes.{reads_scalars}
+use Rattle.yaml_recognizers.proofs.{Block.BlockKeysWhole.block_key_is, Scalars.ScalarsInNodes.reads_scalars}
 use Rattle.yaml_recognizers.proofs.flow_nodes.block_key_fits.Goals as goal
 
 pub returns : goal.returns

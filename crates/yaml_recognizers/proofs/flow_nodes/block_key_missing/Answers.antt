@@ -1,6 +1,5 @@
 use Rattle.yaml_recognizers.specs.FlowScalars.{read_scalar}
-use Rattle.yaml_recognizers.proofs.Block.BlockKeysWhole.{no_block_key}
-use Rattle.yaml_recognizers.proofs.Scalars.ScalarsInNodes.{reads_scalars}
+use Rattle.yaml_recognizers.proofs.{Block.BlockKeysWhole.no_block_key, Scalars.ScalarsInNodes.reads_scalars}
 use Rattle.yaml_recognizers.proofs.flow_nodes.block_key_missing.Goals as goal
 
 pub returns : goal.returns

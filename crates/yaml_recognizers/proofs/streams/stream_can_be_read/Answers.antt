@@ -1,9 +1,6 @@
-use Rattle.yaml_recognizers.specs.FlowScalars.{read_scalar}
-use Rattle.yaml_recognizers.specs.BlockScalars.{read_block}
-use Rattle.yaml_recognizers.proofs.Documents.StreamsWhole.{whole_stream_is}
-use Rattle.yaml_recognizers.proofs.Documents.NestedStreams.{can_read}
-use Rattle.yaml_recognizers.proofs.Scalars.ScalarsInNodes.{reads_scalars}
-use Rattle.yaml_recognizers.proofs.BlockScalars.BlockScalarFacts.{blocks_read}
+use Rattle.yaml_recognizers.specs.{FlowScalars.read_scalar, BlockScalars.read_block}
+use Rattle.yaml_recognizers.proofs.{Documents.StreamsWhole.whole_stream_is, Documents.NestedStreams.can_read}
+use Rattle.yaml_recognizers.proofs.{Scalars.ScalarsInNodes.reads_scalars, BlockScalars.BlockScalarFacts.blocks_read}
 use Rattle.yaml_recognizers.proofs.streams.stream_can_be_read.Goals as goal
 
 pub returns : goal.returns

@@ -1,8 +1,6 @@
-use Rattle.yaml_recognizers.specs.FlowScalars.{read_scalar}
-use Rattle.yaml_recognizers.specs.BlockScalars.{read_block}
-use Rattle.yaml_recognizers.proofs.Meanings.Meaning.{text_reads}
-use Rattle.yaml_recognizers.proofs.Scalars.ScalarsInNodes.{reads_scalars}
-use Rattle.yaml_recognizers.proofs.BlockScalars.BlockScalarFacts.{blocks_read}
+use Rattle.yaml_recognizers.specs.{FlowScalars.read_scalar, BlockScalars.read_block}
+use Rattle.yaml_recognizers.proofs.{Meanings.Meaning.text_reads, Scalars.ScalarsInNodes.reads_scalars}
+use Rattle.yaml_recognizers.proofs.{BlockScalars.BlockScalarFacts.blocks_read}
 use Rattle.yaml_recognizers.proofs.texts.text_reads.Goals as goal
 
 pub returns : goal.returns

@@ -1,5 +1,5 @@
 use Rattle.std.proofs.Common.{ℕ, bit_and, cond, leb, refl}
-use Rattle.std.proofs.lemmas.Simd.{length-chunk, splat_is_map, zip2_of_maps, zip2_splat}
+use Rattle.yaml_scan.proofs.Prelude.{length-chunk, splat_is_map, zip2_of_maps, zip2_splat}
 use lib.Lanes.{chunk}
 use Rattle.yaml_scan.specs.Classes.{line_ascii}
 use Rattle.yaml_scan.proofs.BlockRuns.{run_of_lanes}

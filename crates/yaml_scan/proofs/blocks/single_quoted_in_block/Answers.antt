@@ -1,5 +1,5 @@
 use Rattle.std.proofs.Common.{bit_and, bit_or, refl}
-use Rattle.std.proofs.lemmas.Simd.{length-chunk, zip2_of_maps, zip2_splat}
+use Rattle.yaml_scan.proofs.Prelude.{length-chunk, zip2_of_maps, zip2_splat}
 use lib.Lanes.{chunk}
 use Rattle.yaml_scan.specs.Classes.{single_quoted}
 use Rattle.yaml_scan.proofs.BlockRuns.{run_of_lanes}

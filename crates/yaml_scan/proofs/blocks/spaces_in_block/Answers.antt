@@ -1,7 +1,6 @@
 use Rattle.std.proofs.Common.{refl}
-use Rattle.std.proofs.lemmas.Simd.{length-chunk, zip2_splat}
+use Rattle.yaml_scan.proofs.Prelude.{length-chunk, zip2_splat, space}
 use lib.Lanes.{chunk}
-use Rattle.yaml_chars.specs.Classes.{space}
 use Rattle.yaml_scan.proofs.BlockRuns.{run_of_lanes}
 use Rattle.yaml_scan.proofs.blocks.spaces_in_block.Goals as goal
 

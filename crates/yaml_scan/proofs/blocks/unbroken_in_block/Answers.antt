@@ -1,7 +1,6 @@
 use Rattle.std.proofs.Common.{bit_or, refl}
-use Rattle.std.proofs.lemmas.Simd.{length-chunk, zip2_of_maps, zip2_splat}
+use Rattle.yaml_scan.proofs.Prelude.{length-chunk, zip2_of_maps, zip2_splat, no_break}
 use lib.Lanes.{chunk}
-use Rattle.yaml_chars.specs.Breaks.{no_break}
 use Rattle.yaml_scan.proofs.BlockRuns.{run_of_lanes}
 use Rattle.yaml_scan.proofs.blocks.unbroken_in_block.Goals as goal
 

@@ -1,6 +1,6 @@
 use Rattle.std.proofs.Common.{◌-◌, arith, ap, ◌∙◌, length}
 use Rattle.std.specs.Prelude.{nat_le}
-use Rattle.std.specs.Str.{chars}
+use Rattle.yaml_scan.proofs.Prelude.{chars}
 use Rattle.yaml_scan.proofs.BetweenBytes.{few_bytes, fits_bytes, many_bytes}
 use Rattle.yaml_scan.proofs.breaks.at_most_chars.Goals as goal
 

@@ -1,4 +1,4 @@
-use Rattle.yaml_events.specs.Meant.{context_of}
+use Rattle.yaml_scan.proofs.Prelude.{context_of}
 use Rattle.yaml_scan.proofs.GapSteps.{short_gap_is}
 use Rattle.yaml_scan.proofs.gap.gap_end.Goals as goal
 

@@ -1,12 +1,10 @@
 use Rattle.std.proofs.Common.{sym, ◌∙◌}
-use Rattle.yaml_chars.specs.Places.{rest}
-use Rattle.yaml_events.specs.Meant.{context_of}
+use Rattle.yaml_scan.proofs.Prelude.{rest, context_of}
 use Rattle.yaml_scan.specs.Gaps.{IsGap, IsLinesGap, NoGap, NoLinesGap}
+use Rattle.yaml_scan.proofs.{Outcomes.faults_so, Outcomes.ok_so, gap.long_gap.Goals.then-is_on_one_line-via-then-is_on_one_line}
+use Rattle.yaml_scan.proofs.{gap.long_gap.Goals.then-is_on_one_line-via-else-is_on_one_line+then-solid_at}
 use Rattle.yaml_scan.proofs.GapSteps.{gap_over_lines_is, inline_gap_is, no_gap, reads_before_solid, reads_in_key, reads_on_line}
-use Rattle.yaml_scan.proofs.Outcomes.{faults_so, ok_so}
 use Rattle.yaml_scan.proofs.gap.long_gap.Goals as goal
-use Rattle.yaml_scan.proofs.gap.long_gap.Goals.{then-is_on_one_line-via-then-is_on_one_line}
-use Rattle.yaml_scan.proofs.gap.long_gap.Goals.{then-is_on_one_line-via-else-is_on_one_line+then-solid_at}
 
 pub returns-then-is_on_one_line-clause-found : goal.returns-then-is_on_one_line-clause-found
 returns-then-is_on_one_line-clause-found c =

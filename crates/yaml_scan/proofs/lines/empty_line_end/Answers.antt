@@ -1,5 +1,5 @@
 use Rattle.std.proofs.Common.{◌∙◌, Bool, true, refl, sym}
-use Rattle.yaml_chars.specs.Places.{rest}
+use Rattle.yaml_scan.proofs.Prelude.{rest}
 use Rattle.yaml_scan.specs.Lines.{IsContentEnd, IsLineEnd}
 use Rattle.yaml_scan.proofs.LineSteps.{comment_missing, content_commented, feed_no_hash, line_feed_taken}
 use Rattle.yaml_scan.proofs.Outcomes.{some_so}

@@ -1,6 +1,5 @@
 use Rattle.std.proofs.Common.{◌≡◌, ◌<◌, ◌≤◌, ℕ, Bool, true, false, inl, inr, length}
-use Rattle.std.proofs.lemmas.Bool.{cases_lt, false≢true}
-use Rattle.yaml_chars.specs.Classes.{nb}
+use Rattle.yaml_scan.proofs.Prelude.{cases_lt, false≢true, nb}
 use Rattle.yaml_scan.proofs.ByteRuns.{first_at_end}
 use Rattle.yaml_scan.proofs.runs.decoded_nb_at.Goals as goal
 

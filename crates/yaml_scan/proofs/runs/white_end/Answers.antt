@@ -1,6 +1,5 @@
 use Rattle.std.proofs.Common.{arith, ap, sym, ◌∙◌, get_or}
-use Rattle.yaml_chars.specs.Classes.{white}
-use Rattle.yaml_chars.proofs.Runs.{blind-white, run_is}
+use Rattle.yaml_scan.proofs.Prelude.{white, blind-white, run_is}
 use Rattle.yaml_scan.proofs.ByteRuns.{take_while_is}
 use Rattle.yaml_scan.proofs.runs.white_end.Goals as goal
 

@@ -1,5 +1,5 @@
 use Rattle.std.proofs.Common.{◌≡◌, ℕ, ◌<◌, ◌≤◌, ◌-◌, true, length, get_or}
-use Rattle.yaml_chars.specs.Classes.{white}
+use Rattle.yaml_scan.proofs.Prelude.{white}
 use Rattle.yaml_scan.proofs.runs.white_end.Given as goal
 
 abbrev pub invariant-loop-end : goal.invariant-loop-end

@@ -1,6 +1,5 @@
 use Rattle.std.proofs.Common.{◌≡◌, ℕ, ◌+◌, ◌-◌, ◌<◌, ◌≤◌, List, arith, ap, sym, ◌∙◌, subst, get_or, length}
-use Rattle.yaml_scan.specs.Markers.{sign_of}
-use Rattle.yaml_scan.specs.ScanPlaces.{ends_word_byte}
+use Rattle.yaml_scan.specs.{Markers.sign_of, ScanPlaces.ends_word_byte}
 use Rattle.yaml_scan.proofs.ByteSigns.{AreMarkerSigns, ascii_mark, marker_by_signs, marker_false, word_ends, word_ends_by}
 use Rattle.yaml_scan.proofs.signs.is_marker_of.Goals as goal
 

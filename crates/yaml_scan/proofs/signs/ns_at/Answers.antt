@@ -1,7 +1,5 @@
 use Rattle.std.proofs.Common.{◌<◌, ◌∙◌, ap, arith, get_or, length, sym}
-use Rattle.yaml_chars.specs.Classes.{ns}
-use Rattle.yaml_chars.proofs.Places.{rest-ascii}
-use Rattle.yaml_grammar.specs.Texts.{first}
+use Rattle.yaml_scan.proofs.Prelude.{ns, rest-ascii, first}
 use Rattle.yaml_scan.proofs.signs.ns_at.Goals as goal
 
 pub returns-then-bytes-at-lt128 : goal.returns-then-bytes-at-lt128

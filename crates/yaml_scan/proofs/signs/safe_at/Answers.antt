@@ -1,9 +1,5 @@
 use Rattle.std.proofs.Common.{◌∙◌, ap, arith, get_or, ◌≡◌, ◌<◌, ◌≤◌, ℕ, false, length, sym}
-use Rattle.yaml_events.specs.Meant.{context_of}
-use Rattle.yaml_grammar.specs.FlowScalars.{FlowContext, outer, inner, block_key, flow_key, safe}
-use Rattle.yaml_grammar.specs.Texts.{first}
-use Rattle.std.proofs.lemmas.Bool.Decides.{nat_tests}
-use Rattle.yaml_chars.proofs.Places.{rest-ascii}
+use Rattle.yaml_scan.proofs.Prelude.{context_of, FlowContext, outer, inner, block_key, flow_key, safe, first, nat_tests, rest-ascii}
 use Rattle.yaml_scan.proofs.signs.safe_at.Goals as goal
 
 no_control : (c : FlowContext) (x : ℕ) → x ≤ 32 → safe c x ≡ false

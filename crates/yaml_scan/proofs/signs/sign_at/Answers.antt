@@ -1,6 +1,6 @@
 use Rattle.std.proofs.Common.{ap, sym, ◌∙◌}
-use Rattle.yaml_chars.specs.Places.{rest}
 use Rattle.std.specs.Prelude.{not}
+use Rattle.yaml_scan.proofs.Prelude.{rest}
 use Rattle.yaml_scan.proofs.ByteSigns.{no_sign, sign_before, sign_there}
 use Rattle.yaml_scan.proofs.signs.sign_at.Goals as goal
 

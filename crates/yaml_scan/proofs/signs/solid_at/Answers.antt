@@ -1,7 +1,6 @@
 use Rattle.std.proofs.Common.{◌<◌, arith, ap, sym, ◌∙◌, get_or, length, nat_lt}
-use Rattle.yaml_recognizers.specs.Ends.{solid}
-use Rattle.yaml_scan.proofs.ByteSigns.{blind-solid, past_end}
-use Rattle.yaml_scan.proofs.ByteRuns.{first_there}
+use Rattle.yaml_scan.proofs.Prelude.{solid}
+use Rattle.yaml_scan.proofs.{ByteSigns.blind-solid, ByteSigns.past_end, ByteRuns.first_there}
 use Rattle.yaml_scan.proofs.signs.solid_at.Goals as goal
 
 pub returns-then-at-bytes : goal.returns-then-at-bytes

@@ -1,8 +1,6 @@
 use Rattle.std.proofs.Common.{◌<◌, arith, ap, sym, ◌∙◌, get_or, length, nat_lt}
-use Rattle.yaml_chars.specs.Classes.{white}
-use Rattle.yaml_chars.proofs.Runs.{blind-white}
-use Rattle.yaml_scan.proofs.ByteSigns.{past_end}
-use Rattle.yaml_scan.proofs.ByteRuns.{first_there}
+use Rattle.yaml_scan.proofs.Prelude.{white, blind-white}
+use Rattle.yaml_scan.proofs.{ByteSigns.past_end, ByteRuns.first_there}
 use Rattle.yaml_scan.proofs.signs.white_at.Goals as goal
 
 pub returns-then-at-bytes : goal.returns-then-at-bytes

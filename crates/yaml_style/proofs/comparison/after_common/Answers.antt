@@ -1,6 +1,5 @@
 use Rattle.std.proofs.Common.{refl, ap, sym, ◌∙◌, List, ℕ, Bool}
-use Rattle.std.specs.Str.{chars}
-use Rattle.std.proofs.lemmas.Str.{IsCharBoundary-start}
+use Rattle.yaml_style.proofs.Prelude.{chars, IsCharBoundary-start}
 use Rattle.yaml_style.proofs.comparison.after_common.Goals as goal
 
 pub loop-len-init : goal.loop-len-init

@@ -1,7 +1,6 @@
 use Rattle.std.proofs.Common.{◌≡◌, refl, ◌∷◌, [], true, List, ℕ}
-use Rattle.yaml_chars.specs.Places.{rest}
+use Rattle.yaml_style.proofs.Prelude.{rest, false≢true}
 use Rattle.yaml_style.specs.Comparing.{comparison_after}
-use Rattle.std.proofs.lemmas.Bool.{false≢true}
 use Rattle.yaml_style.proofs.ComparingLemmas.{at_the_end, nothing_left}
 use Rattle.yaml_style.proofs.comparison.common_char.Goals as goal
 

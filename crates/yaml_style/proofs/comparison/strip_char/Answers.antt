@@ -1,6 +1,5 @@
 use Rattle.std.proofs.Common.{refl}
-use Rattle.std.proofs.lemmas.Str.{IsCharBoundary-start}
-use Rattle.std.proofs.lemmas.Bool.{false≢true}
+use Rattle.yaml_style.proofs.Prelude.{IsCharBoundary-start, false≢true}
 use Rattle.yaml_style.proofs.ComparingLemmas.{at_the_end}
 use Rattle.yaml_style.proofs.comparison.strip_char.Goals as goal
 

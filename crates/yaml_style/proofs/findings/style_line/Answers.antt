@@ -1,11 +1,7 @@
 -- What was written, compared with all of the text.
 use Rattle.std.proofs.Common.{◌≡◌, ℕ, suc, Bool, true, List, [], ◌++◌, Some, ap, sym, ◌∙◌, add-one}
-use Rattle.std.specs.Str.{chars}
-use Rattle.std.proofs.lemmas.Bool.{false≢true}
-use Rattle.std.proofs.lemmas.List.{append_cancel_right}
-use Rattle.yaml_grammar.specs.Texts.{is_empty}
-use Rattle.yaml_style.specs.Lines.{breaks}
-use Rattle.yaml_style.specs.Findings.{common}
+use Rattle.yaml_style.proofs.Prelude.{chars, false≢true, append_cancel_right, is_empty}
+use Rattle.yaml_style.specs.{Lines.breaks, Findings.common}
 use Rattle.yaml_style.proofs.ComparingLemmas.{shares, in_style, not_in_style}
 use Rattle.yaml_style.proofs.SplitLemmas.{no_chars}
 use Rattle.yaml_style.proofs.findings.style_line.Goals.{else-written-via-then-written+else-is_empty_text, else-written-via-else-written}

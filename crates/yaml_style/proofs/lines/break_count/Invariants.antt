@@ -1,8 +1,8 @@
 -- The breaks that were counted and those of the rest are those of the text.
 use Rattle.std.proofs.Common.{◌≡◌, ◌≤◌, ◌+◌, length}
+use Rattle.yaml_style.proofs.Prelude.{chars}
 use denote.Text.{Utf8}
 use denote.Shadow.{shadow}
-use Rattle.std.specs.Str.{chars}
 use Rattle.yaml_style.specs.Lines.{breaks}
 use Rattle.yaml_style.proofs.lines.break_count.Given as goal
 

@@ -1,7 +1,6 @@
 -- By what `ends_with` found.
 use Rattle.std.proofs.Common.{sym, ◌∙◌, lit<, refl, inl, inr}
-use Rattle.std.proofs.lemmas.Bool.{cases_Bool, MatchBool-at_true, MatchBool-at_false}
-use Rattle.yaml_chars.specs.Signs.{tab, space_char}
+use Rattle.yaml_style.proofs.Prelude.{cases_Bool, MatchBool-at_true, MatchBool-at_false, tab, space_char}
 use Rattle.yaml_style.proofs.RuleLemmas.{white_at_end, no_white_at_end}
 use Rattle.yaml_style.proofs.lines.ends_in_white.Goals as goal
 

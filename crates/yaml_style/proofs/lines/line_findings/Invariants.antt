@@ -1,10 +1,9 @@
 -- What was found so far, and then what is on the rest, is what is on the text.
 use Rattle.std.proofs.Common.{◌≡◌, ◌≤◌, ◌+◌, ◌++◌, length, suc}
+use Rattle.yaml_style.proofs.Prelude.{chars}
 use denote.Text.{Utf8}
 use denote.Shadow.{shadow}
-use Rattle.std.specs.Str.{chars}
-use Rattle.yaml_style.specs.Lines.{lines}
-use Rattle.yaml_style.specs.Findings.{line_findings}
+use Rattle.yaml_style.specs.{Lines.lines, Findings.line_findings}
 use Rattle.yaml_style.proofs.lines.line_findings.Given as goal
 
 abbrev pub invariant-loop-rest : goal.invariant-loop-rest

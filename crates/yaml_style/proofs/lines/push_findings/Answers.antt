@@ -1,6 +1,6 @@
 -- Each rule adds its finding, or nothing.
 use Rattle.std.proofs.Common.{◌++◌, sym, ap, ◌∙◌}
-use Rattle.std.proofs.lemmas.Result.{on_ok_weaker}
+use Rattle.yaml_style.proofs.Prelude.{on_ok_weaker}
 use Rattle.yaml_style.specs.declared.finding.Rule.TheVariants.{TrailingWhitespace, LineEnd, LongLine}
 use Rattle.yaml_style.specs.Findings.{ends_in_white, ends_otherwise, is_long}
 use Rattle.yaml_style.proofs.RuleLemmas.{all_three, found_same}

@@ -1,6 +1,5 @@
 use Rattle.std.proofs.Common.{codes, refl, subst}
-use Rattle.yaml_grammar.specs.Trees.{sequence, no_element}
-use Rattle.yaml_data.proofs.CharacterLemmas.{chars-literal}
+use Rattle.yaml_styled.proofs.Prelude.{sequence, no_element, chars-literal}
 use Rattle.yaml_styled.specs.Taking.{Took}
 use Rattle.yaml_styled.proofs.SoundLemmas.{no_elements_sound}
 use Rattle.yaml_styled.proofs.flat.read_empty_sequence.Goals as goal

@@ -1,8 +1,6 @@
 use Rattle.std.proofs.Common.{if◌then◌else◌, ap, arith}
-use Rattle.std.specs.Str.{chars}
-use Rattle.yaml_writer.proofs.ByteLemmas.{byte_len-chars}
+use Rattle.yaml_styled.proofs.Prelude.{chars, byte_len-chars, short_key}
 use Rattle.yaml_writer.proofs.LengthLemmas.{length-byte_len}
-use Rattle.yaml_writer.proofs.SizeBounds.{short_key}
 use Rattle.yaml_styled.proofs.keys.key_line_count.Goals as goal
 
 pub returns-then-key-le-SHORT_KEY : goal.returns-then-key-le-SHORT_KEY

@@ -1,8 +1,5 @@
 use Rattle.std.proofs.Common.{◌≡◌, ℕ, ◌-◌, ◌++◌, take, ap, sym, ◌∙◌, arith, rules}
-use Rattle.std.proofs.lemmas.List.{take-replicate, get_or-replicate}
-use Rattle.yaml_chars.specs.Signs.{space_char}
-use Rattle.yaml_grammar.specs.Texts.{spaces}
-use Rattle.yaml_writer.proofs.SpacesLemmas.{encoded_spaces}
+use Rattle.yaml_styled.proofs.Prelude.{take-replicate, get_or-replicate, space_char, spaces, encoded_spaces}
 use Rattle.yaml_styled.proofs.lines.strip_last_spaces.Goals as goal
 
 pub range-requires-clause-end_boundary : goal.range-requires-clause-end_boundary

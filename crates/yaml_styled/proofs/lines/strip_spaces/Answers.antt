@@ -1,7 +1,5 @@
 use Rattle.std.proofs.Common.{◌≡◌, ◌+◌, ◌-◌, ap, subst, ◌∙◌, arith, rules}
-use Rattle.std.proofs.lemmas.List.{replicate-append-replicate}
-use Rattle.yaml_chars.specs.Signs.{space_char}
-use Rattle.yaml_grammar.specs.Texts.{spaces}
+use Rattle.yaml_styled.proofs.Prelude.{replicate-append-replicate, space_char, spaces}
 use Rattle.yaml_styled.specs.Comparing.{GoesOn, goes_on_both}
 use Rattle.yaml_styled.proofs.lines.strip_spaces.Goals as goal
 

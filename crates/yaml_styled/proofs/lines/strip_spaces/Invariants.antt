@@ -1,8 +1,8 @@
 -- What the text goes on with after the spaces that are left, it goes on with after all of them.
 use Rattle.std.specs.Prelude.{List, ℕ}
+use Rattle.yaml_styled.proofs.Prelude.{spaces}
 use denote.Text.{Utf8}
 use denote.Shadow.{shadow}
-use Rattle.yaml_grammar.specs.Texts.{spaces}
 use Rattle.yaml_styled.specs.Comparing.{GoesOn}
 use Rattle.yaml_styled.proofs.lines.strip_spaces.Given as goal
 

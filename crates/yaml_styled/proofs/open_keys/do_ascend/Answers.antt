@@ -1,6 +1,5 @@
 use Rattle.std.proofs.Common.{◌+◌, ◌==◌, refl, arith}
-use Rattle.yaml_styled.proofs.NameLemmas.{no_key}
-use Rattle.yaml_styled.proofs.AscentLemmas.{ascend-more, ascending_differ}
+use Rattle.yaml_styled.proofs.{NameLemmas.no_key, AscentLemmas.ascend-more, AscentLemmas.ascending_differ}
 use Rattle.yaml_styled.proofs.open_keys.do_ascend.Goals as goal
 
 pub loop-next-preserved : goal.loop-next-preserved

@@ -1,4 +1,4 @@
-use Rattle.std.specs.List.{AllAdjacentBelow}
+use Rattle.yaml_styled.proofs.Prelude.{AllAdjacentBelow}
 use Rattle.yaml_styled.specs.Names.{IsBelow}
 use Rattle.yaml_styled.proofs.open_keys.do_ascend.Given as goal
 

@@ -1,5 +1,5 @@
 use Rattle.std.proofs.Common.{◌∙◌}
-use Rattle.yaml_data.proofs.KeyLemmas.{same_key}
+use Rattle.yaml_styled.proofs.Prelude.{same_key}
 use Rattle.yaml_styled.proofs.open_keys.have_same_bytes.Goals as goal
 
 pub returns : goal.returns

@@ -1,6 +1,5 @@
 use Rattle.std.proofs.Common.{◌≡◌, drop}
-use Rattle.std.specs.Str.{chars}
-use Rattle.yaml_grammar.specs.Trees.{has_key}
+use Rattle.yaml_styled.proofs.Prelude.{chars, has_key}
 use Rattle.yaml_styled.specs.Names.{named}
 use Rattle.yaml_styled.proofs.open_keys.is_among.Given as goal
 

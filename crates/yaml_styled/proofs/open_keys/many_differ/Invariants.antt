@@ -1,5 +1,5 @@
 use Rattle.std.proofs.Common.{◌≡◌, take}
-use Rattle.yaml_data.specs.Keys.{key_members}
+use Rattle.yaml_styled.proofs.Prelude.{key_members}
 use Rattle.yaml_styled.specs.Names.{named}
 use Rattle.yaml_styled.proofs.open_keys.many_differ.Given as goal
 

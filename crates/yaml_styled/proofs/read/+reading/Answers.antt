@@ -1,14 +1,9 @@
-use Rattle.std.proofs.Common.{◌≡◌, ◌+◌, true, List, [], ◌∷◌, ◌++◌, codes, if◌then◌else◌, refl, sym, ap, subst, ◌∙◌}
-use Rattle.std.proofs.Common.{append-nil, append_assoc, arith}
-use Rattle.std.proofs.lemmas.Result.{IfOk-weaker}
-use Rattle.yaml_grammar.specs.Texts.{spaces}
-use Rattle.yaml_data.specs.Keys.{keys_differ}
-use Rattle.yaml_data.proofs.CharacterLemmas.{chars-literal}
-use Rattle.yaml_styled.specs.Taking.{Took}
-use Rattle.yaml_styled.specs.Names.{named}
-use Rattle.yaml_styled.proofs.NameLemmas.{Key, own_keys}
+use Rattle.std.proofs.Common.{◌≡◌, ◌+◌, true, List, [], ◌∷◌, ◌++◌, codes, if◌then◌else◌, refl, sym, ap, subst, ◌∙◌, append-nil}
+use Rattle.std.proofs.Common.{append_assoc, arith}
+use Rattle.yaml_styled.proofs.Prelude.{IfOk-weaker, spaces, keys_differ, chars-literal}
+use Rattle.yaml_styled.specs.{Taking.Took, Names.named}
+use Rattle.yaml_styled.proofs.{NameLemmas.Key, NameLemmas.own_keys, ValueLemmas.value_below}
 use Rattle.yaml_styled.proofs.RowLemmas.{no_elements, no_members, element_more, element_last, member_more, member_last}
-use Rattle.yaml_styled.proofs.ValueLemmas.{value_below}
 use Rattle.yaml_styled.proofs.read.+reading.Goals as goal
 
 pub read_below-returns-clause-read : goal.read_below-returns-clause-read

@@ -1,7 +1,6 @@
 use Rattle.std.proofs.Common.{◌≡◌, Bool, true, false, if◌then◌else◌, refl, ap, ◌∙◌}
-use Rattle.std.specs.Str.{chars}
+use Rattle.yaml_styled.proofs.Prelude.{chars, plain_in_style}
 use denote.Enum.Bare.{sameb}
-use Rattle.yaml_grammar.specs.Style.{plain_in_style}
 use Rattle.yaml_writer.specs.contracts.scalar_style.ScalarStyle.{the_type}
 use Rattle.yaml_writer.specs.declared.scalar_style.ScalarStyle.TheVariants.{Plain, Double}
 use Rattle.yaml_styled.proofs.words.is_plain.Goals as goal

@@ -1,8 +1,6 @@
 use Rattle.std.proofs.Common.{take, ap, sym, ◌∙◌}
-use Rattle.std.specs.List.{list_all}
-use Rattle.yaml_grammar.specs.Style.{word_char}
-use Rattle.yaml_styled.proofs.RunLemmas.{run_passes}
-use Rattle.yaml_styled.proofs.WordLemmas.{word_same}
+use Rattle.yaml_styled.proofs.Prelude.{list_all, word_char}
+use Rattle.yaml_styled.proofs.{RunLemmas.run_passes, WordLemmas.word_same}
 use Rattle.yaml_styled.proofs.words.split_plain.Goals as goal
 
 pub is_plain_word-requires : goal.is_plain_word-requires

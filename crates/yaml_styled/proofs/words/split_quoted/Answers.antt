@@ -1,6 +1,5 @@
 use Rattle.std.proofs.Common.{take, ap, sym, ◌∙◌}
-use Rattle.std.specs.List.{list_all}
-use Rattle.yaml_writer.specs.Runs.{stands_alone}
+use Rattle.yaml_styled.proofs.Prelude.{list_all, stands_alone}
 use Rattle.yaml_styled.proofs.RunLemmas.{run_passes}
 use Rattle.yaml_styled.proofs.words.split_quoted.Goals as goal
 

@@ -1,6 +1,5 @@
 use Rattle.std.proofs.Common.{Err, sym, subst, refl}
-use Rattle.std.proofs.lemmas.Result.{err_from_is_err_and}
-use Rattle.yaml_config.specs.Kept.{limits_of}
+use Rattle.yaml_tree.proofs.Prelude.{err_from_is_err_and, limits_of}
 use Rattle.yaml_tree.specs.Formatting.{IsFormatted}
 use Rattle.yaml_tree.proofs.WriterLemmas.{formatted, too_large, not_too_long}
 use Rattle.yaml_tree.proofs.format.format_by_events.Goals as goal

@@ -1,14 +1,8 @@
 use Rattle.std.proofs.Common.{◌≡◌, Some, List, [], sym, ap, ◌∙◌, rules}
-use Rattle.std.proofs.lemmas.Result.{err_from_is_err_and}
-use Rattle.yaml_events.specs.Meant.{events_of}
-use Rattle.yaml_events.specs.declared.event.Event.{Event}
-use Rattle.yaml_grammar.specs.Trees.{shapes}
-use Rattle.yaml_data.specs.Keys.{nothing}
+use Rattle.yaml_tree.proofs.Prelude.{err_from_is_err_and, events_of, Event, shapes, nothing}
 use Rattle.yaml_tree.specs.OpenText.{indent_in}
+use Rattle.yaml_tree.proofs.{FrameLemmas.run, OpenTextLemmas.indent_in-kept, WriterLemmas.begins, WriterLemmas.is_written}
 use Rattle.yaml_tree.proofs.EventLemmas.{run_on, run_ended, stopped_refuses, unfinished_refuses}
-use Rattle.yaml_tree.proofs.FrameLemmas.{run}
-use Rattle.yaml_tree.proofs.OpenTextLemmas.{indent_in-kept}
-use Rattle.yaml_tree.proofs.WriterLemmas.{begins, is_written}
 use Rattle.yaml_tree.proofs.format.write_document.Goals as goal
 
 pub loop-event-init : goal.loop-event-init

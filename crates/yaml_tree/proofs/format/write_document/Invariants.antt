@@ -1,6 +1,5 @@
 use Rattle.std.proofs.Common.{List}
-use Rattle.yaml_tree.specs.Formatting.{Writes}
-use Rattle.yaml_tree.specs.Frames.{Frame}
+use Rattle.yaml_tree.specs.{Formatting.Writes, Frames.Frame}
 use Rattle.yaml_tree.proofs.EventLemmas.{RunsOn}
 use Rattle.yaml_tree.proofs.format.write_document.Given as goal
 

@@ -1,9 +1,5 @@
 use Rattle.std.proofs.Common.{length, sym, subst}
-use Rattle.std.proofs.lemmas.Bool.{eqb-true}
-use Rattle.std.proofs.lemmas.List.{nil_from_length}
-use Rattle.yaml_config.specs.Kept.{limits_of}
-use Rattle.yaml_grammar.specs.Style.{style_text}
-use Rattle.yaml_styled.specs.Comparing.{GoesOn}
+use Rattle.yaml_tree.proofs.Prelude.{eqb-true, nil_from_length, limits_of, style_text, GoesOn}
 use Rattle.yaml_tree.specs.InStyle.{AreLinesOf}
 use Rattle.yaml_tree.proofs.InStyleLemmas.{styled_formatted}
 use Rattle.yaml_tree.proofs.in_style.lines_in_style.Goals as goal

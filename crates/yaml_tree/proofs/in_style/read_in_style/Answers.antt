@@ -1,10 +1,8 @@
 use Rattle.std.proofs.Common.{IfSome, sym, subst}
-use Rattle.yaml_config.specs.Kept.{limits_of}
-use Rattle.yaml_data.specs.Seen.{tree_of}
-use Rattle.yaml_data.specs.declared.tree.Tree as trees
-use Rattle.yaml_tree.specs.InStyle.{AreLinesOf}
-use Rattle.yaml_tree.specs.Reading.{IsRead}
+use Rattle.yaml_tree.proofs.Prelude.{limits_of, tree_of}
+use Rattle.yaml_tree.specs.{InStyle.AreLinesOf, Reading.IsRead}
 use Rattle.yaml_tree.proofs.InStyleLemmas.{own_good, styled_good, styled_read}
+use Rattle.yaml_data.specs.declared.tree.Tree as trees
 use Rattle.yaml_tree.proofs.in_style.read_in_style.Goals as goal
 
 pub with_size-requires-clause-kept : goal.with_size-requires-clause-kept

@@ -1,12 +1,7 @@
 use Rattle.std.proofs.Common.{subst, sym, ap, ap₂, ◌∙◌}
-use Rattle.std.proofs.lemmas.Result.{on_ok_weaker}
-use Rattle.std.specs.Str.{chars}
-use Rattle.yaml_events.specs.Meant.{event_of}
-use Rattle.yaml_grammar.specs.Trees.{shape}
-use Rattle.yaml_tree.specs.OpenParts.{open_frame, open_frames}
-use Rattle.yaml_tree.specs.OpenText.{indent_in, scalar_in, added}
-use Rattle.yaml_tree.proofs.OpenPartLemmas.{start_added, own_room}
-use Rattle.yaml_tree.proofs.PartLemmas.{open_frames-push}
+use Rattle.yaml_tree.proofs.Prelude.{on_ok_weaker, chars, event_of, shape}
+use Rattle.yaml_tree.specs.{OpenParts.open_frame, OpenParts.open_frames, OpenText.indent_in, OpenText.scalar_in, OpenText.added}
+use Rattle.yaml_tree.proofs.{OpenPartLemmas.start_added, OpenPartLemmas.own_room, PartLemmas.open_frames-push}
 use Rattle.yaml_tree.proofs.open_text.write_event.Goals as goal
 
 pub write_scalar_in-requires-clause-indent : goal.write_scalar_in-requires-clause-indent

@@ -1,8 +1,5 @@
 use Rattle.std.proofs.Common.{◌≡◌, Some, List, []}
-use Rattle.std.proofs.lemmas.Result.{MatchResult-weaker, err_from_is_err_and}
-use Rattle.yaml_events.specs.Meant.{events_of}
-use Rattle.yaml_events.specs.declared.event.Event.{Event}
-use Rattle.yaml_grammar.specs.Trees.{shapes}
+use Rattle.yaml_tree.proofs.Prelude.{MatchResult-weaker, err_from_is_err_and, events_of, Event, shapes}
 use Rattle.yaml_tree.proofs.EventLemmas.{run_on, run_ended, run_tree, stopped_refuses, unfinished_refuses}
 use Rattle.yaml_tree.proofs.FrameLemmas.{run}
 use Rattle.yaml_tree.proofs.parts.document_value.Goals as goal

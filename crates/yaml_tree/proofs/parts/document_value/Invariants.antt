@@ -1,6 +1,5 @@
 use Rattle.std.proofs.Common.{List}
-use Rattle.yaml_tree.specs.OpenParts.{Holds}
-use Rattle.yaml_tree.specs.Frames.{Frame}
+use Rattle.yaml_tree.specs.{OpenParts.Holds, Frames.Frame}
 use Rattle.yaml_tree.proofs.EventLemmas.{RunsOn}
 use Rattle.yaml_tree.proofs.parts.document_value.Given as goal
 

@@ -1,15 +1,9 @@
 use Rattle.std.proofs.Common.{◌≡◌, ◌<◌, Bool, true, false, List, sym, ap, subst, ◌∙◌, arith}
-use Rattle.std.proofs.lemmas.Result.{err_from_is_err_and}
-use Rattle.yaml_events.specs.Meant.{events_of}
-use Rattle.yaml_events.specs.declared.event.Event.{Event}
-use Rattle.yaml_grammar.specs.Trees.{Tree, IsTreeOf, depth, distinct}
-use Rattle.yaml_config.specs.Kept.{limits_of}
-use Rattle.yaml_tree.specs.Kept as keep
-use Rattle.yaml_tree.specs.OpenParts.{IsOutcome}
-use Rattle.yaml_tree.specs.Reading.{IsRead}
-use Rattle.yaml_data.specs.Seen.{tree_of}
-use Rattle.yaml_data.specs.declared.tree.Tree as trees
+use Rattle.yaml_tree.proofs.Prelude.{err_from_is_err_and, events_of, Event, Tree, IsTreeOf, depth, distinct, limits_of, tree_of}
+use Rattle.yaml_tree.specs.{OpenParts.IsOutcome, Reading.IsRead}
 use Rattle.yaml_tree.proofs.ReadLemmas.{tree_read, shallow_refused, deep_refused}
+use Rattle.yaml_tree.specs.Kept as keep
+use Rattle.yaml_data.specs.declared.tree.Tree as trees
 use Rattle.yaml_tree.proofs.read.read_by_events.Goals as goal
 
 -- the tree is that of the events

@@ -1,5 +1,5 @@
 use Rattle.std.proofs.Common.{ap, ◌∙◌, arith}
-use Rattle.std.specs.List.{list_all}
+use Rattle.yaml_writer.proofs.Prelude.{list_all}
 use Rattle.yaml_writer.proofs.BlockLemmas.{outer_pass, outer_pass_twice}
 use Rattle.yaml_writer.proofs.bytes.are_all.Goals as goal
 

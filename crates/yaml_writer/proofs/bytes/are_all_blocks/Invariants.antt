@@ -1,5 +1,5 @@
 use Rattle.std.proofs.Common.{◌≡◌, ◌≤◌, ◌-◌, true, take, length}
-use Rattle.std.specs.List.{list_all}
+use Rattle.yaml_writer.proofs.Prelude.{list_all}
 use Rattle.yaml_writer.proofs.bytes.are_all_blocks.Given as goal
 
 abbrev pub invariant-loop-at : goal.invariant-loop-at

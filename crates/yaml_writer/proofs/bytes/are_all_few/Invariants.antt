@@ -1,5 +1,5 @@
 use Rattle.std.proofs.Common.{◌≡◌, take}
-use Rattle.std.specs.List.{list_all}
+use Rattle.yaml_writer.proofs.Prelude.{list_all}
 use Rattle.yaml_writer.proofs.bytes.are_all_few.Given as goal
 
 abbrev pub invariant-loop-byte : goal.invariant-loop-byte

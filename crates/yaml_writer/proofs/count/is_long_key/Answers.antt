@@ -1,8 +1,6 @@
 use Rattle.std.proofs.Common.{arith}
-use Rattle.std.specs.Str.{chars}
-use Rattle.yaml_writer.proofs.ByteLemmas.{byte_len-chars}
-use Rattle.yaml_writer.proofs.LengthLemmas.{length-byte_len}
-use Rattle.yaml_writer.proofs.SizeBounds.{short_key}
+use Rattle.yaml_writer.proofs.Prelude.{chars}
+use Rattle.yaml_writer.proofs.{ByteLemmas.byte_len-chars, LengthLemmas.length-byte_len, SizeBounds.short_key}
 use Rattle.yaml_writer.proofs.count.is_long_key.Goals as goal
 
 pub returns-then-key-le-SHORT_KEY : goal.returns-then-key-le-SHORT_KEY

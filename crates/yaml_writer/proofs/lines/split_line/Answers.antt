@@ -1,8 +1,5 @@
 use Rattle.std.proofs.Common.{◌≡◌, ◌++◌, ◌∷◌, sym, ap₂, ◌∙◌, subst, arith}
-use Rattle.std.proofs.lemmas.Str.{IsCharBoundary-after_ascii}
-use Rattle.std.specs.Option.{MatchOption}
-use Rattle.std.specs.Str.{chars, IsUtf8}
-use Rattle.yaml_chars.specs.Signs.{line_feed}
+use Rattle.yaml_writer.proofs.Prelude.{IsCharBoundary-after_ascii, MatchOption, chars, IsUtf8, line_feed}
 use Rattle.yaml_writer.specs.Lines.{IsOneLine}
 use Rattle.yaml_writer.proofs.LineLemmas.{first_feed, one_line_from_bytes, cut_at_feed, line_before}
 use Rattle.yaml_writer.proofs.lines.split_line.Goals as goal

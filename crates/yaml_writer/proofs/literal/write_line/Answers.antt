@@ -1,10 +1,7 @@
 use Rattle.std.proofs.Common.{subst, sym}
-use Rattle.std.proofs.lemmas.Bool.{eqb-true, eqb-false}
-use Rattle.std.proofs.lemmas.Result.{on_ok_weaker}
-use Rattle.std.specs.Str.{chars}
+use Rattle.yaml_writer.proofs.Prelude.{eqb-true, eqb-false, on_ok_weaker, chars, chars_empty, chars_filled}
 use Rattle.yaml_writer.specs.Lines.{line_text}
 use Rattle.yaml_writer.proofs.LiteralLemmas.{line_filled}
-use Rattle.yaml_data.proofs.CharacterLemmas.{chars_empty, chars_filled}
 use Rattle.yaml_writer.proofs.literal.write_line.Goals as goal
 
 pub returns-then-is_empty : goal.returns-then-is_empty

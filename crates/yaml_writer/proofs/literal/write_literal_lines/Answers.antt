@@ -1,10 +1,6 @@
 use Rattle.std.proofs.Common.{true, subst, sym, ap, ◌∙◌}
-use Rattle.std.proofs.lemmas.Bool.{eqb-true, eqb-false}
-use Rattle.std.proofs.lemmas.Result.{on_ok_weaker}
-use Rattle.std.specs.Str.{chars}
-use Rattle.yaml_grammar.specs.Style.{literal_lines}
+use Rattle.yaml_writer.proofs.Prelude.{eqb-true, eqb-false, on_ok_weaker, chars, literal_lines, chars_empty, chars_filled}
 use Rattle.yaml_writer.proofs.LiteralLemmas.{literal_line, literal_last, after_IsUtf8, chars-lines}
-use Rattle.yaml_data.proofs.CharacterLemmas.{chars_empty, chars_filled}
 use Rattle.yaml_writer.proofs.literal.write_literal_lines.Goals as goal
 
 pub loop-line-preserved : goal.loop-line-preserved

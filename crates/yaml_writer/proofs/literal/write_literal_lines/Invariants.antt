@@ -1,8 +1,7 @@
 use Rattle.std.proofs.Common.{true, length}
-use Rattle.std.specs.Str.{chars}
+use Rattle.yaml_writer.proofs.Prelude.{chars, literal_lines}
 use denote.Shadow.{shadow}
 use denote.Text.{Utf8}
-use Rattle.yaml_grammar.specs.Style.{literal_lines}
 use Rattle.yaml_writer.proofs.literal.write_literal_lines.Given as goal
 
 -- what ends the lines that are left from here ends all lines from the start

@@ -1,5 +1,5 @@
 use Rattle.std.proofs.Common.{◌≡◌, ◌≤◌, ◌-◌, true, take, length}
-use Rattle.std.specs.List.{list_all}
+use Rattle.yaml_writer.proofs.Prelude.{list_all}
 use Rattle.yaml_writer.specs.Runs.{stands_alone}
 use Rattle.yaml_writer.proofs.quoted.unescaped_len.Given as goal
 

@@ -1,8 +1,5 @@
 use Rattle.std.proofs.Common.{sym, ap, ◌∙◌, subst}
-use Rattle.std.proofs.lemmas.Result.{on_ok_weaker}
-use Rattle.std.specs.List.{list_all}
-use Rattle.std.specs.Str.{chars}
-use Rattle.yaml_data.proofs.CharacterLemmas.{every-bytes}
+use Rattle.yaml_writer.proofs.Prelude.{on_ok_weaker, list_all, chars, every-bytes}
 use Rattle.yaml_writer.specs.Runs.{stands_alone}
 use Rattle.yaml_writer.proofs.QuotedLemmas.{quoted_chars-alone, stands_alone-below}
 use Rattle.yaml_writer.proofs.quoted.write_between_quotes.Goals as goal

@@ -1,4 +1,4 @@
-use Rattle.std.proofs.lemmas.Result.{on_ok_weaker}
+use Rattle.yaml_writer.proofs.Prelude.{on_ok_weaker}
 use Rattle.yaml_writer.proofs.quoted.write_escape.Goals as goal
 
 pub returns : goal.returns

@@ -1,8 +1,6 @@
 use Rattle.std.proofs.Common.{◌≡◌, ◌++◌, length, take, drop, subst, ap, ap₂, ◌∙◌, sym, arith}
-use Rattle.std.specs.Str.{chars}
-use Rattle.yaml_grammar.specs.Style.{quoted_char, quoted_chars}
+use Rattle.yaml_writer.proofs.Prelude.{chars, quoted_char, quoted_chars, boundary_past_char, drop_char, chars_empty}
 use Rattle.yaml_writer.proofs.QuotedLemmas.{quoted_spells, run_boundary, spelled_run, spelled_one}
-use Rattle.yaml_data.proofs.CharacterLemmas.{boundary_past_char, drop_char, chars_empty}
 use Rattle.yaml_writer.proofs.quoted.write_quoted_chars.Goals as goal
 
 pub range-requires-clause-end_boundary : goal.range-requires-clause-end_boundary

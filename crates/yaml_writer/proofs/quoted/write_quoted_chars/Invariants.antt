@@ -1,8 +1,7 @@
 use Rattle.std.proofs.Common.{length}
-use Rattle.std.specs.Str.{chars}
+use Rattle.yaml_writer.proofs.Prelude.{chars, quoted_chars}
 use denote.Shadow.{shadow}
 use denote.Text.{Utf8}
-use Rattle.yaml_grammar.specs.Style.{quoted_chars}
 use Rattle.yaml_writer.proofs.quoted.write_quoted_chars.Given as goal
 
 -- what ends the quoted rest from here ends it from the start

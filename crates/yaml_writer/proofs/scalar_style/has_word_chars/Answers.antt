@@ -1,8 +1,5 @@
 use Rattle.std.proofs.Common.{sym, ap, ◌∙◌}
-use Rattle.std.specs.List.{list_all}
-use Rattle.std.specs.Str.{chars}
-use Rattle.yaml_grammar.specs.Style.{word_char}
-use Rattle.yaml_data.proofs.CharacterLemmas.{every-IsAscii, chars-same, every-bytes}
+use Rattle.yaml_writer.proofs.Prelude.{list_all, chars, word_char, every-IsAscii, chars-same, every-bytes}
 use Rattle.yaml_writer.proofs.ScalarLemmas.{word_char-below}
 use Rattle.yaml_writer.proofs.scalar_style.has_word_chars.Goals as goal
 

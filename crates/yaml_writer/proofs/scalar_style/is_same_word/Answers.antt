@@ -1,5 +1,4 @@
-use Rattle.std.proofs.lemmas.Bool.Decides.{same_from_decides}
-use Rattle.yaml_data.proofs.CharacterLemmas.{same_text-Decides}
+use Rattle.yaml_writer.proofs.Prelude.{same_from_decides, same_text-Decides}
 use Rattle.yaml_writer.proofs.ScalarLemmas.{map-lower}
 use Rattle.yaml_writer.proofs.scalar_style.is_same_word.Goals as goal
 

@@ -1,7 +1,6 @@
 use Rattle.std.proofs.Common.{suc, None, Some, ap, sym, ◌∙◌, lit<}
-use Rattle.std.proofs.lemmas.Bool.{true≢false}
+use Rattle.yaml_writer.proofs.Prelude.{true≢false, line_feed}
 use Rattle.std.proofs.lemmas.Str.Pattern.{strip_suffix_char, ends_char}
-use Rattle.yaml_chars.specs.Signs.{line_feed}
 use Rattle.yaml_writer.specs.ScalarStyles.{literal_style}
 use Rattle.yaml_writer.proofs.ScalarLemmas.{no_feed_at_end, feed_at_end, prefix_IsUtf8}
 use Rattle.yaml_writer.proofs.scalar_style.literal_style.Goals as goal

@@ -1,15 +1,8 @@
 use Rattle.std.proofs.Common.{◌+◌, drop, sym, ap, ◌∙◌, arith}
-use Rattle.std.proofs.lemmas.Bool.{eqb-false}
-use Rattle.std.proofs.lemmas.List.{drop_all}
-use Rattle.std.specs.Str.{chars}
+use Rattle.yaml_writer.proofs.Prelude.{eqb-false, drop_all, chars, tree_of, elements_of, members_of, drop_item, tree_of-Map, elements_after}
+use Rattle.yaml_writer.proofs.Prelude.{members_after, byte_len, mapping}
 use denote.Param.Weighed.{at_most}
-use Rattle.yaml_data.specs.Seen.{tree_of, elements_of, members_of}
 use Rattle.yaml_data.specs.TextBytes.{text_bytes}
-use Rattle.yaml_data.proofs.ListLemmas.{drop_item}
-use Rattle.yaml_data.proofs.SeenLemmas.{tree_of-Map}
-use Rattle.yaml_grammar.specs.Style.{elements_after, members_after}
-use Rattle.yaml_grammar.specs.Texts.{byte_len}
-use Rattle.yaml_grammar.specs.Trees.{mapping}
 use Rattle.yaml_writer.specs.Sizes.{element_size, key_size, elements_after_indented, members_after_indented}
 use Rattle.yaml_writer.specs.declared.size.Size.{Size}
 use Rattle.yaml_writer.proofs.SizeBounds.{element_bound}

@@ -1,7 +1,5 @@
 use Rattle.std.proofs.Common.{◌≡◌, ◌+◌, drop}
-use Rattle.yaml_data.specs.Seen.{elements_of, members_of}
-use Rattle.yaml_grammar.specs.Texts.{byte_len}
-use Rattle.yaml_grammar.specs.Style.{elements_after, members_after}
+use Rattle.yaml_writer.proofs.Prelude.{elements_of, members_of, byte_len, elements_after, members_after}
 use Rattle.yaml_writer.specs.Sizes.{elements_after_indented, members_after_indented}
 use Rattle.yaml_writer.proofs.size.+sizes.Given as goal
 

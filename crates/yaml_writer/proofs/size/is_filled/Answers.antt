@@ -1,6 +1,5 @@
 use Rattle.std.proofs.Common.{not, sym, ap, ◌∙◌, arith}
-use Rattle.yaml_data.specs.Seen.{tree_of}
-use Rattle.yaml_data.proofs.SeenLemmas.{tree_of-Seq, tree_of-Map}
+use Rattle.yaml_writer.proofs.Prelude.{tree_of, tree_of-Seq, tree_of-Map}
 use Rattle.yaml_writer.specs.Sizes.{is_filled}
 use Rattle.yaml_writer.proofs.SizeSums.{filled_elements, filled_members}
 use Rattle.yaml_writer.proofs.size.is_filled.Goals as goal

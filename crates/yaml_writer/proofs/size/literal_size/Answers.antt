@@ -1,12 +1,6 @@
 use Rattle.std.proofs.Common.{true, sym, ap, arith}
-use Rattle.std.proofs.lemmas.Bool.{eqb-true, eqb-false}
-use Rattle.std.specs.Str.{chars}
-use Rattle.yaml_data.proofs.CharacterLemmas.{chars_empty, chars_filled}
-use Rattle.yaml_grammar.specs.Style.{literal_lines}
-use Rattle.yaml_grammar.specs.Texts.{byte_len}
-use Rattle.yaml_writer.proofs.LiteralLemmas.{literal_last, after_IsUtf8}
-use Rattle.yaml_writer.proofs.SizeLaws.{literal_law}
-use Rattle.yaml_writer.proofs.SizeSums.{literal_step}
+use Rattle.yaml_writer.proofs.Prelude.{eqb-true, eqb-false, chars, chars_empty, chars_filled, literal_lines, byte_len}
+use Rattle.yaml_writer.proofs.{LiteralLemmas.literal_last, LiteralLemmas.after_IsUtf8, SizeLaws.literal_law, SizeSums.literal_step}
 use Rattle.yaml_writer.proofs.size.literal_size.Goals as goal
 
 pub plus-size-requires-clause-lines : goal.plus-size-requires-clause-lines

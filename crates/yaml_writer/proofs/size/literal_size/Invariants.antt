@@ -1,9 +1,7 @@
 use Rattle.std.proofs.Common.{◌≡◌, ◌+◌, ◌*◌, true, length}
-use Rattle.std.specs.Str.{chars}
+use Rattle.yaml_writer.proofs.Prelude.{chars, byte_len, literal_lines}
 use denote.Shadow.{shadow}
 use denote.Text.{Utf8}
-use Rattle.yaml_grammar.specs.Texts.{byte_len}
-use Rattle.yaml_grammar.specs.Style.{literal_lines}
 use Rattle.yaml_writer.proofs.size.literal_size.Given as goal
 
 -- the bytes so far and those of the lines that are left are all bytes, at the indentation 2 and at 0

@@ -1,21 +1,12 @@
 use Rattle.std.proofs.Common.{◌≡◌, ◌+◌, ◌*◌, ◌<◌, ◌++◌, drop, length, codes, subst, refl, sym, ap, ◌∙◌, arith}
-use Rattle.std.proofs.lemmas.Bool.{eqb-true, eqb-false}
-use Rattle.std.proofs.lemmas.List.{drop_all}
-use Rattle.std.proofs.lemmas.Result.{on_ok_weaker}
-use Rattle.std.specs.Str.{chars}
+use Rattle.yaml_writer.proofs.Prelude.{eqb-true, eqb-false, drop_all, on_ok_weaker, chars, spaces, depth, elements_depth, members_depth}
+use Rattle.yaml_writer.proofs.Prelude.{key_lines, elements_at, lines_after_dash, members_at, value_at, tree_of, elements_of, members_of}
+use Rattle.yaml_writer.proofs.Prelude.{drop_item, tree_of-Text, tree_of-Seq, tree_of-Map, chars-literal}
 use denote.Param.Weighed.{at_most}
-use Rattle.yaml_grammar.specs.Texts.{spaces}
+use Rattle.yaml_writer.proofs.WalkLemmas.{elements_led, members_led, elements_led-same, members_led-same, elements_led-first}
+use Rattle.yaml_writer.proofs.WalkLemmas.{members_led-first, elements_at-empty, members_at-empty, sequence_value-empty, mapping_value-empty}
+use Rattle.yaml_writer.proofs.WalkLemmas.{sequence_value, mapping_value, line_taken, none_taken}
 use Rattle.yaml_grammar.specs.Trees as grammar
-use Rattle.yaml_grammar.specs.Trees.{depth, elements_depth, members_depth}
-use Rattle.yaml_grammar.specs.Style.{key_lines, elements_at, lines_after_dash, members_at, value_at}
-use Rattle.yaml_data.specs.Seen.{tree_of, elements_of, members_of}
-use Rattle.yaml_data.proofs.ListLemmas.{drop_item}
-use Rattle.yaml_data.proofs.SeenLemmas.{tree_of-Text, tree_of-Seq, tree_of-Map}
-use Rattle.yaml_data.proofs.CharacterLemmas.{chars-literal}
-use Rattle.yaml_writer.proofs.WalkLemmas.{elements_led, members_led, elements_led-same, members_led-same}
-use Rattle.yaml_writer.proofs.WalkLemmas.{elements_led-first, members_led-first, elements_at-empty, members_at-empty}
-use Rattle.yaml_writer.proofs.WalkLemmas.{sequence_value-empty, mapping_value-empty, sequence_value, mapping_value}
-use Rattle.yaml_writer.proofs.WalkLemmas.{line_taken, none_taken}
 use Rattle.yaml_writer.proofs.style.+lines.Goals as goal
 
 -- ---- sequences

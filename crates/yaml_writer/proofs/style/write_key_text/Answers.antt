@@ -1,6 +1,5 @@
 use Rattle.std.proofs.Common.{subst, sym, ◌∙◌}
-use Rattle.std.proofs.lemmas.Result.{on_ok_weaker}
-use Rattle.std.specs.Str.{chars}
+use Rattle.yaml_writer.proofs.Prelude.{on_ok_weaker, chars}
 use Rattle.yaml_writer.proofs.StyleLemmas.{key_plain, key_quoted}
 use Rattle.yaml_writer.proofs.style.write_key_text.Goals as goal
 

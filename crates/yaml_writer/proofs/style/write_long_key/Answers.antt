@@ -1,6 +1,5 @@
 use Rattle.std.proofs.Common.{codes, subst, refl}
-use Rattle.std.proofs.lemmas.Result.{on_ok_weaker}
-use Rattle.yaml_data.proofs.CharacterLemmas.{chars-literal}
+use Rattle.yaml_writer.proofs.Prelude.{on_ok_weaker, chars-literal}
 use Rattle.yaml_writer.proofs.style.write_long_key.Goals as goal
 
 pub returns : goal.returns

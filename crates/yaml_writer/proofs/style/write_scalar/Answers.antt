@@ -1,8 +1,5 @@
 use Rattle.std.proofs.Common.{◌++◌, codes, true, subst, refl, sym, ap, ◌∙◌}
-use Rattle.std.proofs.lemmas.Result.{on_ok_weaker}
-use Rattle.std.specs.Str.{chars}
-use Rattle.yaml_grammar.specs.Style.{literal_lines}
-use Rattle.yaml_data.proofs.CharacterLemmas.{chars-literal}
+use Rattle.yaml_writer.proofs.Prelude.{on_ok_weaker, chars, literal_lines, chars-literal}
 use Rattle.yaml_writer.proofs.StyleLemmas.{value_plain, value_double, value_strip, value_clip, value_keep}
 use Rattle.yaml_writer.proofs.style.write_scalar.Goals as goal
 

@@ -1,10 +1,6 @@
 use Rattle.std.proofs.Common.{ap, sym, subst, ◌∙◌, arith}
-use Rattle.std.proofs.lemmas.Result.{on_ok_weaker}
-use Rattle.std.specs.Str.{chars}
-use Rattle.yaml_grammar.specs.Trees.{depth, elements_depth, members_depth}
-use Rattle.yaml_grammar.specs.Style.{scalar_lines, elements_at, members_at, style_text}
-use Rattle.yaml_data.specs.Seen.{tree_of, elements_of, members_of}
-use Rattle.yaml_data.proofs.SeenLemmas.{tree_of-Text, tree_of-Seq, tree_of-Map}
+use Rattle.yaml_writer.proofs.Prelude.{on_ok_weaker, chars, depth, elements_depth, members_depth, scalar_lines, elements_at, members_at}
+use Rattle.yaml_writer.proofs.Prelude.{style_text, tree_of, elements_of, members_of, tree_of-Text, tree_of-Seq, tree_of-Map}
 use Rattle.yaml_writer.proofs.style.write_style.Goals as goal
 
 pub write_elements-requires : goal.write_elements-requires

@@ -1,7 +1,5 @@
 use Rattle.std.proofs.Common.{◌≡◌, ℕ, ◌+◌, ◌-◌, ◌++◌, take, string_bytes, append_assoc, ap, ◌∙◌, arith}
-use Rattle.std.proofs.lemmas.List.{replicate-append-replicate, take-replicate, get_or-replicate}
-use Rattle.yaml_chars.specs.Signs.{space_char}
-use Rattle.yaml_grammar.specs.Texts.{spaces}
+use Rattle.yaml_writer.proofs.Prelude.{replicate-append-replicate, take-replicate, get_or-replicate, space_char, spaces}
 use Rattle.yaml_writer.proofs.text_sink.push_spaces.Goals as goal
 
 pub loop-left-preserved : goal.loop-left-preserved

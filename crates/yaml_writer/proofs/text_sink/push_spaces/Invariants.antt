@@ -1,5 +1,5 @@
 use Rattle.std.proofs.Common.{◌≡◌, ◌++◌, string_bytes}
-use Rattle.yaml_grammar.specs.Texts.{spaces}
+use Rattle.yaml_writer.proofs.Prelude.{spaces}
 use Rattle.yaml_writer.proofs.text_sink.push_spaces.Given as goal
 
 abbrev pub invariant-loop-left : goal.invariant-loop-left

@@ -1,13 +1,12 @@
 -- The next piece, or the end, or why there is none.
 use Rattle.std.proofs.Common.{sym, subst}
-use Rattle.std.specs.Prelude.{Ok, Err, IfSome}
-use Rattle.conf_history.specs.Histories.{RefusesSurvey}
-use Rattle.conf_history.specs.Walks.{with_state}
+use Rattle.std.specs.Prelude.{Ok, Err}
+use Rattle.conf_history.specs.Walks.{LacksPiece, with_state}
 use Rattle.conf_history.proofs.WalkLemmas.{own-limits, advances, refuses-next}
 use Rattle.conf_history.proofs.walk.Walk.advance.Goals as goal
 
-pub returns-in-Ok-clause-walks : goal.returns-in-Ok-clause-walks
-returns-in-Ok-clause-walks g c = λ given s pieces start commands b.
+pub returns-in-Ok : goal.returns-in-Ok
+returns-in-Ok g c = λ given s pieces start commands b.
     let mid = g.R.Read.remaining c.args.reader.now in
     let left = g.R.Read.remaining c.advance.new.reader in
     let old = c.args.self.now in
@@ -15,12 +14,12 @@ returns-in-Ok-clause-walks g c = λ given s pieces start commands b.
     advances given mid left (with_state old s) now pieces start commands b c.in-Ok.found
     (own-limits mid left old.pieces now (Ok c.in-Ok.found) c.requires c.in-Ok.ensures)
 
-pub returns-in-Err-clause-walks : goal.returns-in-Err-clause-walks
-returns-in-Err-clause-walks g c = λ given s pieces start commands b.
+pub returns-in-Err : goal.returns-in-Err
+returns-in-Err g c = λ given s pieces start commands b.
     let mid = g.R.Read.remaining c.args.reader.now in
     let left = g.R.Read.remaining c.advance.new.reader in
     let old = c.args.self.now in
     let now = c.advance.new.self in
-    subst (λ fault. IfSome given (λ bytes. RefusesSurvey bytes fault)) (sym c.fault_of_pieces.ensures)
+    subst (LacksPiece given) (sym c.fault_of_pieces.ensures)
     (refuses-next given mid left (with_state old s) now pieces start commands b c.in-Err.fault
     (own-limits mid left old.pieces now (Err c.in-Err.fault) c.requires c.in-Err.ensures))

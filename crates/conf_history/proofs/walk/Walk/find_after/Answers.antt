@@ -1,8 +1,6 @@
 -- What follows the bad piece is counted.
 use Rattle.std.proofs.Common.{◌++◌}
-use Rattle.std.specs.List.{concat}
-use Rattle.std.proofs.lemmas.Result.{err_from_is_err_and}
-use Rattle.yaml_docs.specs.PieceReading.{piece_or_rest}
+use Rattle.conf_history.proofs.Prelude.{concat, err_from_is_err_and, piece_or_rest}
 use Rattle.conf_history.specs.Walks.{with_state}
 use Rattle.conf_history.proofs.SurveyLemmas.{past-piece, surveyed-bad}
 use Rattle.conf_history.proofs.walk.Walk.find_after.Goals as goal

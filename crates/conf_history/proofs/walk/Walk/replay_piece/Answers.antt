@@ -1,9 +1,13 @@
 -- A piece that is no next record is the first bad one.
-use Rattle.std.proofs.Common.{sym}
-use Rattle.std.proofs.lemmas.Result.{err_from_is_err_and}
+use Rattle.std.proofs.Common.{sym, subst}
+use Rattle.conf_history.proofs.Prelude.{RefusesRecord}
+use Rattle.conf_history.specs.Walks.{RefusesPiece, with_state}
+use Rattle.conf_history.proofs.WalkLemmas.{refuses-here}
 use Rattle.conf_history.proofs.walk.Walk.replay_piece.Goals as goal
 
-pub returns-in_err-command-clause-refused : goal.returns-in_err-command-clause-refused
-returns-in_err-command-clause-refused g c =
-    let p = err_from_is_err_and c.from_residual.result c.from_residual.ensures.1 in
-    rw (p.1, p.2) (c.in_err-command.ensures.refused (g.T.Replayed.contents c.args.held.now) (sym c.accepted.ensures.count))
+pub returns-in-Err-clause-refused : goal.returns-in-Err-clause-refused
+returns-in-Err-clause-refused g c =
+    let walk = with_state c.args.self.now (g.T.Replayed.contents c.args.held.now) in
+    let fault = c.in-Err.fault in
+    subst (RefusesPiece walk) (sym c.fault_here.ensures)
+    (refuses-here walk fault (subst (λ piece. RefusesRecord piece walk.state fault) c.piece.ensures c.in-Err.ensures.refused))

@@ -1,5 +1,4 @@
-use Rattle.std.proofs.Common.{◌≡◌, ◌≤◌, ◌++◌, codes, decimal, encode_utf8_all, length, true≢false, sym, subst, ◌∙◌, arith}
-use Rattle.conf_record.specs.BaseSpans.{AreFound}
+use Rattle.std.proofs.Common.{◌≡◌, ◌≤◌, length, true≢false, sym, ◌∙◌, arith}
 use Rattle.conf_record.proofs.BaseSpanLemmas.{found_whole}
 use Rattle.conf_record.proofs.base_spans.Found.of.Goals as goal
 
@@ -14,11 +13,8 @@ returns c =
     let short : length bytes ≤ 67108864 = omega arith in
     let some : length c.in_ok-spans.spans.entries ≡ 0 → ⊥ = λ none.
     true≢false (sym (c.is_empty.ensures.1 none) ∙ c.if-is_empty.false) in
-    let is = subst (λ n. bytes ≡ codes "---\nstore: confstore-2\nat: \""
-    ++ (encode_utf8_all (decimal n) ++ (codes "\"\nconfigs:\n" ++ lines))) (sym count.0) c.in-Some.ensures in (
+    let is = rw (sym count.0) at c.in-Some.ensures in (
       record { configs = listed.0; count = made.count },
       found_whole bytes lines made.spans.entries listed.0 made.count made.total
-          (subst (λ spans. AreFound lines spans.entries listed.0 (codes "...\n")) same listed.1)
-          (subst (λ spans. length spans.entries ≡ 0 → ⊥) same some)
-          (subst (λ n. n ≤ 18446744073709551615) (sym count.0) count.1) short c.new.ensures.total is,
+          (rw same at listed.1) (rw same at some) (rw (sym count.0) at count.1) short c.new.ensures.total is,
     )

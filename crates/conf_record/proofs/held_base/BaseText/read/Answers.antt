@@ -1,6 +1,5 @@
 use Rattle.std.proofs.Common.{◌≡◌, string_bytes, sym, ap, subst, ◌∙◌, rules}
-use Rattle.conf_record.specs.Documents.{IsBase}
-use Rattle.conf_record.specs.HeldBases.{Held}
+use Rattle.conf_record.specs.{Documents.IsBase, HeldBases.Held}
 use Rattle.conf_record.proofs.held_base.BaseText.read.Goals as goal
 
 pub invariant_of-result : goal.invariant_of-result

@@ -1,12 +1,6 @@
 use Rattle.std.proofs.Common.{◌≡◌, string_bytes, option_copied, sym, ap, subst, ◌∙◌}
-use Rattle.std.proofs.lemmas.Result.{IfOk-weaker}
-use Rattle.std.specs.Map.{lookup}
-use Rattle.std.specs.Str.{chars}
-use Rattle.yaml_data.specs.Seen.{tree_of}
-use Rattle.conf_state.specs.Configs.{is_name}
-use Rattle.conf_state.specs.States.{config_named}
-use Rattle.conf_record.specs.BaseSpans.{bytes_at, entry_bytes}
-use Rattle.conf_record.specs.Documents.{IsBase}
+use Rattle.conf_record.proofs.Prelude.{IfOk-weaker, lookup, chars, tree_of, is_name, config_named}
+use Rattle.conf_record.specs.{BaseSpans.bytes_at, BaseSpans.entry_bytes, Documents.IsBase}
 use Rattle.conf_record.proofs.BaseCopyLemmas.{built_is}
 use Rattle.conf_record.proofs.BaseSpanLemmas.{lookup_named, lookup_some, lookup_none, span_found}
 use Rattle.conf_record.proofs.held_base.BaseTextOrigin.copy_of.Goals as goal

@@ -1,8 +1,5 @@
 use Rattle.std.proofs.Common.{is_some, string_bytes, ap, ◌∙◌}
-use Rattle.std.specs.Map.{lookup}
-use Rattle.std.specs.Str.{chars}
-use Rattle.conf_state.specs.Configs.{is_name}
-use Rattle.conf_state.specs.States.{config_named}
+use Rattle.conf_record.proofs.Prelude.{lookup, chars, is_name, config_named}
 use Rattle.conf_record.proofs.BaseSpanLemmas.{lookup_named, lookup_is_some, copied_is_some}
 use Rattle.conf_record.proofs.held_base.BaseTextOrigin.has.Goals as goal
 

@@ -1,9 +1,5 @@
 use Rattle.std.proofs.Common.{string_bytes, option_copied, sym, ap, ◌∙◌}
-use Rattle.std.specs.Map.{lookup}
-use Rattle.std.specs.Str.{chars}
-use Rattle.yaml_grammar.specs.Texts.{byte_len}
-use Rattle.conf_state.specs.Configs.{is_name}
-use Rattle.conf_state.specs.EntryTexts.{entry_named}
+use Rattle.conf_record.proofs.Prelude.{lookup, chars, byte_len, is_name, entry_named}
 use Rattle.conf_record.specs.BaseSpans.{entry_bytes}
 use Rattle.conf_record.proofs.BaseSpanLemmas.{lookup_named, lookup_some, lookup_none, span_length, named_length, named_none}
 use Rattle.conf_record.proofs.held_base.BaseTextOrigin.length_of.Goals as goal

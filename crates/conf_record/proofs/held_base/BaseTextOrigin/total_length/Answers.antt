@@ -1,5 +1,5 @@
 use Rattle.std.proofs.Common.{subst}
-use Rattle.conf_state.specs.Limits.{AreWithin}
+use Rattle.conf_record.proofs.Prelude.{AreWithin}
 use Rattle.conf_record.proofs.held_base.BaseTextOrigin.total_length.Goals as goal
 
 pub returns-clause-limits : goal.returns-clause-limits

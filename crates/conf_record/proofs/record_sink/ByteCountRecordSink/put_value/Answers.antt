@@ -1,7 +1,6 @@
 -- As many spaces as a value has bytes have as many bytes.
 use Rattle.std.proofs.Common.{arith}
-use Rattle.std.proofs.lemmas.Result.{on_ok_weaker}
-use Rattle.yaml_writer.proofs.ByteLemmas.{byte_len-spaces}
+use Rattle.conf_record.proofs.Prelude.{on_ok_weaker, byte_len-spaces}
 use Rattle.conf_record.proofs.record_sink.ByteCountRecordSink.put_value.Goals as goal
 
 pub returns-clause-takes : goal.returns-clause-takes

@@ -1,9 +1,7 @@
 use Rattle.std.proofs.Common.{◌≡◌, OnSome, Some, refl, ap, sym, ◌∙◌}
-use Rattle.std.specs.Map.{lookup, set_value}
-use Rattle.std.proofs.lemmas.Map.Steps.{set_value_same}
+use Rattle.conf_state.proofs.Prelude.{lookup, set_value, set_value_same}
 use Rattle.yaml_data.specs.declared.tree.Tree.{Tree}
-use Rattle.conf_state.specs.Configs.{is_name}
-use Rattle.conf_state.specs.Places.{present}
+use Rattle.conf_state.specs.{Configs.is_name, Places.present}
 use Rattle.conf_state.proofs.PlaceLemmas.{in_place, lookup-present, present-set, on_some}
 use Rattle.conf_state.proofs.configs.Configs.get_mut.Goals as goal
 

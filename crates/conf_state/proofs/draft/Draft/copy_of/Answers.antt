@@ -1,5 +1,5 @@
 use Rattle.std.proofs.Common.{Some, option_copied, sym, ap, ◌∙◌}
-use Rattle.std.proofs.lemmas.Result.{IfOk-weaker}
+use Rattle.conf_state.proofs.Prelude.{IfOk-weaker}
 use Rattle.conf_state.proofs.OriginLemmas.{held-there, not-held}
 use Rattle.conf_state.proofs.draft.Draft.copy_of.Goals as goal
 

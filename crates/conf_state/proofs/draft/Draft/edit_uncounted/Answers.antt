@@ -1,15 +1,9 @@
 use Rattle.std.proofs.Common.{inr, Err, option_map, sym, ap, ◌∙◌}
-use Rattle.std.proofs.lemmas.Result.{on_ok_weaker, IfOk-weaker, IfErr-weaker, err_from_is_err_and}
-use Rattle.std.specs.Str.{chars}
-use Rattle.yaml_data.specs.Seen.{tree_of}
-use Rattle.conf_state.specs.Commands.{text_of}
-use Rattle.conf_state.specs.Configs.{put_under}
-use Rattle.conf_state.specs.Drafts.{drafted}
-use Rattle.conf_state.specs.Edits.{absence}
+use Rattle.conf_state.proofs.Prelude.{on_ok_weaker, IfOk-weaker, IfErr-weaker, err_from_is_err_and, chars, tree_of}
+use Rattle.conf_state.specs.{Commands.text_of, Configs.put_under, Drafts.drafted, Edits.absence}
+use Rattle.conf_state.proofs.{EditLemmas.edited-nothing, OriginLemmas.there-good, OriginLemmas.drafted-within, PlanningLemmas.edit-refused}
+use Rattle.conf_state.proofs.{PlanningLemmas.or_so}
 use Rattle.conf_state.proofs.DraftEdits.{held-config, changed-in, copied-config, copy-put-in, after-edit, after-kept, after-change}
-use Rattle.conf_state.proofs.EditLemmas.{edited-nothing}
-use Rattle.conf_state.proofs.OriginLemmas.{there-good, drafted-within}
-use Rattle.conf_state.proofs.PlanningLemmas.{edit-refused, or_so}
 use Rattle.conf_state.proofs.draft.Draft.edit_uncounted.Goals as goal
 
 -- ---- a configuration that the draft holds

@@ -1,5 +1,5 @@
 use Rattle.std.proofs.Common.{arith}
-use Rattle.std.specs.Str.{chars}
+use Rattle.conf_state.proofs.Prelude.{chars}
 use Rattle.conf_state.specs.Drafts.{drafted}
 use Rattle.conf_state.proofs.OriginLemmas.{entry-cut}
 use Rattle.conf_state.proofs.draft.Draft.length_without.Goals as goal

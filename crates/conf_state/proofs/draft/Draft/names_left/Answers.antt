@@ -1,9 +1,7 @@
 -- Each turn leaves out a name that is removed, or takes another one.
 use Rattle.std.proofs.Common.{rules, ◌++◌, true, false, map, length, append-nil, string_bytes, sym, ap, ◌∙◌, arith}
-use Rattle.std.proofs.lemmas.Str.{IsUtf8-string_bytes}
-use Rattle.std.specs.Vec.Iter.{into_iter_items, into_iter_len}
-use Rattle.conf_state.specs.Commands.{text_of}
-use Rattle.conf_state.specs.Drafts.{texts_of}
+use Rattle.conf_state.proofs.Prelude.{IsUtf8-string_bytes, into_iter_items, into_iter_len}
+use Rattle.conf_state.specs.{Commands.text_of, Drafts.texts_of}
 use Rattle.conf_state.proofs.DraftSteps.{listed}
 use Rattle.conf_state.proofs.ListedNames.{outside, outside-step, names-cut_all, mapped-more, nothing-left}
 use Rattle.conf_state.proofs.draft.Draft.names_left.Goals as goal

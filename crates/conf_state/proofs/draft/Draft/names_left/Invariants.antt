@@ -1,8 +1,6 @@
 use Rattle.std.proofs.Common.{◌≡◌, ◌++◌, map, length}
-use Rattle.std.specs.Vec.Iter.{into_iter_items, into_iter_len}
-use Rattle.conf_state.specs.Commands.{text_of}
-use Rattle.conf_state.specs.Drafts.{cut_all, texts_of}
-use Rattle.conf_state.specs.States.{names_of}
+use Rattle.conf_state.proofs.Prelude.{into_iter_items, into_iter_len}
+use Rattle.conf_state.specs.{Commands.text_of, Drafts.cut_all, Drafts.texts_of, States.names_of}
 use Rattle.conf_state.proofs.ListedNames.{outside}
 use Rattle.conf_state.proofs.draft.Draft.names_left.Given as goal
 

@@ -1,6 +1,5 @@
 use Rattle.std.proofs.Common.{◌∙◌}
-use Rattle.conf_state.specs.Commands.{text_of}
-use Rattle.conf_state.specs.Drafts.{drafted}
+use Rattle.conf_state.specs.{Commands.text_of, Drafts.drafted}
 use Rattle.conf_state.proofs.draft.OnDraftEditor.edit.Goals as goal
 
 pub length_changed-requires : goal.length_changed-requires

@@ -1,8 +1,7 @@
 use Rattle.std.proofs.Common.{sym, ◌∙◌}
-use Rattle.std.specs.Str.{chars}
+use Rattle.conf_state.proofs.Prelude.{chars}
 use Rattle.conf_state.specs.Drafts.{drafted}
-use Rattle.conf_state.proofs.EditLemmas.{found-good}
-use Rattle.conf_state.proofs.OriginLemmas.{drafted-within}
+use Rattle.conf_state.proofs.{EditLemmas.found-good, OriginLemmas.drafted-within}
 use Rattle.conf_state.proofs.draft.OnDraftEditor.has.Goals as goal
 
 pub returns-clause-named : goal.returns-clause-named

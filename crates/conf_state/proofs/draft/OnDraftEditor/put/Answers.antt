@@ -1,15 +1,8 @@
 use Rattle.std.proofs.Common.{◌≡◌, Ok, string_bytes, subst, sym, ap, ◌∙◌}
-use Rattle.std.proofs.lemmas.Str.{IsUtf8-string_bytes}
-use Rattle.std.specs.Str.{chars}
-use Rattle.yaml_data.specs.Seen.{tree_of}
-use Rattle.conf_state.specs.BaseTexts.{entries_length}
-use Rattle.conf_state.specs.Commands.{text_of}
-use Rattle.conf_state.specs.Drafts.{drafted}
-use Rattle.conf_state.specs.Kept.{entries_of, ArePlain}
-use Rattle.conf_state.specs.States.{put_config}
-use Rattle.conf_state.proofs.DraftSteps.{put-made, put-kept}
-use Rattle.conf_state.proofs.EntryLemmas.{put_under-named, plain_put_under}
-use Rattle.conf_state.proofs.NameLemmas.{good_name-ascii}
+use Rattle.conf_state.proofs.Prelude.{IsUtf8-string_bytes, chars, tree_of}
+use Rattle.conf_state.specs.{BaseTexts.entries_length, Commands.text_of, Drafts.drafted, Kept.entries_of, Kept.ArePlain, States.put_config}
+use Rattle.conf_state.proofs.{DraftSteps.put-made, DraftSteps.put-kept, EntryLemmas.put_under-named, EntryLemmas.plain_put_under}
+use Rattle.conf_state.proofs.{NameLemmas.good_name-ascii}
 use Rattle.conf_state.proofs.draft.OnDraftEditor.put.Goals as goal
 
 pub returns : goal.returns

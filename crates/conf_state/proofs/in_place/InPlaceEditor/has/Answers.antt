@@ -1,8 +1,6 @@
 use Rattle.std.proofs.Common.{is_some, ap, sym, ◌∙◌}
-use Rattle.std.specs.Str.{chars}
-use Rattle.yaml_data.specs.Seen.{tree_of}
-use Rattle.conf_state.proofs.EditLemmas.{found-good}
-use Rattle.conf_state.proofs.StepLemmas.{is_some-mapped}
+use Rattle.conf_state.proofs.Prelude.{chars, tree_of}
+use Rattle.conf_state.proofs.{EditLemmas.found-good, StepLemmas.is_some-mapped}
 use Rattle.conf_state.proofs.in_place.InPlaceEditor.has.Goals as goal
 
 pub returns-clause-found : goal.returns-clause-found

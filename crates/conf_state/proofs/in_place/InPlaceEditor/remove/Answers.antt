@@ -1,8 +1,6 @@
 use Rattle.std.proofs.Common.{Ok, inr, subst}
-use Rattle.std.proofs.lemmas.Result.{IfErr-weaker}
-use Rattle.std.specs.Str.{chars}
-use Rattle.conf_state.specs.Endings.{EndsInPlace}
-use Rattle.conf_state.specs.States.{cut_config}
+use Rattle.conf_state.proofs.Prelude.{IfErr-weaker, chars}
+use Rattle.conf_state.specs.{Endings.EndsInPlace, States.cut_config}
 use Rattle.conf_state.proofs.in_place.InPlaceEditor.remove.Goals as goal
 
 pub returns : goal.returns

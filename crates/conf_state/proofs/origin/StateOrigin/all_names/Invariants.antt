@@ -1,6 +1,5 @@
 use Rattle.std.proofs.Common.{◌≡◌, ◌++◌, map}
-use Rattle.conf_state.specs.Commands.{text_of}
-use Rattle.conf_state.specs.States.{names_of}
+use Rattle.conf_state.specs.{Commands.text_of, States.names_of}
 use Rattle.conf_state.proofs.origin.StateOrigin.all_names.Given as goal
 
 -- the names so far, and then those that are left, are all

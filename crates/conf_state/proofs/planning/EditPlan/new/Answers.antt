@@ -1,13 +1,6 @@
 use Rattle.std.proofs.Common.{inr, ◌∙◌, sym, ap, arith}
-use Rattle.std.proofs.lemmas.Result.{err_from_is_err_and}
-use Rattle.std.specs.Str.{chars}
-use Rattle.yaml_grammar.specs.Trees.{depth}
-use Rattle.yaml_data.specs.Seen.{tree_of}
-use Rattle.yaml_config.specs.Edits.{tree_after_edit}
-use Rattle.yaml_config.specs.Limits.{config_limits}
-use Rattle.json_pointer.specs.Pointers.{path_of}
-use Rattle.conf_state.specs.Edits.{checked_edit}
-use Rattle.conf_state.specs.Steps.{and_then, checked_tree}
+use Rattle.conf_state.proofs.Prelude.{err_from_is_err_and, chars, depth, tree_of, tree_after_edit, config_limits, path_of}
+use Rattle.conf_state.specs.{Edits.checked_edit, Steps.and_then, Steps.checked_tree}
 use Rattle.conf_state.proofs.EditLemmas.{at_most, parsed-Ok, parsed-Err, path-refused, pointer-steps}
 use Rattle.conf_state.proofs.PlanningLemmas.{at-path, checked_edit-deep, checked_edit-large, or_so}
 use Rattle.conf_state.proofs.planning.EditPlan.new.Goals as goal

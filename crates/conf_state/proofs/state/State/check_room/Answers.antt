@@ -1,5 +1,5 @@
 use Rattle.std.proofs.Common.{ap, sym}
-use Rattle.std.proofs.lemmas.Result.{on_ok_weaker, IfErr-weaker}
+use Rattle.conf_state.proofs.Prelude.{on_ok_weaker, IfErr-weaker}
 use Rattle.conf_state.proofs.state.State.check_room.Goals as goal
 
 pub returns-clause-ok : goal.returns-clause-ok

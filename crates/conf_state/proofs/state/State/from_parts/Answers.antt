@@ -1,9 +1,6 @@
 use Rattle.std.proofs.Common.{rules, ◌≡◌, List, length, min, [], ◌∷◌, MatchOption, ap, sym, subst, ◌∙◌, refl, arith}
-use Rattle.std.specs.Vec.Iter.{into_iter_items}
-use Rattle.yaml_data.specs.Seen.{tree_of}
-use Rattle.conf_state.specs.BaseTexts.{framed_length}
-use Rattle.conf_state.specs.Commands.{text_of}
-use Rattle.conf_state.specs.Kept.{entries_of, Appended, IsUnfit}
+use Rattle.conf_state.proofs.Prelude.{into_iter_items, tree_of}
+use Rattle.conf_state.specs.{BaseTexts.framed_length, Commands.text_of, Kept.entries_of, Kept.Appended, Kept.IsUnfit}
 use Rattle.conf_state.proofs.PartLemmas.{SoFar, so_far_first, so_far_more, unfit_none, parts_kept, parts_long, parts_state}
 use Rattle.conf_state.proofs.state.State.from_parts.Goals as goal
 

@@ -1,9 +1,7 @@
 use Rattle.std.proofs.Common.{Option, Some, None, Bor, option_map, option_copied, ◌≡◌, refl, ap, subst, ◌∙◌}
-use Rattle.std.specs.Str.{chars}
-use Rattle.yaml_data.specs.Seen.{tree_of}
+use Rattle.conf_state.proofs.Prelude.{chars, tree_of}
 use Rattle.yaml_data.specs.declared.tree.Tree.{Tree}
-use Rattle.conf_state.specs.Limits.{IsState}
-use Rattle.conf_state.specs.States.{config_named}
+use Rattle.conf_state.specs.{Limits.IsState, States.config_named}
 use Rattle.conf_state.proofs.EntryLemmas.{lookup-named}
 use Rattle.conf_state.proofs.state.State.get.Goals as goal
 

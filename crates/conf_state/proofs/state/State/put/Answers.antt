@@ -1,13 +1,7 @@
 use Rattle.std.proofs.Common.{◌≡◌, ◌+◌, string_bytes, min, Ok, IsUtf8, ap, sym, subst, ◌∙◌, arith}
-use Rattle.std.specs.Str.{chars}
-use Rattle.yaml_data.specs.Seen.{tree_of}
-use Rattle.conf_state.specs.States.{put_config}
-use Rattle.conf_state.specs.BaseTexts.{entries_length}
-use Rattle.conf_state.specs.Kept.{entries_of, ArePlain}
-use Rattle.conf_state.specs.Steps.{next_state}
-use Rattle.conf_state.proofs.EntryLemmas.{put_under-named, plain_put_under}
-use Rattle.conf_state.proofs.NameLemmas.{good_name-ascii}
-use Rattle.conf_state.proofs.StateLemmas.{kept_put}
+use Rattle.conf_state.proofs.Prelude.{chars, tree_of}
+use Rattle.conf_state.specs.{States.put_config, BaseTexts.entries_length, Kept.entries_of, Kept.ArePlain, Steps.next_state}
+use Rattle.conf_state.proofs.{EntryLemmas.put_under-named, EntryLemmas.plain_put_under, NameLemmas.good_name-ascii, StateLemmas.kept_put}
 use Rattle.conf_state.proofs.state.State.put.Goals as goal
 
 pub invariant_of-self-2 : goal.invariant_of-self-2

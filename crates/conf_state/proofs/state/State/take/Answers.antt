@@ -1,9 +1,6 @@
 use Rattle.std.proofs.Common.{◌≡◌, ◌+◌, inr, Ok, ap, sym, subst, ◌∙◌, arith}
-use Rattle.std.proofs.lemmas.Result.{err_from_is_err_and}
-use Rattle.conf_state.specs.BaseTexts.{entries_length}
-use Rattle.conf_state.specs.Drafts.{drafted}
-use Rattle.conf_state.specs.Kept.{entries_of}
-use Rattle.conf_state.specs.Steps.{next_state}
+use Rattle.conf_state.proofs.Prelude.{err_from_is_err_and}
+use Rattle.conf_state.specs.{BaseTexts.entries_length, Drafts.drafted, Kept.entries_of, Steps.next_state}
 use Rattle.conf_state.proofs.StateLemmas.{kept_new}
 use Rattle.conf_state.proofs.TakeLemmas.{drafted-configs, drafted-distinct, taken-named, taken-plain}
 use Rattle.conf_state.proofs.state.State.take.Goals as goal

@@ -1,11 +1,8 @@
 use Rattle.std.proofs.Common.{◌≡◌, [], refl, sym, ap, subst, ◌∙◌}
-use Rattle.conf_state.specs.Drafts.{drafted, IsDraftOf}
-use Rattle.conf_state.specs.Kept.{entries_of, IsKept}
-use Rattle.conf_state.specs.declared.draft.Draft.{Draft}
-use Rattle.conf_state.proofs.StateLemmas.{kept_nothing}
+use Rattle.conf_state.specs.{Drafts.drafted, Drafts.IsDraftOf, Kept.entries_of, Kept.IsKept, declared.draft.Draft.Draft}
+use Rattle.conf_state.proofs.{StateLemmas.kept_nothing, state.State.take_configs.Goals.After-new-2}
 use Rattle.conf_state.proofs.TakeLemmas.{whole-draft, whole-drafted, whole-counted}
 use Rattle.conf_state.proofs.state.State.take_configs.Goals as goal
-use Rattle.conf_state.proofs.state.State.take_configs.Goals.{After-new-2}
 
 abbrev taken : After-new-2 → Draft
 taken c = record { removed = c.new-2.result; touched = c.replace-touched.result; length = c.replace-length.result }

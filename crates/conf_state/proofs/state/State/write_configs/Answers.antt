@@ -1,12 +1,7 @@
 use Rattle.std.proofs.Common.{◌≡◌, true, false, ◌∷◌, ◌++◌, [], List, String, Global, length, codes, refl, ap, subst, sym, ◌∙◌, arith}
-use Rattle.std.proofs.lemmas.Result.{on_ok_weaker}
-use Rattle.std.specs.Str.{chars}
-use Rattle.yaml_grammar.specs.Trees.{mapping}
-use Rattle.yaml_grammar.specs.Style.{value_at, members_after}
-use Rattle.yaml_data.specs.Seen.{tree_of}
+use Rattle.conf_state.proofs.Prelude.{on_ok_weaker, chars, mapping, value_at, members_after, tree_of}
 use Rattle.yaml_data.specs.declared.tree.Tree.{Tree}
-use Rattle.conf_state.specs.BaseTexts.{members, entry_lines}
-use Rattle.conf_state.specs.Kept.{entries_of}
+use Rattle.conf_state.specs.{BaseTexts.members, BaseTexts.entry_lines, Kept.entries_of}
 use Rattle.conf_state.proofs.LineLemmas.{ascii}
 use Rattle.conf_state.proofs.state.State.write_configs.Goals as goal
 

@@ -1,6 +1,5 @@
-use Rattle.yaml_grammar.specs.Style.{members_after}
-use Rattle.conf_state.specs.BaseTexts.{members}
-use Rattle.conf_state.specs.Kept.{entries_of}
+use Rattle.conf_state.proofs.Prelude.{members_after}
+use Rattle.conf_state.specs.{BaseTexts.members, Kept.entries_of}
 use Rattle.conf_state.proofs.state.State.write_configs.Given as goal
 
 -- what ends the configurations from here ends them all from the start

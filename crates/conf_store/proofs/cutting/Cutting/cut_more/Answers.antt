@@ -1,5 +1,5 @@
 use Rattle.std.proofs.Common.{◌≡◌, ◌++◌, ◌+◌, ◌-◌, if◌then◌else◌, take, drop, string_bytes, ap, sym, ◌∙◌, arith}
-use Rattle.std.proofs.lemmas.List.{length-take}
+use Rattle.conf_store.proofs.Prelude.{length-take}
 use Rattle.std.specs.Vec.{vec_capacity}
 use Rattle.conf_store.proofs.CuttingLemmas.{cut-same}
 use Rattle.conf_store.proofs.cutting.Cutting.cut_more.Goals as goal

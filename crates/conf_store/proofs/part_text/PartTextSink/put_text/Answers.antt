@@ -1,5 +1,5 @@
 use Rattle.std.proofs.Common.{sym, subst}
-use Rattle.std.proofs.lemmas.Str.{encodes-chars}
+use Rattle.conf_store.proofs.Prelude.{encodes-chars}
 use Rattle.conf_store.specs.Room.{AppendsWithin}
 use Rattle.conf_store.proofs.part_text.PartTextSink.put_text.Goals as goal
 

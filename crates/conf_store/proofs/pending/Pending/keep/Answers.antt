@@ -1,6 +1,5 @@
 use Rattle.std.proofs.Common.{◌≡◌, true, false, is_some, string_bytes, ap, sym, ◌∙◌, subst}
-use Rattle.std.specs.HashMap.{get_by_text}
-use Rattle.std.specs.Str.{chars}
+use Rattle.conf_store.proofs.Prelude.{get_by_text, chars}
 use Rattle.conf_store.specs.Parts.{IsMade, texts}
 use Rattle.conf_store.proofs.PendingLemmas.{parts-unchanged, there-made, early-same, early-stays, absent-name, text-made, key-there}
 use Rattle.conf_store.proofs.pending.Pending.keep.Goals as goal

@@ -1,7 +1,5 @@
 use Rattle.std.proofs.Common.{◌≡◌, ap, ◌∙◌, subst}
-use Rattle.std.specs.Str.{chars}
-use Rattle.conf_state.specs.Commands.{text_of}
-use Rattle.conf_state.specs.States.{names_of}
+use Rattle.conf_store.proofs.Prelude.{chars, text_of, names_of}
 use Rattle.conf_store.specs.Parts.{AreWithin, parts_named, texts}
 use Rattle.conf_store.proofs.PendingLemmas.{names-more, names-all, apart-names, parts-named, within-more}
 use Rattle.conf_store.proofs.pending.Pending.of_state.Goals as goal

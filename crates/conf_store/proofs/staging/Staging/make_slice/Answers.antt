@@ -1,6 +1,5 @@
 use Rattle.std.proofs.Common.{◌≤◌, inl, inr, ⊎_elim, string_bytes, ap, ◌∙◌, arith}
-use Rattle.conf_store.specs.Staged.{slice_limit}
-use Rattle.conf_store.specs.Stagings.{staged_view}
+use Rattle.conf_store.specs.{Staged.slice_limit, Stagings.staged_view}
 use Rattle.conf_store.proofs.StageLemmas.{cut-left, slice-made, over-left, over-others, over-within, room-same}
 use Rattle.conf_store.proofs.staging.Staging.make_slice.Goals as goal
 

@@ -1,6 +1,5 @@
 use Rattle.std.proofs.Common.{◌+◌, ◌++◌, length, string_bytes, refl, ap, sym, ◌∙◌}
-use Rattle.std.proofs.lemmas.Result.{on_ok_weaker}
-use Rattle.conf_state.specs.Commands.{command_of}
+use Rattle.conf_store.proofs.Prelude.{on_ok_weaker, command_of}
 use Rattle.conf_store.specs.Stagings.{left_of}
 use Rattle.conf_store.proofs.RoomLemmas.{appended, ok-holds}
 use Rattle.conf_store.proofs.StageLemmas.{left-step, ready-step, view-more, none-more}

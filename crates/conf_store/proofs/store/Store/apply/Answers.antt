@@ -1,9 +1,7 @@
 use Rattle.std.proofs.Common.{◌⊎◌, sym, subst}
 use Rattle.std.specs.Prelude.{[], ◌∷◌, ◌++◌}
-use Rattle.conf_disk.proofs.Moments.{LeavesOnly-joined}
-use Rattle.conf_state.specs.Commands.{command_of}
-use Rattle.conf_store.specs.Meaning.{FileMeans}
-use Rattle.conf_store.specs.Durable.{AfterPrefix}
+use Rattle.conf_store.proofs.Prelude.{LeavesOnly-joined, command_of}
+use Rattle.conf_store.specs.{Meaning.FileMeans, Durable.AfterPrefix}
 use Rattle.conf_store.proofs.HeldLemmas.{prefix-last}
 use Rattle.conf_store.proofs.store.Store.apply.Goals as goal
 

@@ -1,18 +1,9 @@
 -- Without a command the store stays as it is; otherwise the command is performed.
 use Rattle.std.proofs.Common.{◌≡◌, ◌⊎◌, inl, false, Err, refl, sym, ◌∙◌, ap, subst}
-use Rattle.std.proofs.lemmas.Bool.{false≢true}
-use Rattle.std.proofs.lemmas.Result.{IfOk-weaker, IfErr-weaker, on_ok_weaker}
-use Rattle.std.specs.Str.{chars}
-use Rattle.conf_disk.specs.Folder.{bytes_under}
-use Rattle.conf_disk.specs.declared.disk.Name.TheVariants.{Store}
-use Rattle.conf_disk.proofs.Moments.{LeavesOnly-start}
-use Rattle.conf_journal.specs.Store.{file_with_bytes}
-use Rattle.conf_state.specs.Commands.{command_of}
-use Rattle.conf_state.specs.declared.fault.StoreFault.TheVariants.{BadName, Reopen, Device}
+use Rattle.conf_store.proofs.Prelude.{false≢true, IfOk-weaker, IfErr-weaker, on_ok_weaker, chars, bytes_under, Store, LeavesOnly-start}
+use Rattle.conf_store.proofs.Prelude.{file_with_bytes, command_of, BadName, Reopen, Device}
+use Rattle.conf_store.specs.{Imports.RefusesImport, Meaning.FileMeans, Durable.AfterPrefix, Durable.staged_text}
 use Rattle.conf_store.specs.Calls.{Accepts, RefusesCommand, next_record}
-use Rattle.conf_store.specs.Imports.{RefusesImport}
-use Rattle.conf_store.specs.Meaning.{FileMeans}
-use Rattle.conf_store.specs.Durable.{AfterPrefix, staged_text}
 use Rattle.conf_store.proofs.ImportLemmas.{import-refused, unread-refused, unread-of_state}
 use Rattle.conf_store.proofs.store.Store.import.Goals as goal
 

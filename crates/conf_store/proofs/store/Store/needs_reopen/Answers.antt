@@ -1,16 +1,9 @@
 use Rattle.std.proofs.Common.{◌≡◌, false, subst, ap, ◌∙◌}
 use Rattle.std.specs.Prelude.{List, IsSome}
-use Rattle.conf_disk.specs.Folder.{bytes_under}
-use Rattle.conf_disk.specs.declared.disk.Name.TheVariants.{Store}
-use Rattle.conf_state.specs.Commands.{Command}
-use Rattle.conf_state.specs.States.{Contents}
-use Rattle.conf_store.specs.Stagings.{staged_of}
-use Rattle.conf_store.specs.View.{StoreView}
-use Rattle.conf_store.specs.Staged.{staged_length}
+use Rattle.conf_store.proofs.Prelude.{bytes_under, Store, Command, Contents}
+use Rattle.conf_store.specs.{Stagings.staged_of, View.StoreView, Staged.staged_length, Files.HasLength}
 use Rattle.conf_store.specs.Durable.{HasFlushed, AllImagesAfterPrefix, staged_text}
-use Rattle.conf_store.specs.Files.{HasLength}
-use Rattle.conf_store.proofs.FileLemmas.{held-length, staging-length}
-use Rattle.conf_store.proofs.HeldLemmas.{held-flushed, held-images}
+use Rattle.conf_store.proofs.{FileLemmas.held-length, FileLemmas.staging-length, HeldLemmas.held-flushed, HeldLemmas.held-images}
 use Rattle.conf_store.proofs.store.Store.needs_reopen.Goals as goal
 
 pub returns-clause-waits : goal.returns-clause-waits

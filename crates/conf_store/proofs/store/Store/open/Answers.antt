@@ -1,26 +1,15 @@
 use Rattle.std.proofs.Common.{arith, false, ◌≡◌, ◌⊎◌, inl, ⊎_elim, ◌≤◌, Some, Err, refl, sym, ◌∙◌, ap, subst}
 use Rattle.std.specs.Prelude.{ℕ, Option, None, IfSome}
-use Rattle.conf_disk.specs.Folder.{bytes_under}
-use Rattle.conf_disk.specs.Image.{Image, IsImage}
-use Rattle.conf_disk.specs.Moments.{LeavesOnly}
-use Rattle.conf_disk.specs.declared.disk.Name.TheVariants.{Store, Next}
-use Rattle.conf_disk.proofs.Moments.{LeavesOnly-weaker, LeavesOnly-joined}
-use Rattle.conf_journal.specs.Store.{IsStoreOf, store_limit}
-use Rattle.conf_state.specs.BaseTexts.{base_bytes}
-use Rattle.conf_store.specs.Durable.{IsDurable, IsStaging}
-use Rattle.conf_store.specs.Grown.{FileStartsWithBase, StagedStartsWithBase}
-use Rattle.conf_store.specs.Staged.{staged_length}
-use Rattle.conf_store.specs.Meaning.{FileMeans}
-use Rattle.conf_store.specs.Opens.{MeantAtEntry}
+use Rattle.conf_store.proofs.Prelude.{bytes_under, Image, IsImage, LeavesOnly, Store, Next, LeavesOnly-weaker, LeavesOnly-joined, IsStoreOf}
+use Rattle.conf_store.proofs.Prelude.{store_limit, base_bytes}
+use Rattle.conf_store.specs.{Durable.IsDurable, Durable.IsStaging, Grown.FileStartsWithBase, Grown.StagedStartsWithBase}
+use Rattle.conf_store.specs.{Staged.staged_length, Meaning.FileMeans, Opens.MeantAtEntry}
 use Rattle.conf_store.specs.Files.{FilesStay, IsOldOrBase, LeavesOldOrBase}
-use Rattle.conf_store.proofs.OpenLemmas.{image-meant, loaded-meant, state-meant, found-means, found-durable}
-use Rattle.conf_store.proofs.OpenLemmas.{failed-later, reads-stays, reads-staged, refused-nothing, disk-refused}
-use Rattle.conf_store.proofs.OpenLemmas.{disk-no-meaning, disk-device}
-use Rattle.conf_store.proofs.GrownLemmas.{found-base}
-use Rattle.conf_store.proofs.HeldLemmas.{durable-held, held-means}
-use Rattle.conf_store.proofs.StoreLemmas.{quiet-flushed}
-use Rattle.conf_store.proofs.FileLemmas.{held-length, files-stay, images-old, not-needed, kept-as-it-is, disk-memory}
-use Rattle.conf_store.proofs.FileLemmas.{base-leaves, base-reads}
+use Rattle.conf_store.proofs.{GrownLemmas.found-base, HeldLemmas.durable-held, HeldLemmas.held-means, StoreLemmas.quiet-flushed}
+use Rattle.conf_store.proofs.OpenLemmas.{image-meant, loaded-meant, state-meant, found-means, found-durable, failed-later, reads-stays}
+use Rattle.conf_store.proofs.OpenLemmas.{reads-staged, refused-nothing, disk-refused, disk-no-meaning, disk-device}
+use Rattle.conf_store.proofs.FileLemmas.{held-length, files-stay, images-old, not-needed, kept-as-it-is, disk-memory, base-leaves}
+use Rattle.conf_store.proofs.FileLemmas.{base-reads}
 use Rattle.conf_store.proofs.store.Store.open.Goals as goal
 
 pub returns-in-Err-clause-no_meaning : goal.returns-in-Err-clause-no_meaning

@@ -1,23 +1,12 @@
-use Rattle.std.proofs.Common.{rules, arith, ◌≡◌, ◌⊎◌, inl, inr, ⊎_elim, ◌+◌, ◌≤◌, max, false, true, length}
-use Rattle.std.proofs.Common.{string_bytes, Some, Ok, Err, refl, sym, ◌∙◌, ap, subst}
-use Rattle.std.proofs.lemmas.Bool.{false≢true}
-use Rattle.conf_disk.specs.Image.{Image}
-use Rattle.conf_disk.specs.Folder.{bytes_under}
-use Rattle.conf_disk.specs.Moments.{LeavesOnly}
-use Rattle.conf_disk.specs.declared.disk.Name.TheVariants.{Store}
-use Rattle.conf_journal.specs.Store.{store_limit, file_with_bytes}
-use Rattle.conf_state.specs.Commands.{command_of}
-use Rattle.conf_state.specs.declared.fault.StoreFault.TheVariants.{Reopen, Device}
-use Rattle.conf_store.specs.Stagings.{staged_of}
-use Rattle.conf_store.specs.Meaning.{FileMeans}
+use Rattle.std.proofs.Common.{rules, arith, ◌≡◌, ◌⊎◌, inl, inr, ⊎_elim, ◌+◌, ◌≤◌, max, false, true, length, string_bytes, Some, Ok, Err}
+use Rattle.std.proofs.Common.{refl, sym, ◌∙◌, ap, subst}
+use Rattle.conf_store.proofs.Prelude.{false≢true, Image, bytes_under, LeavesOnly, Store, store_limit, file_with_bytes, command_of, Reopen}
+use Rattle.conf_store.proofs.Prelude.{Device}
+use Rattle.conf_store.specs.{Stagings.staged_of, Meaning.FileMeans, Grown.FileStartsWithBase, Grown.StagedStartsWithBase}
+use Rattle.conf_store.specs.{Staged.staged_length, Staged.with_more, View.StoreView, Accepting.IsAccepted}
 use Rattle.conf_store.specs.Durable.{HasFlushed, AfterPrefix, IsHeld, IsStaging, staged_text}
-use Rattle.conf_store.specs.Grown.{FileStartsWithBase, StagedStartsWithBase}
-use Rattle.conf_store.specs.Staged.{staged_length, with_more}
-use Rattle.conf_store.specs.View.{StoreView}
-use Rattle.conf_store.specs.Accepting.{IsAccepted}
 use Rattle.conf_store.specs.Calls.{outcome, journal_length, next_record, Accepts}
-use Rattle.conf_store.proofs.RefusalLemmas.{refusal-returned}
-use Rattle.conf_store.proofs.GrownLemmas.{file-more, staged-base-more}
+use Rattle.conf_store.proofs.{RefusalLemmas.refusal-returned, GrownLemmas.file-more, GrownLemmas.staged-base-more}
 use Rattle.conf_store.proofs.StagedLemmas.{staging-more, text-more, length-more, length-least}
 use Rattle.conf_store.proofs.StoreLemmas.{start-prefix, or-means, append-leaves, append-held, append-flushed}
 use Rattle.conf_store.proofs.store.Store.submit.Goals as goal

@@ -1,18 +1,10 @@
 use Rattle.std.proofs.Common.{◌≡◌, ◌-◌, ◌<◌, ◌∷◌, ◌++◌, length, Global, inr, refl, sym, ap, ◌∙◌, arith, rules}
-use Rattle.std.specs.Cow.{cow_str_bytes}
-use Rattle.std.specs.declared.borrow.CowStr.TheVariants.{Borrowed}
-use Rattle.std.specs.declared.borrow.CowStr.{CowStr}
+use Rattle.json_pointer.proofs.Prelude.{cow_str_bytes, Borrowed, CowStr, chars, chars_rest, byte_len, nat_tests}
 use lib.Utf8.{encode}
-use Rattle.std.specs.Str.{chars}
-use Rattle.std.specs.Str.Iter.{chars_rest}
-use Rattle.yaml_grammar.specs.Texts.{byte_len}
-use Rattle.json_pointer.specs.Pointers.{pointer_text, path_of}
-use Rattle.json_pointer.specs.Tokens.{texts}
-use Rattle.json_pointer.proofs.Pointers.{token-read, itself-read, tilde-read, escape-read, escape-stray, tilde-place}
-use Rattle.json_pointer.proofs.Pointers.{end-read, prefix-read, path_of-stray, path_of-pointer_text, no_path}
-use Rattle.json_pointer.specs.declared.fault.PathFault.TheVariants.{BadPath}
-use Rattle.std.proofs.lemmas.Bool.Decides.{nat_tests}
 use Rattle.std.proofs.lemmas.List.{length-map}
+use Rattle.json_pointer.specs.{Pointers.pointer_text, Pointers.path_of, Tokens.texts, declared.fault.PathFault.TheVariants.BadPath}
+use Rattle.json_pointer.proofs.Pointers.{token-read, itself-read, tilde-read, escape-read, escape-stray, tilde-place, end-read, prefix-read}
+use Rattle.json_pointer.proofs.Pointers.{path_of-stray, path_of-pointer_text, no_path}
 use Rattle.json_pointer.proofs.path.Path.parse.Goals as goal
 
 pub loop-c-preserved-then-c-eq47 : goal.loop-c-preserved-then-c-eq47

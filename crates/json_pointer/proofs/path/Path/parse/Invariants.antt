@@ -1,8 +1,6 @@
 use Rattle.std.proofs.Common.{◌≡◌, ◌++◌, length}
-use Rattle.std.specs.Str.{chars, IsUtf8}
-use Rattle.std.specs.Str.Iter.{chars_rest}
-use Rattle.json_pointer.specs.Pointers.{pointer_text}
-use Rattle.json_pointer.specs.Tokens.{texts}
+use Rattle.json_pointer.proofs.Prelude.{chars, IsUtf8, chars_rest}
+use Rattle.json_pointer.specs.{Pointers.pointer_text, Tokens.texts}
 use Rattle.json_pointer.proofs.path.Path.parse.Given as goal
 
 abbrev pub invariant-loop-c : goal.invariant-loop-c

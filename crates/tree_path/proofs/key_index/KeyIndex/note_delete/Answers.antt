@@ -1,5 +1,5 @@
 use Rattle.std.proofs.Common.{sym, subst, ◌∙◌}
-use Rattle.yaml_data.specs.Seen.{tree_of}
+use Rattle.tree_path.proofs.Prelude.{tree_of}
 use Rattle.tree_path.specs.Tables.{Leaves, steps_of}
 use Rattle.tree_path.proofs.IndexLemmas.{delete-apart, delete-missing, delete-there, delete-under, has-buckets}
 use Rattle.tree_path.proofs.StepLaws.{none-other}

@@ -1,6 +1,5 @@
 use Rattle.std.proofs.Common.{[], ◌∷◌, ◌++◌, sym, ap, subst, ◌∙◌}
-use Rattle.std.specs.Str.{chars}
-use Rattle.yaml_data.specs.Seen.{tree_of}
+use Rattle.tree_path.proofs.Prelude.{chars, tree_of}
 use Rattle.tree_path.specs.Tables.{Leaves, steps_of}
 use Rattle.tree_path.proofs.IndexLemmas.{has-buckets, is-none, set-apart, set-new, set-there, set-under, some-there}
 use Rattle.tree_path.proofs.key_index.KeyIndex.note_set.Goals as goal

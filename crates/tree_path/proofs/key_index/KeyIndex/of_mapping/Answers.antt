@@ -1,6 +1,5 @@
 use Rattle.std.proofs.Common.{ap, ◌∙◌}
-use Rattle.yaml_grammar.specs.Trees.{mapping}
-use Rattle.yaml_data.specs.Seen.{members_of}
+use Rattle.tree_path.proofs.Prelude.{mapping, members_of}
 use Rattle.tree_path.specs.Paths.{at}
 use Rattle.tree_path.proofs.key_index.KeyIndex.of_mapping.Goals as goal
 

@@ -1,12 +1,6 @@
 use Rattle.std.proofs.Common.{◌≡◌, ◌<◌, ◌≤◌, [], ◌∷◌, ◌++◌, ◌+◌, Ok, length, get_or, take, drop, ⊎_elim, sym, ap, ap₂, subst, ◌∙◌, arith}
-use Rattle.std.specs.Cow.{cow_str_bytes}
-use Rattle.std.specs.Str.{chars}
-use Rattle.std.proofs.lemmas.List.{take_all}
-use Rattle.json_pointer.specs.Tokens.{texts}
-use Rattle.yaml_data.specs.Seen.{tree_of}
-use Rattle.yaml_data.specs.TextBytes.{text_bytes}
-use Rattle.tree_path.specs.Steps.{step_place}
-use Rattle.tree_path.specs.Tables.{Reaches, steps_of}
+use Rattle.tree_path.proofs.Prelude.{cow_str_bytes, chars, take_all, texts, tree_of, text_bytes}
+use Rattle.tree_path.specs.{Steps.step_place, Tables.Reaches, Tables.steps_of}
 use Rattle.tree_path.proofs.Descents.{at_from-turn, texts-split, texts-turn}
 use Rattle.tree_path.proofs.IndexLemmas.{key-deeper, key-only, same_key, step-placed, steps-split, steps-take}
 use Rattle.tree_path.proofs.key_index.KeyIndex.reach.Goals as goal

@@ -1,8 +1,6 @@
 use Rattle.std.proofs.Common.{◌≡◌, ◌<◌, Ok, length, take}
-use Rattle.json_pointer.specs.Tokens.{texts}
-use Rattle.yaml_data.specs.Seen.{tree_of}
-use Rattle.tree_path.specs.Paths.{at}
-use Rattle.tree_path.specs.Tables.{steps_of}
+use Rattle.tree_path.proofs.Prelude.{texts, tree_of}
+use Rattle.tree_path.specs.{Paths.at, Tables.steps_of}
 use Rattle.tree_path.proofs.key_index.KeyIndex.reach.Given as goal
 
 abbrev pub invariant-loop-passed : goal.invariant-loop-passed

@@ -1,9 +1,6 @@
 use Rattle.std.proofs.Common.{◌≡◌, ◌<◌, ◌∷◌, ◌++◌, [], ◌%◌, refl, sym, ap, subst, ◌∙◌, arith, length}
-use Rattle.std.proofs.lemmas.Iterator.{YieldsList-from_chars}
-use Rattle.std.proofs.lemmas.Iterator.Consumers.{YieldsList-turn, YieldsList-end}
-use Rattle.std.proofs.lemmas.List.{at_drop_all, length_push}
+use Rattle.tree_path.proofs.Prelude.{YieldsList-from_chars, YieldsList-turn, YieldsList-end, at_drop_all, length_push, chars}
 use Rattle.std.proofs.lemmas.Nat.{mod_below}
-use Rattle.std.specs.Str.{chars}
 use Rattle.tree_path.specs.Tables.{hash_after, bucket_of}
 use Rattle.tree_path.proofs.TableLemmas.{hash-turn}
 use Rattle.tree_path.proofs.key_table.KeyTable.bucket.Goals as goal

@@ -1,5 +1,5 @@
 use Rattle.std.proofs.Common.{take}
-use Rattle.yaml_data.specs.Seen.{members_of}
+use Rattle.tree_path.proofs.Prelude.{members_of}
 use Rattle.tree_path.specs.Tables.{Lists, keys_of}
 use Rattle.tree_path.proofs.key_table.KeyTable.of_pairs.Given as goal
 

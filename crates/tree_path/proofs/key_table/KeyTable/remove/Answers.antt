@@ -1,5 +1,5 @@
 use Rattle.std.proofs.Common.{◌≡◌, ◌+◌, ap, subst, ◌∙◌, arith}
-use Rattle.std.specs.List.{insert}
+use Rattle.tree_path.proofs.Prelude.{insert}
 use Rattle.tree_path.specs.Chains.{KeepsOthers}
 use Rattle.tree_path.proofs.TableLemmas.{lists-removed}
 use Rattle.tree_path.proofs.key_table.KeyTable.remove.Goals as goal

@@ -1,16 +1,8 @@
 use Rattle.std.proofs.Common.{◌≡◌, Ok, Err, [], ◌∷◌, ◌++◌, ◌+◌, length, take, Global, inr, sym, ap, subst, ◌∙◌, arith, length-append}
-use Rattle.std.specs.Cow.{cow_str_bytes}
-use Rattle.std.specs.declared.borrow.CowStr.{CowStr}
-use Rattle.std.specs.Str.{chars}
-use Rattle.std.proofs.lemmas.List.{length-map, length-take-le, take_all}
-use Rattle.yaml_data.specs.Seen.{tree_of}
-use Rattle.json_pointer.specs.Tokens.{texts}
-use Rattle.tree_path.specs.Paths.{at, key_in, last_key}
-use Rattle.tree_path.specs.Steps.{step_place, Leads}
+use Rattle.tree_path.proofs.Prelude.{cow_str_bytes, CowStr, chars, length-map, length-take-le, take_all, tree_of, texts}
+use Rattle.tree_path.specs.{Paths.at, Paths.key_in, Paths.last_key, Steps.step_place, Steps.Leads}
+use Rattle.tree_path.proofs.{EditLaws.child-distinct, IndexLemmas.table-known, Ways.place-missed, Ways.Leads-push, Ways.parents-split}
 use Rattle.tree_path.proofs.Descents.{texts-append, texts-turn, at_from-turn, at_from-missed, last_key-parent}
-use Rattle.tree_path.proofs.EditLaws.{child-distinct}
-use Rattle.tree_path.proofs.IndexLemmas.{table-known}
-use Rattle.tree_path.proofs.Ways.{place-missed, Leads-push, parents-split}
 use Rattle.tree_path.proofs.step_places.StepPlaces.find.Goals as goal
 
 pub returns-in-Err-clause-refused : goal.returns-in-Err-clause-refused

@@ -1,9 +1,6 @@
 use Rattle.std.proofs.Common.{◌≡◌, true, Ok, length, take}
-use Rattle.yaml_grammar.specs.Trees.{distinct}
-use Rattle.yaml_data.specs.Seen.{tree_of}
-use Rattle.tree_path.specs.Paths.{at}
-use Rattle.tree_path.specs.Steps.{Leads}
-use Rattle.json_pointer.specs.Tokens.{texts}
+use Rattle.tree_path.proofs.Prelude.{distinct, tree_of, texts}
+use Rattle.tree_path.specs.{Paths.at, Steps.Leads}
 use Rattle.tree_path.proofs.step_places.StepPlaces.find.Given as goal
 
 abbrev pub invariant-loop-passed : goal.invariant-loop-passed

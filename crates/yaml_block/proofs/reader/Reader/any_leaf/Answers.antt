@@ -1,12 +1,11 @@
 use Rattle.std.proofs.Common.{refl, sym, ◌∙◌, subst, arith, ℕ, ◌+◌, ◌-◌, ◌*◌, ◌≤◌, length}
 use Rattle.std.specs.Prelude.{Option, IfSome}
-use Rattle.yaml_scan.proofs.Outcomes.{faults_so, ok_so}
+use Rattle.yaml_block.proofs.Prelude.{faults_so, ok_so}
+use Rattle.yaml_block.specs.{declared.frame.Next.Next, declared.line_sign.Sign.TheVariants.Asked}
 use Rattle.yaml_block.specs.States.{BeforeLeaf, Fails, Onward, Leads}
-use Rattle.yaml_block.specs.declared.frame.Next.{Next}
-use Rattle.yaml_block.specs.declared.frame.Next.TheVariants as next
-use Rattle.yaml_block.specs.declared.line_sign.Sign.TheVariants.{Asked}
 use Rattle.yaml_block.proofs.TextPlaces.{IsPastSign, past_sign}
 use Rattle.yaml_block.proofs.SignsAndLines.{ok_opens, asked_onward, asked_first}
+use Rattle.yaml_block.specs.declared.frame.Next.TheVariants as next
 use Rattle.yaml_block.proofs.reader.Reader.any_leaf.Goals as goal
 
 pub returns-then-sign_at-clause-onward : goal.returns-then-sign_at-clause-onward

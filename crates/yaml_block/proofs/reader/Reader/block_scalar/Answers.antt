@@ -1,13 +1,8 @@
 use Rattle.std.proofs.Common.{refl}
-use Rattle.std.specs.Cow.{cow_str_bytes}
-use Rattle.std.proofs.lemmas.Result.{err_from_is_err_and}
-use Rattle.yaml_chars.specs.Places.{rest}
-use Rattle.yaml_recognizers.specs.BlockScalarFacts.{NoBody, NoHeader}
-use Rattle.yaml_events.specs.declared.event.Event.TheVariants.{Scalar}
-use Rattle.yaml_scan.proofs.Outcomes.{fault_passed}
+use Rattle.yaml_block.proofs.Prelude.{cow_str_bytes, err_from_is_err_and, rest, NoBody, NoHeader, Scalar, fault_passed}
 use Rattle.yaml_block.specs.States.{BeforeLeaf, Fails}
-use Rattle.yaml_block.proofs.BlockScalarSteps.{block_scalar_read, no_body_there, no_header_there, scalar_borrows}
-use Rattle.yaml_block.proofs.BlockScalarSteps.{scalar_event_is, scalar_onward}
+use Rattle.yaml_block.proofs.BlockScalarSteps.{block_scalar_read, no_body_there, no_header_there, scalar_borrows, scalar_event_is}
+use Rattle.yaml_block.proofs.BlockScalarSteps.{scalar_onward}
 use Rattle.yaml_block.proofs.Stacks.{grown_same}
 use Rattle.yaml_block.proofs.reader.Reader.block_scalar.Goals as goal
 

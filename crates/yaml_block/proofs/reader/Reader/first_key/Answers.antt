@@ -1,17 +1,10 @@
 use Rattle.std.proofs.Common.{arith, length, refl, ◌*◌, ◌-◌}
-use Rattle.std.proofs.lemmas.Result.{err_from_is_err_and}
-use Rattle.yaml_flow.specs.FlowNodes.{FlowNodeRead}
-use Rattle.yaml_grammar.specs.FlowScalars.{outer}
-use Rattle.yaml_scan.proofs.Outcomes.{fault_passed, faults_so, ok_so}
-use Rattle.yaml_block.specs.States.{BeforeLeaf, Fails}
-use Rattle.yaml_block.specs.declared.line_sign.Sign.TheVariants.{Colon}
-use Rattle.yaml_block.proofs.KeysAndPairs.{after_onward}
+use Rattle.yaml_block.proofs.Prelude.{err_from_is_err_and, FlowNodeRead, outer, fault_passed, faults_so, ok_so}
+use Rattle.yaml_block.specs.{States.BeforeLeaf, States.Fails, declared.line_sign.Sign.TheVariants.Colon}
+use Rattle.yaml_block.proofs.{KeysAndPairs.after_onward, SignsAndLines.onward_so, Stacks.grown_grown, TextPlaces.past_sign}
+use Rattle.yaml_block.proofs.{reader.Reader.first_key.Goals.In_ok-put_plain}
 use Rattle.yaml_block.proofs.LineValueSteps.{first_key_value, first_key_waits, plain_before_colon}
-use Rattle.yaml_block.proofs.SignsAndLines.{onward_so}
-use Rattle.yaml_block.proofs.Stacks.{grown_grown}
-use Rattle.yaml_block.proofs.TextPlaces.{past_sign}
 use Rattle.yaml_block.proofs.reader.Reader.first_key.Goals as goal
-use Rattle.yaml_block.proofs.reader.Reader.first_key.Goals.{In_ok-put_plain}
 
 -- the key is read
 read : (c : In_ok-put_plain) → FlowNodeRead (c.args.leaf).least outer c.args.text.now (c.args.leaf).at c.args.end

@@ -1,6 +1,6 @@
 use Rattle.std.proofs.Common.{subst, sym, ℕ, ◌≤◌, ◌∙◌}
 use Rattle.std.specs.Prelude.{IfSome, Option}
-use Rattle.std.proofs.lemmas.Bool.{and_parts}
+use Rattle.yaml_block.proofs.Prelude.{and_parts}
 use Rattle.yaml_block.proofs.reader.Reader.leaf.Goals as goal
 
 pub first_key-requires : goal.first_key-requires

@@ -1,5 +1,5 @@
 use Rattle.std.proofs.Common.{refl, true, ◌+◌}
-use Rattle.yaml_grammar.specs.FlowScalars.{outer}
+use Rattle.yaml_block.proofs.Prelude.{outer}
 use Rattle.yaml_block.proofs.LineValueSteps.{further, line_onward, value_ends, value_goes_on}
 use Rattle.yaml_block.proofs.reader.Reader.line_pair.Goals as goal
 

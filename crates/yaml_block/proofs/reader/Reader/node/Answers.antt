@@ -1,17 +1,11 @@
 use Rattle.std.proofs.Common.{sym, ap, subst, arith, ℕ, ◌+◌, ◌-◌, ◌*◌, ◌<◌, ◌≤◌, length}
 use Rattle.std.specs.Prelude.{Option, MatchOption}
-use Rattle.std.proofs.lemmas.Result.{err_from_is_err_and}
-use Rattle.yaml_chars.specs.Places.{rest}
-use Rattle.yaml_recognizers.proofs.Meanings.StandingNodes.{block_missing}
-use Rattle.yaml_events.specs.EventPlaces.{line_starts}
-use Rattle.yaml_scan.proofs.Outcomes.{fault_passed}
-use Rattle.yaml_block.proofs.EachNode.{each_node}
+use Rattle.yaml_block.proofs.Prelude.{err_from_is_err_and, rest, block_missing, line_starts, fault_passed}
+use Rattle.yaml_block.specs.{Lines.is_shallow, declared.frame.Next.Next}
 use Rattle.yaml_block.specs.States.{BeforeNode, BeforePair, BeforePart, Fails, IsPlaced, Onward, steps_left, place_of}
-use Rattle.yaml_block.specs.Lines.{is_shallow}
-use Rattle.yaml_block.specs.declared.frame.Next.{Next}
-use Rattle.yaml_block.specs.declared.frame.Next.TheVariants as next
-use Rattle.yaml_block.proofs.Stacks.{grown_grown}
+use Rattle.yaml_block.proofs.{EachNode.each_node, Stacks.grown_grown}
 use Rattle.yaml_block.proofs.NodeLoop.{prefix_leads, prefix_fails, part_leads, part_fails, pair_leads, pair_fails, line_leads, line_ends}
+use Rattle.yaml_block.specs.declared.frame.Next.TheVariants as next
 use Rattle.yaml_block.proofs.reader.Reader.node.Goals as goal
 
 pub returns-in_err-next-clause-missing : goal.returns-in_err-next-clause-missing

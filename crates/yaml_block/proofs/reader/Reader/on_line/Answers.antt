@@ -1,17 +1,12 @@
 use Rattle.std.proofs.Common.{◌≡◌, refl, sym, ◌∙◌, subst, arith, ◌+◌, ◌-◌, ◌*◌, ◌≤◌, length}
 use Rattle.std.specs.Prelude.{Some, None, List, ℕ, Result, IfOk}
-use Rattle.yaml_events.specs.declared.fault.ScanFault.{ScanFault}
-use Rattle.std.proofs.lemmas.Bool.{and_parts}
-use Rattle.yaml_scan.proofs.Outcomes.{faults_so, ok_so, refuses}
+use Rattle.yaml_block.proofs.Prelude.{ScanFault, and_parts, faults_so, ok_so, refuses}
+use Rattle.yaml_block.specs.{declared.frame.Leaf.Leaf, declared.frame.Next.Next, declared.line_sign.Sign.TheVariants.Dash}
 use Rattle.yaml_block.specs.States.{BeforeLeaf, BeforeNodeLine, Fails, Onward, Leads}
-use Rattle.yaml_block.specs.declared.frame.Leaf.{Leaf}
-use Rattle.yaml_block.specs.declared.frame.Next.{Next}
+use Rattle.yaml_block.proofs.{TextPlaces.IsPastSign, TextPlaces.past_sign, Stacks.grown_same}
+use Rattle.yaml_block.proofs.SignsAndLines.{either, ok_opens, onward_so, Becomes, leads_so, fails_so, dash_onward, line_sequence}
+use Rattle.yaml_block.proofs.SignsAndLines.{line_refused, line_leaf_only, line_leaf_or_pairs}
 use Rattle.yaml_block.specs.declared.frame.Next.TheVariants as next
-use Rattle.yaml_block.specs.declared.line_sign.Sign.TheVariants.{Dash}
-use Rattle.yaml_block.proofs.TextPlaces.{IsPastSign, past_sign}
-use Rattle.yaml_block.proofs.SignsAndLines.{either, ok_opens, onward_so, Becomes, leads_so, fails_so, dash_onward}
-use Rattle.yaml_block.proofs.SignsAndLines.{line_sequence, line_refused, line_leaf_only, line_leaf_or_pairs}
-use Rattle.yaml_block.proofs.Stacks.{grown_same}
 use Rattle.yaml_block.proofs.reader.Reader.on_line.Goals as goal
 
 pub returns-then-begins_sequence-clause-onward : goal.returns-then-begins_sequence-clause-onward

@@ -1,25 +1,15 @@
 use Rattle.std.proofs.Common.{◌≡◌, refl, sym, ◌∙◌, ap, subst, arith, ◌+◌, ◌-◌, ◌*◌, ◌<◌, ◌≤◌, length, inl, inr}
 use Rattle.std.specs.Prelude.{true, false, ◌⊎◌, Some, None}
-use Rattle.yaml_chars.specs.Places.{rest}
-use Rattle.yaml_scan.proofs.Outcomes.{faults_so, ok_so, refuses}
+use Rattle.yaml_block.proofs.Prelude.{rest, faults_so, ok_so, refuses, white, first, past_spaces}
+use Rattle.yaml_block.specs.{Signs.is_colon, declared.frame.Leaf.Leaf, declared.frame.Next.Next, declared.line_sign.Sign.TheVariants.Dash}
 use Rattle.yaml_block.specs.States.{BeforePart, BeforeLeaf, Fails, Onward, Leads}
-use Rattle.yaml_block.specs.Signs.{is_colon}
-use Rattle.yaml_block.specs.declared.frame.Leaf.{Leaf}
-use Rattle.yaml_block.specs.declared.frame.Next.{Next}
+use Rattle.yaml_block.proofs.{TextPlaces.IsPastSign, TextPlaces.past_sign, PlaceSteps.tab, Stacks.grown_same}
+use Rattle.yaml_block.proofs.{reader.Reader.on_sign_line.Goals.then-not-allows_compact-via-then-not-allows_compact}
+use Rattle.yaml_block.proofs.{reader.Reader.on_sign_line.Goals.then-not-allows_compact-via-else-not-allows_compact+then-spaces_end-first}
+use Rattle.yaml_block.proofs.SignsAndLines.{ok_opens, Becomes, leads_so, fails_so, onward_from, onward_so, dash_onward, nothing_there}
+use Rattle.yaml_block.proofs.SignsAndLines.{leaf_there, compact_leaf_there, compact_sequence_there, spaces_below, allowed, not_allowed}
 use Rattle.yaml_block.specs.declared.frame.Next.TheVariants as next
-use Rattle.yaml_block.specs.declared.line_sign.Sign.TheVariants.{Dash}
-use Rattle.yaml_block.proofs.TextPlaces.{IsPastSign, past_sign}
-use Rattle.yaml_chars.specs.Classes.{white}
-use Rattle.yaml_grammar.specs.Texts.{first}
-use Rattle.yaml_grammar.specs.BlockScalars.{past_spaces}
-use Rattle.yaml_block.proofs.SignsAndLines.{ok_opens, Becomes, leads_so, fails_so, onward_from, onward_so}
-use Rattle.yaml_block.proofs.SignsAndLines.{dash_onward, nothing_there, leaf_there, compact_leaf_there}
-use Rattle.yaml_block.proofs.SignsAndLines.{compact_sequence_there, spaces_below, allowed, not_allowed}
-use Rattle.yaml_block.proofs.PlaceSteps.{tab}
-use Rattle.yaml_block.proofs.Stacks.{grown_same}
 use Rattle.yaml_block.proofs.reader.Reader.on_sign_line.Goals as goal
-use Rattle.yaml_block.proofs.reader.Reader.on_sign_line.Goals.{then-not-allows_compact-via-then-not-allows_compact}
-use Rattle.yaml_block.proofs.reader.Reader.on_sign_line.Goals.{then-not-allows_compact-via-else-not-allows_compact+then-spaces_end-first}
 
 pub returns-then-first-at-clause-none : goal.returns-then-first-at-clause-none
 returns-then-first-at-clause-none c =

@@ -1,8 +1,5 @@
 use Rattle.std.proofs.Common.{ap, refl, subst, sym}
-use Rattle.std.specs.Str.{chars}
-use Rattle.yaml_flow_scalars.specs.Standing.{ScalarAt}
-use Rattle.yaml_grammar.specs.Events.{plain_style}
-use Rattle.yaml_flow.proofs.ScalarKinds.{scalar_read}
+use Rattle.yaml_block.proofs.Prelude.{chars, ScalarAt, plain_style, scalar_read}
 use Rattle.yaml_flow.proofs.ScalarSteps.{scalar_node_read}
 use Rattle.yaml_block.proofs.PlainStarts.{plain_start}
 use Rattle.yaml_block.proofs.reader.Reader.put_plain.Goals as goal

@@ -1,6 +1,5 @@
 use Rattle.std.proofs.Common.{vec_len}
-use Rattle.yaml_block.specs.States.{Grown}
-use Rattle.yaml_block.specs.Turns.{StillPart}
+use Rattle.yaml_block.specs.{States.Grown, Turns.StillPart}
 use Rattle.yaml_block.proofs.reader.Reader.unwind.Given as goal
 
 abbrev pub invariant-collections : goal.invariant-collections

@@ -1,15 +1,7 @@
 use Rattle.std.proofs.Common.{◌≡◌, [], refl, sym, ap, subst, ◌∙◌, arith}
-use Rattle.std.specs.Str.{chars}
+use Rattle.yaml_config.proofs.Prelude.{chars, style_text, byte_len, Tree, text, tree_of, Text, tree_of-Text, chars-nil, indented}
 use Rattle.yaml_grammar.specs.Reads.{Good}
-use Rattle.yaml_grammar.specs.Style.{style_text}
-use Rattle.yaml_grammar.specs.Texts.{byte_len}
-use Rattle.yaml_grammar.specs.Trees.{Tree, text}
 use Rattle.yaml_config.specs.Kept.{own_limits}
-use Rattle.yaml_data.specs.Seen.{tree_of}
-use Rattle.yaml_data.specs.declared.tree.Tree.{Text}
-use Rattle.yaml_data.proofs.SeenLemmas.{tree_of-Text}
-use Rattle.std.proofs.lemmas.Str.{chars-nil}
-use Rattle.yaml_writer.specs.Sizes.{indented}
 use Rattle.yaml_config.proofs.config.Config.empty.Goals as goal
 
 empty_text : Good (text []) own_limits × (3 ≡ byte_len (style_text (text []))) × (0 ≡ indented (text []))

@@ -1,12 +1,7 @@
 use Rattle.std.proofs.Common.{◌≡◌, ◌≤◌, Result, Ok, sym, ap, subst, ◌∙◌, arith}
-use Rattle.yaml_grammar.specs.Style.{style_text}
-use Rattle.yaml_grammar.specs.Texts.{byte_len}
-use Rattle.yaml_grammar.specs.Trees.{Tree, depth, distinct}
-use Rattle.yaml_data.specs.Seen.{tree_of}
+use Rattle.yaml_config.proofs.Prelude.{style_text, byte_len, Tree, depth, distinct, tree_of, ArePlaces}
+use Rattle.yaml_config.specs.{Edits.tree_after_edit, Limits.config_limits}
 use Rattle.yaml_config.proofs.TextTreeLemmas.{tree_of-IsTextTree}
-use Rattle.tree_path.specs.Steps.{ArePlaces}
-use Rattle.yaml_config.specs.Edits.{tree_after_edit}
-use Rattle.yaml_config.specs.Limits.{config_limits}
 use Rattle.yaml_config.proofs.edit.Edit.edit_config.Goals as goal
 
 -- a result is one tree at most

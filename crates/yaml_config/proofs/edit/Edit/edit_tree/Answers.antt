@@ -1,7 +1,5 @@
 use Rattle.std.proofs.Common.{ap, ◌∙◌}
-use Rattle.yaml_grammar.specs.Trees.{distinct}
-use Rattle.yaml_data.specs.Seen.{tree_of}
-use Rattle.tree_path.proofs.EditLaws.{set-distinct, delete-distinct}
+use Rattle.yaml_config.proofs.Prelude.{distinct, tree_of, set-distinct, delete-distinct}
 use Rattle.yaml_config.proofs.edit.Edit.edit_tree.Goals as goal
 
 pub returns-in_default-clause-distinct : goal.returns-in_default-clause-distinct

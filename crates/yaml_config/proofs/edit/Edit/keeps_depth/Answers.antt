@@ -1,8 +1,6 @@
 use Rattle.std.proofs.Common.{◌≡◌, ◌+◌, Ok, nat_le, length, ap, subst, ◌∙◌, arith}
-use Rattle.yaml_grammar.specs.Trees.{depth}
-use Rattle.yaml_data.specs.Seen.{tree_of}
-use Rattle.yaml_config.specs.Edits.{tree_after_edit}
-use Rattle.yaml_config.specs.Limits.{config_limits}
+use Rattle.yaml_config.proofs.Prelude.{depth, tree_of}
+use Rattle.yaml_config.specs.{Edits.tree_after_edit, Limits.config_limits}
 use Rattle.yaml_config.proofs.DepthLemmas.{set-fits, delete-fits, capped_fits}
 use Rattle.yaml_config.proofs.edit.Edit.keeps_depth.Goals as goal
 

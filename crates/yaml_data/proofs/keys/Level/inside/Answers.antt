@@ -1,9 +1,7 @@
 use Rattle.std.proofs.Common.{◌&&◌, ap, sym, ◌∙◌}
-use Rattle.yaml_grammar.specs.Trees.{distinct}
-use Rattle.yaml_data.specs.Keys.{own_keys_differ, values_distinct}
-use Rattle.yaml_data.specs.Seen.{tree_of, members_of}
-use Rattle.yaml_data.proofs.KeyLemmas.{members_distinct-parts}
-use Rattle.yaml_data.proofs.SeenLemmas.{tree_of-Map}
+use Rattle.yaml_data.proofs.Prelude.{distinct}
+use Rattle.yaml_data.specs.{Keys.own_keys_differ, Keys.values_distinct, Seen.tree_of, Seen.members_of}
+use Rattle.yaml_data.proofs.{KeyLemmas.members_distinct-parts, SeenLemmas.tree_of-Map}
 use Rattle.yaml_data.proofs.keys.Level.inside.Goals as goal
 
 pub returns-in-Map-clause-keys : goal.returns-in-Map-clause-keys

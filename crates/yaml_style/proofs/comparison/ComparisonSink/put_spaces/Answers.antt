@@ -1,10 +1,6 @@
 use Rattle.std.proofs.Common.{ap, ◌∙◌, ◌∷◌, []}
-use Rattle.std.specs.Str.{chars}
-use Rattle.std.proofs.lemmas.List.{replicate-append-replicate}
-use Rattle.yaml_chars.specs.Signs.{space_char}
-use Rattle.yaml_grammar.specs.Texts.{spaces}
-use Rattle.yaml_style.specs.Comparing.{comparison_after}
-use Rattle.yaml_style.specs.ComparingLaws.{comparison_after-both}
+use Rattle.yaml_style.proofs.Prelude.{chars, replicate-append-replicate, space_char, spaces}
+use Rattle.yaml_style.specs.{Comparing.comparison_after, ComparingLaws.comparison_after-both}
 use Rattle.yaml_style.proofs.comparison.ComparisonSink.put_spaces.Goals as goal
 
 pub loop-preserved : goal.loop-preserved

@@ -1,5 +1,5 @@
 use Rattle.std.proofs.Common.{arith}
-use Rattle.std.proofs.lemmas.Result.{on_ok_weaker}
+use Rattle.yaml_style.proofs.Prelude.{on_ok_weaker}
 use Rattle.yaml_style.proofs.comparison.CountedComparisonSink.put_char.Goals as goal
 
 pub returns : goal.returns

@@ -1,6 +1,5 @@
 use Rattle.std.proofs.Common.{arith}
-use Rattle.std.proofs.lemmas.Result.{on_ok_weaker}
-use Rattle.yaml_writer.proofs.ByteLemmas.{byte_len-spaces}
+use Rattle.yaml_style.proofs.Prelude.{on_ok_weaker, byte_len-spaces}
 use Rattle.yaml_style.proofs.comparison.CountedComparisonSink.put_spaces.Goals as goal
 
 pub returns : goal.returns

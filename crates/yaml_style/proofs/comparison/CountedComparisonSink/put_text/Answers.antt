@@ -1,6 +1,5 @@
 use Rattle.std.proofs.Common.{arith}
-use Rattle.std.proofs.lemmas.Result.{on_ok_weaker}
-use Rattle.yaml_writer.proofs.ByteLemmas.{byte_len-chars}
+use Rattle.yaml_style.proofs.Prelude.{on_ok_weaker, byte_len-chars}
 use Rattle.yaml_style.proofs.comparison.CountedComparisonSink.put_text.Goals as goal
 
 pub returns : goal.returns

@@ -1,7 +1,6 @@
 use Rattle.std.proofs.Common.{ℕ, leb, cond, bit_or, refl}
-use Rattle.std.proofs.lemmas.Simd.{length-chunk, zip2_of_maps, zip2_splat, splat_is_map}
+use Rattle.yaml_styled.proofs.Prelude.{length-chunk, zip2_of_maps, zip2_splat, splat_is_map, stands_alone}
 use lib.Lanes.{chunk}
-use Rattle.yaml_writer.specs.Runs.{stands_alone}
 use Rattle.yaml_styled.proofs.BlockRuns.{run_of_lanes}
 use Rattle.yaml_styled.proofs.blocks.LoneBytesClass.run_in_block.Goals as goal
 

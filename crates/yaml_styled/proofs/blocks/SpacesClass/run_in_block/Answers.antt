@@ -1,7 +1,6 @@
 use Rattle.std.proofs.Common.{refl}
-use Rattle.std.proofs.lemmas.Simd.{length-chunk, zip2_splat}
+use Rattle.yaml_styled.proofs.Prelude.{length-chunk, zip2_splat, space}
 use lib.Lanes.{chunk}
-use Rattle.yaml_chars.specs.Classes.{space}
 use Rattle.yaml_styled.proofs.BlockRuns.{run_of_lanes}
 use Rattle.yaml_styled.proofs.blocks.SpacesClass.run_in_block.Goals as goal
 

@@ -1,5 +1,5 @@
 use Rattle.std.proofs.Common.{ap, ap₂, ◌∙◌}
-use Rattle.yaml_data.specs.Seen.{elements_of}
+use Rattle.yaml_styled.proofs.Prelude.{elements_of}
 use Rattle.yaml_styled.specs.Parts.{elements_and}
 use Rattle.yaml_styled.proofs.BuildLemmas.{elements_of-and}
 use Rattle.yaml_styled.proofs.build.TreeBuild.add_element.Goals as goal

@@ -1,6 +1,5 @@
 use Rattle.std.proofs.Common.{ap, ap₂, ◌∙◌}
-use Rattle.std.specs.Str.{chars}
-use Rattle.yaml_data.specs.Seen.{tree_of, members_of}
+use Rattle.yaml_styled.proofs.Prelude.{chars, tree_of, members_of}
 use Rattle.yaml_styled.specs.Parts.{members_and}
 use Rattle.yaml_styled.proofs.BuildLemmas.{members_of-and}
 use Rattle.yaml_styled.proofs.build.TreeBuild.add_member.Goals as goal

@@ -1,7 +1,5 @@
-use Rattle.std.proofs.lemmas.Result.{err_from_is_err_and}
-use Rattle.yaml_config.specs.Kept.{limits_of}
-use Rattle.yaml_tree.proofs.ReadLemmas.{shallow_refused}
-use Rattle.yaml_tree.proofs.WriterLemmas.{written_to, twice_refused, depth_refused}
+use Rattle.yaml_tree.proofs.Prelude.{err_from_is_err_and, limits_of}
+use Rattle.yaml_tree.proofs.{ReadLemmas.shallow_refused, WriterLemmas.written_to, WriterLemmas.twice_refused, WriterLemmas.depth_refused}
 use Rattle.yaml_tree.proofs.documents.Document.write.Goals as goal
 
 pub returns-in_err-keys_differ : goal.returns-in_err-keys_differ

@@ -1,6 +1,5 @@
 use Rattle.std.proofs.Common.{◌≡◌, ◌+◌, ◌≤◌, length}
-use Rattle.yaml_events.specs.Meant.{events_of}
-use Rattle.yaml_grammar.specs.Trees.{shapes}
+use Rattle.yaml_tree.proofs.Prelude.{events_of, shapes}
 use Rattle.yaml_tree.specs.Reading.{document_count}
 use Rattle.yaml_tree.proofs.DepthLemmas.{deepest_from}
 use Rattle.yaml_tree.proofs.documents.Outline.of.Given as goal

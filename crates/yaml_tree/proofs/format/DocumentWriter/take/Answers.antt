@@ -1,8 +1,6 @@
 use Rattle.std.proofs.Common.{ap, subst, ◌∙◌}
-use Rattle.yaml_events.specs.Meant.{event_of}
-use Rattle.yaml_grammar.specs.Trees.{shape}
-use Rattle.yaml_tree.specs.OpenParts.{open_frames}
-use Rattle.yaml_tree.specs.OpenText.{added, BringsText}
+use Rattle.yaml_tree.proofs.Prelude.{event_of, shape}
+use Rattle.yaml_tree.specs.{OpenParts.open_frames, OpenText.added, OpenText.BringsText}
 use Rattle.yaml_tree.proofs.WriterLemmas.{wrote}
 use Rattle.yaml_tree.proofs.format.DocumentWriter.take.Goals as goal
 

@@ -1,7 +1,5 @@
 use Rattle.std.proofs.Common.{ap, ◌∙◌}
-use Rattle.std.specs.Str.{chars}
-use Rattle.yaml_grammar.specs.Trees.{text}
-use Rattle.yaml_data.proofs.SeenLemmas.{tree_of-Text}
+use Rattle.yaml_tree.proofs.Prelude.{chars, text, tree_of-Text}
 use Rattle.yaml_tree.proofs.kept.TreeKept.of_scalar.Goals as goal
 
 pub returns : goal.returns

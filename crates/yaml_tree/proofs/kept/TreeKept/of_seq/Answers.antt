@@ -1,4 +1,4 @@
-use Rattle.yaml_data.proofs.SeenLemmas.{tree_of-Seq}
+use Rattle.yaml_tree.proofs.Prelude.{tree_of-Seq}
 use Rattle.yaml_tree.proofs.kept.TreeKept.of_seq.Goals as goal
 
 pub returns : goal.returns

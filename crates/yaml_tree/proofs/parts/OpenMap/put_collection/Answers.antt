@@ -1,7 +1,5 @@
 use Rattle.std.proofs.Common.{Some, sym, ap, ◌∙◌}
-use Rattle.yaml_tree.specs.Kept.{value_placed, members_by}
-use Rattle.yaml_tree.specs.OpenParts.{frame_by_next}
-use Rattle.yaml_tree.specs.Frames.{at_key}
+use Rattle.yaml_tree.specs.{Kept.value_placed, Kept.members_by, OpenParts.frame_by_next, Frames.at_key}
 use Rattle.yaml_tree.proofs.parts.OpenMap.put_collection.Goals as goal
 
 pub returns-then-not-self : goal.returns-then-not-self

@@ -1,7 +1,5 @@
 use Rattle.std.proofs.Common.{Some, sym, ap, ◌∙◌}
-use Rattle.yaml_tree.specs.Kept.{value_placed}
-use Rattle.yaml_tree.specs.OpenParts.{part_frame}
-use Rattle.yaml_tree.specs.Frames.{in_seq}
+use Rattle.yaml_tree.specs.{Kept.value_placed, OpenParts.part_frame, Frames.in_seq}
 use Rattle.yaml_tree.proofs.parts.Part.put_collection.Goals as goal
 
 pub returns-in_ok-put_element-in-Seq : goal.returns-in_ok-put_element-in-Seq

@@ -1,10 +1,7 @@
 use Rattle.std.proofs.Common.{sym, ap, subst, ◌∙◌}
-use Rattle.std.proofs.lemmas.Result.{err_from_is_err_and}
-use Rattle.yaml_tree.specs.Building.{HasNone}
-use Rattle.yaml_tree.specs.Kept.{kept_frames}
-use Rattle.yaml_tree.specs.Frames.{finished_tree}
-use Rattle.yaml_tree.proofs.CheckLemmas.{has_none}
-use Rattle.yaml_tree.proofs.KeptLemmas.{finished_kept, finished_none}
+use Rattle.yaml_tree.proofs.Prelude.{err_from_is_err_and}
+use Rattle.yaml_tree.specs.{Building.HasNone, Kept.kept_frames, Frames.finished_tree}
+use Rattle.yaml_tree.proofs.{CheckLemmas.has_none, KeptLemmas.finished_kept, KeptLemmas.finished_none}
 use Rattle.yaml_tree.proofs.parts.Parts.finish.Goals as goal
 
 pub returns-in_err-value : goal.returns-in_err-value

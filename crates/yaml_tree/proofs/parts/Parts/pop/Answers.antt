@@ -1,5 +1,5 @@
 use Rattle.std.proofs.Common.{refl, ap, ◌∙◌, arith}
-use Rattle.std.proofs.lemmas.List.{nil_from_length}
+use Rattle.yaml_tree.proofs.Prelude.{nil_from_length}
 use Rattle.yaml_tree.specs.OpenParts.{part_frames}
 use Rattle.yaml_tree.proofs.PartLemmas.{part_frames-push}
 use Rattle.yaml_tree.proofs.parts.Parts.pop.Goals as goal

@@ -1,6 +1,5 @@
 use Rattle.std.proofs.Common.{◌-◌, ◌<◌, refl, arith}
-use Rattle.yaml_tree.specs.Kept.{value_placed}
-use Rattle.yaml_tree.specs.OpenParts.{part_frame}
+use Rattle.yaml_tree.specs.{Kept.value_placed, OpenParts.part_frame}
 use Rattle.yaml_tree.proofs.InnermostLemmas.{change_innermost}
 use Rattle.yaml_tree.proofs.parts.Parts.put_collection.Goals as goal
 

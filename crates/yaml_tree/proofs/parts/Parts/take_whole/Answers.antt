@@ -1,7 +1,6 @@
 use Rattle.std.proofs.Common.{◌≡◌, ◌<◌, false, eqb, ap, sym, ◌∙◌, arith}
-use Rattle.std.proofs.lemmas.Bool.Decides.{nat_tests}
-use Rattle.yaml_tree.specs.OpenParts.{part_frame}
-use Rattle.yaml_tree.specs.Frames.{finished_tree}
+use Rattle.yaml_tree.proofs.Prelude.{nat_tests}
+use Rattle.yaml_tree.specs.{OpenParts.part_frame, Frames.finished_tree}
 use Rattle.yaml_tree.proofs.PartLemmas.{unfinished}
 use Rattle.yaml_tree.proofs.parts.Parts.take_whole.Goals as goal
 

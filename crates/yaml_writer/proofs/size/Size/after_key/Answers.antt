@@ -1,7 +1,6 @@
 use Rattle.std.proofs.Common.{◌+◌, ap, ◌∙◌}
-use Rattle.yaml_data.specs.Seen.{tree_of}
-use Rattle.yaml_writer.proofs.SizeLaws.{made}
-use Rattle.yaml_writer.proofs.SizeSums.{filled_value, other_value}
+use Rattle.yaml_writer.proofs.Prelude.{tree_of}
+use Rattle.yaml_writer.proofs.{SizeLaws.made, SizeSums.filled_value, SizeSums.other_value}
 use Rattle.yaml_writer.proofs.size.Size.after_key.Goals as goal
 
 pub returns-then-is_filled : goal.returns-then-is_filled

@@ -1,7 +1,6 @@
 use Rattle.std.proofs.Common.{if◌then◌else◌, ap, arith}
-use Rattle.std.specs.Str.{chars}
-use Rattle.yaml_writer.proofs.SizeLaws.{sized}
-use Rattle.yaml_writer.proofs.SizeSums.{key_bytes}
+use Rattle.yaml_writer.proofs.Prelude.{chars}
+use Rattle.yaml_writer.proofs.{SizeLaws.sized, SizeSums.key_bytes}
 use Rattle.yaml_writer.proofs.size.Size.of_key.Goals as goal
 
 pub returns-then-is_long_key-clause-size : goal.returns-then-is_long_key-clause-size

@@ -1,5 +1,5 @@
 use Rattle.std.proofs.Common.{ap, arith}
-use Rattle.yaml_data.specs.Seen.{tree_of}
+use Rattle.yaml_writer.proofs.Prelude.{tree_of}
 use Rattle.yaml_writer.specs.declared.size.Size.{Size}
 use Rattle.yaml_writer.proofs.SizeBounds.{element_bound, element_small, value_bound, value_small}
 use Rattle.yaml_writer.proofs.size.Size.of_value.Goals as goal

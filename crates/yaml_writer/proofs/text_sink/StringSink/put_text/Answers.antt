@@ -1,5 +1,5 @@
 use Rattle.std.proofs.Common.{◌++◌, string_bytes, ap, sym, ◌∙◌}
-use Rattle.std.proofs.lemmas.Str.{encodes-chars}
+use Rattle.yaml_writer.proofs.Prelude.{encodes-chars}
 use Rattle.yaml_writer.proofs.text_sink.StringSink.put_text.Goals as goal
 
 pub returns : goal.returns

@@ -2,32 +2,29 @@
 
 from __future__ import annotations
 
-import re
 from typing import Any, Callable, Dict, List, NamedTuple, Optional, Tuple
 
+from ansible_collections.confstore.store.plugins.module_utils.differences import Shown, differences
 from ansible_collections.confstore.store.plugins.module_utils.faults import Fault
+from ansible_collections.confstore.store.plugins.module_utils.grounds import Condition, Grounds
+from ansible_collections.confstore.store.plugins.module_utils.pointers import (
+    BEHIND,
+    Missing,
+    child,
+    found_at,
+    pointer_of,
+    steps_of,
+    text_of_step,
+    value_at,
+)
 from ansible_collections.confstore.store.plugins.module_utils.style import Tree, depth, same, to_text
 
 # What a configuration may have: so many bytes in the one style, and so many levels.
 LONGEST_CONFIG = 4_194_304
 DEEPEST_CONFIG = 128
 
-# The step of a pointer that is behind the last element of a list.
-BEHIND = "-"
-
-_NAME = re.compile(r"[a-z][a-z0-9_-]{0,63}")
-_INDEX = re.compile(r"0|[1-9][0-9]*")
-
 # Reads the configuration under a name, which is None where there is none.
 Read = Callable[[str], Optional[Tree]]
-
-
-class Condition(NamedTuple):
-    """What has to be at a path of a configuration before the task for an edit to be made: a tree, or nothing there."""
-
-    name: str
-    path: str
-    tree: Optional[Tree]
 
 
 class Wish(NamedTuple):
@@ -64,7 +61,7 @@ def tree_of(value: Any, where: str = "") -> Tree:
         return [tree_of(item, f"{where}/{index}") for index, item in enumerate(value)]
     if isinstance(value, dict):
         keys = [_text_of(str(key), where) for key in value]
-        return {key: tree_of(item, f"{where}/{_step_text(key)}") for key, item in zip(keys, value.values())}
+        return {key: tree_of(item, f"{where}/{text_of_step(key)}") for key, item in zip(keys, value.values())}
     kind = "null" if value is None else f"of type {type(value).__name__}"
     raise Fault("NotATree", f"the value at {where!r} is {kind}" if where else f"the value is {kind}")
 
@@ -75,46 +72,6 @@ def _text_of(text: str, where: str) -> str:
     except UnicodeEncodeError:
         raise Fault("NotText", f"the value at {where!r}") from None
     return text
-
-
-def _step_text(step: str) -> str:
-    return step.replace("~", "~0").replace("/", "~1")
-
-
-def steps_of(name: str, path: str) -> List[str]:
-    """The steps of a pointer. Raises `Fault` where the name or the pointer is none."""
-    if not _NAME.fullmatch(name):
-        raise Fault("BadName", f"the name {name!r}")
-    if path and (not path.startswith("/") or re.search("~(?![01])", path)):
-        raise Fault("BadPath", f"the path {path!r} of {name!r}")
-    return [step.replace("~1", "/").replace("~0", "~") for step in path.split("/")[1:]]
-
-
-class Missing(Exception):
-    """A step leads to nothing: its place in the pointer, from 0."""
-
-    def __init__(self, step: int) -> None:
-        super().__init__(step)
-        self.step = step
-
-
-def _child(tree: Tree, step: str, at: int) -> Tree:
-    """What a step leads to. Raises `Missing`, or `Fault` for a step into a list that is no index."""
-    if isinstance(tree, dict) and step in tree:
-        return tree[step]
-    if isinstance(tree, list):
-        if step != BEHIND and not _INDEX.fullmatch(step):
-            raise Fault("NotIndex")
-        if step != BEHIND and int(step) < len(tree):
-            return tree[int(step)]
-    raise Missing(at)
-
-
-def value_at(tree: Tree, steps: List[str]) -> Tree:
-    """What is at a path. Raises `Missing`, or `Fault` for a step into a list that is no index."""
-    for at, step in enumerate(steps):
-        tree = _child(tree, step, at)
-    return tree
 
 
 def _with(tree: Tree, step: str, value: Optional[Tree]) -> Tree:
@@ -132,7 +89,7 @@ def edited(tree: Tree, steps: List[str], value: Optional[Tree]) -> Tree:
     """The tree with a value at a path that has steps, or without what is there. What is above the path is there."""
     above = [tree]
     for at, step in enumerate(steps[:-1]):
-        above.append(_child(above[-1], step, at))
+        above.append(child(above[-1], step, at))
     made = value
     for around, step in zip(reversed(above), reversed(steps)):
         made = _with(around, step, made)
@@ -148,13 +105,21 @@ class Plan:
         self.after: Dict[str, Optional[Tree]] = {}
         self.edits: List[Edit] = []
         self.conditions: List[Condition] = []  # of the edits
+        self.shown: Dict[str, Shown] = {}  # what the edits change, by the names of the configurations
+        self._grounds: Dict[str, Grounds] = {}
         self._read = read
+
+    @property
+    def grounds(self) -> List[Condition]:
+        """What has to hold of the store for this plan to be right: all that it looked at is as it was."""
+        return [condition for grounds in self._grounds.values() for condition in grounds.conditions()]
 
     def add(self, wish: Wish) -> None:
         """Adds the edits that a wish needs, after those before it. Raises `Fault` as the store would refuse them."""
         steps = steps_of(wish.name, wish.path)
         if wish.name not in self.before:
             self.before[wish.name] = self.after[wish.name] = self._read(wish.name)
+            self._grounds[wish.name] = Grounds(wish.name, self.before[wish.name])
         made = len(self.edits)
         try:
             if not wish.is_present:
@@ -171,20 +136,29 @@ class Plan:
 
     def _require(self, condition: Condition, steps: List[str]) -> None:
         """Adds a condition of an edit. Raises `Fault` where it does not hold of what was there before the task."""
-        found = _found_at(self.before[condition.name], steps)
+        found = found_at(self.before[condition.name], steps)
         if not _is_same(found, condition.tree):
             raise Fault("Unmet", f"the condition on {condition.path!r} of {condition.name!r}")
         self.conditions.append(condition)
 
-    def _make(self, edit: Edit, after: Optional[Tree]) -> None:
+    def _make(self, edit: Edit, steps: List[str], after: Optional[Tree]) -> None:
+        """Makes an edit at a place."""
+        config = self.after[edit.name]
+        around = found_at(config, steps[:-1]) if steps else None
+        place = [*steps[:-1], str(len(around))] if isinstance(around, list) and steps[-1] == BEHIND else steps
+        changed = differences(found_at(config, place), edit.tree, pointer_of(place))
+        self.shown.setdefault(edit.name, Shown()).add(changed)
+        if isinstance(around, list):
+            self._grounds[edit.name].change_list(steps[:-1])
         self.edits.append(edit)
         self.after[edit.name] = after
 
     def _put(self, name: str, tree: Optional[Tree]) -> None:
+        self._grounds[name].look([])
         before = self.after[name]
         assert tree is not None
         if before is None or not same(before, tree):
-            self._make(Edit("import", name, "", tree), tree)
+            self._make(Edit("import", name, "", tree), [], tree)
 
     def _put_at(self, wish: Wish, steps: List[str]) -> None:
         """Puts a tree at a path. Behind a list it is only put where the list has no equal element."""
@@ -196,50 +170,43 @@ class Plan:
             self._put(wish.name, _nested(steps, tree))
             return
         steps, tree = _with_parents(config, steps, tree) if wish.has_parents else (steps, tree)
+        self._grounds[wish.name].look(steps[:-1] if steps[-1] == BEHIND else steps)
         around = _around(config, steps)
         if steps[-1] == BEHIND and isinstance(around, list):
             if any(same(item, tree) for item in around):
                 return
         elif _has(around, steps[-1], tree):
             return
-        path = "".join(f"/{_step_text(step)}" for step in steps)
-        self._make(Edit("set", wish.name, path, tree), edited(config, steps, tree))
+        self._make(Edit("set", wish.name, pointer_of(steps), tree), steps, edited(config, steps, tree))
 
     def _remove(self, wish: Wish, steps: List[str]) -> None:
         """Takes out what is at a path, or of a list each element that is equal to a tree. What is missing stays so."""
         config = self.after[wish.name]
+        around = steps[:-1]
+        self._grounds[wish.name].look([] if config is None else around if wish.tree is not None else steps)
         if config is None:
             return
         if not steps:
-            self._make(Edit("delete", wish.name, "", None), None)
+            self._make(Edit("delete", wish.name, "", None), steps, None)
             return
         try:
             if wish.tree is not None:
-                self._remove_equal(wish.name, steps[:-1], wish.tree, value_at(config, steps[:-1]))
+                self._remove_equal(wish.name, around, wish.tree, value_at(config, around))
             else:
                 value_at(config, steps)
-                self._make(Edit("delete", wish.name, wish.path, None), edited(config, steps, None))
+                self._make(Edit("delete", wish.name, wish.path, None), steps, edited(config, steps, None))
         except Missing:
             pass
 
     def _remove_equal(self, name: str, steps: List[str], tree: Tree, around: Tree) -> None:
         """Takes the elements of a list that are equal to a tree out, from the last one on."""
-        start = "".join(f"/{_step_text(step)}" for step in steps)
         for index in reversed(range(len(around) if isinstance(around, list) else 0)):
             assert isinstance(around, list)
             config = self.after[name]
             assert config is not None
             if same(around[index], tree):
-                edit = Edit("delete", name, f"{start}/{index}", None)
-                self._make(edit, edited(config, [*steps, str(index)], None))
-
-
-def _found_at(config: Optional[Tree], steps: List[str]) -> Optional[Tree]:
-    """What is at a path, or None where nothing is."""
-    try:
-        return None if config is None else value_at(config, steps)
-    except (Missing, Fault):
-        return None
+                place = [*steps, str(index)]
+                self._make(Edit("delete", name, pointer_of(place), None), place, edited(config, place, None))
 
 
 def _around(config: Tree, steps: List[str]) -> Tree:
@@ -247,7 +214,7 @@ def _around(config: Tree, steps: List[str]) -> Tree:
     try:
         around = value_at(config, steps[:-1])
         if not isinstance(around, dict) and not (isinstance(around, list) and steps[-1] == BEHIND):
-            _child(around, steps[-1], len(steps) - 1)
+            child(around, steps[-1], len(steps) - 1)
         return around
     except Missing:
         raise Fault("NoSuchPlace") from None
@@ -256,7 +223,7 @@ def _around(config: Tree, steps: List[str]) -> Tree:
 def _has(around: Tree, step: str, tree: Tree) -> bool:
     """Whether a step leads to an equal tree."""
     try:
-        return same(_child(around, step, 0), tree)
+        return same(child(around, step, 0), tree)
     except Missing:
         return False
 
@@ -295,6 +262,7 @@ def plan_of(wishes: List[Wish], read: Read) -> Plan:
     if not changed:
         plan.edits.clear()  # each edit was taken back by a later one
         plan.conditions.clear()
+        plan.shown.clear()
     for name in changed:
         tree = plan.after[name]
         if tree is not None:

@@ -88,6 +88,7 @@ OTHERS: Dict[str, Tuple[str, str]] = {
     "MissingFile": ("the file of a text can't be read", "put it on the host, or correct `src`"),
     "TimedOut": ("no answer came in time", "run the task again: it looks first what is there"),
     "Disconnected": ("the server of the socket can't be reached, or closed the connection", "start it, and run again"),
+    "Replaced": ("another store stands in the place of the one that the server held", "start the server again"),
     "AnswerCut": ("the session ended in the middle of an answer", "run the task again: it looks first what is there"),
     "BadAnswer": ("what came is no answer of a session", "look whether the program or the server is confstore's"),
     "NotATree": ("a tree has texts, lists and mappings alone", "write it in quotes"),
@@ -99,6 +100,10 @@ OTHERS: Dict[str, Tuple[str, str]] = {
     "Unsupported": ("the program is an old one", "install the one of this module's version"),
     "BadTask": ("the task's words contradict each other", "see `ansible-doc confstore.store.confstore`"),
     "SessionEnded": ("the session ended", "run the task again: it looks first what is there"),
+    "Unknown": (
+        "nobody says how the program ended, or the session was given up",
+        "let SIGCHLD not be ignored, and run the task again: it looks first what is there",
+    ),
 }
 
 _ALL = {**OTHERS, **ENDS, **REFUSALS}

@@ -8,6 +8,7 @@ from __future__ import annotations
 import os
 import re
 import shutil
+import signal
 import socket
 import subprocess
 import tempfile
@@ -15,14 +16,17 @@ import threading
 from types import ModuleType
 from typing import IO, Any, Dict, List, NamedTuple, Optional, Sequence
 
-from ansible_collections.confstore.store.plugins.module_utils.edits import Condition, Edit
+from ansible_collections.confstore.store.plugins.module_utils.edits import Edit
 from ansible_collections.confstore.store.plugins.module_utils.faults import REFUSALS, Fault, Place
+from ansible_collections.confstore.store.plugins.module_utils.grounds import Condition
 from ansible_collections.confstore.store.plugins.module_utils.style import Tree, from_text, to_text
 
 package: Optional[ModuleType]
 try:
     import confstore as package
 except ImportError:  # it is not installed, or PyYAML is not
+    package = None
+if not hasattr(package, "Test"):  # an old one, without conditions
     package = None
 
 CLOSING = b"...\n"
@@ -144,8 +148,15 @@ def _make_above(path: str) -> None:
         os.close(around)
 
 
+def need_statuses() -> None:
+    """Raises `Fault` where the system does not tell this process how a program ended."""
+    if signal.getsignal(signal.SIGCHLD) is signal.SIG_IGN:
+        raise Fault("Unknown", "Ansible was started with SIGCHLD ignored")
+
+
 def run_words(target: Target, words: List[str], given: bytes = b"") -> bytes:
     """What the program prints. Raises `Fault` for what it says instead."""
+    need_statuses()
     program = target.find_program()
     try:
         done = subprocess.run(
@@ -210,6 +221,7 @@ class Program:
 
     def __init__(self, target: Target) -> None:
         assert target.folder is not None
+        need_statuses()
         self._target = target
         self._errors = tempfile.TemporaryFile()
         words = [target.find_program(), "run", "--", target.folder]
@@ -343,8 +355,17 @@ class BySession(Store):
         if count is not None:
             wanted.append({"count": str(count)})
         if wanted:
-            return int(str(self._ask({"if": wanted, "batch": list(commands)}, "ok")))
+            return int(str(self._ask_under(wanted, commands)))
         return int(str(self._ask(commands[0] if len(commands) == 1 else {"batch": list(commands)}, "ok")))
+
+    def _ask_under(self, wanted: List[Tree], commands: List[Dict[str, Tree]]) -> Tree:
+        """Has edits made where conditions hold. Raises `Fault` for a program or a server that has none."""
+        try:
+            return self._ask({"if": wanted, "batch": list(commands)}, "ok")
+        except Fault as fault:
+            if fault.name == "BadCommand":
+                raise Fault("Unsupported", "conditions (`if`), which this task needs") from None
+            raise
 
     def close(self) -> None:
         self._other.close()
@@ -405,8 +426,6 @@ class ByPackage(Store):
     def perform(self, edits: List[Edit], conditions: Sequence[Condition] = (), count: Optional[int] = None) -> int:
         if not conditions and count is None:
             return int(self._called(self._one if len(edits) == 1 else self._batch, edits))
-        if not hasattr(_package(), "Test"):
-            raise Fault("Unsupported", "conditions by the Python package of this host")
         when = [_condition_of(condition) for condition in conditions]
         return int(self._called(self._batch, edits, when=when + ([] if count is None else [_package().Count(count)])))
 

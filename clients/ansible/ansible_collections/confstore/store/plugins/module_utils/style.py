@@ -1,30 +1,19 @@
 """Trees, and their texts in the one style of docs/STYLE.md, without PyYAML: a host may have none.
 
-A tree is a str, a list of trees, or a dict of str to trees.
+A tree is a str, a list of trees, or a dict of str to trees. The writer, `written.py`, is that of the Python package.
 """
 
 from __future__ import annotations
 
 import re
-from typing import Dict, List, Tuple, Union
+from typing import Dict, List, Tuple
 
 from ansible_collections.confstore.store.plugins.module_utils.faults import Fault
+from ansible_collections.confstore.store.plugins.module_utils.written import ESCAPES, NotWritten, Tree, written
 
-Tree = Union[str, List["Tree"], Dict[str, "Tree"]]
+__all__ = ["Tree", "depth", "from_text", "same", "to_text"]
 
-# How long a key may be as written to stand before its `:` on one line.
-LONGEST_KEY = 1_000
-
-_WORD = re.compile(r"[A-Za-z][A-Za-z0-9_\-./]{0,127}")
-_NO_WORDS = frozenset("null true false yes no on off y n".split())
-_SHOWN = "\x20-\x7e\xa0-\u2027\u202a-\ud7ff\ue000-\ufefe\uff00-\ufffd\U00010000-\U0010ffff"
-_SPELLED = re.compile(rf'[^{_SHOWN}]|["\\]')
-_LINES = re.compile(rf"[{_SHOWN}\n]*")
-_ESCAPES = {
-    "\0": "0", "\a": "a", "\b": "b", "\t": "t", "\n": "n", "\v": "v", "\f": "f", "\r": "r", "\x1b": "e", '"': '"',
-    "\\": "\\",
-}  # fmt: skip
-_UNESCAPED = {letter: character for character, letter in _ESCAPES.items()}
+_UNESCAPED = {escape[1:]: character for character, escape in ESCAPES.items()}
 
 # What a line of a collection begins with: an element, a key in front of its `:`, or a long key with the `:` below it.
 _KEY = r'[A-Za-z][A-Za-z0-9_\-./]*|"(?:[^"\\]|\\.)*"'
@@ -51,52 +40,12 @@ def depth(tree: Tree) -> int:
     return 1 + max(map(depth, tree.values() if isinstance(tree, dict) else tree), default=0)
 
 
-def _escaped(found: "re.Match[str]") -> str:
-    character = found.group()
-    code = ord(character)
-    return "\\" + (_ESCAPES.get(character) or (f"x{code:02X}" if code < 0x100 else f"u{code:04X}"))
-
-
-def _word_or_quoted(text: str) -> str:
-    if _WORD.fullmatch(text) and text.lower() not in _NO_WORDS:
-        return text
-    return f'"{_SPELLED.sub(_escaped, text)}"'
-
-
-def _leaf(tree: Tree, margin: str) -> str:
-    """A text or an empty collection, whose further lines have this margin."""
-    if not isinstance(tree, str):
-        return "{}" if isinstance(tree, dict) else "[]"
-    if "\n" not in tree or tree[0] in " \n" or not _LINES.fullmatch(tree):
-        return _word_or_quoted(tree)
-    body = tree.rstrip("\n")
-    ends = len(tree) - len(body)
-    lines = [margin + line if line else "" for line in body.split("\n")]
-    return "\n".join([("|-", "|", "|+")[min(ends, 2)], *lines, *[""] * (ends - 1)])
-
-
-def _key(key: str, margin: str) -> str:
-    written = _word_or_quoted(key)
-    return f"{written}:" if len(written) <= LONGEST_KEY else f"? {written}\n{margin}:"
-
-
-def _node(tree: Tree, margin: str) -> str:
-    """A tree, whose first line stands where it is put, and whose further lines have this margin."""
-    if isinstance(tree, str) or not tree:
-        return _leaf(tree, margin)
-    inner = margin + "  "
-    if isinstance(tree, list):
-        return f"\n{margin}".join(f"- {_node(item, inner)}" for item in tree)
-    members = []
-    for key, value in tree.items():
-        gap = " " if isinstance(value, str) or not value else f"\n{inner}"
-        members.append(_key(key, margin) + gap + _node(value, inner))
-    return f"\n{margin}".join(members)
-
-
 def to_text(tree: Tree) -> str:
-    """The text of a tree in the one style."""
-    return _node(tree, "  " if isinstance(tree, str) else "") + "\n"
+    """The text of a tree in the one style. Raises `Fault` for what has none."""
+    try:
+        return written(tree)
+    except NotWritten as fault:
+        raise Fault(fault.name, fault.about) from None
 
 
 class _Lines:

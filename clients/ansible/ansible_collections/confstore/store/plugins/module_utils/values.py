@@ -4,8 +4,8 @@ from __future__ import annotations
 
 from typing import Any
 
-from ansible_collections.confstore.store.plugins.module_utils.edits import Missing, steps_of, value_at
 from ansible_collections.confstore.store.plugins.module_utils.faults import Fault
+from ansible_collections.confstore.store.plugins.module_utils.pointers import Missing, steps_of, value_at
 from ansible_collections.confstore.store.plugins.module_utils.stores import Store
 
 #: A default that is not given.

@@ -10,6 +10,9 @@ description:
   - A store holds named configurations, which are trees of texts, lists and mappings, and keeps them through a crash.
   - The module reads what is there, and makes the edits that are lacking as one batch, so all of them or none. Where
     nothing is lacking, nothing is written, and no lock is taken.
+  - Through a I(socket) others may change the store at the same time. The edits are made only while all that the task
+    has looked at is as it was; else the task is planned again, see I(timeout). So nothing is put twice, and nothing is
+    lost or taken out that the task did not see.
   - It needs the program C(confstore) on the host, or the socket of a server such as C(clients/serve.py). It uses the
     Python package C(confstore) where the host's Python can import it, and needs no package where not.
 options:
@@ -31,7 +34,10 @@ options:
       - With I(socket) it is only needed to read I(text) or I(src).
     type: path
   timeout:
-    description: How many seconds an answer may take.
+    description:
+      - How many seconds an answer may take.
+      - Through a I(socket) this is also how long the task is planned again where others change what it has looked at.
+        Then it fails with the fault C(Unmet), and nothing is changed.
     type: float
     default: 60
   wait:
@@ -140,10 +146,14 @@ attributes:
     description: Changes nothing, and returns what would be. Limits of the whole store are not looked at.
   diff_mode:
     support: full
-    description: Shows each configuration before and after, in the one style of confstore.
+    description: Shows the places that change, before and after, in the one style of confstore.
 notes:
   - Values are sent to the program by its standard input, and never stand among its words, where other users could see
-    them. C(no_log) on the task keeps them out of Ansible's output and log.
+    them.
+  - I(value), I(text), I(if_value) and I(edits) are C(no_log) options. Ansible does not write them to the log of the
+    host, and what it shows of the task's options (C(-vvv)) has no values. Messages of faults have none either.
+  - The result, and what C(--diff) shows, have the values at the places that the task changes, and at no other place.
+    C(no_log) on the task keeps these out of Ansible's output and log, too.
   - Deleting an element of a list by its index is not idempotent, since the next element has that index then.
 author:
   - The authors of confstore
@@ -209,15 +219,18 @@ EXAMPLES = r"""
 
 RETURN = r"""
 before:
-  description: Each configuration that the task names as it was, or null where there was none.
+  description:
+    - What was at each place that the task changes, by the name of the configuration and by the path, or null where
+      nothing was. The path of a whole configuration is empty.
+    - Of a mapping whose keys come in another order, the keys.
   type: dict
   returned: success
-  sample: {web: {port: "80"}}
+  sample: {web: {/port: "80"}}
 after:
-  description: The same as it is now, or would be in check mode.
+  description: What is at the same places now, or would be in check mode.
   type: dict
   returned: success
-  sample: {web: {port: "81"}}
+  sample: {web: {/port: "81"}}
 edits:
   description: The edits that were made, without their values.
   type: list
@@ -241,13 +254,16 @@ place:
   sample: {line: 3, column: 7, reason: Flow}
 """
 
+import signal
 import time
 from contextlib import closing
 from typing import Any, Dict, List, Optional, Tuple
 
 from ansible.module_utils.basic import AnsibleModule
-from ansible_collections.confstore.store.plugins.module_utils.edits import Condition, Plan, Wish, plan_of, tree_of
+from ansible_collections.confstore.store.plugins.module_utils.differences import Shown
+from ansible_collections.confstore.store.plugins.module_utils.edits import Plan, Wish, plan_of, tree_of
 from ansible_collections.confstore.store.plugins.module_utils.faults import Fault
+from ansible_collections.confstore.store.plugins.module_utils.grounds import Condition
 from ansible_collections.confstore.store.plugins.module_utils.stores import (
     Empty,
     Store,
@@ -257,17 +273,17 @@ from ansible_collections.confstore.store.plugins.module_utils.stores import (
     session,
     tree_of_text,
 )
-from ansible_collections.confstore.store.plugins.module_utils.style import Tree, to_text
+from ansible_collections.confstore.store.plugins.module_utils.style import Tree
 
 EDIT_OPTIONS: Dict[str, Dict[str, Any]] = {
     "name": {"type": "str"},
     "path": {"type": "str", "default": ""},
-    "value": {"type": "raw"},
-    "text": {"type": "raw"},
+    "value": {"type": "raw", "no_log": True},
+    "text": {"type": "raw", "no_log": True},
     "src": {"type": "path"},
     "state": {"type": "str", "choices": ["present", "absent"], "default": "present"},
     "parents": {"type": "bool", "default": False},
-    "if_value": {"type": "raw"},
+    "if_value": {"type": "raw", "no_log": True},
     "if_absent": {"type": "bool", "default": False},
 }
 OPTIONS: Dict[str, Dict[str, Any]] = {
@@ -279,9 +295,16 @@ OPTIONS: Dict[str, Dict[str, Any]] = {
     "timeout": {"type": "float", "default": 60.0},
     "wait": {"type": "float", "default": 10.0},
     "if_count": {"type": "int"},
-    "edits": {"type": "list", "elements": "dict", "options": EDIT_OPTIONS},
+    "edits": {"type": "list", "elements": "dict", "options": EDIT_OPTIONS, "no_log": True},
 }
 SOURCES = ("value", "text", "src")
+
+# The options that have values of the store, and what Ansible shows in their place.
+SECRET = ("value", "text", "if_value")
+NOT_SHOWN = "VALUE_SPECIFIED_IN_NO_LOG_PARAMETER"
+
+# The faults of a store that is not any more as it was when the task was planned.
+OVERTAKEN = ("Unmet", "NoConfig", "NoSuchPlace", "NotIndex")
 
 # How often in seconds a task looks whether another run has let the folder go.
 LOOK = 0.05
@@ -344,21 +367,33 @@ def wishes_of(options: Dict[str, Any], target: Target) -> List[Wish]:
 
 def result_of(plan: Plan) -> Dict[str, Any]:
     """What a task returns of a plan, in check mode too."""
-    changed = dict.fromkeys(edit.name for edit in plan.edits)
-    diff = [_difference(name, plan.before[name], plan.after[name]) for name in changed]
     edits = [{"edit": edit.kind, "name": edit.name, "path": edit.path} for edit in plan.edits]
-    return {"changed": bool(edits), "before": plan.before, "after": plan.after, "edits": edits, "diff": diff}
+    return {
+        "changed": bool(edits),
+        "before": {name: shown.before for name, shown in plan.shown.items()},
+        "after": {name: shown.after for name, shown in plan.shown.items()},
+        "edits": edits,
+        "diff": [_difference(name, shown) for name, shown in plan.shown.items()],
+    }
 
 
-def _difference(name: str, before: Optional[Tree], after: Optional[Tree]) -> Dict[str, str]:
+def _difference(name: str, shown: Shown) -> Dict[str, str]:
     """What Ansible shows with `--diff` of a configuration."""
-    texts = ["" if tree is None else to_text(tree) for tree in (before, after)]
+    before, after = shown.texts()
     return {
         "before_header": f"{name} (before)",
-        "before": texts[0],
+        "before": before,
         "after_header": f"{name} (after)",
-        "after": texts[1],
+        "after": after,
     }
+
+
+def shown_options(options: Dict[str, Any]) -> Dict[str, Any]:
+    """The options of a task, or of an edit, as Ansible may show them."""
+    shown = {name: NOT_SHOWN if name in SECRET and value is not None else value for name, value in options.items()}
+    if shown.get("edits"):
+        shown["edits"] = [shown_options(edit) for edit in shown["edits"]]
+    return shown
 
 
 class Task:
@@ -379,11 +414,33 @@ class Task:
     def perform(self) -> Tuple[Plan, Optional[int]]:
         """What was done, and the number of the store's command, if there was one.
 
-        It is planned anew while the store is held, since another may have changed it.
+        It is planned anew, since another may have changed the store. Nobody can while this holds a folder. Through a
+        socket others can: so the edits are made only while what the plan stands on holds, and else it is planned again.
         """
+        deadline = time.monotonic() + self._target.timeout
         with closing(self._session()) as store:
-            plan = plan_of(self._wishes, store.read)
-            return plan, store.perform(plan.edits, plan.conditions, self._count) if plan.edits else None
+            tries = 0
+            while True:
+                plan = plan_of(self._wishes, store.read)
+                if not plan.edits:
+                    return plan, None
+                try:
+                    return plan, store.perform(plan.edits, self._conditions_of(plan), self._count)
+                except Fault as fault:
+                    tries += 1
+                    self._go_on_after(fault, tries, deadline)
+
+    def _conditions_of(self, plan: Plan) -> List[Condition]:
+        """What has to hold for the edits of a plan to be made."""
+        return plan.conditions + ([] if self._target.socket is None else plan.grounds)
+
+    def _go_on_after(self, fault: Fault, tries: int, deadline: float) -> None:
+        """Raises a `Fault` of the edits, unless others have come between, and there is time to plan them again."""
+        if self._target.socket is None or self._count is not None or fault.name not in OVERTAKEN:
+            raise fault
+        if time.monotonic() > deadline:
+            about = f"others changed what the task had read, each of the {tries} times that it was planned"
+            raise Fault("Unmet", f"{self._target.where}: {about}")
 
     def _session(self) -> Store:
         """The store, made if it is missing, and held once another run has let it go."""
@@ -420,19 +477,24 @@ def result_of_run(module: Any) -> Dict[str, Any]:
 
 def main() -> None:
     """Runs the module."""
+    signal.signal(signal.SIGCHLD, signal.SIG_DFL)  # else the system would not say how the program ended
     module = AnsibleModule(
         argument_spec=OPTIONS,
         supports_check_mode=True,
         mutually_exclusive=[("folder", "socket")],
         required_one_of=[("folder", "socket")],
     )
+    # Nothing below shows an option with values. Ansible would put stars for each text of these options wherever it
+    # stands in the result: for the value `1` in each number and path.
+    module.no_log_values.clear()
+    invocation = {"module_args": shown_options(module.params)}
     try:
         result = result_of_run(module)
     except Fault as fault:
-        module.fail_json(msg=str(fault), **fault.result())
+        module.fail_json(msg=str(fault), invocation=invocation, **fault.result())
     if not module._diff:
         del result["diff"]
-    module.exit_json(**result)
+    module.exit_json(invocation=invocation, **result)
 
 
 if __name__ == "__main__":

@@ -37,6 +37,8 @@ attributes:
   check_mode:
     support: full
     description: Changes nothing in either mode.
+notes:
+  - What is read is in the result. C(no_log) on the task keeps it out of Ansible's output and log.
 author:
   - The authors of confstore
 """
@@ -80,6 +82,7 @@ fault:
   sample: NoConfig
 """
 
+import signal
 from contextlib import closing
 from typing import Any, Dict
 
@@ -113,6 +116,7 @@ def found(options: Dict[str, Any]) -> Dict[str, Any]:
 
 def main() -> None:
     """Runs the module."""
+    signal.signal(signal.SIGCHLD, signal.SIG_DFL)  # else the system would not say how the program ended
     module = AnsibleModule(
         argument_spec=OPTIONS,
         supports_check_mode=True,

@@ -1,8 +1,0 @@
-use Rattle.std.proofs.Common.{sym}
-use Rattle.std.proofs.lemmas.Result.{err_from_is_err_and}
-use Rattle.conf_history.proofs.bytes_reading.replay_record.Goals as goal
-
-pub returns-in_err-command-clause-refused : goal.returns-in_err-command-clause-refused
-returns-in_err-command-clause-refused c =
-    let p = err_from_is_err_and c.from_residual.result c.from_residual.ensures.1 in
-    rw (p.1, p.2) (c.in_err-command.ensures.refused c.args.part.now (sym c.count.ensures.count))

@@ -1,0 +1,99 @@
+-- What a crash leaves of a machine, before and after a call.
+use Rattle.std.proofs.Common.{◌≡◌, inl, inr, ℕ, zero, suc, List, [], ◌∷◌, get_or, set, take}
+use Rattle.std.specs.Prelude.{option_map}
+use Rattle.std.proofs.Common.{◌⊎◌, Option, Some, None, refl, ap, subst, arith}
+use Rattle.std.proofs.lemmas.List.{set-get_or}
+use Rattle.std.proofs.lemmas.List.Elements.{Contains-append_right}
+use Rattle.conf_disk.specs.Image.{Image}
+use Rattle.conf_system.specs.declared.system.FileName.{FileName}
+use Rattle.conf_system.specs.declared.system.FileName.TheVariants.{Store, Next, Copy}
+use Rattle.conf_system.specs.Machine.{Version, Held, Machine, empty_held, version_bytes, version_at, with_now, with_file}
+use Rattle.conf_system.specs.Machine.{with_version, with_pending, synced, failed_sync, Call, Write, Sync}
+use Rattle.conf_system.specs.Machine.{SyncFolder, after, failing}
+use Rattle.conf_system.specs.Crash.{IsLeftAt, CrashLeaves, image_now}
+use Rattle.conf_system.proofs.Torn.{TearsInto, TearsInto-appended_first, TearsInto-synced, TearsInto-failed, LeftInto-now}
+use Rattle.conf_system.proofs.Torn.{set-into, IsTorn-whole}
+
+-- what may be left under a name, may be left of files of which more may be left
+IsLeftAt-into : (less more : List Held) (place : Option ℕ) (bytes : Option (List ℕ))
+    → ((id : ℕ) (left : List ℕ) → IsLeftAt less (Some id) (Some left) → IsLeftAt more (Some id) (Some left))
+    → IsLeftAt less place bytes → IsLeftAt more place bytes
+IsLeftAt-into less more None None into left = tt
+IsLeftAt-into less more None (Some bytes) into left = absurd left
+IsLeftAt-into less more (Some id) None into left = absurd left
+IsLeftAt-into less more (Some id) (Some bytes) into left = into id bytes left
+
+with_file-into : (m : Machine) (place : Option ℕ) (image : Image) (less more : Version → Version)
+    → ((version : Version) → TearsInto (less version) (more version))
+    → CrashLeaves (with_file m place (with_now less)) image → CrashLeaves (with_file m place (with_now more)) image
+with_file-into m None image less more into left = left
+with_file-into m (Some id) image less more into left = record {
+  stage = left.stage;
+  among = left.among;
+  store = IsLeftAt-into (set m.files id old) (set m.files id new) left.stage.store image.store each left.store;
+  next = IsLeftAt-into (set m.files id old) (set m.files id new) left.stage.next image.next each left.next;
+}
+  where
+    old : Held
+    old = with_now less (get_or m.files id empty_held)
+
+    new : Held
+    new = with_now more (get_or m.files id empty_held)
+
+    each : (at : ℕ) (bytes : List ℕ) → IsLeftAt (set m.files id old) (Some at) (Some bytes)
+        → IsLeftAt (set m.files id new) (Some at) (Some bytes)
+    each at bytes = set-into m.files id at old new (LeftInto-now (get_or m.files id empty_held) less more into) bytes
+
+with_version-into : (m : Machine) (name : FileName) (image : Image) (less more : Version → Version)
+    → ((version : Version) → TearsInto (less version) (more version))
+    → CrashLeaves (with_version m name less) image → CrashLeaves (with_version m name more) image
+with_version-into m Store image less more into left = with_file-into m m.now.store image less more into left
+with_version-into m Next image less more into left = with_file-into m m.now.next image less more into left
+with_version-into m Copy image less more into left =
+    record { stage = left.stage; among = left.among; store = left.store; next = left.next }
+
+with_file-same : (m : Machine) (place : Option ℕ) → with_file m place (with_now (λ version. version)) ≡ m
+with_file-same m None = refl
+with_file-same m (Some id) =
+    ap (λ (files : List Held). record m { files = files })
+    (set-get_or m.files id empty_held)
+
+with_version-less : (m : Machine) (name : FileName) (image : Image) (change : Version → Version)
+    → ((version : Version) → TearsInto (change version) version) → CrashLeaves (with_version m name change) image → CrashLeaves m image
+with_version-less m Store image change into left =
+    subst (λ (x : Machine). CrashLeaves x image) (with_file-same m m.now.store)
+    (with_file-into m m.now.store image change (λ version. version) into left)
+with_version-less m Next image change into left =
+    subst (λ (x : Machine). CrashLeaves x image) (with_file-same m m.now.next)
+    (with_file-into m m.now.next image change (λ version. version) into left)
+with_version-less m Copy image change into left =
+    record { stage = left.stage; among = left.among; store = left.store; next = left.next }
+
+pub syncs-less : (name : FileName) (m : Machine) (image : Image) → CrashLeaves (after (Sync name) m) image → CrashLeaves m image
+syncs-less name m image left = with_version-less m name image synced TearsInto-synced left
+
+pub calls-no_other : (k : ℕ) (call : Call) (m : Machine) (image : Image) → CrashLeaves (failing k call m) image
+    → CrashLeaves m image ⊎ CrashLeaves (after call m) image
+calls-no_other k (Write name bytes) m image left =
+    inr (with_version-into m name image (with_pending (take k bytes)) (with_pending bytes) (TearsInto-appended_first k bytes) left)
+calls-no_other k (Sync name) m image left = inl (with_version-less m name image failed_sync TearsInto-failed left)
+calls-no_other k SyncFolder m image left = inl left
+calls-no_other zero call m image left = inl left
+calls-no_other (suc k) call m image left = inr left
+
+IsLeftAt-now : (files : List Held) (place : Option ℕ) → IsLeftAt files place (option_map version_bytes (version_at files place))
+IsLeftAt-now files None = tt
+IsLeftAt-now files (Some id) = record {
+  version = (get_or files id empty_held).now;
+  among = Contains-append_right (get_or files id empty_held).earlier ((get_or files id empty_held).now ∷ [])
+      (get_or files id empty_held).now (0, omega arith, refl);
+  torn = IsTorn-whole (get_or files id empty_held).now;
+}
+
+pub reading-left : (m : Machine) → CrashLeaves m (image_now m)
+reading-left m = record {
+  stage = m.now;
+  among = Contains-append_right m.earlier (m.now ∷ []) m.now (0, omega arith, refl);
+  store = IsLeftAt-now m.files m.now.store;
+  next = IsLeftAt-now m.files m.now.next;
+}

@@ -1,0 +1,24 @@
+use Rattle.conf_system.proofs.Steps.{store_write-appends, next_write-appends, sync-steps, create-steps, rename-steps, remove-steps}
+use Rattle.conf_system.proofs.Steps.{folder_sync-steps}
+use Rattle.conf_system.proofs.laws.calls_are_steps.Goals as goal
+
+pub returns-clause-store_writes : goal.returns-clause-store_writes
+returns-clause-store_writes c = store_write-appends
+
+pub returns-clause-next_writes : goal.returns-clause-next_writes
+returns-clause-next_writes c = next_write-appends
+
+pub returns-clause-syncs : goal.returns-clause-syncs
+returns-clause-syncs c = sync-steps
+
+pub returns-clause-creates : goal.returns-clause-creates
+returns-clause-creates c = create-steps
+
+pub returns-clause-renames : goal.returns-clause-renames
+returns-clause-renames c = rename-steps
+
+pub returns-clause-removes : goal.returns-clause-removes
+returns-clause-removes c = remove-steps
+
+pub returns-clause-folder_syncs : goal.returns-clause-folder_syncs
+returns-clause-folder_syncs c = folder_sync-steps

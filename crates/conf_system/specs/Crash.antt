@@ -1,0 +1,79 @@
+-- What a crash of the machine leaves of a folder.
+use Rattle.std.specs.Prelude.{◌≡◌, ◌⊎◌, ℕ, List, [], ◌∷◌, ◌++◌, length, get_or, take, Option, Some, None, Contains, All, Bool, false}
+use Rattle.conf_disk.specs.Folder.{Stage}
+use Rattle.conf_disk.specs.Image.{Image, IsMade}
+use Rattle.conf_system.specs.declared.system.FileName.TheVariants.{Store, Next}
+use Rattle.conf_system.specs.Machine.{Version, Held, Machine, empty_held, version_bytes, versions, stages, bytes_under}
+
+-- Of pending bytes as many as there are or fewer are left, and each is the byte at its place or zero.
+abbrev pub IsWorn : (pending left : List ℕ) → Type 0
+IsWorn pending [] = Unit {0}
+IsWorn [] (byte ∷ left) = ⊥
+IsWorn (byte ∷ pending) (first ∷ left) = ((first ≡ byte) ⊎ (first ≡ 0)) × IsWorn pending left
+
+-- the bytes that the device surely has, and what is left of the pending ones
+pub record IsTorn (version : Version) (bytes : List ℕ) : Type 0 where
+  pub left : List ℕ
+  pub worn : IsWorn version.pending left
+  pub is : bytes ≡ version.device ++ left
+
+-- one of the versions of a file, torn
+pub record IsLeftOf (file : Held) (bytes : List ℕ) : Type 0 where
+  pub version : Version
+  pub among : Contains (versions file) version
+  pub torn : IsTorn version bytes
+
+-- the same of a file that may be missing
+abbrev pub IsLeftAt : List Held → Option ℕ → Option (List ℕ) → Type 0
+IsLeftAt files None None = Unit {0}
+IsLeftAt files None (Some bytes) = ⊥
+IsLeftAt files (Some id) None = ⊥
+IsLeftAt files (Some id) (Some bytes) = IsLeftOf (get_or files id empty_held) bytes
+
+-- A crash leaves the names of one of the stages, with what is left of their files. Of the copy and of the note it may
+-- leave anything.
+pub record CrashLeaves (m : Machine) (image : Image) : Type 0 where
+  pub stage : Stage
+  pub among : Contains (stages m) stage
+  pub store : IsLeftAt m.files stage.store image.store
+  pub next : IsLeftAt m.files stage.next image.next
+
+-- what reads see now
+abbrev pub image_now : Machine → Image
+image_now m = record { store = bytes_under m Store; next = bytes_under m Next }
+
+-- a file of these bytes, all on the device
+abbrev pub held_bytes : List ℕ → Held
+held_bytes bytes = record { earlier = []; now = record { device = bytes; pending = []; failed = false } }
+
+abbrev pub with_files : List Held → Stage → Option Version → Bool → Machine
+with_files files stage copy noted =
+    record { files = files; earlier = []; now = stage; copy = copy; noted = noted }
+
+abbrev pub files_machine : Option (List ℕ) → Option (List ℕ) → Option Version → Bool → Machine
+files_machine None None copy noted = with_files [] (record { store = None; next = None }) copy noted
+files_machine (Some s) None copy noted =
+    with_files (held_bytes s ∷ []) (record { store = Some 0; next = None }) copy noted
+files_machine None (Some n) copy noted =
+    with_files (held_bytes n ∷ []) (record { store = None; next = Some 0 }) copy noted
+files_machine (Some s) (Some n) copy noted =
+    with_files (held_bytes s ∷ held_bytes n ∷ []) (record { store = Some 0; next = Some 1 }) copy noted
+
+-- the machine that is started on what a crash left, with whatever copy and note
+abbrev pub machine_of : Image → Option Version → Bool → Machine
+machine_of image copy noted = files_machine image.store image.next copy noted
+
+-- a version that has a front of these bytes
+abbrev pub IsFront : List ℕ → Version → Type 0
+IsFront bytes version = version_bytes version ≡ take (length (version_bytes version)) bytes
+
+-- Each name leads to a file that was made, and the earlier versions of a file have fronts of what it reads as.
+pub record IsSound (m : Machine) : Type 0 where
+  pub stages : All (λ stage. IsMade (length m.files) stage.store × IsMade (length m.files) stage.next) (stages m)
+  pub fronts : All (λ file. All (IsFront (version_bytes file.now)) file.earlier) m.files
+
+-- A name leads to one file at each stage, in one version, of which the device has all bytes.
+pub record IsOnDevice (m : Machine) (id : ℕ) : Type 0 where
+  pub stages : All (λ stage. stage.store ≡ Some id) (stages m)
+  pub alone : (get_or m.files id empty_held).earlier ≡ []
+  pub whole : (get_or m.files id empty_held).now.pending ≡ []

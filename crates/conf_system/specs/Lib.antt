@@ -1,0 +1,5 @@
+pub mod Machine
+pub mod Crash
+pub mod Models
+pub mod Folders
+pub mod Laws

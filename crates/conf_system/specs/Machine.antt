@@ -1,0 +1,153 @@
+-- What the kernel and the device hold of one folder, and what a call of the system makes of it.
+use Rattle.std.specs.Prelude.{◌≡◌, ◌≢◌, ℕ, zero, suc, List, [], ◌∷◌, ◌++◌, length, get_or, set, map, take, Option, Some, None}
+use Rattle.std.specs.Prelude.{IsSome, option_map, Bool, true, false, if◌then◌else◌}
+use Rattle.conf_disk.specs.Folder.{Stage}
+use Rattle.conf_system.specs.declared.system.FileName.{FileName}
+use Rattle.conf_system.specs.declared.system.FileName.TheVariants.{Store, Next, Copy}
+
+-- One file of the system (an inode): the bytes that the device surely has, those after them, which may be in memory
+-- alone, and whether a sync failed. Then pages may count as written that are not, and no later sync says anything.
+pub record Version : Type 0 where
+  pub device : List ℕ
+  pub pending : List ℕ
+  pub failed : Bool
+
+-- A file as a store knows it: the version that its name leads to, and those that the name may lead to after a crash
+-- instead, since a copy took the name and the folder was not synced.
+pub record Held : Type 0 where
+  pub earlier : List Version
+  pub now : Version
+
+-- Each file that was ever made; which file has each name, at each stage since the last sync of the folder but for the
+-- last one, oldest first, and now; the copy of `store.yaml` that is being made; and whether `store.lock` reads `-`.
+pub record Machine : Type 0 where
+  pub files : List Held
+  pub earlier : List Stage
+  pub now : Stage
+  pub copy : Option Version
+  pub noted : Bool
+
+abbrev pub empty_version : Version
+empty_version = record { device = []; pending = []; failed = false }
+
+abbrev pub empty_held : Held
+empty_held = record { earlier = []; now = empty_version }
+
+-- what reads see
+abbrev pub version_bytes : Version → List ℕ
+version_bytes version = version.device ++ version.pending
+
+-- the versions that the name of a file may lead to
+abbrev pub versions : Held → List Version
+versions file = file.earlier ++ file.now ∷ []
+
+-- the stages that the names may be at
+abbrev pub stages : Machine → List Stage
+stages m = m.earlier ++ m.now ∷ []
+
+abbrev pub version_at : List Held → Option ℕ → Option Version
+version_at files None = None
+version_at files (Some id) = Some (get_or files id empty_held).now
+
+-- the file that a name leads to
+abbrev pub under : Machine → FileName → Option Version
+under m Store = version_at m.files m.now.store
+under m Next = version_at m.files m.now.next
+under m Copy = m.copy
+
+-- what a name reads as
+abbrev pub bytes_under : Machine → FileName → Option (List ℕ)
+bytes_under m name = option_map version_bytes (under m name)
+
+-- the calls that change something
+pub data Call : Type 0 where
+  CreateNext : Call
+  CreateCopy : Call
+  Write : (name : FileName) (bytes : List ℕ) → Call
+  Sync : (name : FileName) → Call
+  RenameNext : Call
+  LinkNext : Call
+  UnlinkNext : Call
+  PlaceCopy : Call
+  UnlinkCopy : Call
+  SyncFolder : Call
+  WriteNote : (on_device : Bool) → Call
+
+-- What a caller ensures before a call. Only a copy of what `store.yaml` reads as takes its name. Where both names lead to
+-- one file, as after a link, a rename of one to the other does nothing, so it isn't made.
+abbrev pub MayBeCalled : Call → Machine → Type 0
+MayBeCalled CreateNext m = m.now.next ≡ None
+MayBeCalled CreateCopy m = m.copy ≡ None
+MayBeCalled (Write name bytes) m = IsSome (under m name)
+MayBeCalled (Sync name) m = IsSome (under m name)
+MayBeCalled RenameNext m = IsSome m.now.next × (m.now.store ≢ m.now.next)
+MayBeCalled LinkNext m = IsSome m.now.next × (m.now.store ≡ None)
+MayBeCalled UnlinkNext m = IsSome m.now.next
+MayBeCalled PlaceCopy m =
+    IsSome m.copy × (bytes_under m Copy ≡ bytes_under m Store) × (m.now.store ≢ m.now.next)
+MayBeCalled UnlinkCopy m = IsSome m.copy
+MayBeCalled SyncFolder m = Unit {0}
+MayBeCalled (WriteNote on_device) m = Unit {0}
+
+-- with more bytes at its end
+abbrev pub with_pending : List ℕ → Version → Version
+with_pending bytes version = record version { pending = version.pending ++ bytes }
+
+-- after a sync that returned Ok: the device has all bytes, unless a sync failed before
+abbrev pub synced : Version → Version
+synced version = if version.failed then version else record version { device = version_bytes version; pending = [] }
+
+-- after a sync that failed
+abbrev pub failed_sync : Version → Version
+failed_sync version = record version { failed = true }
+
+-- a version takes the file's name
+abbrev pub replaced : Option Version → Held → Held
+replaced None file = file
+replaced (Some version) file = record { earlier = versions file; now = version }
+
+-- the names have reached the device
+abbrev pub settled : Held → Held
+settled file = record file { earlier = [] }
+
+abbrev pub with_file : Machine → Option ℕ → (Held → Held) → Machine
+with_file m None change = m
+with_file m (Some id) change = record m { files = set m.files id (change (get_or m.files id empty_held)) }
+
+abbrev pub with_now : (Version → Version) → Held → Held
+with_now change file = record file { now = change file.now }
+
+abbrev pub with_copy : Machine → Option Version → Machine
+with_copy m copy = record m { copy = copy }
+
+abbrev pub with_stage : Machine → List Held → Stage → Machine
+with_stage m files stage = record m { files = files; earlier = stages m; now = stage }
+
+abbrev pub with_version : Machine → FileName → (Version → Version) → Machine
+with_version m Store change = with_file m m.now.store (with_now change)
+with_version m Next change = with_file m m.now.next (with_now change)
+with_version m Copy change = with_copy m (option_map change m.copy)
+
+-- after a call that returned Ok
+abbrev pub after : Call → Machine → Machine
+after CreateNext m =
+    with_stage m (m.files ++ empty_held ∷ []) (record { store = m.now.store; next = Some (length m.files) })
+after CreateCopy m = with_copy m (Some empty_version)
+after (Write name bytes) m = with_version m name (with_pending bytes)
+after (Sync name) m = with_version m name synced
+after RenameNext m = with_stage m m.files (record { store = m.now.next; next = None })
+after LinkNext m = with_stage m m.files (record { store = m.now.next; next = m.now.next })
+after UnlinkNext m = with_stage m m.files (record { store = m.now.store; next = None })
+after PlaceCopy m = with_copy (with_file m m.now.store (replaced m.copy)) None
+after UnlinkCopy m = with_copy m None
+after SyncFolder m = record m { files = map settled m.files; earlier = [] }
+after (WriteNote on_device) m = record m { noted = on_device }
+
+-- After a call that failed. Of a write a prefix may be there. Of another call at 0 nothing is done, and from 1 on all; but
+-- of a sync nothing more is sure.
+abbrev pub failing : ℕ → Call → Machine → Machine
+failing k (Write name bytes) m = after (Write name (take k bytes)) m
+failing k (Sync name) m = with_version m name failed_sync
+failing k SyncFolder m = m
+failing zero call m = m
+failing (suc k) call m = after call m

@@ -1,0 +1,33 @@
+-- What came of the question is what was written.
+use Rattle.std.proofs.Common.{refl}
+use Rattle.conf_tools.proofs.read_words.answer.Goals as goal
+
+pub returns-in-Names : goal.returns-in-Names
+returns-in-Names g c = let e = c.write_names-ended.ensures in rw (c.in-Names.is)
+    (record { result = c.write_names-ended.result; ends = c.outcome_of_reading.ensures; done = e.ok; refused = e.refused })
+
+pub returns-in-Value : goal.returns-in-Value
+returns-in-Value g c = let e = c.write_value-ended.ensures in rw (c.in-Value.is)
+    (record { result = c.write_value-ended.result; ends = c.outcome_of_reading-in-Value.ensures; done = e.ok; refused = e.refused })
+
+pub returns-in-Presence : goal.returns-in-Presence
+returns-in-Presence g c = let e = c.find_presence-found.ensures in rw (c.in-Presence.is) (record {
+  result = c.find_presence-found.result;
+  ends = c.outcome_of_presence.ensures;
+  done = e.ok;
+  refused = e.refused;
+  keeps = refl;
+})
+
+pub returns-in-Log : goal.returns-in-Log
+returns-in-Log g c = let e = c.write_log-ended.ensures in rw (c.in-Log.is) (record {
+  result = c.write_log-ended.result;
+  ends = c.outcome_of_log.ensures;
+  left = g.R.Read.remaining c.write_log-ended.new.reader;
+  done = e.ok;
+  refused = e.refused;
+})
+
+pub returns-in-Survey : goal.returns-in-Survey
+returns-in-Survey g c = let e = c.write_survey-ended.ensures in rw (c.in-Survey.is)
+    (record { result = c.write_survey-ended.result; ends = c.outcome_of_survey.ensures; done = e.ok; refused = e.refused })

@@ -1,0 +1,145 @@
+-- The differences of two trees, as they are found: place by place, in the order of the first tree.
+use Rattle.std.specs.Prelude.{ℕ, zero, suc, ◌+◌, ◌-◌, ◌*◌, ◌/◌, ◌%◌, ◌^◌, nat_lt, ◌==◌, ◌&&◌, if◌then◌else◌, List, [], ◌∷◌, ◌++◌, map}
+use Rattle.std.specs.Prelude.{Option, Some, None}
+use Rattle.std.specs.Prelude.{codes, decimal}
+use Rattle.tree_diff.specs.Prelude.{Tree, text, sequence, mapping, Elements, no_element, element, Members, no_member}
+use Rattle.tree_diff.specs.Prelude.{member, same_text, chars, tree_of, elements_of, members_of, pointer_text, element_nodes}
+use Rattle.tree_diff.specs.Prelude.{member_nodes}
+use Rattle.tree_diff.specs.Choices.{count, before_end, is_set_whole}
+use Rattle.tree_diff.specs.Diffs.{Change}
+use Rattle.tree_diff.specs.declared.level.Level.{Level}
+use Rattle.tree_diff.specs.declared.level.Rest.{Rest}
+use Rattle.tree_diff.specs.declared.level.Rest.TheVariants as rests
+use Rattle.tree_diff.specs.declared.level.Step.{Step}
+use Rattle.tree_diff.specs.declared.level.Step.TheVariants as steps
+use Rattle.tree_diff.specs.declared.level.Task.{Task}
+use Rattle.tree_diff.specs.declared.level.Task.TheVariants as tasks
+
+-- a difference: the path to its place, and the value there in the second tree; none if there is none
+pub record Difference : Type 0 where
+  pub path : List (List ℕ)
+  pub value : Option Tree
+
+-- one difference at the place where the trees are
+abbrev pub here : Option Tree → List Difference
+here v = record { path = []; value = v } ∷ []
+
+-- a difference of two values, as one of the trees that have them at a step
+abbrev pub below : List ℕ → Difference → Difference
+below token d = record { path = token ∷ d.path; value = d.value }
+
+-- the same at the end of a path
+abbrev pub under : List (List ℕ) → Difference → Difference
+under path d = record { path = path ++ d.path; value = d.value }
+
+-- a difference as an edit
+abbrev pub written : Difference → Change
+written d = record { pointer = pointer_text d.path; value = d.value }
+
+-- ---- the token of an index
+
+-- The digits of a number. `decimal` has those of a number of 64 bits; a greater one has one more than its tenth part.
+abbrev pub digits_within : ℕ → ℕ → List ℕ
+digits_within zero n = decimal n
+digits_within (suc most) n =
+    if nat_lt n (2 ^ 64) then decimal n else digits_within most (n / 10) ++ (48 + n % 10) ∷ []
+
+-- the token that leads to the element at an index
+unfoldable pub index_token : ℕ → List ℕ
+index_token index = digits_within index index
+
+-- ---- the differences
+
+-- elements that the first sequence lacks: each is set after the last element
+abbrev pub new_elements : Elements → List Difference
+new_elements no_element = []
+new_elements (element u us) = record { path = codes "-" ∷ []; value = Some u } ∷ new_elements us
+
+-- members that the first mapping lacks: each is set last
+abbrev pub new_members : Members → List Difference
+new_members no_member = []
+new_members (member key u ns) = record { path = key ∷ []; value = Some u } ∷ new_members ns
+
+abbrev mutual
+  -- texts that differ, values of two kinds, and a mapping that is set whole give way to the second one
+  pub differences : Tree → Tree → List Difference
+  differences (text value) (text other) = if same_text value other then [] else here (Some (text other))
+  differences (text value) (sequence us) = here (Some (sequence us))
+  differences (text value) (mapping ns) = here (Some (mapping ns))
+  differences (sequence ts) (text other) = here (Some (text other))
+  differences (sequence ts) (sequence us) = element_differences (before_end ts us) 0 ts us
+  differences (sequence ts) (mapping ns) = here (Some (mapping ns))
+  differences (mapping ms) (text other) = here (Some (text other))
+  differences (mapping ms) (sequence us) = here (Some (sequence us))
+  differences (mapping ms) (mapping ns) =
+      if is_set_whole ms ns then here (Some (mapping ns)) else member_differences ms ns
+
+  -- Of elements from an index on: those at one index are compared. Elements that are left over are deleted, as soon as
+  -- so many ahead are compared; missing ones are new.
+  pub element_differences : ℕ → ℕ → Elements → Elements → List Difference
+  element_differences ahead index no_element us = new_elements us
+  element_differences ahead index (element t ts) no_element =
+      record { path = index_token index ∷ []; value = None } ∷ element_differences ahead index ts no_element
+  element_differences ahead index (element t ts) (element u us) =
+      if (ahead == 0) && nat_lt (count us) (count ts)
+      then record { path = index_token index ∷ []; value = None } ∷ element_differences ahead index ts (element u us)
+      else map (below (index_token index)) (differences t u) ++ element_differences (ahead - 1) (index + 1) ts us
+
+  -- Of members: a key of the first mapping stays if it is the next key of the second one, and is deleted otherwise.
+  -- What is left of the second one is new.
+  pub member_differences : Members → Members → List Difference
+  member_differences no_member ns = new_members ns
+  member_differences (member key t ms) no_member =
+      record { path = key ∷ []; value = None } ∷ member_differences ms no_member
+  member_differences (member key t ms) (member other u ns) =
+      if same_text key other then map (below key) (differences t u) ++ member_differences ms ns
+      else record { path = key ∷ []; value = None } ∷ member_differences ms (member other u ns)
+
+-- ---- the differences that a walk has still to find
+
+-- a step as a token of a path
+abbrev pub token_of : Step → List ℕ
+token_of (steps.Key key) = chars key.now
+token_of (steps.Index index) = index_token index
+token_of steps.End = codes "-"
+
+-- of what is left of two collections
+abbrev pub rest_differences : Rest → List Difference
+rest_differences (rests.Elements rest) =
+    element_differences rest.ahead rest.index (elements_of rest.first.now) (elements_of rest.second.now)
+rest_differences (rests.Members first second) = member_differences (members_of first.now) (members_of second.now)
+
+-- of one place
+abbrev pub task_differences : Task → List Difference
+task_differences tasks.Keep = []
+task_differences (tasks.Set value) = here (Some (tree_of value.now))
+task_differences tasks.Delete = here None
+task_differences (tasks.Enter rest) = rest_differences rest
+
+-- the path of the place that is compared now: a step of each level
+abbrev pub path_of_levels : List Level → List (List ℕ)
+path_of_levels levels = map (λ level. token_of level.step) levels
+
+-- of the levels of a walk, the innermost one last
+abbrev pub differences_left : List Level → List Difference
+differences_left [] = []
+differences_left (l ∷ ls) = map (below (token_of l.step)) (differences_left ls) ++ rest_differences l.rest
+
+-- ---- how much is left, by which the walk ends
+
+-- the nodes of what is left of two collections
+abbrev pub rest_nodes : Rest → ℕ
+rest_nodes (rests.Elements rest) = element_nodes (elements_of rest.first.now) + element_nodes (elements_of rest.second.now)
+rest_nodes (rests.Members first second) = member_nodes (members_of first.now) + member_nodes (members_of second.now)
+
+-- A bound on the steps of the walk: each level counts 1 and each of its nodes 2.
+abbrev pub steps_left : List Level → ℕ
+steps_left [] = 0
+steps_left (l ∷ ls) = 1 + 2 * rest_nodes l.rest + steps_left ls
+
+-- what one place adds to it
+abbrev pub task_steps : Task → ℕ
+task_steps tasks.Keep = 0
+task_steps (tasks.Set value) = 0
+task_steps tasks.Delete = 0
+task_steps (tasks.Enter rest) = 1 + 2 * rest_nodes rest

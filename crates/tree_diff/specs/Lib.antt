@@ -1,0 +1,4 @@
+pub mod Prelude
+pub mod Diffs
+pub mod Choices
+pub mod Differences

@@ -1,0 +1,12 @@
+pub mod Presented
+pub mod Bare
+pub mod Rows
+pub mod Scalars
+pub mod Extras
+pub mod Literals
+pub mod Spelled
+pub mod Fits
+pub mod Meant
+pub mod Texts
+pub mod Read
+pub mod Woven

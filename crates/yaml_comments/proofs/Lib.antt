@@ -1,0 +1,10 @@
+pub mod Segments
+pub mod Parted
+pub mod LinesParted
+pub mod FlowParted
+pub mod BlockParted
+pub mod StreamParted
+pub mod Told
+pub mod Once
+pub mod Gaps
+pub mod Searching

@@ -1,0 +1,66 @@
+-- Where a comment of a text may be: what is outside of its scalars (YAML 1.2.2, 6.6). Places are bytes from 0.
+use Rattle.std.specs.Prelude.{◌≡◌, ◌≢◌, ◌⊎◌, ℕ, ◌<◌, ◌≤◌, List, [], ◌∷◌, Option, Some, None, length, slice_index}
+use Rattle.yaml_grammar.specs.Events.{Event, Style, plain_style, single_style, double_style, literal_style}
+use Rattle.yaml_grammar.specs.Events.{folded_style, omitted_style, document_start, document_end, seq_start, seq_end}
+use Rattle.yaml_grammar.specs.Events.{map_start, map_end, scalar_event}
+
+-- no byte from one place up to another is an LF or a CR
+abbrev pub IsOneLine : List ℕ → ℕ → ℕ → Type 0
+IsOneLine bytes from to =
+    (at : ℕ) → from ≤ at → at < to → (slice_index bytes at ≢ 10) × (slice_index bytes at ≢ 13)
+
+-- The place is on the header of a block scalar that begins at `start`: on the line of its `|` or `>` (8.1.1). Another
+-- scalar has no header.
+abbrev pub IsOnHeader : List ℕ → Style → ℕ → ℕ → Type 0
+IsOnHeader bytes literal_style start at = IsOneLine bytes start at
+IsOnHeader bytes folded_style start at = IsOneLine bytes start at
+IsOnHeader bytes plain_style start at = ⊥
+IsOnHeader bytes single_style start at = ⊥
+IsOnHeader bytes double_style start at = ⊥
+IsOnHeader bytes omitted_style start at = ⊥
+
+-- the place is outside of the range of each scalar, or on its header
+abbrev pub IsOutside : List ℕ → ℕ → List Event → Type 0
+IsOutside bytes at [] = Unit {0}
+IsOutside bytes at (scalar_event style start end value ∷ events) =
+    ((at < start) ⊎ (end ≤ at) ⊎ IsOnHeader bytes style start at) × IsOutside bytes at events
+IsOutside bytes at (document_start ∷ events) = IsOutside bytes at events
+IsOutside bytes at (document_end ∷ events) = IsOutside bytes at events
+IsOutside bytes at (seq_start ∷ events) = IsOutside bytes at events
+IsOutside bytes at (seq_end ∷ events) = IsOutside bytes at events
+IsOutside bytes at (map_start ∷ events) = IsOutside bytes at events
+IsOutside bytes at (map_end ∷ events) = IsOutside bytes at events
+
+-- a comment begins here, or goes on: a `#` that is a part of no scalar
+pub record IsComment (bytes : List ℕ) (events : List Event) (at : ℕ) : Type 0 where
+  pub within : at < length bytes
+  pub mark : slice_index bytes at ≡ 35
+  pub outside : IsOutside bytes at events
+
+-- the first LF or CR from one place up to another, or the latter
+pub record IsLineEnd (bytes : List ℕ) (from to at : ℕ) : Type 0 where
+  pub after : from ≤ at
+  pub within : at ≤ to
+  pub one_line : IsOneLine bytes from at
+  pub ends : at < to → (slice_index bytes at ≡ 10) ⊎ (slice_index bytes at ≡ 13)
+
+-- ---- what a search for comments goes over
+
+-- no byte from one place up to another is a `#`
+abbrev pub HasNoMark : List ℕ → ℕ → ℕ → Type 0
+HasNoMark bytes from to = (at : ℕ) → from ≤ at → at < to → slice_index bytes at ≢ 35
+
+-- the first `#` from one place up to another
+abbrev pub IsFirstMark : List ℕ → ℕ → ℕ → Option ℕ → Type 0
+IsFirstMark bytes from to (Some at) =
+    (from ≤ at) × (at < to) × (slice_index bytes at ≡ 35) × HasNoMark bytes from at
+IsFirstMark bytes from to None = HasNoMark bytes from to
+
+-- The place at which the text of a scalar begins that has this range: behind its header.
+abbrev pub IsTextStart : List ℕ → Style → ℕ → ℕ → ℕ → Type 0
+IsTextStart bytes literal_style start end at = IsLineEnd bytes start end at
+IsTextStart bytes folded_style start end at = IsLineEnd bytes start end at
+IsTextStart bytes plain_style start end at = at ≡ start
+IsTextStart bytes single_style start end at = at ≡ start
+IsTextStart bytes double_style start end at = at ≡ start
+IsTextStart bytes omitted_style start end at = at ≡ start

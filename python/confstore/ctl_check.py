@@ -1,0 +1,124 @@
+"""`--check` of confstorectl: a command judges the configurations that a change would give, before it is made."""
+
+from __future__ import annotations
+
+import os
+import subprocess
+import tempfile
+import time
+from typing import Callable, Dict, List, NamedTuple, Optional, Sequence
+
+from .commands import is_name, put_of
+from .conditions import Absent, Condition, Test, move_of, under
+from .ctl_asked import Asked
+from .ctl_exchange import Exchange
+from .ctl_faults import Fault, TextFault, shown
+from .ctl_program import program, run
+from .ctl_sockets import PATIENCE, Command, SessionReply, answer_of
+from .ctl_words import CHECK, MOVING
+from .other import Cutter
+from .style import Tree, document
+
+REFUSED = "CheckFailed"
+
+# How much is shown of what a command said that has refused a text: its last lines, and the first signs of each.
+LAST_LINES = 10
+LONGEST_LINE = 300
+
+
+class _Planned(NamedTuple):
+    """A change, and the configurations that it was made for, each with its tree, or None where there is none."""
+
+    command: Command
+    trees: Dict[str, Optional[Tree]]
+
+    @property
+    def guards(self) -> List[Condition]:
+        """The conditions under which they are as they were."""
+        return [Absent(name) if tree is None else Test(name, "", tree) for name, tree in self.trees.items()]
+
+
+def judge(asked: Asked, name: str, text: bytes) -> None:
+    """Has the command of `--check` look at the text of a configuration. Raises the `Fault` of one that it refuses."""
+    command = asked.options[CHECK.name]
+    more = {"CONFSTORE_NAME": name, "CONFSTORE_FOLDER": os.path.abspath(asked.folder)}
+    try:
+        done = subprocess.run(
+            ["/bin/sh", "-c", command], input=text, stdout=subprocess.PIPE, stderr=subprocess.STDOUT, check=False,
+            env={**os.environ, **more},
+        )  # fmt: skip
+    except OSError as error:
+        raise Fault("NotStarted", f"/bin/sh can't be run: {error.strerror}") from None
+    if done.returncode:
+        how = f"status {done.returncode}" if done.returncode > 0 else f"signal {-done.returncode}"
+        said = done.stdout.decode("utf-8", "replace").splitlines()[-LAST_LINES:]
+        about = f"{shown(command)} ended with {how} on {name}, so nothing was changed"
+        raise Fault(REFUSED, "\n".join([about, *(shown(line)[:LONGEST_LINE] for line in said)]))
+
+
+def change(asked: Asked, command: Command, conditions: Sequence[Condition]) -> int:
+    """Makes a change once the command of `--check` has taken all configurations that it gives. The status. Where one of
+    these was changed meanwhile it begins again. Raises a `Fault`."""
+    program()  # it says what the change would give
+    exchange, deadline = Exchange(asked), time.monotonic() + PATIENCE
+    plan = _plan_of(asked, command)
+    while True:
+        planned = plan(exchange)
+        for name, text in _outcome_of(planned).items():
+            judge(asked, name, text)
+        try:
+            exchange.ask(under([*conditions, *planned.guards], planned.command))
+            return 0
+        except Fault as fault:
+            is_as_it_was = {name: exchange.tree(name) for name in planned.trees} == planned.trees
+            if fault.kind != "Unmet" or is_as_it_was or time.monotonic() > deadline:
+                raise
+
+
+def _plan_of(asked: Asked, command: Command) -> Callable[[Exchange], _Planned]:
+    """What makes the change for what is there."""
+    if asked.word not in MOVING:
+        return lambda exchange: _Planned(command, {name: exchange.tree(name) for name in _names_of(command)})
+    source, target = asked.arguments["NAME"], asked.arguments["TO"]
+
+    def plan(exchange: Exchange) -> _Planned:
+        tree = exchange.tree(source)
+        if tree is None:
+            raise Fault("NoConfig")
+        trees: Dict[str, Optional[Tree]] = {source: tree}
+        if target != source:
+            trees[target] = exchange.tree(target)
+        return _Planned(move_of(asked.word.name, source, target, tree), trees)
+
+    return plan
+
+
+def _names_of(command: Command) -> List[str]:
+    """The names of the configurations that a command may change."""
+    edits = command.get("batch", [command])
+    firsts = [next(iter(edit.values()), "") for edit in edits if isinstance(edit, dict)]
+    return list(dict.fromkeys(name for name in firsts if isinstance(name, str) and is_name(name)))
+
+
+def _outcome_of(planned: _Planned) -> Dict[str, bytes]:
+    """The texts of the configurations that a change may give, which the program makes in a store of its own. Raises the
+    `Fault` of a change that it refuses."""
+    commands: List[Command] = [put_of(name, tree) for name, tree in planned.trees.items() if tree is not None]
+    commands.append(planned.command)
+    commands += [{"export": name} for name in planned.trees]
+    with tempfile.TemporaryDirectory(prefix="confstorectl-") as folder:
+        ended = run(["run", "--", folder], b"".join(map(document, commands)))
+    answers = Cutter().cut(ended.output)
+    if len(answers) != len(commands):
+        raise TextFault(ended.lines() or "confstorectl: BadAnswer: the program did not answer all\n", 3)
+    texts: Dict[str, bytes] = {}
+    for command, answer in zip(commands, answers):
+        try:
+            tree = answer_of(SessionReply(answer), command, program()).tree()
+        except Fault as fault:
+            if fault.kind == "NoConfig" and "export" in command:
+                continue  # the change removes it
+            raise
+        if "export" in command:
+            texts[str(command["export"])] = str(tree).encode()
+    return texts

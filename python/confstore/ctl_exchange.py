@@ -1,0 +1,98 @@
+"""What confstorectl asks of the holder of a store where a word takes more than one command."""
+
+from __future__ import annotations
+
+import time
+from typing import Optional
+
+import yaml
+
+from .commands import get_of
+from .ctl_asked import Asked
+from .ctl_faults import REFUSED, Fault, TextFault, shown
+from .ctl_program import is_without_store, program_if_any, run
+from .ctl_sockets import Command, Connection, Place, Reply, SessionReply, answer_of, place_of
+from .ctl_words import INIT
+from .faults import ConfstoreError
+from .style import Tree, document, from_text
+
+# How many seconds lie between two tries.
+PAUSE = 0.1
+
+
+class Exchange:
+    """Asks commands of the server at the socket of a word, if there is one, and else of a session of the program."""
+
+    def __init__(self, asked: Asked) -> None:
+        self._asked = asked
+
+    def ask(self, command: Command) -> Reply:
+        """The answer to a command, which is tried again for as long as the word may wait. Raises its `Fault`."""
+        deadline = time.monotonic() + self._asked.wait
+        while True:
+            try:
+                return self._ask(command)
+            except Fault as fault:
+                if not fault.may_try_again or time.monotonic() >= deadline:
+                    raise
+            time.sleep(min(PAUSE, max(deadline - time.monotonic(), 0)))
+
+    def tree(self, name: str) -> Optional[Tree]:
+        """The tree of a configuration, or None if none has the name. The program takes no lock for it."""
+        folder = self._asked.folder
+        if self._asked.has(INIT) and is_without_store(folder):
+            return None
+        try:
+            if place_of(self._asked.socket, folder) is not None:
+                return self.ask(get_of(name, "")).tree()
+        except Fault as fault:
+            if fault.kind != "NoConfig":
+                raise
+            return None
+        ended = run(["get", "--", folder, name], None)
+        if ended.status == 0:
+            return tree_in(ended.output)
+        if ended.has_fault("NoConfig"):
+            return None
+        raise TextFault(ended.lines(), ended.status if ended.status > 0 else REFUSED)
+
+    def _ask(self, command: Command) -> Reply:
+        place = place_of(self._asked.socket, self._asked.folder)
+        if place is None:
+            return self._ask_program(command)
+        try:
+            return self._ask_server(place, command)
+        except Fault as fault:
+            if place.is_given or not fault.may_try_again:
+                raise
+        return self._ask_program(command)  # the server that was there has ended
+
+    def _ask_server(self, place: Place, command: Command) -> Reply:
+        with Connection(place) as connection:
+            answer = connection.ask(command)
+            connection.finish()
+        return answer_of(answer, command, program_if_any())
+
+    def _ask_program(self, command: Command) -> Reply:
+        if is_without_store(self._asked.folder) and not self._asked.has(INIT):
+            raise Fault("NotAStore")
+        return answer_by_program(self._asked.folder, command)
+
+
+def tree_in(output: bytes) -> Tree:
+    """The tree that the program has written. Raises a `Fault` where that is none."""
+    try:
+        return from_text(output)
+    except (ConfstoreError, yaml.YAMLError) as error:
+        raise Fault("BadAnswer", f"what the program wrote is no tree: {shown(str(error))}") from None
+
+
+def answer_by_program(folder: str, command: Command) -> Reply:
+    """The answer of a session of the program to one command. Raises its `Fault`."""
+    ended = run(["run", "--", folder], document(command))
+    if ended.was_locked:
+        raise Fault("Locked", None, True)
+    if not ended.output:
+        lines = ended.lines() or f"confstorectl: BadAnswer: the program ended with status {ended.status}\n"
+        raise TextFault(lines, ended.status if ended.status > 0 else REFUSED)
+    return answer_of(SessionReply(ended.output), command, program_if_any())
