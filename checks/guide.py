@@ -1,14 +1,14 @@
 #!/usr/bin/env python3
-"""Runs the commands of docs/GUIDE.md and of README.md in a scratch folder, and compares what they print with the page.
+"""Runs the commands of docs/GUIDE.md, docs/OPERATING.md and README.md, and compares what they print with the page.
 
-In the lists of GUIDE.md a line that begins with `$ ` is a command, one that begins with `> ` goes on with it, and the
-lines up to the next command are what it prints, on standard output or standard error. The commands of one page share
-a folder and run in order, by one bash each. Of README.md the first list is run, and the file compared that the second
-shows. The program has to be built first:
+In the lists of the first two a line that begins with `$ ` is a command, one that begins with `> ` goes on with it, and
+the lines up to the next command are what it prints, on standard output or standard error. The commands of one page
+share a scratch folder and run in order, by one bash each. Of README.md the first list is run, and the file compared
+that the second shows. The program has to be built first:
 
     ./prove && python3 checks/guide.py [--write]
 
-`--write` puts what the commands print into the page, to be looked at. The environment's CONFSTORE names another
+`--write` puts what the commands print into these pages, to be looked at. The environment's CONFSTORE names another
 program. The last line is 'N passed, M failed', of commands; the status is 0 if M is 0.
 """
 
@@ -24,7 +24,7 @@ from typing import Union
 
 from lib.store_runs import PROGRAM, TOP, Failures, need_program
 
-GUIDE = os.path.join(TOP, "docs", "GUIDE.md")
+PAGES = tuple(os.path.join(TOP, "docs", name) for name in ("GUIDE.md", "OPERATING.md"))
 README = os.path.join(TOP, "README.md")
 MARGIN = "    "
 PATIENCE = 60
@@ -75,21 +75,21 @@ def lines_printed(script: str, folder: str, settings: Mapping[str, str]) -> list
     return done.stdout.decode().splitlines()
 
 
-def run_guide(failures: Failures, settings: Mapping[str, str]) -> list[Part]:
-    """Runs the commands of the guide. Returns its parts with what the commands print."""
-    with open(GUIDE, encoding="utf-8") as page:
+def run_page(path: str, failures: Failures, settings: Mapping[str, str]) -> list[Part]:
+    """Runs the commands of a page. Returns its parts with what the commands print."""
+    with open(path, encoding="utf-8") as page:
         parts = parts_of(page.read())
     with tempfile.TemporaryDirectory() as folder:
         for part in parts:
             if isinstance(part, Command):
                 printed = lines_printed(part.script(), folder, settings)
-                failures.expect(part.lines[0].strip(), printed, part.printed)
+                failures.expect(f"{os.path.basename(path)}: {part.lines[0].strip()}", printed, part.printed)
                 part.printed = printed
     return parts
 
 
-def write_guide(parts: list[Part]) -> None:
-    with open(GUIDE, "w", encoding="utf-8") as page:
+def write_page(path: str, parts: list[Part]) -> None:
+    with open(path, "w", encoding="utf-8") as page:
         for part in parts:
             lines = part.lines + [MARGIN + line for line in part.printed] if isinstance(part, Command) else [part]
             page.write("".join(line.rstrip() + "\n" for line in lines))
@@ -113,9 +113,10 @@ def main() -> int:
     failures = Failures()
     with tempfile.TemporaryDirectory() as top:
         settings = environment(top)
-        parts = run_guide(failures, settings)
-        if "--write" in sys.argv[1:]:
-            write_guide(parts)
+        for path in PAGES:
+            parts = run_page(path, failures, settings)
+            if "--write" in sys.argv[1:]:
+                write_page(path, parts)
         run_readme(failures, settings)
     return failures.report()
 

@@ -11,7 +11,9 @@
 - docs/ARCHITECTURE.md: the tables have each crate of crates.txt, and the last cell of one its files to read first; the
   functions of the drawing of a command's way are in their files.
 - docs/TRUSTED.md: each file of definitions is there.
-- docs/GUIDE.md and README.md: each word behind `confstore` is one of the program's; the guide has all of them.
+- docs/GUIDE.md, docs/OPERATING.md and README.md: each word behind `confstore` is one of the program's; the guide has
+  all of them.
+- docs/OPERATING.md: the table of faults has each fault for which docs/FAULTS.md points to it, and no name that is none.
 - PAGES: each page, script and picture that they name is there: beside the page, from the top, in checks/ or bench/.
 - crates.txt: a library that a line names is in the files of the line's crate, and from no crate are there more than
   18,000 ways down through these lines: a toolchain may read the sources once for each.
@@ -181,6 +183,16 @@ def wrong_statuses() -> Iterator[str]:
     yield from (f"docs/FAULTS.md: status {status}" for status in sorted(there ^ named))
 
 
+def wrong_in_operating() -> Iterator[str]:
+    """The faults of the table of the page for operators, beside those whose rows in FAULTS.md point to it."""
+    codes = (name for row in rows_of("docs/OPERATING.md") for name in CODE.findall(row[0]))
+    named = {name for name in codes if re.fullmatch(r"[A-Z][A-Za-z]+", name)}
+    pointing = [row for row in rows_of("docs/FAULTS.md") if "`OPERATING.md`" in row[-1]]
+    wanted = {name for row in pointing for name in CODE.findall(row[0])}
+    yield from (f"docs/OPERATING.md: `{name}` is no fault" for name in sorted(named - printed_faults()))
+    yield from (f"docs/OPERATING.md: `{name}` is missing" for name in sorted(wanted - named))
+
+
 def wrong_limits() -> Iterator[str]:
     code = text_of("*/src/*.rt").replace("_", "")
     for what, most, beyond in list(rows_of("docs/STORE.md", "Limits"))[1:]:
@@ -233,7 +245,7 @@ def missing_definitions() -> Iterator[str]:
 def wrong_words() -> Iterator[str]:
     text = text_of("conf_words/src/subcommand.rt")
     words = set(re.findall(r'Subcommand::\w+ => "([a-z]+)"', text))
-    for path in ("docs/GUIDE.md", "README.md"):
+    for path in ("docs/GUIDE.md", "docs/OPERATING.md", "README.md"):
         named = set(re.findall(r"^    .*?\bconfstore ([a-z]+)\b", page(path), re.M))
         yield from (f"{path}: confstore {word}" for word in sorted(named - words - CLAP_WORDS))
         if path == "docs/GUIDE.md":
@@ -298,9 +310,9 @@ def wrong_copies() -> Iterator[str]:
 
 
 def main() -> int:
-    looks = (missing_in_rules, missing_in_proofs, wrong_in_faults, wrong_statuses, wrong_limits, wrong_in_architecture,
-             wrong_in_drawing, missing_definitions, wrong_words, missing_files, unused_libraries, many_ways,
-             wrong_pictures, mixed_scripts, wrong_copies)  # fmt: skip
+    looks = (missing_in_rules, missing_in_proofs, wrong_in_faults, wrong_statuses, wrong_in_operating, wrong_limits,
+             wrong_in_architecture, wrong_in_drawing, missing_definitions, wrong_words, missing_files, unused_libraries,
+             many_ways, wrong_pictures, mixed_scripts, wrong_copies)  # fmt: skip
     missing = [line for look in looks for line in look()]
     for line in missing:
         print(line)

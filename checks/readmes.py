@@ -1,9 +1,10 @@
 #!/usr/bin/env python3
-"""Walks the examples of python/README.md, clients/README.md and release/README.md, as they stand on the pages.
+"""Walks the examples of the READMEs of python/, clients/ and release/, and the server's of docs/OPERATING.md.
 
-They are done in a clone of the last commit, with venvs in which the package is installed without a network. `/tmp`,
-`/run` and `/var/lib` stand for folders beside it, and the program is on the PATH. Each example of a page has to be
-walked: one that nothing here takes is told. What isn't installed is left out, with a line that says so.
+They are done as they stand on the pages, in a clone of the last commit, with venvs in which the package is installed
+without a network. `/tmp`, `/run` and `/var/lib` stand for folders beside it, and the program is on the PATH. Each
+example of a page has to be walked, but those with a `$`, which guide.py runs: one that nothing here takes is told. What
+isn't installed is left out, with a line that says so.
 
     ./prove && python3 checks/readmes.py
 
@@ -124,7 +125,8 @@ class Page:
         self.name = name
         with open(os.path.join(room.clone, name), encoding="utf-8") as source:
             self.text = source.read()
-        self.left = [self._lines_of(found) for found in EXAMPLE.finditer(self.text)]
+        examples = [self._lines_of(found) for found in EXAMPLE.finditer(self.text)]
+        self.left = [example for example in examples if not example.startswith("$ ")]
 
     @staticmethod
     def _lines_of(found: re.Match[str]) -> str:
@@ -243,6 +245,18 @@ def walk_servers(room: Room, page: Page) -> None:
             room.failures.expect("a session is open", "confstore_session_open 1\n" in room.shell(asked), True)
 
 
+# ---- docs/OPERATING.md
+
+
+def walk_operating(room: Room) -> None:
+    page = Page(room, "docs/OPERATING.md")
+    server, asked = page.take("clients/serve.py --metrics").splitlines()
+    if has("curl"):
+        with room.serving(server):
+            room.failures.expect("the health of the server", room.shell(asked), "ok\n")
+    room.failures.expect("examples of docs/OPERATING.md that are not walked", page.left, [])
+
+
 # ---- release/README.md
 
 
@@ -259,7 +273,7 @@ def main() -> int:
     failures = Failures()
     with tempfile.TemporaryDirectory() as top:
         room = Room(os.path.realpath(top), failures)
-        walks: tuple[Callable[[Room], None], ...] = (walk_python, walk_clients, walk_release)
+        walks: tuple[Callable[[Room], None], ...] = (walk_python, walk_clients, walk_operating, walk_release)
         for walk in walks:
             walk(room)
     return failures.report()
