@@ -10,6 +10,7 @@
 - docs/STORE.md: each number of the table of limits is in the code, and each fault of it is one.
 - docs/ARCHITECTURE.md: the tables have each crate of crates.txt, and the last cell of one its files to read first; the
   functions of the drawing of a command's way are in their files.
+- CONTRIBUTING.md: in the table of a new command, each file of a crate is there, and has the command of its column.
 - docs/TRUSTED.md: each file of definitions is there.
 - docs/GUIDE.md, docs/OPERATING.md and README.md: each word behind `confstore` is one of the program's; the guide has
   all of them.
@@ -220,6 +221,25 @@ def wrong_in_architecture() -> Iterator[str]:
         yield f"docs/ARCHITECTURE.md: `{crate}` is not in both its tables and crates.txt"
 
 
+def files_of_cell(cell: str) -> Iterator[tuple[str, str]]:
+    """The files that a cell names, each with the crate that is named before it."""
+    crate = ""
+    for name in CODE.findall(cell):
+        crate = name if name in crates() else crate
+        if name.startswith(("specs/", "src/")):
+            yield crate, name if name.endswith(".rt") else f"{name}.antt"
+
+
+def wrong_in_contributing() -> Iterator[str]:
+    """The files of a new command: those in the second column say `set`, and those in the third `names`."""
+    for row in rows_of("CONTRIBUTING.md", "A new command"):
+        cells = [row[1], row[1] + row[2] if row[2].startswith("the same") else row[2]]
+        for cell, words in zip(cells, (("set", "Set", "set_at"), ("names", "Names", "names_keys"))):
+            for crate, name in files_of_cell(cell):
+                if not any(has_word(word, text_of(f"{crate}/{name}")) for word in words):
+                    yield f"CONTRIBUTING.md: `{name}` of {crate} has no `{words[0]}`"
+
+
 def wrong_in_drawing() -> Iterator[str]:
     """The names in the drawing of a command's way; a line without a crate is of the one before."""
     crate = ""
@@ -311,8 +331,8 @@ def wrong_copies() -> Iterator[str]:
 
 def main() -> int:
     looks = (missing_in_rules, missing_in_proofs, wrong_in_faults, wrong_statuses, wrong_in_operating, wrong_limits,
-             wrong_in_architecture, wrong_in_drawing, missing_definitions, wrong_words, missing_files, unused_libraries,
-             many_ways, wrong_pictures, mixed_scripts, wrong_copies)  # fmt: skip
+             wrong_in_architecture, wrong_in_contributing, wrong_in_drawing, missing_definitions,
+             wrong_words, missing_files, unused_libraries, many_ways, wrong_pictures, mixed_scripts, wrong_copies)  # fmt: skip
     missing = [line for look in looks for line in look()]
     for line in missing:
         print(line)
