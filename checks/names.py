@@ -3,8 +3,8 @@
 
 - docs/PROVED.md, in the tables of rules: `File.name` is a definition, `crate::file::name` a function in `src/file.rt`,
   `crate/name` a must-fail edit, and a bare name with `_` a law (a public function) or a crate. A text with `;` begins a
-  row of a probe, and one that begins with `words ` is such a line of checks/data/program.txt. A name in the column of
-  proofs is a law, or is in the sources of the crates of the row's code.
+  row of a probe, and one that begins with `words ` is such a line of checks/data/program.txt. Another name behind the
+  code, of what proves it, is a law, or is in the sources of the crates of the row's code.
 - docs/FAULTS.md: the first cells of its tables have each variant of the faults that the program prints, and no other
   name, and the table of statuses has those of the code.
 - docs/STORE.md: each number of the table of limits is in the code, and each fault of it is one.
@@ -130,24 +130,28 @@ def is_rule_name(token: str) -> bool:
 
 
 def rules() -> list[list[str]]:
-    """The rows of the tables of rules: the rule, its definition, its code, its proof and its test.
+    """The rows of the tables of rules: the rule, its definition, its code with what proves it, and its test."""
+    return [row for row in rows_of("docs/PROVED.md") if row[0] != "rule"]
 
-    The other table of the page, of what is only tested, has two columns.
-    """
-    return [row for row in rows_of("docs/PROVED.md") if len(row) > 2 and row[0] != "rule"]
+
+def functions_and_proofs(cell: str) -> tuple[list[str], list[str]]:
+    """The functions of a cell of code, as `crate::file::name`, and the clauses and laws of it."""
+    names = CODE.findall(cell)
+    return [name for name in names if "::" in name], [name for name in names if "::" not in name]
 
 
 def missing_in_rules() -> Iterator[str]:
-    for rule, definition, code, _, test in rules():
-        tokens = CODE.findall(" ".join((rule, definition, code, test)))
+    for rule, definition, code, test in rules():
+        tokens = CODE.findall(" ".join((rule, definition, test))) + functions_and_proofs(code)[0]
         yield from (f"docs/PROVED.md: `{token}`" for token in tokens if not is_rule_name(token))
 
 
 def missing_in_proofs() -> Iterator[str]:
-    for _, _, code, proof, _ in rules():
-        named = [token.split("::")[0] for token in CODE.findall(code)]
+    for _, _, code, _ in rules():
+        functions, proofs = functions_and_proofs(code)
+        named = [token.split("::")[0] for token in functions]
         sources = "\n".join(text_of(f"{crate}/src/**/*.rt") for crate in named)
-        for name in CODE.findall(proof):
+        for name in proofs:
             if not has_word(name, sources) and not is_law(name):
                 yield f"docs/PROVED.md: `{name}` is neither a law nor in {', '.join(named)}"
 
