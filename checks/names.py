@@ -1,10 +1,10 @@
 #!/usr/bin/env python3
 """Looks up each name that the pages and crates.txt give, and fails if one is wrong.
 
-- docs/PROVED.md, in the tables of rules: `File.name` is a definition, `crate::file::name` a function in `src/file.rt`,
+- docs/PROVED.md, in the lists of rules: `File.name` is a definition, `crate::file::name` a function in `src/file.rt`,
   `crate/name` a must-fail edit, and a bare name with `_` a law (a public function) or a crate. A text with `;` begins a
-  row of a probe, and one that begins with `words ` is such a line of checks/data/program.txt. Another name behind the
-  code, of what proves it, is a law, or is in the sources of the crates of the row's code.
+  row of a probe, and one that begins with `words ` is such a line of checks/data/program.txt. A plain word behind the
+  arrow is a law, or is in the sources of the crates of the rule's code.
 - docs/FAULTS.md: the first cells of its tables have each variant of the faults that the program prints, and no other
   name, and the table of statuses has those of the code.
 - docs/STORE.md: each number of the table of limits is in the code, and each fault of it is one.
@@ -38,6 +38,8 @@ from collections.abc import Iterator
 TOP = os.path.dirname(os.path.dirname(os.path.abspath(__file__)))
 CODE = re.compile(r"`([^`]+)`")
 CELL_ENDS = re.compile(r"(?<!\\)\|")
+# A rule of docs/PROVED.md: an item of a list with an arrow.
+RULE = re.compile("(?ms)^- ((?:(?!^- |^$).)*\u2192.*?)(?=^- |^$)")
 # The libraries that no file of a crate names, but whose types its contracts speak of.
 UNNAMED = {"example_edit": {"yaml_data"}, "conf_history": {"yaml_data"}}
 MOST_WAYS = 18000
@@ -129,27 +131,25 @@ def is_rule_name(token: str) -> bool:
     return True
 
 
-def rules() -> list[list[str]]:
-    """The rows of the tables of rules: the rule, its definition, its code with what proves it, and its test."""
-    return [row for row in rows_of("docs/PROVED.md") if row[0] != "rule"]
-
-
-def functions_and_proofs(cell: str) -> tuple[list[str], list[str]]:
-    """The functions of a cell of code, as `crate::file::name`, and the clauses and laws of it."""
-    names = CODE.findall(cell)
-    return [name for name in names if "::" in name], [name for name in names if "::" not in name]
+def rules() -> list[tuple[list[str], list[str]]]:
+    """What each rule names, and what its clauses and laws are: the names behind its arrow that are plain words."""
+    found = []
+    for item in RULE.findall(page("docs/PROVED.md")):
+        rule, _, behind = item.partition("\u2192")
+        names = CODE.findall(behind)
+        proofs = [name for name in names if re.fullmatch(r"\w+", name) and name not in crates()]
+        found.append((CODE.findall(rule) + [name for name in names if name not in proofs], proofs))
+    return found
 
 
 def missing_in_rules() -> Iterator[str]:
-    for rule, definition, code, test in rules():
-        tokens = CODE.findall(" ".join((rule, definition, test))) + functions_and_proofs(code)[0]
+    for tokens, _ in rules():
         yield from (f"docs/PROVED.md: `{token}`" for token in tokens if not is_rule_name(token))
 
 
 def missing_in_proofs() -> Iterator[str]:
-    for _, _, code, _ in rules():
-        functions, proofs = functions_and_proofs(code)
-        named = [token.split("::")[0] for token in functions]
+    for tokens, proofs in rules():
+        named = [token.split("::")[0] for token in tokens if "::" in token]
         sources = "\n".join(text_of(f"{crate}/src/**/*.rt") for crate in named)
         for name in proofs:
             if not has_word(name, sources) and not is_law(name):
