@@ -8,8 +8,8 @@
 - docs/FAULTS.md: the first cells of its tables have each variant of the faults that the program prints, and no other
   name, and the table of statuses has those of the code.
 - docs/STORE.md: each number of the table of limits is in the code, and each fault of it is one.
-- docs/ARCHITECTURE.md: the tables have each crate of crates.txt, and the last cell of one its files to read first; the
-  functions of the drawing of a command's way are in their files.
+- docs/ARCHITECTURE.md: the lists have each crate of crates.txt, and in brackets its files to read first; the functions
+  of the drawing of a command's way are in their files.
 - CONTRIBUTING.md: in the table of a new command, each file of a crate is there, and has the command of its column.
 - docs/TRUSTED.md: each file of definitions is there.
 - docs/GUIDE.md, docs/OPERATING.md and README.md: each word behind `confstore` is one of the program's; the guide has
@@ -38,6 +38,8 @@ from collections.abc import Iterator
 TOP = os.path.dirname(os.path.dirname(os.path.abspath(__file__)))
 CODE = re.compile(r"`([^`]+)`")
 CELL_ENDS = re.compile(r"(?<!\\)\|")
+# Crates of docs/ARCHITECTURE.md: an item of a list that begins with their names, and the files in its brackets.
+CRATES_ITEM = re.compile(r"(?ms)^- ((?:`\w+`,?\s)*`\w+`): (?:[^(]*?)(?:\(([^)]*)\))?\n(?=- |$)")
 # A rule of docs/PROVED.md: an item of a list with an arrow.
 RULE = re.compile("(?ms)^- ((?:(?!^- |^$).)*\u2192.*?)(?=^- |^$)")
 # The libraries that no file of a crate names, but whose types its contracts speak of.
@@ -215,14 +217,14 @@ def is_file_of(crate: str, name: str) -> bool:
 
 def wrong_in_architecture() -> Iterator[str]:
     named: set[str] = set()
-    for row in rows_of("docs/ARCHITECTURE.md"):
-        here = [name for name in CODE.findall(row[0])]
+    for names, files in CRATES_ITEM.findall(page("docs/ARCHITECTURE.md")):
+        here = CODE.findall(names)
         named.update(here)
-        for name in CODE.findall(row[2]) if len(row) > 2 else []:
+        for name in CODE.findall(files):
             if not is_file_of(here[0], name):
                 yield f"docs/ARCHITECTURE.md: {here[0]} has no file `{name}`"
     for crate in sorted(named ^ set(libraries_of_crates())):
-        yield f"docs/ARCHITECTURE.md: `{crate}` is not in both its tables and crates.txt"
+        yield f"docs/ARCHITECTURE.md: `{crate}` is not in both its lists and crates.txt"
 
 
 def files_of_cell(cell: str) -> Iterator[tuple[str, str]]:
