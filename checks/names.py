@@ -40,6 +40,8 @@ CODE = re.compile(r"`([^`]+)`")
 CELL_ENDS = re.compile(r"(?<!\\)\|")
 # Crates of docs/ARCHITECTURE.md: an item of a list that begins with their names, and the files in its brackets.
 CRATES_ITEM = re.compile(r"(?ms)^- ((?:`\w+`,?\s)*`\w+`): (?:[^(]*?)(?:\(([^)]*)\))?\n(?=- |$)")
+# What is to be read, in docs/TRUSTED.md: an item of a numbered list.
+READ_ITEM = re.compile(r"(?ms)^\d+\. (.*?)(?=^\d+\. |^$)")
 # A rule of docs/PROVED.md: an item of a list with an arrow.
 RULE = re.compile("(?ms)^- ((?:(?!^- |^$).)*\u2192.*?)(?=^- |^$)")
 # The libraries that no file of a crate names, but whose types its contracts speak of.
@@ -259,8 +261,8 @@ def wrong_in_drawing() -> Iterator[str]:
 
 def missing_definitions() -> Iterator[str]:
     folder = ""
-    for row in rows_of("docs/TRUSTED.md"):
-        for token in CODE.findall(row[1]):
+    for item in READ_ITEM.findall(page("docs/TRUSTED.md")):
+        for token in CODE.findall(" ".join(item.split()).partition(" Compare ")[0]):
             if not re.fullmatch(r"(crates/\w+/specs/)?[A-Z]\w+", token):
                 continue
             folder = os.path.dirname(token) or folder

@@ -220,10 +220,8 @@ def listed() -> set[str]:
     """The files that docs/TRUSTED.md lists, as `crate/specs/File`."""
     found: set[str] = set()
     folder = ""
-    for line in TRUSTED.read_text(encoding="utf-8").split("\n"):
-        if not line.startswith("| "):
-            continue
-        for entry in re.findall(r"`([\w/]+)`", line):
+    for item in re.findall(r"(?ms)^\d+\. (.*?)(?=^\d+\. |^$)", TRUSTED.read_text(encoding="utf-8")):
+        for entry in re.findall(r"`([\w/]+)`", " ".join(item.split()).partition(" Compare ")[0]):
             if entry.startswith("crates/"):
                 folder, _, entry = entry[len("crates/"):].rpartition("/")
             found.add(f"{folder}/{entry}")
