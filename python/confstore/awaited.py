@@ -8,7 +8,8 @@ import os
 import time
 from typing import Any, Callable, Dict, List, Mapping, Optional, Sequence, Type, Union, overload
 
-from .commands import CHECKPOINT, NAMES, Answers, delete_of, get_of, import_of, put_of, refused, set_of
+from .answers import Answers
+from .commands import CHECKPOINT, NAMES, delete_of, get_of, import_of, put_of, refused, set_of
 from .conditions import PROBE, Condition, Test, at_place, move_of, under
 from .edits import Edits
 from .faults import BadCommand, BadName, Closed, ConfstoreError, EmptyBatch, NoConfig, NoSuchPlace, NotIndex, NotText

@@ -2,21 +2,23 @@
 
 from __future__ import annotations
 
-import re
-from typing import Dict, List, NamedTuple, Sequence, Tuple
-
 from .ctl_faults import Fault, shown
 from .ctl_words import COMMON, FROM_FILE, HELP, IF_ABSENT, IF_VALUE, JSON, NO_NEWLINE, PLAIN, RAW
 from .ctl_words import RENDER, SET, SETTLE, SOCKET, VALUES, VERSION, WAIT, WHOLE, WORDS, YAML_RECORDS, YAML_VALUE
 from .ctl_words import Option, Word
 
-_OPTIONS: Dict[str, Option] = {
+TYPE_CHECKING = False
+if TYPE_CHECKING:
+    from collections.abc import Sequence
+
+_OPTIONS: dict[str, Option] = {
     option.name: option for word in WORDS.values() for option in (*word.options, *COMMON, VERSION)
 }
 _SHORT = {"-h": HELP.name, "-V": VERSION.name}
 
-_NUMBER = re.compile(r"-[0-9]+(\.[0-9]*)?([eE][-+]?[0-9]+)?")
-_SECONDS = re.compile(r"[0-9]+(\.[0-9]*)?|\.[0-9]+")
+# A negative number, and a number of seconds.
+_NUMBER = r"-[0-9]+(\.[0-9]*)?([eE][-+]?[0-9]+)?"
+_SECONDS = r"[0-9]+(\.[0-9]*)?|\.[0-9]+"
 
 # The greatest number that a command can have.
 GREATEST = 2**64 - 1
@@ -32,13 +34,20 @@ _EXCLUDING = (
 )
 
 
-class Asked(NamedTuple):
+def _is(pattern: str, text: str) -> bool:
+    """Whether a pattern fits a text. `re` is imported where an option or an argument needs it."""
+    import re
+
+    return re.fullmatch(pattern, text) is not None
+
+
+class Asked:
     """A word with its arguments and options, by their names. An option without a value has an empty one."""
 
-    word: Word
-    arguments: Dict[str, str]
-    options: Dict[str, str]
-    command: Tuple[str, ...] = ()
+    def __init__(
+        self, word: Word, arguments: dict[str, str], options: dict[str, str], command: tuple[str, ...] = ()
+    ) -> None:
+        self.word, self.arguments, self.options, self.command = word, arguments, options, command
 
     @property
     def folder(self) -> str:
@@ -51,9 +60,9 @@ class Asked(NamedTuple):
     def has(self, option: Option) -> bool:
         return option.name in self.options
 
-    def with_option(self, option: Option) -> "Asked":
+    def with_option(self, option: Option) -> Asked:
         """This with an option more, which has no value."""
-        return self._replace(options={**self.options, option.name: ""})
+        return Asked(self.word, self.arguments, {**self.options, option.name: ""}, self.command)
 
     @property
     def socket(self) -> str:
@@ -64,17 +73,18 @@ class Asked(NamedTuple):
         return float(self.options.get(WAIT.name, "0"))
 
 
-class Help(NamedTuple):
+class Help:
     """Help is asked for: of a word, or of all if that is empty."""
 
-    word: str
+    def __init__(self, word: str) -> None:
+        self.word = word
 
 
-class Version(NamedTuple):
+class Version:
     """The version is asked for."""
 
 
-def wrong(about: str, word: "Word | None" = None) -> Fault:
+def wrong(about: str, word: Word | None = None) -> Fault:
     """The fault of wrong words."""
     rest = word.usage if word is not None else "see confstorectl --help"
     return Fault("WrongWords", f"{about}: {rest}")
@@ -84,9 +94,9 @@ class _Cut:
     """Words that are cut into arguments and options."""
 
     def __init__(self, words: Sequence[str]) -> None:
-        self.arguments: List[str] = []
-        self.options: Dict[str, str] = {}
-        self.command: Tuple[str, ...] = ()
+        self.arguments: list[str] = []
+        self.options: dict[str, str] = {}
+        self.command: tuple[str, ...] = ()
         self._left = list(reversed(words))
         while self._left:
             self._take(self._left.pop())
@@ -104,7 +114,7 @@ class _Cut:
         else:
             self.arguments.append(word)
 
-    def _take_rest(self, rest: List[str]) -> None:
+    def _take_rest(self, rest: list[str]) -> None:
         """Takes what follows `--`: a command where that may stand, and else arguments, and a command after another."""
         of = self._word()
         if of is None or not of.takes_command:
@@ -120,7 +130,7 @@ class _Cut:
             raise wrong("COMMAND is missing", of)
         self.command = tuple(rest)
 
-    def _word(self) -> "Word | None":
+    def _word(self) -> Word | None:
         return WORDS.get(self.arguments[0]) if self.arguments else None
 
     def _may_be_number(self, word: str) -> bool:
@@ -129,7 +139,7 @@ class _Cut:
         place = len(self.arguments) - 1
         if of is None or place >= len(of.arguments) or of.arguments[place].name != "VALUE":
             return False
-        return _NUMBER.fullmatch(word) is not None
+        return _is(_NUMBER, word)
 
     def _take_option(self, name: str, mark: str, value: str) -> None:
         option = _OPTIONS.get(name)
@@ -143,12 +153,12 @@ class _Cut:
             if not self._left:
                 raise wrong(f"{name} wants {option.value}", self._word())
             value = self._left.pop()
-            if option not in COMMON and value.startswith("-") and value != "-" and not _NUMBER.fullmatch(value):
+            if option not in COMMON and value.startswith("-") and value != "-" and not _is(_NUMBER, value):
                 raise wrong(f"{name} wants {option.value}; {name}={shown(value)} gives it that", self._word())
         self.options[name] = value
 
 
-def asked_of(words: Sequence[str]) -> "Asked | Help | Version":
+def asked_of(words: Sequence[str]) -> Asked | Help | Version:
     """What the words ask for. Raises `WrongWords`."""
     if any("\udc80" <= sign <= "\udcff" for word in words for sign in word):
         raise Fault("WrongWords", "the words are not UTF-8")
@@ -178,7 +188,7 @@ def _help_of(words: Sequence[str]) -> Help:
     return Help(words[0] if words else "")
 
 
-def _arguments_of(word: Word, words: Sequence[str]) -> Dict[str, str]:
+def _arguments_of(word: Word, words: Sequence[str]) -> dict[str, str]:
     """The arguments of a word by their names."""
     needed = [argument.name for argument in word.arguments if not argument.is_optional]
     if len(words) < len(needed):
@@ -193,7 +203,7 @@ def _check_number(word: Word, name: str, number: str) -> None:
         raise wrong(f"{name} wants a number, not {shown(number)}", word)
 
 
-def _check_options(word: Word, options: Dict[str, str]) -> None:
+def _check_options(word: Word, options: dict[str, str]) -> None:
     """Raises `WrongWords` for an option that the word has not, or whose value is none."""
     for name in options:
         if all(name != option.name for option in (*word.options, *COMMON)):
@@ -202,8 +212,8 @@ def _check_options(word: Word, options: Dict[str, str]) -> None:
         if option.value == "N":
             _check_number(word, option.name, options.get(option.name, "0"))
     for option in (WAIT, SETTLE):
-        seconds = options.get(option.name, "0")
-        if not _SECONDS.fullmatch(seconds):
+        seconds = options.get(option.name)
+        if seconds is not None and not _is(_SECONDS, seconds):
             raise wrong(f"{option.name} wants a number of seconds, not {shown(seconds)}", word)
     if options.get(SOCKET.name) == "":
         raise wrong(f"{SOCKET.name} wants a path", word)

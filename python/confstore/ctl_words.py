@@ -2,36 +2,37 @@
 
 from __future__ import annotations
 
-from typing import Dict, NamedTuple, Tuple
 
-
-class Argument(NamedTuple):
+class Argument:
     """An argument of a word."""
 
-    name: str
-    about: str
-    is_optional: bool = False
+    def __init__(self, name: str, about: str, is_optional: bool = False) -> None:
+        self.name, self.about, self.is_optional = name, about, is_optional
 
 
-class Option(NamedTuple):
+class Option:
     """An option. What comes after it is named `value`, if anything does."""
 
-    name: str
-    about: str
-    value: str = ""
+    def __init__(self, name: str, about: str, value: str = "") -> None:
+        self.name, self.about, self.value = name, about, value
 
 
-class Word(NamedTuple):
+class Word:
     """A word, with a line about it, its options and arguments, further sentences, and lines that show it. What follows
     `--` behind its needed arguments is a command, if it takes one."""
 
-    name: str
-    about: str
-    options: Tuple[Option, ...]
-    arguments: Tuple[Argument, ...]
-    details: Tuple[str, ...]
-    examples: Tuple[str, ...]
-    takes_command: bool = False
+    def __init__(
+        self,
+        name: str,
+        about: str,
+        options: tuple[Option, ...],
+        arguments: tuple[Argument, ...],
+        details: tuple[str, ...],
+        examples: tuple[str, ...],
+        takes_command: bool = False,
+    ) -> None:
+        self.name, self.about, self.options, self.arguments = name, about, options, arguments
+        self.details, self.examples, self.takes_command = details, examples, takes_command
 
     @property
     def usage(self) -> str:
@@ -391,7 +392,7 @@ MOVING = (COPY, RENAME)
 READING = (EXPORT, NAMES, KEYS, GET, EXISTS, RENDER)
 LOOKING_BACK = (LOG, VERIFY, WATCH)
 
-WORDS: Dict[str, Word] = {word.name: word for word in (*CHANGING, *READING, *LOOKING_BACK)}
+WORDS: dict[str, Word] = {word.name: word for word in (*CHANGING, *READING, *LOOKING_BACK)}
 
 # Each group of words, with its heading.
 GROUPS = (

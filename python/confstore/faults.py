@@ -8,9 +8,8 @@ of those that weren't, each was performed or not.
 from __future__ import annotations
 
 import errno
-import re
-from typing import TYPE_CHECKING, Dict, Optional, Tuple, Type
 
+TYPE_CHECKING = False
 if TYPE_CHECKING:
     from .texts import Place
 
@@ -42,17 +41,17 @@ class Refused(ConfstoreError):
         super().__init__(word, about)
         self.word = word
         self.about = about
-        self.name: Optional[str] = None
-        self.path: Optional[str] = None
+        self.name: str | None = None
+        self.path: str | None = None
         #: The texts that were refused, or one of them, and the program that knows where.
-        self.texts: Tuple[bytes, ...] = ()
-        self.program: Optional[str] = None
+        self.texts: tuple[bytes, ...] = ()
+        self.program: str | None = None
 
     def __str__(self) -> str:
         return ": ".join(part for part in (self.about, self.word, self.because) if part)
 
     @property
-    def place(self) -> "Optional[Place]":
+    def place(self) -> Place | None:
         """Where a text was refused, or None: where no text was, the program names no place, or there is no program.
 
         It is asked of the program whenever this is looked at, by `confstore check -`. It raises what a run of the
@@ -208,7 +207,7 @@ class SessionEnded(ConfstoreError):
     `status` is the program's, or the negative number of the signal that ended it, or None where it isn't known.
     """
 
-    def __init__(self, about: str, status: Optional[int] = None) -> None:
+    def __init__(self, about: str, status: int | None = None) -> None:
         super().__init__(about)
         self.status = status
 
@@ -318,7 +317,7 @@ class Unsupported(ConfstoreError):
     """The program lacks a word or a command that this call needs."""
 
 
-REFUSALS: Dict[str, Type[Refused]] = {
+REFUSALS: dict[str, type[Refused]] = {
     kind.__name__: kind
     for kind in (
         BadCommand, Unmet, BadName, NoConfig, BadPath, NoSuchPlace, NotIndex, TooLong, NotUtf8, Syntax, Documents,
@@ -333,7 +332,7 @@ _NOTHING_THERE = (errno.ENOENT, errno.ENOTDIR)
 _NO_PROGRAM = (*_NOTHING_THERE, errno.EACCES, errno.EISDIR, errno.ENOEXEC)
 _NO_PATH = (errno.ENAMETOOLONG, errno.ELOOP, errno.EINVAL)
 
-ENDS: Dict[str, Type[SessionEnded]] = {
+ENDS: dict[str, type[SessionEnded]] = {
     "Device": Device,
     "Locked": Locked,
     "NotAStore": NotAStore,
@@ -366,12 +365,14 @@ def program_fault(error: OSError, program: str) -> ConfstoreError:
     return NotStarted(error.errno, f"the program was not started: {error.strerror}", program)
 
 
-def end_of(status: Optional[int], errors: bytes, cut: bool) -> SessionEnded:
+def end_of(status: int | None, errors: bytes, cut: bool) -> SessionEnded:
     """Why a program is over: by its status, by what it wrote to standard error, and by whether an answer was cut."""
     name = ""
     for line in errors.decode("utf-8", "replace").splitlines():
         if line.startswith("confstore: "):
             name = line[len("confstore: ") :]
+    import re  # by a process whose program has ended
+
     kind = ENDS.get(re.split(r"\W", name, maxsplit=1)[0])
     if kind is not None:
         return kind(name, status)

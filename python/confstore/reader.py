@@ -18,12 +18,12 @@ from .faults import REFUSALS, BadAnswer, ConfstoreError, NotStarted, NotText, Re
 from .faults import end_of, refusal
 from .following import Changes
 from .mapping import MISSING, Configurations, D
-from .other import Cutter
+from .pieces import LONGEST_ANSWER, Cutter
 from .places import find_program, need_folder, path_of
 from .records import Record, record_of
 from .runs import Run
-from .session import LONGEST_ANSWER
-from .style import Tree, from_text, text_of, trees_of
+from .style import Tree, text_of
+from .trees import from_text, trees_of
 
 _FAULT = re.compile(r"confstore: (\w+)")
 _AT = re.compile(rb'(?:---\n)?at: "([0-9]{1,20})"\n')

@@ -9,7 +9,8 @@ import time
 from types import TracebackType
 from typing import Any, Callable, Dict, List, MutableMapping, Optional, Sequence, Tuple, Type, TypeVar, overload
 
-from .commands import CHECKPOINT, NAMES, Answers, delete_of, get_of, import_of, put_of, refused, set_of
+from .answers import Answers
+from .commands import CHECKPOINT, NAMES, delete_of, get_of, import_of, put_of, refused, set_of
 from .conditions import PROBE, Condition, Test, at_place, move_of, under
 from .edits import Edits
 from .faults import BadCommand, BadName, Closed, ConfstoreError, EmptyBatch, NoConfig, Refused, Unmet, Unsupported

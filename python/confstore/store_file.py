@@ -13,10 +13,11 @@ import stat
 from typing import Iterator, Optional, Tuple
 
 from .faults import BadAnswer, Damaged, Device, NotAStore, end_of
-from .other import Cutter
+from .pieces import Cutter
 from .records import Record, record_of
 from .runs import Run
-from .style import Tree, document, from_text, trees_of
+from .style import Tree, document
+from .trees import from_text, trees_of
 
 NAME = "store.yaml"
 

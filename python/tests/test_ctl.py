@@ -23,16 +23,17 @@ from unittest import mock
 
 import yaml
 from confstore import Store, to_text
-from confstore import ctl_sockets, ctl_streams
+from confstore import ctl_places, ctl_sockets, ctl_streams
 from confstore.ctl import perform_words
 from confstore.ctl_asked import Asked, Help, Version, asked_of
 from confstore.ctl_faults import Fault, shown
 from confstore.ctl_help import help_of, help_of_all
+from confstore.ctl_places import Place, place_of
 from confstore.ctl_program import Ended, Source
 from confstore.ctl_served import Served
-from confstore.ctl_sockets import Command, Connection, Place, SessionReply, line_of, place_of
+from confstore.ctl_sockets import Command, Connection, SessionReply, line_of
 from confstore.ctl_words import COMMON, WORDS
-from confstore.other import Cutter
+from confstore.pieces import Cutter
 from confstore.style import Tree
 
 from . import TOP
@@ -98,11 +99,13 @@ class Words(unittest.TestCase):
 
     def test_help_and_version(self) -> None:
         for line, wanted in (
-            ("--help", Help("")), ("-h", Help("")), ("help", Help("")), ("help get", Help("get")),
-            ("get --help", Help("get")), ("get s web -h", Help("get")), ("--version", Version()), ("-V", Version()),
+            ("--help", ""), ("-h", ""), ("help", ""), ("help get", "get"), ("get --help", "get"),
+            ("get s web -h", "get"), ("--version", None), ("-V", None),
         ):  # fmt: skip
             with self.subTest(line):
-                self.assertEqual(asked_of(shlex.split(line)), wanted)
+                asked = asked_of(shlex.split(line))
+                self.assertIsInstance(asked, Version if wanted is None else Help)
+                self.assertEqual(getattr(asked, "word", None), wanted)
 
     def test_words_that_are_not_utf8(self) -> None:
         with self.assertRaises(Fault) as caught:
@@ -518,29 +521,35 @@ class Stores(SocketTest):
 
 
 class Places(SocketTest):
+    def found(self, given: str, folder: str) -> tuple[str, str | None]:
+        """The path of the socket for a folder, and the folder for which it was found."""
+        place = place_of(given, folder)
+        assert place is not None
+        return place.path, place.folder
+
     def test_which_socket(self) -> None:
         place_in_folder = os.path.join(self.folder, "confstore.sock")
         with mock.patch.dict(os.environ, {"CONFSTORE_SOCKET": ""}):
             self.assertIsNone(place_of("", self.folder))
             with socket.socket(socket.AF_UNIX) as listener:
                 listener.bind(place_in_folder)
-                self.assertEqual(place_of("", self.folder), Place(place_in_folder, self.folder))
-                self.assertEqual(place_of("/x", self.folder), Place("/x"))
+                self.assertEqual(self.found("", self.folder), (place_in_folder, self.folder))
+                self.assertEqual(self.found("/x", self.folder), ("/x", None))
                 os.environ["CONFSTORE_SOCKET"] = "/y"
-                self.assertEqual(place_of("", self.folder), Place("/y"))
-                self.assertEqual(place_of("/x", self.folder), Place("/x"))
+                self.assertEqual(self.found("", self.folder), ("/y", None))
+                self.assertEqual(self.found("/x", self.folder), ("/x", None))
 
     def test_that_of_the_unit(self) -> None:
         """packaging/confstore@.service has stores and sockets there."""
         stores, sockets = os.path.join(self.top, "lib"), os.path.join(self.top, "run")
         os.makedirs(os.path.join(sockets, "app"))
         with open(os.path.join(TOP, "packaging", "confstore@.service"), encoding="utf-8") as unit:
-            self.assertIn(f"{ctl_sockets.SOCKETS}/%i/socket {ctl_sockets.STORES}/%i\n", unit.read())
-        with mock.patch.multiple(ctl_sockets, STORES=stores, SOCKETS=sockets):
+            self.assertIn(f"{ctl_places.SOCKETS}/%i/socket {ctl_places.STORES}/%i\n", unit.read())
+        with mock.patch.multiple(ctl_places, STORES=stores, SOCKETS=sockets):
             with socket.socket(socket.AF_UNIX) as listener:
                 listener.bind(os.path.join(sockets, "app", "socket"))
-                found = place_of("", os.path.join(stores, "app", ""))
-                self.assertEqual(found, Place(os.path.join(sockets, "app", "socket"), os.path.join(stores, "app")))
+                found = self.found("", os.path.join(stores, "app", ""))
+                self.assertEqual(found, (os.path.join(sockets, "app", "socket"), os.path.join(stores, "app")))
                 self.assertIsNone(place_of("", os.path.join(stores, "other")))
 
 
