@@ -257,6 +257,11 @@ def perform_words(words: Sequence[str]) -> int:
     except MemoryError:
         write_error("confstorectl: OutOfMemory\n")
         return 1
+    except ModuleNotFoundError as error:
+        if error.name != "yaml":
+            raise
+        write_error("confstorectl: MissingModule: this needs PyYAML: install python3-yaml, or `pip install PyYAML`\n")
+        return DEVICE
 
 
 def _help(asked: Help | Version) -> str:

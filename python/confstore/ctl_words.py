@@ -450,6 +450,7 @@ OWN_FAULTS = (
     ("Replaced", "1", "another store stands in the place of the one that the server held; nothing was changed"),
     ("Failed", "3", "a replicated node could not perform a command; the word behind it says why"),
     ("MissingProgram", "3", "there is no program confstore where it was looked for"),
+    ("MissingModule", "3", "Python has no PyYAML, which some words need"),
     ("NotStarted", "3", "the system did not start the program"),
     ("Unknown", "3", "nobody says how the program ended"),
     ("Unsupported", "1", "a replicated node has no such word"),

@@ -114,6 +114,12 @@ class Starts(StoreTest):
         self.assertEqual((status, modules & (SLOW - {"textwrap"})), (0, set()))
         self.assertIn("Usage: confstorectl get", written)
 
+    def test_without_pyyaml(self) -> None:
+        """Words that need none are done, as above. Others name what is missing."""
+        status, _, told = imported(WORD, "set", self.folder, "web", "/a", "[b]", "--yaml", "--check", "true")
+        self.assertEqual((status, {line for line in told if line.startswith("confstorectl")}), (3, {
+            "confstorectl: MissingModule: this needs PyYAML: install python3-yaml, or `pip install PyYAML`"}))  # fmt: skip
+
     def test_the_package(self) -> None:
         self.assertEqual(imported(PACKAGE), (0, "", {"confstore"}))
 
