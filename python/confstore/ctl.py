@@ -16,13 +16,13 @@ if __name__ == "__main__":
 import sys  # noqa: E402
 import time
 
-from .ctl_asked import Asked, Help, Version, asked_of
-from .ctl_faults import DEVICE, NOTHING_THERE, OF_TEXTS, REFUSED, Fault, TextFault, unread
+from .ctl_asked import Asked, Help, Version, asked_of, wrong
+from .ctl_faults import DEVICE, NOTHING_THERE, OF_TEXTS, REFUSED, WRONG_WORDS, Fault, TextFault, unread
 from .ctl_places import NO_SERVER, Place, place_of
 from .ctl_program import Source, is_without_store, program_if_any, run_shown, styled
 from .ctl_streams import ClosedPipe, hold_closed, is_error_terminal, read_text, write, write_error
-from .ctl_words import AT, BATCH, CHECK, EDIT, EXISTS, EXPLAIN, FOREIGN, FROM_FILE, IMPORT, LOOKING_BACK, MOVING
-from .ctl_words import READING, RENDER, SET, WATCH, YAML_VALUE, Option
+from .ctl_words import AT, BATCH, CHECK, EDIT, EXISTS, EXPLAIN, FED, FOREIGN, FROM_FILE, IMPORT, LOOKING_BACK, MOVING
+from .ctl_words import OF_PROGRAM, READING, RENDER, RUN, SET, WATCH, YAML_VALUE, Option
 
 TYPE_CHECKING = False  # `typing` takes as long to import as all of this
 if TYPE_CHECKING:
@@ -32,6 +32,9 @@ if TYPE_CHECKING:
 
 # How many seconds lie between two tries of a word.
 PAUSE = 0.1
+
+# What to do where a run can't have the store.
+HELD = "a server or another run holds the store: a server's socket takes the same commands, and `confstorectl batch` edits"
 
 # What a shell adds to the number of the signal that ended a program.
 BY_SIGNAL = 128
@@ -74,7 +77,7 @@ class Work:
     @property
     def place(self) -> Place | None:
         """The socket that it is asked through, if there is one."""
-        if self.asked.word in LOOKING_BACK or self.asked.has(AT):
+        if self.asked.word in (*LOOKING_BACK, *OF_PROGRAM) or self.asked.has(AT):
             return None
         return place_of(self.asked.socket, self.asked.folder)
 
@@ -95,9 +98,11 @@ class Work:
         """Has the program do it. The status."""
         if self.asked.word is BATCH:
             return self._batch_by_program()
-        ended = run_shown(self._words(), self.text)
+        ended = run_shown(self._words(), self.text, is_fed=self.asked.word in FED)
         if ended.was_locked:
-            raise Fault("Locked", None, True)
+            raise Fault("Locked", HELD if self.asked.word is RUN else None, True)
+        if ended.status == WRONG_WORDS:
+            raise wrong(ended.complaint, self.asked.word)
         write_error(ended.lines(self.source))
         return ended.status if ended.status >= 0 else BY_SIGNAL - ended.status
 
@@ -123,7 +128,7 @@ class Work:
             arguments.pop("FILE", None)
             if "VALUE" in arguments:
                 arguments["VALUE"] = "-"
-        return [asked.word.name, *options, "--", *arguments.values()]
+        return [asked.word.name, *options, "--", *arguments.values(), *asked.repeated]
 
     def _parts(self, option: Option) -> list[str]:
         """An option for the program."""

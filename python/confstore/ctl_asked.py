@@ -3,18 +3,20 @@
 from __future__ import annotations
 
 from .ctl_faults import Fault, shown
-from .ctl_words import COMMON, FROM_FILE, HELP, IF_ABSENT, IF_VALUE, JSON, NO_NEWLINE, PLAIN, RAW
-from .ctl_words import RENDER, SET, SETTLE, SOCKET, VALUES, VERSION, WAIT, WHOLE, WORDS, YAML_RECORDS, YAML_VALUE
-from .ctl_words import Option, Word
+from .ctl_words import COMMON, FROM_FILE, HELP, IF_ABSENT, IF_VALUE, IN_PLACE, JSON, NO_NEWLINE, OTHER_NAMES
+from .ctl_words import PLAIN, RAW, RENDER, SET, SETTLE, SOCKET, VALUES, VERSION, WAIT, WHOLE, WORDS, YAML_RECORDS
+from .ctl_words import YAML_VALUE, Option, Word
 
 TYPE_CHECKING = False
 if TYPE_CHECKING:
     from collections.abc import Sequence
 
-_OPTIONS: dict[str, Option] = {
-    option.name: option for word in WORDS.values() for option in (*word.options, *COMMON, VERSION)
-}
-_SHORT = {"-h": HELP.name, "-V": VERSION.name}
+# The options by their names, where the word is not known yet. Of those with one name the first counts.
+_OPTIONS: dict[str, Option] = {}
+for _word in WORDS.values():
+    for _option in (*_word.options, *COMMON, VERSION):
+        _OPTIONS.setdefault(_option.name, _option)
+_SHORT = {"-h": HELP.name, "-V": VERSION.name, "-i": IN_PLACE.name}
 
 # A negative number, and a number of seconds.
 _NUMBER = r"-[0-9]+(\.[0-9]*)?([eE][-+]?[0-9]+)?"
@@ -45,9 +47,15 @@ class Asked:
     """A word with its arguments and options, by their names. An option without a value has an empty one."""
 
     def __init__(
-        self, word: Word, arguments: dict[str, str], options: dict[str, str], command: tuple[str, ...] = ()
+        self,
+        word: Word,
+        arguments: dict[str, str],
+        options: dict[str, str],
+        command: tuple[str, ...] = (),
+        repeated: tuple[str, ...] = (),
     ) -> None:
         self.word, self.arguments, self.options, self.command = word, arguments, options, command
+        self.repeated = repeated  # what stands again for the last argument
 
     @property
     def folder(self) -> str:
@@ -58,11 +66,13 @@ class Asked:
         return self.arguments.get(name, "")
 
     def has(self, option: Option) -> bool:
-        return option.name in self.options
+        """Whether it has an option, and not one of the same name that takes a value where this takes none."""
+        named = (own for own in (*self.word.options, *self.word.common) if own.name == option.name)
+        return option.name in self.options and any(bool(own.value) == bool(option.value) for own in named)
 
     def with_option(self, option: Option) -> Asked:
         """This with an option more, which has no value."""
-        return Asked(self.word, self.arguments, {**self.options, option.name: ""}, self.command)
+        return Asked(self.word, self.arguments, {**self.options, option.name: ""}, self.command, self.repeated)
 
     @property
     def socket(self) -> str:
@@ -90,6 +100,31 @@ def wrong(about: str, word: Word | None = None) -> Fault:
     return Fault("WrongWords", f"{about}: {rest}")
 
 
+def no_option(name: str, word: Word | None) -> Fault:
+    """The fault of an option that is none, with one that is like it."""
+    there = [option.name for option in (*word.options, *word.common)] if word is not None else list(_OPTIONS)
+    return wrong(f"there is no option {shown(name)}{_like(name, there)}", word)
+
+
+def no_word(name: str) -> Fault:
+    """The fault of a word that is none, with one that is like it, or that does what others call so."""
+    return wrong(f"there is no word {shown(name)}{_like(name, [*WORDS, 'help', *OTHER_NAMES])}")
+
+
+def _like(name: str, names: list[str]) -> str:
+    """A tip: the name that is the most like another one, if any is."""
+    from difflib import get_close_matches  # by wrong words alone
+
+    found = get_close_matches(name, names, 1)
+    return f"; `{OTHER_NAMES.get(found[0], found[0])}` may be meant" if found else ""
+
+
+def _option_of(word: Word | None, name: str) -> Option | None:
+    """An option by its name, which is one of the word if that has such a one."""
+    of_word = (*word.options, *word.common) if word is not None else ()
+    return next((option for option in of_word if option.name == name), _OPTIONS.get(name))
+
+
 class _Cut:
     """Words that are cut into arguments and options."""
 
@@ -110,7 +145,7 @@ class _Cut:
         elif word in _SHORT:
             self.options[_SHORT[word]] = ""
         elif word.startswith("-") and word != "-" and not self._may_be_number(word):
-            raise wrong(f"there is no option {shown(word)}", self._word())
+            raise no_option(word, self._word())
         else:
             self.arguments.append(word)
 
@@ -142,9 +177,9 @@ class _Cut:
         return _is(_NUMBER, word)
 
     def _take_option(self, name: str, mark: str, value: str) -> None:
-        option = _OPTIONS.get(name)
+        option = _option_of(self._word(), name)
         if option is None:
-            raise wrong(f"there is no option {shown(name)}", self._word())
+            raise no_option(name, self._word())
         if name in self.options:
             raise wrong(f"{name} is there twice", self._word())
         if not option.value and mark:
@@ -172,11 +207,12 @@ def asked_of(words: Sequence[str]) -> Asked | Help | Version:
         raise wrong("a word is missing")
     word = WORDS.get(name)
     if word is None:
-        raise wrong(f"there is no word {shown(name)}")
+        raise no_word(name)
     if HELP.name in cut.options:
         return Help(name)
     _check_options(word, cut.options)
-    asked = Asked(word, _arguments_of(word, cut.arguments[1:]), cut.options, cut.command)
+    repeated = tuple(cut.arguments[1 + len(word.arguments) :])
+    asked = Asked(word, _arguments_of(word, cut.arguments[1:]), cut.options, cut.command, repeated)
     _check_pointer(asked)
     _check_together(asked)
     return asked
@@ -184,7 +220,7 @@ def asked_of(words: Sequence[str]) -> Asked | Help | Version:
 
 def _help_of(words: Sequence[str]) -> Help:
     if len(words) > 1 or (words and words[0] not in WORDS):
-        raise wrong(f"there is no word {shown(words[-1])}")
+        raise no_word(words[-1])
     return Help(words[0] if words else "")
 
 
@@ -193,7 +229,7 @@ def _arguments_of(word: Word, words: Sequence[str]) -> dict[str, str]:
     needed = [argument.name for argument in word.arguments if not argument.is_optional]
     if len(words) < len(needed):
         raise wrong(f"{needed[len(words)]} is missing", word)
-    if len(words) > len(word.arguments):
+    if len(words) > len(word.arguments) and not word.arguments[-1].is_repeated:
         raise wrong(f"{shown(words[len(word.arguments)])} is one argument too many", word)
     return {argument.name: given for argument, given in zip(word.arguments, words)}
 
@@ -206,8 +242,9 @@ def _check_number(word: Word, name: str, number: str) -> None:
 def _check_options(word: Word, options: dict[str, str]) -> None:
     """Raises `WrongWords` for an option that the word has not, or whose value is none."""
     for name in options:
-        if all(name != option.name for option in (*word.options, *COMMON)):
-            raise wrong(f"{word.name} has no option {name}", word)
+        if all(name != option.name for option in (*word.options, *word.common)):
+            why = ": it goes to no server" if name == SOCKET.name else ""
+            raise wrong(f"{word.name} has no option {name}{why}", word)
     for option in word.options:
         if option.value == "N":
             _check_number(word, option.name, options.get(option.name, "0"))

@@ -60,7 +60,7 @@ def help_of(name: str) -> str:
     word = WORDS[name]
     parts = [f"{word.about}\n\nUsage: {_usage_of(word)}\n"]
     parts.append(_rows("Arguments", [(argument.name, argument.about) for argument in word.arguments]))
-    parts.append(_rows("Options", _shapes([*word.options, *COMMON])))
+    parts.append(_rows("Options", _shapes([*word.options, *word.common])))
     parts.append("".join(_paragraphs(word.details)))
     parts.append("\nExamples:\n" + "".join(f"  {line}\n" for line in word.examples))
     return "".join(parts)

@@ -12,6 +12,7 @@ from .places import find_program
 TYPE_CHECKING = False
 if TYPE_CHECKING:
     from collections.abc import Sequence
+    from typing import Any
 
 # What the program's lines begin with, and those of confstorectl.
 THEIRS, OURS = "confstore: ", "confstorectl: "
@@ -21,6 +22,9 @@ INPUT = "-:"
 
 # The signals that Python ignores, and that the program is to know of.
 RESTORED = (signal.SIGPIPE, signal.SIGXFSZ)
+
+# The signals that are meant for a program which reads what this process would.
+PASSED_ON = (signal.SIGTERM, signal.SIGHUP)
 
 PART = 65_536
 
@@ -65,6 +69,12 @@ class Ended:
         """Whether it ended with the fault of a name."""
         return self.status != 0 and f"{THEIRS}{name}".encode() in self.errors.split(b"\n")
 
+    @property
+    def complaint(self) -> str:
+        """What it said of its words, on one line."""
+        first = self.errors.decode("utf-8", "replace").partition("\n\n")[0]
+        return shown(" ".join(first.split())).removeprefix("error: ")
+
     def lines(self, source: Source = Source()) -> str:
         """Its lines on standard error, as confstorectl says them where this text was on standard input."""
         lines = self.errors.decode("utf-8", "replace").removesuffix("\n").split("\n") if self.errors else []
@@ -90,9 +100,12 @@ def run(words: Sequence[str], given: bytes | None) -> Ended:
     return _communicated(words, given, is_kept=True)
 
 
-def run_shown(words: Sequence[str], given: bytes | None) -> Ended:
-    """The same, but what it writes goes to the standard output of this process at once."""
-    return _spawned([program(), *words]) if given is None else _communicated(words, given, is_kept=False)
+def run_shown(words: Sequence[str], given: bytes | None, *, is_fed: bool) -> Ended:
+    """The same, but what it writes goes to the standard output of this process at once. One that is fed reads standard
+    input itself."""
+    if given is not None:
+        return _communicated(words, given, is_kept=False)
+    return _spawned([program(), *words], is_fed=is_fed)
 
 
 def _communicated(words: Sequence[str], given: bytes | None, *, is_kept: bool) -> Ended:
@@ -109,10 +122,11 @@ def _communicated(words: Sequence[str], given: bytes | None, *, is_kept: bool) -
     return Ended(process.returncode, written or b"", errors)
 
 
-def _spawned(words: list[str]) -> Ended:
-    """A program that had nothing on standard input, and that wrote to the output of this process."""
+def _spawned(words: list[str], *, is_fed: bool) -> Ended:
+    """A program that wrote to the output of this process, and that read its input if it is fed, or nothing."""
     told, tells = os.pipe()
-    actions = [(os.POSIX_SPAWN_OPEN, 0, os.devnull, os.O_RDONLY, 0), (os.POSIX_SPAWN_DUP2, tells, 2)]
+    quiet = [] if is_fed else [(os.POSIX_SPAWN_OPEN, 0, os.devnull, os.O_RDONLY, 0)]
+    actions = [*quiet, (os.POSIX_SPAWN_DUP2, tells, 2)]
     try:
         child = os.posix_spawn(words[0], words, os.environ, file_actions=actions, setsigdef=RESTORED)
     except OSError as error:
@@ -120,6 +134,7 @@ def _spawned(words: list[str]) -> Ended:
         raise _not_started(error) from None
     finally:
         os.close(tells)
+    kept = _pass_on(child) if is_fed else {}
     try:
         errors = b"".join(iter(lambda: os.read(told, PART), b""))
         return Ended(os.waitstatus_to_exitcode(os.waitpid(child, 0)[1]), b"", errors)
@@ -127,6 +142,17 @@ def _spawned(words: list[str]) -> Ended:
         raise Fault("Unknown", "somebody else waits for the programs of this process") from None
     finally:
         os.close(told)
+        for number, handler in kept.items():
+            signal.signal(number, handler)
+
+
+def _pass_on(child: int) -> dict[int, Any]:
+    """Has signals that would end this process sent to the program, which may hold a store. What handled them before."""
+    handlers = {number: signal.getsignal(number) for number in PASSED_ON}
+    kept: dict[int, Any] = {number: old for number, old in handlers.items() if old is not signal.SIG_IGN}
+    for number in kept:
+        signal.signal(number, lambda number, _: os.kill(child, number))
+    return kept
 
 
 def styled(text: bytes, source: Source) -> bytes:

@@ -32,7 +32,7 @@ from confstore.ctl_places import Place, place_of
 from confstore.ctl_program import Ended, Source
 from confstore.ctl_served import Served
 from confstore.ctl_sockets import Command, Connection, SessionReply, line_of
-from confstore.ctl_words import COMMON, WORDS
+from confstore.ctl_words import WORDS
 from confstore.pieces import Cutter
 from confstore.style import Tree
 
@@ -107,6 +107,31 @@ class Words(unittest.TestCase):
                 self.assertIsInstance(asked, Version if wanted is None else Help)
                 self.assertEqual(getattr(asked, "word", None), wanted)
 
+    def test_tips(self) -> None:
+        """What is like no word gets no tip, and what others call a word gets that."""
+        for line, tip in (
+            ("lsit", "names"), ("list s", "names"), ("ls s", "names"), ("rm s web", "delete"), ("cat s web", "get"),
+            ("version", "--version"), ("gte s web", "get"), ("help improt", "import"), ("exprot s web", "export"),
+            ("--wiat 3 names s", "--wait"), ("get s web --josn", "--json"), ("set s web /a b --if-vaule x", "--if-value"),
+            ("names s --jsno=x", "--json"), ("run s --gropu", "--group"), ("hlep", "help"), ("xyzzy", None),
+            ("get s web --xyzzy", None), ("names s -x", None),
+        ):  # fmt: skip
+            with self.subTest(line):
+                with self.assertRaises(Fault) as caught:
+                    asked_of(shlex.split(line))
+                tips = re.findall("; `([^`]*)` may be meant", caught.exception.line)
+                self.assertEqual(tips, [] if tip is None else [tip])
+
+    def test_files_that_are_repeated(self) -> None:
+        asked = asked_of(shlex.split("format --check a b -- -c"))
+        assert isinstance(asked, Asked)
+        self.assertEqual((asked.arguments, asked.repeated, asked.options), ({"FILE": "a"}, ("b", "-c"), {"--check": ""}))
+        self.assertEqual(self.asked("check"), ("check", {}, {}))
+        self.assertEqual(self.asked("--check cmd set s web /a b")[2], {"--check": "cmd"})
+        for line in ("init --socket /x s", "format --wait 3 a", "backup a", "backup a b c", "set -i s web /a b"):
+            with self.subTest(line), self.assertRaisesRegex(Fault, "WrongWords"):
+                asked_of(shlex.split(line))
+
     def test_words_that_are_not_utf8(self) -> None:
         with self.assertRaises(Fault) as caught:
             asked_of(["get", "s", b"\xff".decode("utf-8", "surrogateescape")])
@@ -116,13 +141,13 @@ class Words(unittest.TestCase):
         for word in WORDS.values():
             for example in word.examples:
                 with self.subTest(example):
-                    line = example.rpartition("| ")[2].partition(" && ")[0]
+                    line = example.rpartition("| ")[2].partition(" && ")[0].partition(" < ")[0]
                     self.assertEqual(self.asked(line.partition(" ")[2])[0], word.name)
 
     def test_help_has_all(self) -> None:
         for word in WORDS.values():
             self.assertRegex(help_of_all(), rf"(?m)^  {word.name} +{re.escape(word.about)}$")
-            for name in [*(option.name for option in (*word.options, *COMMON)), *(one.name for one in word.arguments)]:
+            for name in [*(option.name for option in (*word.options, *word.common)), *(one.name for one in word.arguments)]:
                 self.assertRegex(help_of(word.name), rf"(?m)^  {name}\b")
         for text in (help_of_all(), *map(help_of, WORDS)):
             self.assertLess(max(map(len, text.splitlines())), 120)
