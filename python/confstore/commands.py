@@ -34,9 +34,14 @@ def import_of(name: str, text: str) -> dict[str, Tree]:
 
 
 def put_of(name: str, tree: Tree) -> dict[str, Tree]:
+    from .faults import Unwritten
     from .style import to_text
 
-    return import_of(name, to_text(tree))
+    try:
+        return import_of(name, to_text(tree))
+    except Unwritten as fault:
+        fault.name = name if isinstance(name, str) else None
+        raise
 
 
 def set_of(name: str, path: str, tree: Tree) -> dict[str, Tree]:

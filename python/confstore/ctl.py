@@ -34,7 +34,7 @@ if TYPE_CHECKING:
 PAUSE = 0.1
 
 # What to do where a run can't have the store.
-HELD = "a server or another run holds the store: a server's socket takes the same commands, and `confstorectl batch` edits"
+HELD = "a server or another run holds the store: a server's socket takes the same commands; or use `confstorectl batch`"
 
 # What a shell adds to the number of the signal that ended a program.
 BY_SIGNAL = 128

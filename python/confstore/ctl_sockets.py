@@ -316,7 +316,7 @@ class Connection:
 
 
 def _identity_of(folder: str) -> tuple[int, int] | None:
-    """The device and the inode of a folder, which are none of one that is not there; or None if that may not be said."""
+    """The device and the inode of a folder, none of which one has that is not there; or None if that may not be said."""
     try:
         found = os.stat(folder)
     except PermissionError:

@@ -17,9 +17,10 @@ __all__ = [
     "AnswerCut", "AnswerLong", "BadAnswer", "BadCommand", "BadName", "BadPath", "Closed", "CommandLong", "ConfigLarge",
     "ConfstoreError", "CountFull", "Damaged", "Device", "Disconnected", "Documents", "EmptyBatch", "InputFailed",
     "JournalLong", "KeyNotText", "KeyTwice", "LargeInStyle", "Locked", "MissingFolder", "MissingProgram", "NoConfig",
-    "NoSuchCommand", "NoSuchPlace", "NotAStore", "NotATree", "NotIndex", "NotStarted", "NotText", "NotUtf8",
+    "NoSuchCommand", "NoSuchPlace", "NotAStore", "NotAText", "NotATree", "NotIndex", "NotStarted", "NotText", "NotUtf8",
     "OutOfMemory", "OutputFailed", "RecordLong", "Refused", "SessionEnded", "SessionLong", "StoreFull", "StoreReplaced",
     "Syntax", "TimedOut", "TooDeep", "TooLong", "TooLongToSend", "Unknown", "Unmet", "Unsupported", "UnusablePath",
+    "Unwritten",
 ]  # fmt: skip
 
 
@@ -204,48 +205,77 @@ class SessionEnded(ConfstoreError):
     """The session is over, or the run of the program that was to read. What was answered stands; `reopen` starts
     another session.
 
-    `status` is the program's, or the negative number of the signal that ended it, or None where it isn't known.
+    As a text it is a sentence, with the folder where the program has said no more than a name. `status` is the
+    program's, or the negative number of the signal that ended it, or None where it isn't known. `folder` is the
+    store's, or None where it isn't known.
     """
 
-    def __init__(self, about: str, status: int | None = None) -> None:
+    #: What a program means that ends with this name.
+    because = ""
+
+    def __init__(self, about: str, status: int | None = None, folder: str | None = None) -> None:
         super().__init__(about)
         self.status = status
+        self.folder = folder
+
+    def __str__(self) -> str:
+        about = str(self.args[0])
+        because = self.because if " " not in about else ""
+        return ": ".join(part for part in (about, because, repr(self.folder) if self.folder else "") if part)
 
 
 class Device(SessionEnded):
     """A call of the system failed, as on a full device. The command in hand was performed or not."""
 
+    because = "a call of the system failed, as on a full device"
+
 
 class Locked(SessionEnded):
     """Another run holds the folder."""
+
+    because = "another run holds the folder"
 
 
 class NotAStore(SessionEnded):
     """`store.yaml` does not begin with a base. It is left as it was."""
 
+    because = "store.yaml does not begin with a base"
+
 
 class Damaged(SessionEnded):
     """A piece of `store.yaml` is no record. The file is left as it was."""
+
+    because = "a piece of store.yaml is no record"
 
 
 class OutOfMemory(SessionEnded):
     """The program's memory ran out. The command in hand changed nothing."""
 
+    because = "the program's memory ran out"
+
 
 class CommandLong(SessionEnded):
     """A command was longer than the program takes. Everything before it was performed."""
+
+    because = "a command was longer than the program takes"
 
 
 class SessionLong(SessionEnded):
     """The session was sent as many bytes as it takes, 1,073,741,824. Everything before was performed."""
 
+    because = "the session was sent as many bytes as it takes"
+
 
 class InputFailed(SessionEnded):
     """The program could not read its commands."""
 
+    because = "the program could not read its commands"
+
 
 class OutputFailed(SessionEnded):
     """The program could not write an answer."""
+
+    because = "the program could not write an answer"
 
 
 class AnswerCut(SessionEnded):
@@ -270,12 +300,45 @@ class Unknown(SessionEnded):
     how its program ended. Each command that was not answered was performed or not."""
 
 
-class NotATree(ConfstoreError, TypeError):
+class Unwritten(ConfstoreError):
+    """What was given has no text. Nothing was sent.
+
+    As a text it is a sentence, with the place. `within` is the path (RFC 6901) within the tree to what is at fault, and
+    `name` and `path` are those of the command; each is None where there is none.
+    """
+
+    def __init__(self, about: str, within: str | None = None) -> None:
+        super().__init__(about)
+        self.within = within
+        self.name: str | None = None
+        self.path: str | None = None
+
+    def __str__(self) -> str:
+        inner = f"at {self.within!r} of " if self.within else ""
+        what = "the command" if self.within is None else f"{inner}the tree"
+        of = f" for {self.name!r}" if self.name is not None else ""
+        at = f" at {self.path!r}" if self.path else ""
+        return f"{self.args[0]}: {what}{of}{at}" if inner or of else str(self.args[0])
+
+
+class NotATree(Unwritten, TypeError):
     """A tree is a str, a list of trees, or a dict of str to trees; this is none. Nothing was sent."""
 
 
-class NotText(ConfstoreError, ValueError):
+class NotText(Unwritten, ValueError):
     """A str that no YAML can hold, since it has a lone surrogate. Nothing was sent."""
+
+
+class NotAText(ConfstoreError, TypeError):
+    """What is at the path is a list or a mapping, where `get_text` was to read a text. `name` and `path` say where."""
+
+    def __init__(self, name: str, path: str, kind: str) -> None:
+        super().__init__(name, path, kind)
+        self.name, self.path, self.kind = name, path, kind
+
+    def __str__(self) -> str:
+        what = f"what is at {self.path!r} of {self.name!r}" if self.path else repr(self.name)
+        return f"{what} is a {self.kind}, and no text"
 
 
 class TooLongToSend(ConfstoreError, ValueError):
@@ -365,7 +428,7 @@ def program_fault(error: OSError, program: str) -> ConfstoreError:
     return NotStarted(error.errno, f"the program was not started: {error.strerror}", program)
 
 
-def end_of(status: int | None, errors: bytes, cut: bool) -> SessionEnded:
+def end_of(status: int | None, errors: bytes, cut: bool, folder: str | None = None) -> SessionEnded:
     """Why a program is over: by its status, by what it wrote to standard error, and by whether an answer was cut."""
     name = ""
     for line in errors.decode("utf-8", "replace").splitlines():
@@ -375,7 +438,7 @@ def end_of(status: int | None, errors: bytes, cut: bool) -> SessionEnded:
 
     kind = ENDS.get(re.split(r"\W", name, maxsplit=1)[0])
     if kind is not None:
-        return kind(name, status)
+        return kind(name, status, folder)
     if status is None:
         how = "how the program ended isn't known: SIGCHLD is ignored here, or somebody else waits for all children"
     elif status < 0:
@@ -385,5 +448,5 @@ def end_of(status: int | None, errors: bytes, cut: bool) -> SessionEnded:
     else:
         how = "the session ended"
     if cut:
-        return AnswerCut(f"{how}, in the middle of an answer", status)
-    return Unknown(how) if status is None else SessionEnded(how, status)
+        return AnswerCut(f"{how}, in the middle of an answer", status, folder)
+    return Unknown(how, None, folder) if status is None else SessionEnded(how, status, folder)

@@ -56,6 +56,7 @@ class Program:
     process: "Child | Gone"
 
     def __init__(self, words: Sequence[str]) -> None:
+        self._folder = words[-1]
         with _WithoutForks():
             self._start(words)
             _sides.add(self)
@@ -99,7 +100,7 @@ class Program:
         """Why the program, which has closed its output, is over. `errors` is what was read of standard error."""
         assert not isinstance(self.process, Gone)
         status = finished(self.process, self.errors, errors)
-        return end_of(status, bytes(errors), cut)
+        return end_of(status, bytes(errors), cut, self._folder)
 
     def close(self) -> None:
         with _WithoutForks():

@@ -161,6 +161,9 @@ class Store(Answers, Configurations, MutableMapping[str, Tree]):
         """Ends the session. What was answered is on the disk. Does nothing the second time, and raises nothing."""
         self._session.latest().close(self._timeout)
 
+    def __repr__(self) -> str:
+        return f"Store({self._words[-1]!r})" if self._socket is None else f"Store.connect({self._socket!r})"
+
     def __enter__(self) -> "Store":
         return self
 

@@ -86,7 +86,7 @@ class StoreFile:
         run.wait()
         found = _SURVEY.search(run.output)
         if found is None:
-            raise end_of(run.status, bytes(run.errors), False)
+            raise end_of(run.status, bytes(run.errors), False, self._folder)
         if self.is_replaced():
             raise Device(f"{self._path} was replaced while its base was read")
         return int(found[1])
@@ -117,7 +117,7 @@ class StoreFile:
         run = Run([self._program, "format", "-"], self._timeout, LONGEST, piece)
         run.wait()
         if run.status is None:
-            raise end_of(None, bytes(run.errors), False)
+            raise end_of(None, bytes(run.errors), False, self._folder)
         if run.status != 0:
             raise BadAnswer(run.errors.decode("utf-8", "replace").strip())
         return from_text(bytes(run.output))

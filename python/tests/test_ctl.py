@@ -112,8 +112,8 @@ class Words(unittest.TestCase):
         for line, tip in (
             ("lsit", "names"), ("list s", "names"), ("ls s", "names"), ("rm s web", "delete"), ("cat s web", "get"),
             ("version", "--version"), ("gte s web", "get"), ("help improt", "import"), ("exprot s web", "export"),
-            ("--wiat 3 names s", "--wait"), ("get s web --josn", "--json"), ("set s web /a b --if-vaule x", "--if-value"),
-            ("names s --jsno=x", "--json"), ("run s --gropu", "--group"), ("hlep", "help"), ("xyzzy", None),
+            ("--wiat 3 names s", "--wait"), ("get s web --josn", "--json"),
+            ("set s web /a b --if-vaule x", "--if-value"), ("names s --jsno=x", "--json"), ("run s --gropu", "--group"), ("hlep", "help"), ("xyzzy", None),
             ("get s web --xyzzy", None), ("names s -x", None),
         ):  # fmt: skip
             with self.subTest(line):
@@ -125,7 +125,8 @@ class Words(unittest.TestCase):
     def test_files_that_are_repeated(self) -> None:
         asked = asked_of(shlex.split("format --check a b -- -c"))
         assert isinstance(asked, Asked)
-        self.assertEqual((asked.arguments, asked.repeated, asked.options), ({"FILE": "a"}, ("b", "-c"), {"--check": ""}))
+        self.assertEqual((asked.arguments, asked.repeated), ({"FILE": "a"}, ("b", "-c")))
+        self.assertEqual(asked.options, {"--check": ""})
         self.assertEqual(self.asked("check"), ("check", {}, {}))
         self.assertEqual(self.asked("--check cmd set s web /a b")[2], {"--check": "cmd"})
         for line in ("init --socket /x s", "format --wait 3 a", "backup a", "backup a b c", "set -i s web /a b"):
@@ -147,7 +148,8 @@ class Words(unittest.TestCase):
     def test_help_has_all(self) -> None:
         for word in WORDS.values():
             self.assertRegex(help_of_all(), rf"(?m)^  {word.name} +{re.escape(word.about)}$")
-            for name in [*(option.name for option in (*word.options, *word.common)), *(one.name for one in word.arguments)]:
+            options = (option.name for option in (*word.options, *word.common))
+            for name in [*options, *(one.name for one in word.arguments)]:
                 self.assertRegex(help_of(word.name), rf"(?m)^  {name}\b")
         for text in (help_of_all(), *map(help_of, WORDS)):
             self.assertLess(max(map(len, text.splitlines())), 120)

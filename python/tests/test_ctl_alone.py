@@ -66,7 +66,7 @@ class WordsOfTheProgram(StoreTest):
             began = time.monotonic()
             status, output, line = self.ctl("--wait", "0.5", "run", self.folder, given="names:\n...\n")
             self.assertEqual((status, output), (3, ""))
-            self.assertRegex(line, "^confstorectl: Locked: a server or another run holds the store: .*`confstorectl batch`")
+            self.assertRegex(line, "^confstorectl: Locked: a server or another run holds .* `confstorectl batch`$")
             self.assertGreater(time.monotonic() - began, 0.5)
             self.assertEqual(self.ctl("init", self.folder)[0], 1)
             copy = os.path.join(self.top, "copy")
