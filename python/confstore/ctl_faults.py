@@ -132,7 +132,7 @@ def fault_of(error: ConfstoreError) -> Fault:
     from .faults import Refused
 
     if not isinstance(error, Refused):
-        name = type(error).__name__
-        return Fault(_NAMES.get(name, name), shown(str(error)).removeprefix(f"{name}: "))
+        name = _NAMES.get(type(error).__name__, type(error).__name__)
+        return Fault(name, shown(str(error)).removeprefix(f"{name}: "))
     place = error.place if error.word == "Syntax" else None
     return Fault(f"Syntax {place.line}:{place.column} {place.reason}" if place else shown(error.word))

@@ -205,29 +205,35 @@ class SessionEnded(ConfstoreError):
     """The session is over, or the run of the program that was to read. What was answered stands; `reopen` starts
     another session.
 
-    As a text it is a sentence, with the folder where the program has said no more than a name. `status` is the
-    program's, or the negative number of the signal that ended it, or None where it isn't known. `folder` is the
-    store's, or None where it isn't known.
+    As a text it is a sentence, with the folder. `status` is the program's, or the negative number of the signal that
+    ended it, or None where it isn't known. `folder` is the store's, or None where it isn't known. `cause` is what the
+    program has said beside, as which call of the system failed, or empty.
     """
 
     #: What a program means that ends with this name.
     because = ""
 
-    def __init__(self, about: str, status: int | None = None, folder: str | None = None) -> None:
+    def __init__(self, about: str, status: int | None = None, folder: str | None = None, cause: str = "") -> None:
         super().__init__(about)
-        self.status = status
-        self.folder = folder
+        self.status, self.folder, self.cause = status, folder, cause
 
     def __str__(self) -> str:
+        return self._sentence(self.because)
+
+    def _sentence(self, because: str) -> str:
+        """What is over, why where that isn't said yet, and of which folder."""
         about = str(self.args[0])
-        because = self.because if " " not in about else ""
-        return ": ".join(part for part in (about, because, repr(self.folder) if self.folder else "") if part)
+        parts = (about, because if " " not in about else "", repr(self.folder) if self.folder else "")
+        return ": ".join(part for part in parts if part)
 
 
 class Device(SessionEnded):
     """A call of the system failed, as on a full device. The command in hand was performed or not."""
 
     because = "a call of the system failed, as on a full device"
+
+    def __str__(self) -> str:
+        return self._sentence(self.cause or self.because)
 
 
 class Locked(SessionEnded):
@@ -430,15 +436,17 @@ def program_fault(error: OSError, program: str) -> ConfstoreError:
 
 def end_of(status: int | None, errors: bytes, cut: bool, folder: str | None = None) -> SessionEnded:
     """Why a program is over: by its status, by what it wrote to standard error, and by whether an answer was cut."""
-    name = ""
+    name = cause = ""
     for line in errors.decode("utf-8", "replace").splitlines():
         if line.startswith("confstore: "):
-            name = line[len("confstore: ") :]
+            name, cause = line[len("confstore: ") :], ""
+        else:
+            cause = cause or (line if name else "")
     import re  # by a process whose program has ended
 
     kind = ENDS.get(re.split(r"\W", name, maxsplit=1)[0])
     if kind is not None:
-        return kind(name, status, folder)
+        return kind(name, status, folder, cause)
     if status is None:
         how = "how the program ended isn't known: SIGCHLD is ignored here, or somebody else waits for all children"
     elif status < 0:

@@ -3,10 +3,12 @@
 from __future__ import annotations
 
 import asyncio
+import errno
 import os
 import pathlib
 import pickle
 import random
+import shlex
 from typing import Any, Callable
 
 import confstore
@@ -140,6 +142,19 @@ class Folders(StoreTest):
             (AsyncStore.connect("/x/y"), "AsyncStore.connect('/x/y')"),
         ):  # fmt: skip
             self.assertEqual(repr(shown), said)
+
+    def test_the_cause_of_an_end(self) -> None:
+        """That which the program has named, as where a file may be no longer."""
+        small = pathlib.Path(self.top, "small")
+        program = shlex.quote(os.environ["CONFSTORE"])
+        small.write_text(f"#!/bin/sh\ntrap '' XFSZ\nulimit -f 2\nexec {program} \"$@\"\n", encoding="utf-8")
+        small.chmod(0o755)
+        store = self.store(program=str(small))
+        with self.assertRaises(confstore.Device) as caught:
+            store["web"] = "x" * 5_000
+        cause = f"store.yaml: {os.strerror(errno.EFBIG)}"
+        self.assertEqual(str(caught.exception), f"Device: {cause}: {self.folder!r}")
+        self.assertEqual(caught.exception.cause, cause)
 
     def test_ends(self) -> None:
         """The sentence of an end has the folder."""
