@@ -15,8 +15,8 @@
 # - confstorectl beside the program: alone, through a server and through a node; and its watch.
 # - Exceptions from signal handlers in each call of the Python package.
 # - The Ansible collection, its types, and the playbook of the examples.
-# - The settings for editors, the hook, the examples, the page of a log, the completions, the man pages, and the Debian
-#   packages.
+# - The settings for editors, the hook, the examples, the page of a log, the completions, the man pages, the Debian
+#   packages, and the container image.
 #
 # What isn't installed is left out, with a line that says so. Each step has a limit of time, and ends what it started.
 # The program is CONFSTORE, or the one that ./prove built. The last line is 'N passed, M failed', of steps, and the
@@ -89,7 +89,8 @@ types() {
 }
 script_types() {
     MYPYPATH=checks:bench:clients:python:replicated mypy --strict --explicit-package-bases \
-        --config-file python/pyproject.toml clients/serve.py python/pages_of_confstorectl.py {checks,bench}/{,lib/}*.py
+        --config-file python/pyproject.toml clients/serve.py python/pages_of_confstorectl.py packaging/image.py \
+        {checks,bench}/{,lib/}*.py
 }
 # Each in a run of its own, as both are packages of the same name.
 test_types() {
@@ -163,5 +164,6 @@ no_warnings() {
 export -f no_warnings
 if has man; then step "man pages" 60 bash -c no_warnings; fi
 if has dpkg-deb; then step "the Debian packages" 300 packaging/deb/try.sh; fi
+step "the container image" 60 "$python" checks/image.py
 echo "$passed passed, $failed failed"
 [ "$failed" -eq 0 ]

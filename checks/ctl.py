@@ -6,7 +6,7 @@
   output, the name of the fault and the other lines on standard error are those of confstore, and in the end so is the
   store's file, byte by byte. (A node's store has its own marks, and a node takes neither a checkpoint nor conditions
   nor the words that look into the file.) A folder without a store gets none.
-- **The table of words** of confstorectl has the arguments and options that the help of confstore has.
+- **The table of words** of confstorectl has the words, arguments and options that the help of confstore has.
 - **Streams** that are closed, full, or that nobody reads, and a terminal, where more is said of a refused text.
 - **Waiting** for a store that is locked, and for a server that is not there; and which socket is taken. In a copy of a
   folder that has a link to the first one's socket no word is done.
@@ -65,8 +65,8 @@ CTL = [sys.executable, "-m", "confstore.ctl"]
 SERVER = os.path.join(TOP, "clients", "serve.py")
 PAGES = os.path.join(TOP, "python", "pages_of_confstorectl.py")
 
-# The words that a program has alone which takes a store as it is in its folder, or no store at all.
-OF_PROGRAM_ALONE = {"init", "run", "salvage", "backup", "format", "check", "help"}
+# What is no word of the table of confstorectl, but has help too.
+OF_PROGRAM_ALONE = {"help"}
 
 # The words that confstorectl has alone.
 OF_CTL_ALONE = {"batch", "watch", "edit", "render"}
@@ -685,7 +685,7 @@ def try_one_watch(top: str, failures: Failures) -> None:
 # What is typed before a TAB, and the words that confstorectl is called with then.
 LINES = [
     ("exp", "export"),
-    ("--wait 5 che", "--wait 5 checkpoint"),
+    ("--wait 5 checkp", "--wait 5 checkpoint"),
     ("get store we", "get store web"),
     ("get --at 1 --ra", "get --at 1 --raw"),
     ("--socket fil", "--socket file.yaml"),
@@ -699,6 +699,10 @@ LINES = [
     ("set --file fil", "set --file file.yaml"),
     ("copy store web ap", "copy store web app"),
     ("exi", "exists"),
+    ("bac", "backup"),
+    ("backup store sto", "backup store store"),
+    ("format --check file.yaml fil", "format --check file.yaml file.yaml"),
+    ("run --checkp", "run --checkpoint-after"),
 ]
 
 

@@ -2,7 +2,7 @@
 # files.
 # python/pages_of_confstorectl.py makes this file of the table of words.
 
-_confstorectl_words='import set delete copy rename edit batch checkpoint export names keys get exists render log verify watch help'
+_confstorectl_words='import set delete copy rename edit batch checkpoint export names keys get exists render log verify watch init run backup salvage format check help'
 
 _confstorectl_options() {
     case $1 in
@@ -20,6 +20,12 @@ _confstorectl_options() {
     exists) echo '--at --socket --wait --help' ;;
     log) echo '--values --yaml --at --socket --wait --help' ;;
     watch) echo '--values --yaml --from --settle --socket --wait --help' ;;
+    init) echo '--wait --help' ;;
+    run) echo '--group --checkpoint-after --wait --help' ;;
+    backup) echo '--wait --help' ;;
+    salvage) echo '--wait --help' ;;
+    format) echo '--in-place --drop-comments --check --explain --help' ;;
+    check) echo '--explain --help' ;;
     *) echo '--socket --wait --help' ;;
     esac
 }
@@ -35,9 +41,10 @@ _confstorectl() {
     local current=${COMP_WORDS[COMP_CWORD]} word='' place=-1 index folder='' more=''
     COMPREPLY=()
     for ((index = 1; index < COMP_CWORD; index++)); do
-        case ${COMP_WORDS[index]} in
-        --at | --check | --default | --dir | --document | --file | --from | --if-count | --if-value | --settle | --socket | --wait) index=$((index + 1)) ;;
-        -?*) ;;
+        case "$word ${COMP_WORDS[index]}" in
+        'format --check') ;;
+        *' --at' | *' --check' | *' --checkpoint-after' | *' --default' | *' --dir' | *' --document' | *' --file' | *' --from' | *' --if-count' | *' --if-value' | *' --settle' | *' --socket' | *' --wait') index=$((index + 1)) ;;
+        *' -'?*) ;;
         *)
             place=$((place + 1))
             [ "$place" -ne 0 ] || word=${COMP_WORDS[index]}
@@ -45,13 +52,14 @@ _confstorectl() {
             ;;
         esac
     done
-    case ${COMP_WORDS[COMP_CWORD - 1]} in
-    --file | --socket)
+    case "$word ${COMP_WORDS[COMP_CWORD - 1]}" in
+    'format --check') ;;
+    *' --file' | *' --socket')
         compopt -o filenames
         mapfile -t COMPREPLY < <(compgen -f -- "$current")
         return
         ;;
-    --at | --check | --default | --dir | --document | --from | --if-count | --if-value | --settle | --wait) return ;;
+    *' --at' | *' --check' | *' --checkpoint-after' | *' --default' | *' --dir' | *' --document' | *' --from' | *' --if-count' | *' --if-value' | *' --settle' | *' --wait') return ;;
     esac
     if [[ $current == -* ]]; then
         [ -n "$word" ] || more=--version
@@ -60,14 +68,14 @@ _confstorectl() {
     fi
     case $word:$place in
     :-1 | help:0) mapfile -t COMPREPLY < <(compgen -W "$_confstorectl_words" -- "$current") ;;
-    import:2 | batch:1 | render:2 | render:1)
+    import:2 | batch:1 | render:2 | format:* | check:* | render:1)
         compopt -o filenames
         mapfile -t COMPREPLY < <(compgen -f -- "$current")
         ;;
     import:1 | set:1 | delete:1 | copy:1 | rename:1 | edit:1 | export:1 | keys:1 | get:1 | exists:1 | watch:1 | copy:2 | rename:2)
         mapfile -t COMPREPLY < <(compgen -W "$(_confstorectl_names "$folder")" -- "$current")
         ;;
-    *:0)
+    *:0 | backup:1 | salvage:1)
         compopt -o filenames
         mapfile -t COMPREPLY < <(compgen -d -- "$current")
         ;;

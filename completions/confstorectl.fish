@@ -8,7 +8,7 @@ function __confstorectl_places
     for word in (commandline -opc)[2..-1]
         if test $is_value = 1
             set is_value 0
-        else if contains -- $word --at --check --default --dir --document --file --from --if-count --if-value --settle --socket --wait
+        else if contains -- $word --at --check --checkpoint-after --default --dir --document --file --from --if-count --if-value --settle --socket --wait; and not contains -- "$places[1] $word" 'format --check'
             set is_value 1
         else if not string match -q -- '-?*' $word
             set -a places $word
@@ -71,9 +71,22 @@ complete -c confstorectl -n '__confstorectl_at -1' -a log -d 'Writes the command
 complete -c confstorectl -n '__confstorectl_at -1' \
     -a verify -d 'Reads the whole store file, and writes whether it can be opened'
 complete -c confstorectl -n '__confstorectl_at -1' -a watch -d 'Writes each change as it is made'
+complete -c confstorectl -n '__confstorectl_at -1' -a init -d 'Makes a folder with an empty store'
+complete -c confstorectl -n '__confstorectl_at -1' \
+    -a run -d 'Performs the commands on standard input on the store in a folder'
+complete -c confstorectl -n '__confstorectl_at -1' \
+    -a backup -d 'Makes a new store with the same base and records as another one'
+complete -c confstorectl -n '__confstorectl_at -1' \
+    -a salvage -d 'Makes a new store of what a damaged one says before its first bad piece'
+complete -c confstorectl -n '__confstorectl_at -1' \
+    -a format -d 'Writes the tree of a YAML text in the one style'
+complete -c confstorectl -n '__confstorectl_at -1' \
+    -a check -d 'Writes where YAML texts depart from the one style'
 complete -c confstorectl -n '__confstorectl_at -1' -a help -d 'Says what a word does'
-complete -c confstorectl -l socket -r -F -d 'The socket of the server or the node that holds the store'
-complete -c confstorectl -l wait -x -d 'Tries again for so many seconds while another run holds the store'
+complete -c confstorectl -n 'not __confstorectl_is init' -n 'not __confstorectl_is run' -n 'not __confstorectl_is backup' -n 'not __confstorectl_is salvage' -n 'not __confstorectl_is format' -n 'not __confstorectl_is check' -l socket -r -F \
+    -d 'The socket of the server or the node that holds the store'
+complete -c confstorectl -n 'not __confstorectl_is format' -n 'not __confstorectl_is check' -l wait -x \
+    -d 'Tries again for so many seconds while another run holds the store'
 complete -c confstorectl -l help -d 'Says what the word does'
 complete -c confstorectl -n '__confstorectl_at -1' -l version -d 'Writes the version'
 complete -c confstorectl -n '__confstorectl_is import' -l init \
@@ -181,13 +194,30 @@ complete -c confstorectl -n '__confstorectl_is watch' -l from -x \
     -d 'Begins with change number N, which may have been made already'
 complete -c confstorectl -n '__confstorectl_is watch' -l settle -x \
     -d 'Runs COMMAND once for the changes that come within so many seconds'
-complete -c confstorectl -n '__confstorectl_at 0 import set delete copy rename edit batch checkpoint export names keys get exists render log verify watch' \
+complete -c confstorectl -n '__confstorectl_is run' -l group \
+    -d 'Syncs once for all commands that one read brings, and then answers them'
+complete -c confstorectl -n '__confstorectl_is run' -l checkpoint-after -x \
+    -d 'Makes a checkpoint each time the file has grown by so many bytes; needs `--group`'
+complete -c confstorectl -n '__confstorectl_is format' -l in-place \
+    -d 'Replaces each FILE that would change by its text in the one style; also `-i`'
+complete -c confstorectl -n '__confstorectl_is format' -l drop-comments \
+    -d 'Replaces a FILE with comments too, which are lost'
+complete -c confstorectl -n '__confstorectl_is format' -l check \
+    -d 'Changes nothing, and names each FILE that would change'
+complete -c confstorectl -n '__confstorectl_is format' -l explain \
+    -d 'Shows the line at fault of a refused text, and says what to do'
+complete -c confstorectl -n '__confstorectl_is check' -l explain \
+    -d 'Shows the line at fault of a refused text, and says what to do'
+complete -c confstorectl -n '__confstorectl_at 0 import set delete copy rename edit batch checkpoint export names keys get exists render log verify watch init run backup salvage' \
     -a '(__fish_complete_directories)'
+complete -c confstorectl -n '__confstorectl_at 1 backup salvage' -a '(__fish_complete_directories)'
 complete -c confstorectl -n '__confstorectl_at 2 import render' -F
 complete -c confstorectl -n '__confstorectl_at 1 batch' -F
+complete -c confstorectl -n '__confstorectl_is format' -F
+complete -c confstorectl -n '__confstorectl_is check' -F
 complete -c confstorectl -n '__confstorectl_at 1 render' -F
 complete -c confstorectl -n '__confstorectl_at 1 import set delete copy rename edit export keys get exists watch' \
     -a '(__confstorectl_names)'
 complete -c confstorectl -n '__confstorectl_at 2 copy rename' -a '(__confstorectl_names)'
 complete -c confstorectl -n '__confstorectl_at 0 help' \
-    -a 'import set delete copy rename edit batch checkpoint export names keys get exists render log verify watch'
+    -a 'import set delete copy rename edit batch checkpoint export names keys get exists render log verify watch init run backup salvage format check'

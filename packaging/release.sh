@@ -26,6 +26,8 @@ room=$(mktemp -d)
 trap 'rm -rf "$room"' EXIT
 
 put_files "$built" "$room/$name"
+put_ctl "$room/$name"
+put_python "$room/$name/lib/confstore/python"
 put 644 "$top/LICENSE" "$room/$name/share/doc/confstore/LICENSE"
 tar --format=ustar --sort=name --mtime="@$RELEASE_TIME" --owner=0 --group=0 --numeric-owner -C "$room" -cf - "$name" |
     xz --threads=1 -9 --extreme --check=crc64 >"$room/$name.tar.xz"

@@ -29,6 +29,13 @@ WIDTH = 110
 ALL = list(WORDS.values())
 OPTIONS: List[Option] = list(dict.fromkeys(option for word in ALL for option in (*word.options, *COMMON)))
 WITH_VALUE = sorted({option.name for option in OPTIONS if option.value})
+# The options without a value that have the name of one with a value, each behind its word.
+WITHOUT_VALUE = sorted(
+    f"{word.name} {option.name}"
+    for word in ALL
+    for option in word.options
+    if not option.value and option.name in WITH_VALUE
+)
 OF_FILES = sorted({option.name for option in OPTIONS if option.value in ("PATH", "FILE")})
 HELP_ABOUT = "Says what a word does"
 
@@ -38,27 +45,30 @@ def names_of(options: Sequence[Option]) -> str:
 
 
 def places(argument: str) -> Iterator[str]:
-    """Where an argument stands: each word with the number of arguments before it."""
+    """Where an argument stands: each word with the number of arguments before it, or with `*` for any number."""
     for word in ALL:
         for place, found in enumerate(word.arguments):
             if found.name == argument:
-                yield f"{word.name}:{place}"
+                yield f"{word.name}:{'*' if found.is_repeated else place}"
 
 
 # ---- completions
 
 
 def for_bash() -> str:
-    cases = [f"    {word.name}) echo '{names_of([*word.options, *COMMON])}' ;;" for word in ALL if word.options]
+    shown = {word.name: names_of([*word.options, *word.common]) for word in ALL}
+    cases = [f"    {word}) echo '{names}' ;;" for word, names in shown.items() if names != names_of(COMMON)]
     return BASH.format(
         made=MADE,
         words=" ".join([*WORDS, "help"]),
         options="\n".join(cases),
         common=names_of(COMMON),
-        values=" | ".join(WITH_VALUE),
-        of_files=" | ".join(OF_FILES),
-        no_files=" | ".join(name for name in WITH_VALUE if name not in OF_FILES),
+        no_values=" | ".join(f"'{name}'" for name in WITHOUT_VALUE),
+        values=" | ".join(f"*' {name}'" for name in WITH_VALUE),
+        of_files=" | ".join(f"*' {name}'" for name in OF_FILES),
+        no_files=" | ".join(f"*' {name}'" for name in WITH_VALUE if name not in OF_FILES),
         files=" | ".join([*places("FILE"), *places("TEMPLATE")]),
+        folders=" | ".join(places("NEW")),
         names=" | ".join([*places("NAME"), *places("TO")]),
         version=VERSION.name,
     )
@@ -89,9 +99,10 @@ _confstorectl() {{
     local current=${{COMP_WORDS[COMP_CWORD]}} word='' place=-1 index folder='' more=''
     COMPREPLY=()
     for ((index = 1; index < COMP_CWORD; index++)); do
-        case ${{COMP_WORDS[index]}} in
+        case "$word ${{COMP_WORDS[index]}}" in
+        {no_values}) ;;
         {values}) index=$((index + 1)) ;;
-        -?*) ;;
+        *' -'?*) ;;
         *)
             place=$((place + 1))
             [ "$place" -ne 0 ] || word=${{COMP_WORDS[index]}}
@@ -99,7 +110,8 @@ _confstorectl() {{
             ;;
         esac
     done
-    case ${{COMP_WORDS[COMP_CWORD - 1]}} in
+    case "$word ${{COMP_WORDS[COMP_CWORD - 1]}}" in
+    {no_values}) ;;
     {of_files})
         compopt -o filenames
         mapfile -t COMPREPLY < <(compgen -f -- "$current")
@@ -121,7 +133,7 @@ _confstorectl() {{
     {names})
         mapfile -t COMPREPLY < <(compgen -W "$(_confstorectl_names "$folder")" -- "$current")
         ;;
-    *:0)
+    *:0 | {folders})
         compopt -o filenames
         mapfile -t COMPREPLY < <(compgen -d -- "$current")
         ;;
@@ -133,7 +145,7 @@ complete -F _confstorectl confstorectl
 
 ZSH_PLACES = {
     "FOLDER": "folder:_files -/", "NAME": "name:_confstorectl_names", "TO": "name:_confstorectl_names",
-    "FILE": "file:_files", "TEMPLATE": "template:_files",
+    "FILE": "file:_files", "TEMPLATE": "template:_files", "NEW": "folder:_files -/",
 }  # fmt: skip
 
 
@@ -144,14 +156,16 @@ def zsh_option(option: Option) -> str:
 
 
 def zsh_argument(place: int, argument: Argument) -> str:
-    return f"'{place}:{ZSH_PLACES.get(argument.name, argument.name.lower() + ':')}'"
+    where = "*" if argument.is_repeated else place
+    return f"'{where}:{ZSH_PLACES.get(argument.name, argument.name.lower() + ':')}'"
 
 
 def zsh_case(word: Word) -> str:
     parts = [zsh_option(option) for option in word.options]
     parts += [zsh_argument(place, argument) for place, argument in enumerate(word.arguments, 1)]
-    lines = " \\\n            ".join(parts)
-    return f"        {word.name}) _arguments $common \\\n            {lines} ;;"
+    common = ["$common"] if word.common == COMMON else [zsh_option(option) for option in word.common]
+    lines = " \\\n            ".join([*common, *parts])
+    return f"        {word.name}) _arguments {lines} ;;"
 
 
 def for_zsh() -> str:
@@ -214,22 +228,35 @@ def fish_places(argument: str) -> Iterator[str]:
     for place in places(argument):
         word, _, number = place.partition(":")
         where.setdefault(number, []).append(word)
-    return (f"'__confstorectl_at {number} {' '.join(words)}'" for number, words in where.items())
+    for number, words in where.items():
+        if number == "*":
+            yield from (f"'__confstorectl_is {word}'" for word in words)
+        else:
+            yield f"'__confstorectl_at {number} {' '.join(words)}'"
 
 
 def for_fish() -> str:
     starts = [f"complete -c confstorectl -n '__confstorectl_at -1' -a {word.name} -d '{word.about}'" for word in ALL]
     starts.append(f"complete -c confstorectl -n '__confstorectl_at -1' -a help -d '{HELP_ABOUT}'")
-    rows = [fish_option("", option) for option in COMMON]
+    rows = [fish_option(fish_words_with(option), option) for option in COMMON]
     rows.append(fish_option(" -n '__confstorectl_at -1'", VERSION))
     for word in ALL:
         rows += [fish_option(f" -n '__confstorectl_is {word.name}'", option) for option in word.options]
-    for argument, action in (("FOLDER", "-a '(__fish_complete_directories)'"), ("FILE", "-F"), ("TEMPLATE", "-F")):
+    folders = "-a '(__fish_complete_directories)'"
+    for argument, action in (("FOLDER", folders), ("NEW", folders), ("FILE", "-F"), ("TEMPLATE", "-F")):
         rows += [f"complete -c confstorectl -n {place} {action}" for place in fish_places(argument)]
     for argument in ("NAME", "TO"):
         rows += [f"complete -c confstorectl -n {place} -a '(__confstorectl_names)'" for place in fish_places(argument)]
     rows.append(f"complete -c confstorectl -n '__confstorectl_at 0 help' -a '{' '.join(WORDS)}'")
-    return FISH.format(made=MADE, values=" ".join(WITH_VALUE), rows="\n".join(map(fish_lines, [*starts, *rows])))
+    no_values = " ".join(f"'{name}'" for name in WITHOUT_VALUE)
+    lines = "\n".join(map(fish_lines, [*starts, *rows]))
+    return FISH.format(made=MADE, values=" ".join(WITH_VALUE), no_values=no_values, rows=lines)
+
+
+def fish_words_with(option: Option) -> str:
+    """The condition under which an option of most words is offered."""
+    without = [word.name for word in ALL if option not in word.common]
+    return "".join(f" -n 'not __confstorectl_is {word}'" for word in without)
 
 
 def fish_lines(row: str) -> str:
@@ -248,7 +275,7 @@ function __confstorectl_places
     for word in (commandline -opc)[2..-1]
         if test $is_value = 1
             set is_value 0
-        else if contains -- $word {values}
+        else if contains -- $word {values}; and not contains -- "$places[1] $word" {no_values}
             set is_value 1
         else if not string match -q -- '-?*' $word
             set -a places $word

@@ -27,7 +27,7 @@ architecture=$(dpkg --print-architecture)
 
 put_files "$program" "$root/usr"
 rm -r "$root/usr/share/man/man3"
-for page in README.md CHANGELOG.md docs/GUIDE.md docs/SESSION.md docs/STORE.md docs/FAULTS.md docs/STYLE.md; do
+for page in packaging/deb/README.md CHANGELOG.md docs/GUIDE.md docs/SESSION.md docs/STORE.md docs/FAULTS.md docs/STYLE.md; do
     put 644 "$top/$page" "$root/usr/share/doc/confstore/$(basename "$page")"
 done
 put_papers confstore "$version"
@@ -40,6 +40,7 @@ Architecture: $architecture
 Maintainer: $maintainer
 Installed-Size: $(installed_size)
 Depends: $(needed_c_library "$program")
+Recommends: python3-confstore (>= $version)
 Suggests: python3
 Section: database
 Priority: optional

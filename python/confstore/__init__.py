@@ -12,21 +12,20 @@ package starts `confstore run --group` and speaks to it in YAML documents; what 
 session's promise. See `Store`, `AsyncStore` and `Reader` here, and `confstore.faults` for what can go wrong.
 """
 
-from typing import TYPE_CHECKING, Any, List
-
-from . import faults
-from .conditions import Absent, Condition, Count, Test
-from .faults import *  # noqa: F403
-from .faults import ConfstoreError, Refused, SessionEnded
-from .following import Changes, Cut, Replaced
-from .reader import Reader, View
-from .records import Edit, Record
-from .store import Batch, Store
-from .style import Tree, document, from_text, to_text
-from .texts import Place
-
+TYPE_CHECKING = False
 if TYPE_CHECKING:
+    from . import faults
     from .awaited import AsyncBatch, AsyncStore
+    from .conditions import Absent, Condition, Count, Test
+    from .faults import *  # noqa: F403
+    from .faults import ConfstoreError, Refused, SessionEnded
+    from .following import Changes, Cut, Replaced
+    from .reader import Reader, View
+    from .records import Edit, Record
+    from .store import Batch, Store
+    from .style import Tree, document, to_text
+    from .texts import Place
+    from .trees import from_text
 
 __version__ = "0.2.0"
 
@@ -37,15 +36,27 @@ __all__ = [
     "Refused", "SessionEnded",
 ]  # fmt: skip
 
+# Where each of them is. It is imported once it is asked for: who wants little waits for little.
+_MODULES = {
+    "Store": "store", "Batch": "store", "AsyncStore": "awaited", "AsyncBatch": "awaited", "Test": "conditions",
+    "Absent": "conditions", "Count": "conditions", "Condition": "conditions", "Reader": "reader", "View": "reader",
+    "Changes": "following", "Cut": "following", "Replaced": "following", "Record": "records", "Edit": "records",
+    "Place": "texts", "Tree": "style", "document": "style", "to_text": "style", "from_text": "trees",
+}  # fmt: skip
 
-def __getattr__(name: str) -> Any:
-    """The names of `awaited`, which is imported once one is asked for: asyncio takes as long as all the rest."""
-    if name in ("AsyncStore", "AsyncBatch"):
-        from . import awaited
 
-        return getattr(awaited, name)
-    raise AttributeError(f"module {__name__!r} has no attribute {name!r}")
+if not TYPE_CHECKING:
 
+    def __getattr__(name):
+        """A name of the package, of a module that is imported now."""
+        from importlib import import_module
 
-def __dir__() -> List[str]:
-    return sorted({*globals(), "AsyncStore", "AsyncBatch"})
+        if name == "faults":
+            return import_module(".faults", __name__)
+        if name not in _MODULES and name not in import_module(".faults", __name__).__all__:
+            raise AttributeError(f"module {__name__!r} has no attribute {name!r}")
+        found = globals()[name] = getattr(import_module(f".{_MODULES.get(name, 'faults')}", __name__), name)
+        return found
+
+    def __dir__():
+        return sorted({*globals(), *__all__, "faults", *__getattr__("faults").__all__})

@@ -8,12 +8,13 @@ import os
 import time
 from typing import Any, Callable, Dict, List, Mapping, Optional, Sequence, Type, Union, overload
 
-from .commands import CHECKPOINT, NAMES, Answers, delete_of, get_of, import_of, put_of, refused, set_of
+from .answers import Answers
+from .commands import CHECKPOINT, NAMES, delete_of, get_of, import_of, put_of, refused, set_of
 from .conditions import PROBE, Condition, Test, at_place, move_of, under
 from .edits import Edits
 from .faults import BadCommand, BadName, Closed, ConfstoreError, EmptyBatch, NoConfig, NoSuchPlace, NotIndex, NotText
 from .faults import Refused, Unmet, Unsupported
-from .mapping import MISSING, NOWHERE, D
+from .mapping import MISSING, MISSING_HERE, NOWHERE, D, Missing, text_at
 from .places import make_folder, need_folder
 from .session import Session
 from .store import words_of
@@ -68,6 +69,9 @@ class AsyncStore(Answers):
         store._timeout, store._words, store._makes = timeout, [], False
         store._socket, store._session = os.fsdecode(path), None
         return store
+
+    def __repr__(self) -> str:
+        return f"AsyncStore.connect({self._socket!r})" if self._socket else f"AsyncStore({self._words[-1]!r})"
 
     async def open(self) -> None:
         """Opens the store. Where this raises anything, or is cancelled, the session is ended."""
@@ -201,6 +205,19 @@ class AsyncStore(Answers):
             if default is MISSING:
                 raise
             return default
+
+    @overload
+    async def get_text(self, name: str, path: str = "") -> str: ...
+
+    @overload
+    async def get_text(self, name: str, path: str = "", *, default: D) -> Union[str, D]: ...
+
+    async def get_text(self, name: str, path: str = "", *, default: Any = MISSING) -> Any:
+        """The text at a path of a configuration, read as by `get`. Raises `NotAText` where a list or a mapping is."""
+        if default is MISSING:
+            return text_at(name, path, await self.get(name, path))
+        tree = await self.get(name, path, default=MISSING_HERE)
+        return default if isinstance(tree, Missing) else text_at(name, path, tree)
 
     async def has(self, name: str) -> bool:
         """Whether a configuration has the name."""

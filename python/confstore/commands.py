@@ -1,16 +1,16 @@
-"""The commands of a session, and what their answers say: the exceptions of refusals know of what."""
+"""The commands of a session, and the exceptions of those that are refused."""
 
 from __future__ import annotations
 
 import re
-from typing import Dict, Iterator, List, Optional
 
-import yaml
+from .faults import Refused, refusal
 
-from .faults import BadAnswer, ConfstoreError, Refused, refusal
-from .style import Tree, text_of, to_text, trees_of
+TYPE_CHECKING = False
+if TYPE_CHECKING:
+    from collections.abc import Iterator
 
-_OK = re.compile(rb'---\nok: "([0-9]+)"\n\.\.\.\n')
+    from .style import Tree
 
 _NAME = re.compile(r"[a-z][a-z0-9_-]{0,63}")
 _POINTER = re.compile(r"(?:/(?:[^~/]|~[01])*)*")
@@ -29,23 +29,30 @@ def is_pointer(text: str) -> bool:
     return _POINTER.fullmatch(text) is not None
 
 
-def import_of(name: str, text: str) -> Dict[str, Tree]:
+def import_of(name: str, text: str) -> dict[str, Tree]:
     return {"import": name, "text": text}
 
 
-def put_of(name: str, tree: Tree) -> Dict[str, Tree]:
-    return import_of(name, to_text(tree))
+def put_of(name: str, tree: Tree) -> dict[str, Tree]:
+    from .faults import Unwritten
+    from .style import to_text
+
+    try:
+        return import_of(name, to_text(tree))
+    except Unwritten as fault:
+        fault.name = name if isinstance(name, str) else None
+        raise
 
 
-def set_of(name: str, path: str, tree: Tree) -> Dict[str, Tree]:
+def set_of(name: str, path: str, tree: Tree) -> dict[str, Tree]:
     return {"set": name, "path": path, "value": tree}
 
 
-def delete_of(name: str, path: str) -> Dict[str, Tree]:
+def delete_of(name: str, path: str) -> dict[str, Tree]:
     return {"delete": name, "path": path}
 
 
-def get_of(name: str, path: str) -> Dict[str, Tree]:
+def get_of(name: str, path: str) -> dict[str, Tree]:
     return {"get": name, "path": path}
 
 
@@ -59,15 +66,17 @@ def _texts(command: Tree) -> Iterator[bytes]:
                 yield text.encode("utf-8", "surrogatepass")
 
 
-def about(word: str, name: Optional[str], path: Optional[str]) -> str:
+def about(word: str, name: str | None, path: str | None) -> str:
     """What was refused, of what."""
     where = f" at {path!r}" if path else ""
     of = f" of {name!r}{where}" if name is not None else ""
     return f"`{word}`{of} was refused"
 
 
-def refused(word: str, command: Tree, program: Optional[str]) -> Refused:
+def refused(word: str, command: Tree, program: str | None) -> Refused:
     """The exception of a command that was refused by a word."""
+    from .style import text_of
+
     pairs = [pair for pair in command.items() if pair[0] != "if"] if isinstance(command, dict) else []
     if not isinstance(command, dict) or not pairs:
         return refusal(word)
@@ -82,50 +91,3 @@ def refused(word: str, command: Tree, program: Optional[str]) -> Refused:
     fault.name, fault.path = name, path
     fault.texts, fault.program = tuple(_texts(command)), program
     return fault
-
-
-class Answers:
-    """Reads the answers of a session."""
-
-    _program: Optional[str] = None
-
-    def _end_for(self, fault: ConfstoreError) -> None:
-        """Ends the session."""
-        raise NotImplementedError
-
-    def _distrust(self, answer: bytes, about: str) -> BadAnswer:
-        """Ends the session, which gave an answer that is none."""
-        self._end_for(BadAnswer(about))
-        return BadAnswer(f"{about}: {answer[:200]!r}")
-
-    def _value_in(self, answer: bytes, key: str, command: Tree) -> Tree:
-        """What the answer to a command has under the key that is expected."""
-        try:
-            (tree,) = trees_of(answer)
-        except (yaml.YAMLError, ValueError, BadAnswer) as error:
-            raise self._distrust(answer, f"the answer is no YAML document: {type(error).__name__}") from None
-        if isinstance(tree, dict) and len(tree) == 1:
-            if key in tree:
-                return tree[key]
-            word = tree.get("refused")
-            if isinstance(word, str):
-                raise refused(word, command, self._program)
-        raise self._distrust(answer, "the answer is none to the command")
-
-    def _count_in(self, answer: bytes, command: Tree) -> int:
-        found = _OK.fullmatch(answer)
-        if found:
-            return int(found[1])
-        raise self._distrust(answer, f"the answer has {self._value_in(answer, 'ok', command)!r} for a number")
-
-    def _text_in(self, answer: bytes, command: Tree) -> str:
-        text = self._value_in(answer, "text", command)
-        if not isinstance(text, str):
-            raise BadAnswer("the text of an export is a collection")
-        return text
-
-    def _names_in(self, answer: bytes) -> List[str]:
-        names = self._value_in(answer, "names", NAMES)
-        if not isinstance(names, list):
-            raise BadAnswer("the names are no list")
-        return [str(name) for name in names]

@@ -15,35 +15,29 @@ if __name__ == "__main__":
 
 import sys  # noqa: E402
 import time
-from typing import Callable, Dict, List, Optional, Sequence
 
-from .commands import CHECKPOINT, NAMES, delete_of, get_of, import_of, is_name, set_of
-from .conditions import under
-from .ctl_asked import Asked, Help, Version, asked_of
-from .ctl_changes import conditions_of, move
-from .ctl_faults import DEVICE, NOTHING_THERE, OF_TEXTS, REFUSED, Fault, TextFault, unread
-from .ctl_help import help_of, help_of_all
-from .ctl_outputs import has_form, output_of, output_of_default
-from .ctl_program import Source, edits_of, is_without_store, program_if_any, run, styled, tree_of
-from .ctl_sockets import NO_SERVER, Command, Connection, Place, SessionReply, answer_of, place_of
-from .ctl_streams import MOST_INPUT, ClosedPipe, hold_closed, is_error_terminal, read_text, write, write_error
-from .ctl_watch import watch
-from .ctl_words import AT, BATCH, CHECK, EDIT, EXISTS, EXPLAIN, FOREIGN, FROM_FILE, IMPORT, LOOKING_BACK, MOVING
-from .ctl_words import READING, RENDER, SET, WATCH, YAML_VALUE, Option
-from .session import LONGEST_COMMAND
-from .style import Tree, document
+from .ctl_asked import Asked, Help, Version, asked_of, wrong
+from .ctl_faults import DEVICE, NOTHING_THERE, OF_TEXTS, REFUSED, WRONG_WORDS, Fault, TextFault, unread
+from .ctl_places import NO_SERVER, Place, place_of
+from .ctl_program import Source, is_without_store, program_if_any, run_shown, styled
+from .ctl_streams import ClosedPipe, hold_closed, is_error_terminal, read_text, write, write_error
+from .ctl_words import AT, BATCH, CHECK, EDIT, EXISTS, EXPLAIN, FED, FOREIGN, FROM_FILE, IMPORT, LOOKING_BACK, MOVING
+from .ctl_words import OF_PROGRAM, READING, RENDER, RUN, SET, WATCH, YAML_VALUE, Option
+
+TYPE_CHECKING = False  # `typing` takes as long to import as all of this
+if TYPE_CHECKING:
+    from collections.abc import Callable, Sequence
+
+    from .ctl_sockets import Command
 
 # How many seconds lie between two tries of a word.
 PAUSE = 0.1
 
+# What to do where a run can't have the store.
+HELD = "a server or another run holds the store: a server's socket takes the same commands; or use `confstorectl batch`"
+
 # What a shell adds to the number of the signal that ended a program.
 BY_SIGNAL = 128
-
-# How many bytes a character of a text has at most in a command.
-LONGEST_CHARACTER = 6
-
-# The text of an empty list.
-EMPTY = "[]\n"
 
 
 class Work:
@@ -52,10 +46,10 @@ class Work:
     def __init__(self, asked: Asked) -> None:
         if EXPLAIN in asked.word.options and is_error_terminal():
             asked = asked.with_option(EXPLAIN)
-        self.asked = asked
-        self.text: Optional[bytes] = None
+        self.asked: Asked = asked
+        self.text: bytes | None = None
         self.source = Source("-", asked.has(EXPLAIN))
-        self._command: Optional[Command] = None
+        self._command: Command | None = None
         if asked.word in (IMPORT, BATCH):
             self._take_file(asked.argument("FILE") or "-")
         elif asked.word is SET and asked.has(FROM_FILE):
@@ -64,7 +58,7 @@ class Work:
             self._take_value(asked.arguments["VALUE"])
 
     def _take_file(self, file: str) -> None:
-        self.source = self.source._replace(name=file)
+        self.source = self.source.named(file)
         try:
             self.text = read_text(file)
         except OSError as error:
@@ -72,7 +66,7 @@ class Work:
 
     def _take_value(self, value: str) -> None:
         if value != "-":
-            self.source = self.source._replace(name="VALUE")
+            self.source = self.source.named("VALUE")
             self.text = value.encode()
             return
         try:
@@ -81,9 +75,9 @@ class Work:
             raise Fault("Input", error.strerror) from None
 
     @property
-    def place(self) -> Optional[Place]:
+    def place(self) -> Place | None:
         """The socket that it is asked through, if there is one."""
-        if self.asked.word in LOOKING_BACK or self.asked.has(AT):
+        if self.asked.word in (*LOOKING_BACK, *OF_PROGRAM) or self.asked.has(AT):
             return None
         return place_of(self.asked.socket, self.asked.folder)
 
@@ -91,7 +85,9 @@ class Work:
     def command(self) -> Command:
         """The command of a session. Raises the `Fault` of a text that is refused."""
         if self._command is None:
-            self._command = under(conditions_of(self.asked), _COMMANDS[self.asked.word.name](self))
+            from .ctl_requests import request_of
+
+            self._command = request_of(self)
         return self._command
 
     def may_try_again(self, fault: Fault) -> bool:
@@ -101,19 +97,29 @@ class Work:
     def by_program(self) -> int:
         """Has the program do it. The status."""
         if self.asked.word is BATCH:
-            if is_without_store(self.asked.folder):
-                raise Fault("NotAStore")
-            ended = run(["run", "--", self.asked.folder], document(self.command))
-        else:
-            ended = run(self._words(), self.text, None)
+            return self._batch_by_program()
+        ended = run_shown(self._words(), self.text, is_fed=self.asked.word in FED)
         if ended.was_locked:
-            raise Fault("Locked", None, True)
+            raise Fault("Locked", HELD if self.asked.word is RUN else None, True)
+        if ended.status == WRONG_WORDS:
+            raise wrong(ended.complaint, self.asked.word)
+        write_error(ended.lines(self.source))
+        return ended.status if ended.status >= 0 else BY_SIGNAL - ended.status
+
+    def _batch_by_program(self) -> int:
+        """Has a session of the program make the edits of a list. The status."""
+        from .ctl_exchange import ended_session
+        from .ctl_sockets import SessionReply, answer_of
+
+        if is_without_store(self.asked.folder):
+            raise Fault("NotAStore")
+        ended = ended_session(self.asked.folder, self.command)
         write_error(ended.lines(self.source))
         if ended.output:
             answer_of(SessionReply(ended.output), self.command, program_if_any())
         return ended.status if ended.status >= 0 else BY_SIGNAL - ended.status
 
-    def _words(self) -> List[str]:
+    def _words(self) -> list[str]:
         """The words for the program. What is read is on its standard input."""
         asked = self.asked
         options = [part for option in asked.word.options if asked.has(option) for part in self._parts(option)]
@@ -122,9 +128,9 @@ class Work:
             arguments.pop("FILE", None)
             if "VALUE" in arguments:
                 arguments["VALUE"] = "-"
-        return [asked.word.name, *options, "--", *arguments.values()]
+        return [asked.word.name, *options, "--", *arguments.values(), *asked.repeated]
 
-    def _parts(self, option: Option) -> List[str]:
+    def _parts(self, option: Option) -> list[str]:
         """An option for the program."""
         value = "-" if option is FROM_FILE else self.asked.options[option.name]
         if not option.value:
@@ -133,8 +139,13 @@ class Work:
 
     def by_socket(self, place: Place) -> int:
         """Asks the server. The status."""
+        from .ctl_outputs import output_of
+        from .ctl_sockets import Connection, answer_of
+
         with Connection(place) as connection:
             if self.asked.word in MOVING:
+                from .ctl_changes import move
+
                 move(self.asked, lambda command: answer_of(connection.ask(command), command, program_if_any()))
                 connection.finish()
                 return 0
@@ -150,6 +161,8 @@ class Work:
     def _without(self, fault: Fault) -> int:
         """The status where the server refused the command, as where nothing is at the place. Raises the `Fault` where
         that is one."""
+        from .ctl_outputs import output_of_default
+
         default = output_of_default(self.asked)
         if fault.kind not in NOTHING_THERE or (self.asked.word is not EXISTS and default is None):
             raise self._with_place(fault) from None
@@ -165,73 +178,6 @@ class Work:
         except TextFault as told:
             return told
         return fault
-
-
-# ---- the commands of the words
-
-
-def _import_command(work: Work) -> Command:
-    """The import of the text. One that is not UTF-8, or that is longer than a command as it stands, is looked at by the
-    program."""
-    assert work.text is not None
-    name = work.asked.arguments["NAME"]
-    if not is_name(name):
-        return import_of(name, EMPTY)  # so that the name is what is refused
-    try:
-        text = work.text.decode()
-    except UnicodeDecodeError:
-        text = styled(work.text, work.source).decode()
-    if len(text) * LONGEST_CHARACTER > LONGEST_COMMAND:
-        text = styled(work.text, work.source).decode()
-    return import_of(name, text)
-
-
-def _set_command(work: Work) -> Command:
-    given = work.asked.arguments
-    return set_of(given["NAME"], given["POINTER"], _value_of(work))
-
-
-def _value_of(work: Work) -> Tree:
-    """The value that is to be set. A file that is not UTF-8, or that is too long, is refused by the program."""
-    if work.text is None:
-        return work.asked.arguments["VALUE"]
-    if work.asked.has(YAML_VALUE):
-        return tree_of(work.text, work.source)
-    try:
-        if len(work.text) < MOST_INPUT:
-            return work.text.decode()
-    except UnicodeDecodeError:
-        pass
-    return styled(work.text, work.source).decode()
-
-
-def _batch_command(work: Work) -> Command:
-    assert work.text is not None
-    return {"batch": edits_of(work.text, work.source)}
-
-
-def _export_command(work: Work) -> Command:
-    name = work.asked.arguments["NAME"]
-    return get_of(name, "") if has_form(work.asked) else {"export": name}
-
-
-_COMMANDS: Dict[str, Callable[[Work], Command]] = {
-    "import": _import_command,
-    "set": _set_command,
-    "batch": _batch_command,
-    "delete": lambda work: delete_of(work.asked.arguments["NAME"], work.asked.argument("POINTER")),
-    "get": lambda work: get_of(work.asked.arguments["NAME"], work.asked.argument("POINTER")),
-    "keys": lambda work: get_of(work.asked.arguments["NAME"], work.asked.argument("POINTER")),
-    "exists": lambda work: get_of(work.asked.arguments["NAME"], work.asked.argument("POINTER")),
-    "export": _export_command,
-    "names": lambda _: dict(_mapping(NAMES)),
-    "checkpoint": lambda _: dict(_mapping(CHECKPOINT)),
-}
-
-
-def _mapping(command: Tree) -> Command:
-    assert isinstance(command, dict)
-    return command
 
 
 # ---- the whole
@@ -252,8 +198,6 @@ def _try(work: Work) -> int:
 
 def do(asked: Asked) -> int:
     """Does what is asked. The status. Raises a `Fault`."""
-    if asked.word is WATCH:
-        watch(asked)
     composed = composed_of(asked)
     if composed is not None:
         return composed(asked)
@@ -267,8 +211,12 @@ def do(asked: Asked) -> int:
         time.sleep(min(PAUSE, max(deadline - time.monotonic(), 0)))
 
 
-def composed_of(asked: Asked) -> Optional[Callable[[Asked], int]]:
+def composed_of(asked: Asked) -> Callable[[Asked], int] | None:
     """What does a word that takes more than one command, or None of another one. Only that is imported then."""
+    if asked.word is WATCH:
+        from .ctl_watch import watch
+
+        return watch
     if asked.word is EDIT:
         from .ctl_edit import edit
 
@@ -286,6 +234,7 @@ def composed_of(asked: Asked) -> Optional[Callable[[Asked], int]]:
 
 def check_and_do(asked: Asked) -> int:
     """Does a word whose change a command looks at before. The status. Raises a `Fault`."""
+    from .ctl_changes import conditions_of
     from .ctl_check import change
 
     if asked.word in MOVING:
@@ -313,13 +262,20 @@ def perform_words(words: Sequence[str]) -> int:
     except MemoryError:
         write_error("confstorectl: OutOfMemory\n")
         return 1
+    except ModuleNotFoundError as error:
+        if error.name != "yaml":
+            raise
+        write_error("confstorectl: MissingModule: this needs PyYAML: install python3-yaml, or `pip install PyYAML`\n")
+        return DEVICE
 
 
-def _help(asked: "Help | Version") -> str:
+def _help(asked: Help | Version) -> str:
     if isinstance(asked, Version):
         from . import __version__
 
         return f"confstorectl {__version__}\n"
+    from .ctl_help import help_of, help_of_all
+
     return help_of(asked.word) if asked.word else help_of_all()
 
 

@@ -2,21 +2,25 @@
 
 from __future__ import annotations
 
-import re
-from typing import Dict, List, NamedTuple, Sequence, Tuple
-
 from .ctl_faults import Fault, shown
-from .ctl_words import COMMON, FROM_FILE, HELP, IF_ABSENT, IF_VALUE, JSON, NO_NEWLINE, PLAIN, RAW
-from .ctl_words import RENDER, SET, SETTLE, SOCKET, VALUES, VERSION, WAIT, WHOLE, WORDS, YAML_RECORDS, YAML_VALUE
-from .ctl_words import Option, Word
+from .ctl_words import COMMON, FROM_FILE, HELP, IF_ABSENT, IF_VALUE, IN_PLACE, JSON, NO_NEWLINE, OTHER_NAMES
+from .ctl_words import PLAIN, RAW, RENDER, SET, SETTLE, SOCKET, VALUES, VERSION, WAIT, WHOLE, WORDS, YAML_RECORDS
+from .ctl_words import YAML_VALUE, Option, Word
 
-_OPTIONS: Dict[str, Option] = {
-    option.name: option for word in WORDS.values() for option in (*word.options, *COMMON, VERSION)
-}
-_SHORT = {"-h": HELP.name, "-V": VERSION.name}
+TYPE_CHECKING = False
+if TYPE_CHECKING:
+    from collections.abc import Sequence
 
-_NUMBER = re.compile(r"-[0-9]+(\.[0-9]*)?([eE][-+]?[0-9]+)?")
-_SECONDS = re.compile(r"[0-9]+(\.[0-9]*)?|\.[0-9]+")
+# The options by their names, where the word is not known yet. Of those with one name the first counts.
+_OPTIONS: dict[str, Option] = {}
+for _word in WORDS.values():
+    for _option in (*_word.options, *COMMON, VERSION):
+        _OPTIONS.setdefault(_option.name, _option)
+_SHORT = {"-h": HELP.name, "-V": VERSION.name, "-i": IN_PLACE.name}
+
+# A negative number, and a number of seconds.
+_NUMBER = r"-[0-9]+(\.[0-9]*)?([eE][-+]?[0-9]+)?"
+_SECONDS = r"[0-9]+(\.[0-9]*)?|\.[0-9]+"
 
 # The greatest number that a command can have.
 GREATEST = 2**64 - 1
@@ -32,13 +36,26 @@ _EXCLUDING = (
 )
 
 
-class Asked(NamedTuple):
+def _is(pattern: str, text: str) -> bool:
+    """Whether a pattern fits a text. `re` is imported where an option or an argument needs it."""
+    import re
+
+    return re.fullmatch(pattern, text) is not None
+
+
+class Asked:
     """A word with its arguments and options, by their names. An option without a value has an empty one."""
 
-    word: Word
-    arguments: Dict[str, str]
-    options: Dict[str, str]
-    command: Tuple[str, ...] = ()
+    def __init__(
+        self,
+        word: Word,
+        arguments: dict[str, str],
+        options: dict[str, str],
+        command: tuple[str, ...] = (),
+        repeated: tuple[str, ...] = (),
+    ) -> None:
+        self.word, self.arguments, self.options, self.command = word, arguments, options, command
+        self.repeated = repeated  # what stands again for the last argument
 
     @property
     def folder(self) -> str:
@@ -49,11 +66,13 @@ class Asked(NamedTuple):
         return self.arguments.get(name, "")
 
     def has(self, option: Option) -> bool:
-        return option.name in self.options
+        """Whether it has an option, and not one of the same name that takes a value where this takes none."""
+        named = (own for own in (*self.word.options, *self.word.common) if own.name == option.name)
+        return option.name in self.options and any(bool(own.value) == bool(option.value) for own in named)
 
-    def with_option(self, option: Option) -> "Asked":
+    def with_option(self, option: Option) -> Asked:
         """This with an option more, which has no value."""
-        return self._replace(options={**self.options, option.name: ""})
+        return Asked(self.word, self.arguments, {**self.options, option.name: ""}, self.command, self.repeated)
 
     @property
     def socket(self) -> str:
@@ -64,29 +83,55 @@ class Asked(NamedTuple):
         return float(self.options.get(WAIT.name, "0"))
 
 
-class Help(NamedTuple):
+class Help:
     """Help is asked for: of a word, or of all if that is empty."""
 
-    word: str
+    def __init__(self, word: str) -> None:
+        self.word = word
 
 
-class Version(NamedTuple):
+class Version:
     """The version is asked for."""
 
 
-def wrong(about: str, word: "Word | None" = None) -> Fault:
+def wrong(about: str, word: Word | None = None) -> Fault:
     """The fault of wrong words."""
     rest = word.usage if word is not None else "see confstorectl --help"
     return Fault("WrongWords", f"{about}: {rest}")
+
+
+def no_option(name: str, word: Word | None) -> Fault:
+    """The fault of an option that is none, with one that is like it."""
+    there = [option.name for option in (*word.options, *word.common)] if word is not None else list(_OPTIONS)
+    return wrong(f"there is no option {shown(name)}{_like(name, there)}", word)
+
+
+def no_word(name: str) -> Fault:
+    """The fault of a word that is none, with one that is like it, or that does what others call so."""
+    return wrong(f"there is no word {shown(name)}{_like(name, [*WORDS, 'help', *OTHER_NAMES])}")
+
+
+def _like(name: str, names: list[str]) -> str:
+    """A tip: the name that is the most like another one, if any is."""
+    from difflib import get_close_matches  # by wrong words alone
+
+    found = get_close_matches(name, names, 1)
+    return f"; `{OTHER_NAMES.get(found[0], found[0])}` may be meant" if found else ""
+
+
+def _option_of(word: Word | None, name: str) -> Option | None:
+    """An option by its name, which is one of the word if that has such a one."""
+    of_word = (*word.options, *word.common) if word is not None else ()
+    return next((option for option in of_word if option.name == name), _OPTIONS.get(name))
 
 
 class _Cut:
     """Words that are cut into arguments and options."""
 
     def __init__(self, words: Sequence[str]) -> None:
-        self.arguments: List[str] = []
-        self.options: Dict[str, str] = {}
-        self.command: Tuple[str, ...] = ()
+        self.arguments: list[str] = []
+        self.options: dict[str, str] = {}
+        self.command: tuple[str, ...] = ()
         self._left = list(reversed(words))
         while self._left:
             self._take(self._left.pop())
@@ -100,11 +145,11 @@ class _Cut:
         elif word in _SHORT:
             self.options[_SHORT[word]] = ""
         elif word.startswith("-") and word != "-" and not self._may_be_number(word):
-            raise wrong(f"there is no option {shown(word)}", self._word())
+            raise no_option(word, self._word())
         else:
             self.arguments.append(word)
 
-    def _take_rest(self, rest: List[str]) -> None:
+    def _take_rest(self, rest: list[str]) -> None:
         """Takes what follows `--`: a command where that may stand, and else arguments, and a command after another."""
         of = self._word()
         if of is None or not of.takes_command:
@@ -120,7 +165,7 @@ class _Cut:
             raise wrong("COMMAND is missing", of)
         self.command = tuple(rest)
 
-    def _word(self) -> "Word | None":
+    def _word(self) -> Word | None:
         return WORDS.get(self.arguments[0]) if self.arguments else None
 
     def _may_be_number(self, word: str) -> bool:
@@ -129,12 +174,12 @@ class _Cut:
         place = len(self.arguments) - 1
         if of is None or place >= len(of.arguments) or of.arguments[place].name != "VALUE":
             return False
-        return _NUMBER.fullmatch(word) is not None
+        return _is(_NUMBER, word)
 
     def _take_option(self, name: str, mark: str, value: str) -> None:
-        option = _OPTIONS.get(name)
+        option = _option_of(self._word(), name)
         if option is None:
-            raise wrong(f"there is no option {shown(name)}", self._word())
+            raise no_option(name, self._word())
         if name in self.options:
             raise wrong(f"{name} is there twice", self._word())
         if not option.value and mark:
@@ -143,12 +188,12 @@ class _Cut:
             if not self._left:
                 raise wrong(f"{name} wants {option.value}", self._word())
             value = self._left.pop()
-            if option not in COMMON and value.startswith("-") and value != "-" and not _NUMBER.fullmatch(value):
+            if option not in COMMON and value.startswith("-") and value != "-" and not _is(_NUMBER, value):
                 raise wrong(f"{name} wants {option.value}; {name}={shown(value)} gives it that", self._word())
         self.options[name] = value
 
 
-def asked_of(words: Sequence[str]) -> "Asked | Help | Version":
+def asked_of(words: Sequence[str]) -> Asked | Help | Version:
     """What the words ask for. Raises `WrongWords`."""
     if any("\udc80" <= sign <= "\udcff" for word in words for sign in word):
         raise Fault("WrongWords", "the words are not UTF-8")
@@ -162,11 +207,12 @@ def asked_of(words: Sequence[str]) -> "Asked | Help | Version":
         raise wrong("a word is missing")
     word = WORDS.get(name)
     if word is None:
-        raise wrong(f"there is no word {shown(name)}")
+        raise no_word(name)
     if HELP.name in cut.options:
         return Help(name)
     _check_options(word, cut.options)
-    asked = Asked(word, _arguments_of(word, cut.arguments[1:]), cut.options, cut.command)
+    repeated = tuple(cut.arguments[1 + len(word.arguments) :])
+    asked = Asked(word, _arguments_of(word, cut.arguments[1:]), cut.options, cut.command, repeated)
     _check_pointer(asked)
     _check_together(asked)
     return asked
@@ -174,16 +220,16 @@ def asked_of(words: Sequence[str]) -> "Asked | Help | Version":
 
 def _help_of(words: Sequence[str]) -> Help:
     if len(words) > 1 or (words and words[0] not in WORDS):
-        raise wrong(f"there is no word {shown(words[-1])}")
+        raise no_word(words[-1])
     return Help(words[0] if words else "")
 
 
-def _arguments_of(word: Word, words: Sequence[str]) -> Dict[str, str]:
+def _arguments_of(word: Word, words: Sequence[str]) -> dict[str, str]:
     """The arguments of a word by their names."""
     needed = [argument.name for argument in word.arguments if not argument.is_optional]
     if len(words) < len(needed):
         raise wrong(f"{needed[len(words)]} is missing", word)
-    if len(words) > len(word.arguments):
+    if len(words) > len(word.arguments) and not word.arguments[-1].is_repeated:
         raise wrong(f"{shown(words[len(word.arguments)])} is one argument too many", word)
     return {argument.name: given for argument, given in zip(word.arguments, words)}
 
@@ -193,17 +239,18 @@ def _check_number(word: Word, name: str, number: str) -> None:
         raise wrong(f"{name} wants a number, not {shown(number)}", word)
 
 
-def _check_options(word: Word, options: Dict[str, str]) -> None:
+def _check_options(word: Word, options: dict[str, str]) -> None:
     """Raises `WrongWords` for an option that the word has not, or whose value is none."""
     for name in options:
-        if all(name != option.name for option in (*word.options, *COMMON)):
-            raise wrong(f"{word.name} has no option {name}", word)
+        if all(name != option.name for option in (*word.options, *word.common)):
+            why = ": it goes to no server" if name == SOCKET.name else ""
+            raise wrong(f"{word.name} has no option {name}{why}", word)
     for option in word.options:
         if option.value == "N":
             _check_number(word, option.name, options.get(option.name, "0"))
     for option in (WAIT, SETTLE):
-        seconds = options.get(option.name, "0")
-        if not _SECONDS.fullmatch(seconds):
+        seconds = options.get(option.name)
+        if seconds is not None and not _is(_SECONDS, seconds):
             raise wrong(f"{option.name} wants a number of seconds, not {shown(seconds)}", word)
     if options.get(SOCKET.name) == "":
         raise wrong(f"{SOCKET.name} wants a path", word)

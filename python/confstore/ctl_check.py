@@ -16,7 +16,7 @@ from .ctl_faults import Fault, TextFault, shown
 from .ctl_program import program, run
 from .ctl_sockets import PATIENCE, Command, SessionReply, answer_of
 from .ctl_words import CHECK, MOVING
-from .other import Cutter
+from .pieces import Cutter
 from .style import Tree, document
 
 REFUSED = "CheckFailed"

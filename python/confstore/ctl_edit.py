@@ -18,7 +18,7 @@ from .ctl_faults import Fault, TextFault, shown
 from .ctl_program import Source, program, styled
 from .ctl_streams import write_error
 from .ctl_words import CHECK
-from .style import from_text
+from .trees import from_text
 
 # What the comment lines begin with that say why a text was refused. They are taken out again.
 MARK = b"# confstorectl: "

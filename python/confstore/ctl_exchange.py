@@ -5,16 +5,15 @@ from __future__ import annotations
 import time
 from typing import Optional
 
-import yaml
-
 from .commands import get_of
 from .ctl_asked import Asked
 from .ctl_faults import REFUSED, Fault, TextFault, shown
-from .ctl_program import is_without_store, program_if_any, run
-from .ctl_sockets import Command, Connection, Place, Reply, SessionReply, answer_of, place_of
+from .ctl_places import Place, place_of
+from .ctl_program import Ended, is_without_store, program_if_any, run
+from .ctl_sockets import Command, Connection, Reply, SessionReply, answer_of
 from .ctl_words import INIT
-from .faults import ConfstoreError
-from .style import Tree, document, from_text
+from .style import Tree, document
+from .trees import NO_TREES, from_text
 
 # How many seconds lie between two tries.
 PAUSE = 0.1
@@ -83,15 +82,21 @@ def tree_in(output: bytes) -> Tree:
     """The tree that the program has written. Raises a `Fault` where that is none."""
     try:
         return from_text(output)
-    except (ConfstoreError, yaml.YAMLError) as error:
+    except NO_TREES as error:
         raise Fault("BadAnswer", f"what the program wrote is no tree: {shown(str(error))}") from None
+
+
+def ended_session(folder: str, command: Command) -> Ended:
+    """A session of the program that was asked one command. Raises the `Fault` of a store that is held."""
+    ended = run(["run", "--", folder], document(command))
+    if ended.was_locked:
+        raise Fault("Locked", None, True)
+    return ended
 
 
 def answer_by_program(folder: str, command: Command) -> Reply:
     """The answer of a session of the program to one command. Raises its `Fault`."""
-    ended = run(["run", "--", folder], document(command))
-    if ended.was_locked:
-        raise Fault("Locked", None, True)
+    ended = ended_session(folder, command)
     if not ended.output:
         lines = ended.lines() or f"confstorectl: BadAnswer: the program ended with status {ended.status}\n"
         raise TextFault(lines, ended.status if ended.status > 0 else REFUSED)

@@ -2,15 +2,16 @@
 
 from __future__ import annotations
 
-import re
-from typing import Dict, Optional
+TYPE_CHECKING = False
+if TYPE_CHECKING:
+    import re
 
-from .faults import ConfstoreError, Refused
+    from .faults import ConfstoreError
 
 DEVICE, REFUSED, WRONG_WORDS = 3, 1, 2
 
 # The statuses of names that are neither refusals nor about a store.
-_STATUSES: Dict[str, int] = {
+_STATUSES: dict[str, int] = {
     "WrongWords": WRONG_WORDS,
     **dict.fromkeys(("Device", "Locked", "Input", "Output", "Reopen", "Failed", "Unknown"), DEVICE),
     **dict.fromkeys(("Disconnected", "TimedOut", "BadAnswer", "OtherStore"), DEVICE),
@@ -18,7 +19,7 @@ _STATUSES: Dict[str, int] = {
 }
 
 # What to do, where it isn't plain.
-_HINTS: Dict[str, str] = {
+_HINTS: dict[str, str] = {
     "Locked": "another run holds the store: name its socket with --socket, or wait for it with --wait SECONDS",
     "BadCommand": "compare the keys of each edit, and their order, with `confstorectl help batch`",
     "EmptyBatch": "the list has no edit",
@@ -35,6 +36,7 @@ _HINTS: Dict[str, str] = {
     "StoreFull": "use a second store",
     "RecordLong": "make two batches of it",
     "NotAStore": "the folder has no store; `confstore init` makes one",
+    "StoreExists": "the folder has a store; take another folder",
     "NoSuchCommand": "`confstorectl verify` says which commands the file has",
     "Device": "the folder is missing or can't be used, or its device failed",
     "IdTaken": "send the command again",
@@ -51,15 +53,18 @@ NOTHING_THERE = frozenset(("NoConfig", "NoSuchPlace", "NotIndex"))
 # The names of what is wrong with a text.
 OF_TEXTS = frozenset("TooLong NotUtf8 Syntax Documents KeyNotText KeyTwice TooDeep LargeInStyle".split())
 
-_HIDDEN = re.compile("[\0-\x1f\x7f-\x9f\u061c\u200e\u200f\u2028-\u202e\u2066-\u2069\\\\]")
+_HIDDEN = "[\0-\x1f\x7f-\x9f\u061c\u200e\u200f\u2028-\u202e\u2066-\u2069\\\\]"
 
 
 def shown(text: str) -> str:
     """A word or a path for a line: what could change what a terminal shows is escaped, as by confstore."""
-    return _HIDDEN.sub(lambda found: _escape(found.group()), text.encode("utf-8", "replace").decode())
+    import re  # by those faults alone that show something
+
+    return re.sub(_HIDDEN, _escape, text.encode("utf-8", "replace").decode())
 
 
-def _escape(sign: str) -> str:
+def _escape(found: re.Match[str]) -> str:
+    sign = found.group()
     plain = {"\n": "\\n", "\r": "\\r", "\t": "\\t", "\\": "\\\\"}.get(sign)
     return plain or f"\\u{{{ord(sign):x}}}"
 
@@ -70,7 +75,7 @@ class Fault(Exception):
     `may_try_again` says that nothing was done, and that it may go well later.
     """
 
-    def __init__(self, name: str, about: Optional[str] = None, may_try_again: bool = False) -> None:
+    def __init__(self, name: str, about: str | None = None, may_try_again: bool = False) -> None:
         super().__init__(name)
         self.name = name
         self.about = about
@@ -124,8 +129,10 @@ _NAMES = {"MissingFolder": "Device", "UnusablePath": "Device", "InputFailed": "I
 
 def fault_of(error: ConfstoreError) -> Fault:
     """The fault of an exception of the package."""
+    from .faults import Refused
+
     if not isinstance(error, Refused):
-        name = type(error).__name__
-        return Fault(_NAMES.get(name, name), shown(str(error)).removeprefix(f"{name}: "))
+        name = _NAMES.get(type(error).__name__, type(error).__name__)
+        return Fault(name, shown(str(error)).removeprefix(f"{name}: "))
     place = error.place if error.word == "Syntax" else None
     return Fault(f"Syntax {place.line}:{place.column} {place.reason}" if place else shown(error.word))

@@ -4,9 +4,12 @@ from __future__ import annotations
 
 import re
 import textwrap
-from typing import Iterator, List, Sequence, Tuple
 
 from .ctl_words import ABOUT, COMMON, DESCRIPTION, FAULTS, GROUPS, STATUSES, VERSION, WORDS, Option, Word
+
+TYPE_CHECKING = False
+if TYPE_CHECKING:
+    from collections.abc import Iterator, Sequence
 
 WIDTH = 100
 
@@ -17,7 +20,7 @@ def _paragraphs(texts: Sequence[str]) -> Iterator[str]:
         yield "\n" + textwrap.fill(text, WIDTH, break_long_words=False, break_on_hyphens=False) + "\n"
 
 
-def _rows(heading: str, rows: "Sequence[Tuple[str, str]]") -> str:
+def _rows(heading: str, rows: Sequence[tuple[str, str]]) -> str:
     """Rows of two columns, under a heading."""
     if not rows:
         return ""
@@ -25,7 +28,7 @@ def _rows(heading: str, rows: "Sequence[Tuple[str, str]]") -> str:
     return f"\n{heading}:\n" + "".join(f"  {left:{width}}  {right}\n" for left, right in rows)
 
 
-def _shapes(options: Sequence[Option]) -> "List[Tuple[str, str]]":
+def _shapes(options: Sequence[Option]) -> list[tuple[str, str]]:
     return [(f"{option.name} {option.value}".strip(), option.about) for option in options]
 
 
@@ -57,7 +60,7 @@ def help_of(name: str) -> str:
     word = WORDS[name]
     parts = [f"{word.about}\n\nUsage: {_usage_of(word)}\n"]
     parts.append(_rows("Arguments", [(argument.name, argument.about) for argument in word.arguments]))
-    parts.append(_rows("Options", _shapes([*word.options, *COMMON])))
+    parts.append(_rows("Options", _shapes([*word.options, *word.common])))
     parts.append("".join(_paragraphs(word.details)))
     parts.append("\nExamples:\n" + "".join(f"  {line}\n" for line in word.examples))
     return "".join(parts)

@@ -2,14 +2,17 @@
 
 from __future__ import annotations
 
-import re
-from typing import Callable, Dict, Optional
-
 from .ctl_asked import Asked
 from .ctl_faults import Fault
-from .ctl_sockets import Reply
 from .ctl_words import DEFAULT, JSON, NO_NEWLINE, PLAIN, RAW
-from .style import SPELLED, Tree, quoted, to_plain_text, to_text
+
+TYPE_CHECKING = False  # `style` is imported by what writes another form than the one that came
+if TYPE_CHECKING:
+    import re
+    from collections.abc import Callable
+
+    from .ctl_sockets import Reply
+    from .style import Tree
 
 # The letters of JSON's escapes (RFC 8259, 7).
 _LETTERS = {"\b": "b", "\t": "t", "\n": "n", "\f": "f", "\r": "r", '"': '"', "\\": "\\"}
@@ -17,6 +20,8 @@ _LETTERS = {"\b": "b", "\t": "t", "\n": "n", "\f": "f", "\r": "r", '"': '"', "\\
 
 def json_text(tree: Tree) -> str:
     """A tree as a JSON text on one line: what the one style spells in double quotes is an escape."""
+    from .style import SPELLED
+
     if isinstance(tree, str):
         return f'"{SPELLED.sub(_json_escape, tree)}"'
     if isinstance(tree, list):
@@ -24,7 +29,7 @@ def json_text(tree: Tree) -> str:
     return f"{{{','.join(f'{json_text(key)}:{json_text(value)}' for key, value in tree.items())}}}"
 
 
-def _json_escape(found: "re.Match[str]") -> str:
+def _json_escape(found: re.Match[str]) -> str:
     sign = found.group()
     return f"\\{_LETTERS[sign]}" if sign in _LETTERS else f"\\u{ord(sign):04X}"
 
@@ -47,6 +52,8 @@ def _value(asked: Asked, reply: Reply) -> bytes:
 
 def _in_form(asked: Asked, tree: Tree) -> bytes:
     """A tree in the form that is asked for."""
+    from .style import to_plain_text, to_text
+
     if asked.has(JSON):
         return json_line(tree)
     if asked.has(RAW):
@@ -85,11 +92,13 @@ def _keys(_asked: Asked, reply: Reply) -> bytes:
 
 def _key_line(key: str) -> str:
     """A key as it is, or in double quotes where that would be no line of its own."""
+    from .style import SPELLED, quoted
+
     is_line = key != "" and key[0] != '"' and SPELLED.search(key.replace('"', "").replace("\\", "")) is None
     return key if is_line else quoted(key)
 
 
-_OUTPUTS: Dict[str, Callable[[Asked, Reply], bytes]] = {
+_OUTPUTS: dict[str, Callable[[Asked, Reply], bytes]] = {
     "get": _value, "export": _text, "names": _names, "keys": _keys,
 }  # fmt: skip
 
@@ -100,7 +109,7 @@ def output_of(asked: Asked, reply: Reply) -> bytes:
     return write(asked, reply) if write else b""
 
 
-def output_of_default(asked: Asked) -> Optional[bytes]:
+def output_of_default(asked: Asked) -> bytes | None:
     """What a word writes where nothing is at the place, or None where that is a fault."""
     if not asked.has(DEFAULT):
         return None

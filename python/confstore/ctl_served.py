@@ -6,14 +6,14 @@ import hashlib
 import time
 from typing import Iterator, List, NamedTuple, Optional
 
-import yaml
-
 from .ctl_faults import Fault, shown
-from .ctl_sockets import NO_SERVER, Connection, Place
+from .ctl_places import NO_SERVER, Place
+from .ctl_sockets import Connection
 from .faults import BadAnswer
 from .following import Cut, Replaced, Told
 from .records import Record, record_of
-from .style import Tree, trees_of
+from .style import Tree
+from .trees import NO_TREES, trees_of
 
 # How many seconds a look takes at most where nothing comes, and how many lie between two tries to connect again.
 LOOK = 0.5
@@ -122,7 +122,7 @@ class Served:
 def _mapping_of(piece: bytes) -> "dict[str, Tree]":
     try:
         (tree,) = trees_of(piece)
-    except (yaml.YAMLError, ValueError, BadAnswer):
+    except NO_TREES:
         tree = ""
     if not isinstance(tree, dict):
         raise Fault("BadAnswer", "what the server tells is no document of a change")

@@ -12,23 +12,18 @@ import errno
 import json
 import os
 import re
-import select
 import socket
-import stat
 import time
-from typing import Dict, List, NamedTuple, Optional, Tuple, Union
 
-import yaml
+from .ctl_faults import Fault, shown
+from .ctl_places import NO_SERVER, Place
+from .pieces import LONGEST_ANSWER, LONGEST_COMMAND, Cutter, simple_value
 
-from .children import await_event
-from .commands import refused
-from .ctl_faults import Fault, fault_of, shown
-from .faults import BadAnswer, ConfstoreError
-from .other import Cutter
-from .session import LONGEST_ANSWER, LONGEST_COMMAND
-from .style import Tree, document, to_text, trees_of
+TYPE_CHECKING = False
+if TYPE_CHECKING:
+    from .style import Tree
 
-Command = Dict[str, Tree]
+Command = dict[str, "Tree"]
 
 # How many seconds an answer is waited for, and how long it is between two tries to be taken where many others wait.
 PATIENCE = 60.0
@@ -42,12 +37,8 @@ PARTING = 1.0
 # What is said of a server that says more than one answer.
 _MORE = "more came than the answer; a change was made or not: look"
 
-# The fault of a socket where nobody answers, or that this process may not use.
-NO_SERVER = "Disconnected"
-
-# The longest path that a socket may have, and where the units of packaging/ have stores and sockets.
+# The longest path that a socket may have.
 LONGEST_PATH = 107
-STORES, SOCKETS = "/var/lib/confstore", "/run/confstore"
 
 # What JSON and YAML both have to have escaped, or what a reader of the one might not take as the other does.
 _ESCAPED = re.compile("[\x80-\x9f\u2028\u2029\ufeff\ufffe\uffff]")
@@ -71,38 +62,6 @@ _NOT_BY_NODES = {
 }
 
 
-class Place(NamedTuple):
-    """Where a server may be: the path of its socket, and the folder of the store for which that was found, or None if
-    the user has named the socket."""
-
-    path: str
-    folder: Optional[str] = None
-
-    @property
-    def is_given(self) -> bool:
-        return self.folder is None
-
-
-def place_of(given: str, folder: str) -> Optional[Place]:
-    """The socket for a store: the one that was given, or the one that is found."""
-    given = given or os.environ.get("CONFSTORE_SOCKET", "")
-    if given:
-        return Place(given)
-    folder = os.path.abspath(folder)
-    above, name = os.path.split(folder)
-    likely = [os.path.join(folder, "confstore.sock")]
-    if above == STORES:
-        likely.append(os.path.join(SOCKETS, name, "socket"))
-    return next((Place(path, folder) for path in likely if _is_socket(path)), None)
-
-
-def _is_socket(path: str) -> bool:
-    try:
-        return stat.S_ISSOCK(os.stat(path).st_mode)
-    except OSError:
-        return False
-
-
 class Reply:
     """An answer: its one key, and what is under it."""
 
@@ -115,6 +74,9 @@ class Reply:
 
     def styled(self) -> bytes:
         """The text in the one style of what is under the key."""
+        from .faults import ConfstoreError
+        from .style import to_text
+
         try:
             return to_text(self.tree()).encode()
         except ConfstoreError as error:
@@ -136,9 +98,13 @@ class SessionReply(Reply):
             raise Fault("BadAnswer", "the server's answer has nothing under its key")
 
     def tree(self) -> Tree:
+        if (value := simple_value(self._rest)) is not None:
+            return list(value) if isinstance(value, list) else value
+        from .trees import NO_TREES, trees_of
+
         try:
             (tree,) = trees_of(self._piece)
-        except (yaml.YAMLError, ValueError, BadAnswer):
+        except NO_TREES:
             raise Fault("BadAnswer", "the server's answer is no YAML") from None
         if not isinstance(tree, dict) or tuple(tree) != (self.key,):
             raise Fault("BadAnswer", "the server's answer has other keys than one")
@@ -253,9 +219,13 @@ class Connection:
         except OSError as error:
             raise self._cut_off(error.strerror or str(error)) from None
 
-    def pieces_within(self, seconds: float) -> List[bytes]:
+    def pieces_within(self, seconds: float) -> list[bytes]:
         """The documents that have come, after so many seconds at most. Raises a `Fault` where none can come."""
-        if not await_event(self._socket.fileno(), select.POLLIN, seconds):
+        from select import POLLIN
+
+        from .children import await_event
+
+        if not await_event(self._socket.fileno(), POLLIN, seconds):
             return []
         try:
             part = self._socket.recv(PART)
@@ -277,6 +247,8 @@ class Connection:
             raise Fault("TooLong", "the command is longer than a session takes")
         reply = self._answer_to(line + b"...\n")
         if isinstance(reply, SessionReply) and (reply.key, reply.styled()) == ("refused", b"BadCommand\n"):
+            from .style import document
+
             return self._answer_to(document(command))  # as where a key is too long to stand in one line
         return reply
 
@@ -293,7 +265,7 @@ class Connection:
         if more:
             raise Fault("BadAnswer", _MORE)
 
-    def _answer_to(self, sent: bytes) -> Union[SessionReply, NodeReply]:
+    def _answer_to(self, sent: bytes) -> SessionReply | NodeReply:
         self._count = 0
         try:
             with contextlib.suppress(BrokenPipeError, ConnectionResetError):  # what it said before it went is read
@@ -332,7 +304,7 @@ class Connection:
 
     def _piece(self) -> bytes:
         cutter = Cutter()
-        pieces: List[bytes] = []
+        pieces: list[bytes] = []
         while not pieces:
             heard, self._heard = bytes(self._heard), bytearray()
             pieces = cutter.cut(heard)
@@ -343,8 +315,8 @@ class Connection:
         return pieces[0]
 
 
-def _identity_of(folder: str) -> Optional[Tuple[int, int]]:
-    """The device and the inode of a folder, which are none of one that is not there; or None if that may not be said."""
+def _identity_of(folder: str) -> tuple[int, int] | None:
+    """The device and the inode of a folder, none of which one has that is not there; or None if that may not be said."""
     try:
         found = os.stat(folder)
     except PermissionError:
@@ -354,7 +326,7 @@ def _identity_of(folder: str) -> Optional[Tuple[int, int]]:
     return found.st_dev, found.st_ino
 
 
-def answer_of(reply: Reply, command: Command, program: Optional[str]) -> Reply:
+def answer_of(reply: Reply, command: Command, program: str | None) -> Reply:
     """The answer to a command, which was not refused. Raises the `Fault` of one that was, or that failed, or that is no
     answer to this command.
 
@@ -377,8 +349,12 @@ def _is_number(tree: Tree) -> bool:
     return isinstance(tree, str) and _NUMBER.fullmatch(tree) is not None
 
 
-def _refusal_of(reply: Reply, command: Command, program: Optional[str]) -> Fault:
+def _refusal_of(reply: Reply, command: Command, program: str | None) -> Fault:
     """The fault of a command that was refused."""
+    from .commands import refused
+    from .ctl_faults import fault_of
+    from .faults import ConfstoreError
+
     word = reply.tree()
     if not isinstance(word, str):
         raise Fault("BadAnswer", "a refusal has no name")

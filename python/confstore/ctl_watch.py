@@ -10,9 +10,10 @@ from .commands import is_name, is_pointer
 from .ctl_asked import Asked
 from .ctl_commands import Runner, line_with_values
 from .ctl_faults import Fault, fault_of
+from .ctl_places import Place, place_of
 from .ctl_program import program
 from .ctl_served import Served
-from .ctl_sockets import PATIENCE, Place, place_of
+from .ctl_sockets import PATIENCE
 from .ctl_streams import STANDARD_OUTPUT, ClosedPipe, write
 from .ctl_words import FROM, VALUES, YAML_RECORDS
 from .faults import ConfstoreError
@@ -25,7 +26,7 @@ from .waking import Waker
 TIMEOUT = 60.0
 
 
-def watch(asked: Asked) -> None:
+def watch(asked: Asked) -> NoReturn:
     """Writes each change as it is made, until whoever reads that closes its pipe. Raises a `Fault`.
 
     They are read from the folder. Where it can't be read, the server at a socket is asked for them, if there is one.

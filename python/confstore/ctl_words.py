@@ -2,43 +2,46 @@
 
 from __future__ import annotations
 
-from typing import Dict, NamedTuple, Tuple
+
+class Argument:
+    """An argument of a word, which may be left out if it is optional, and may be there many times if it is repeated."""
+
+    def __init__(self, name: str, about: str, is_optional: bool = False, is_repeated: bool = False) -> None:
+        self.name, self.about, self.is_optional, self.is_repeated = name, about, is_optional, is_repeated
 
 
-class Argument(NamedTuple):
-    """An argument of a word."""
-
-    name: str
-    about: str
-    is_optional: bool = False
-
-
-class Option(NamedTuple):
+class Option:
     """An option. What comes after it is named `value`, if anything does."""
 
-    name: str
-    about: str
-    value: str = ""
+    def __init__(self, name: str, about: str, value: str = "") -> None:
+        self.name, self.about, self.value = name, about, value
 
 
-class Word(NamedTuple):
+class Word:
     """A word, with a line about it, its options and arguments, further sentences, and lines that show it. What follows
-    `--` behind its needed arguments is a command, if it takes one."""
+    `--` behind its needed arguments is a command, if it takes one. `common` has the options that most words have."""
 
-    name: str
-    about: str
-    options: Tuple[Option, ...]
-    arguments: Tuple[Argument, ...]
-    details: Tuple[str, ...]
-    examples: Tuple[str, ...]
-    takes_command: bool = False
+    def __init__(
+        self,
+        name: str,
+        about: str,
+        options: tuple[Option, ...],
+        arguments: tuple[Argument, ...],
+        details: tuple[str, ...],
+        examples: tuple[str, ...],
+        takes_command: bool = False,
+        common: tuple[Option, ...] | None = None,
+    ) -> None:
+        self.name, self.about, self.options, self.arguments = name, about, options, arguments
+        self.details, self.examples, self.takes_command = details, examples, takes_command
+        self.common = COMMON if common is None else common
 
     @property
     def usage(self) -> str:
         """How it is written, without the options that all words have."""
         options = [f"[{option.name} {option.value}]" if option.value else f"[{option.name}]" for option in self.options]
         needed = [argument.name for argument in self.arguments if not argument.is_optional]
-        more = [argument.name for argument in self.arguments if argument.is_optional]
+        more = [argument.name + " .." * argument.is_repeated for argument in self.arguments if argument.is_optional]
         shown = " [".join(["", *more])[1:] + "]" * len(more)
         command = ["[-- COMMAND ..]"] if self.takes_command else []
         return " ".join(["confstorectl", self.name, *options, *needed, *([shown] if more else []), *command])
@@ -49,8 +52,9 @@ WAIT = Option("--wait", "Tries again for so many seconds while another run holds
 HELP = Option("--help", "Says what the word does")
 VERSION = Option("--version", "Writes the version")
 
-# The options that every word has.
+# The options of each word that may go to a server, and those of the words that the program does with a store.
 COMMON = (SOCKET, WAIT, HELP)
+WITHOUT_SERVER = (WAIT, HELP)
 
 AT = Option("--at", "Reads the store as it was after command number N", "N")
 FROM = Option("--from", "Begins with change number N, which may have been made already", "N")
@@ -90,6 +94,15 @@ CHECKED = (CHECK,)
 # Those of `import` for texts of other formats, which confstore does not have.
 FOREIGN = (FORMAT, DOCUMENT, SPLIT, DIR)
 
+# Those of the words that confstore has alone.
+GROUP = Option("--group", "Syncs once for all commands that one read brings, and then answers them")
+CHECKPOINT_AFTER = Option(
+    "--checkpoint-after", "Makes a checkpoint each time the file has grown by so many bytes; needs `--group`", "BYTES"
+)
+IN_PLACE = Option("--in-place", "Replaces each FILE that would change by its text in the one style; also `-i`")
+DROP_COMMENTS = Option("--drop-comments", "Replaces a FILE with comments too, which are lost")
+CHECK_ONLY = Option("--check", "Changes nothing, and names each FILE that would change")
+
 FOLDER = Argument("FOLDER", "The store's folder")
 NAME = Argument("NAME", "The name of the configuration")
 POINTER = Argument("POINTER", "A JSON Pointer (RFC 6901), as /port or /tags/0")
@@ -98,6 +111,8 @@ VALUE = Argument("VALUE", "The value; after `--` if it begins with `-` and is no
 TO = Argument("TO", "The other name; after `--` if it begins with `-`")
 FILE = Argument("FILE", "The file of the text; standard input if it is left out or `-`", True)
 TEMPLATE = Argument("TEMPLATE", "The file of the template; standard input for `-`")
+NEW = Argument("NEW", "The folder of the new store")
+FILES = Argument("FILE", "The files of the texts; standard input if none is given, or for `-`", True, True)
 WATCHED_NAME = Argument("NAME", "The configuration; all of them if it is left out", True)
 
 IMPORT = Word(
@@ -386,27 +401,117 @@ WATCH = Word(
     True,
 )
 
+INIT_STORE = Word(
+    "init",
+    "Makes a folder with an empty store",
+    (),
+    (FOLDER,),
+    (
+        "A folder that is there serves too. It is refused if it has a store (StoreExists), and so it is where a server"
+        " holds that store.",
+    ),
+    ("confstorectl init store",),
+    common=WITHOUT_SERVER,
+)
+RUN = Word(
+    "run",
+    "Performs the commands on standard input on the store in a folder",
+    (GROUP, CHECKPOINT_AFTER),
+    (FOLDER,),
+    (
+        "Each command is a YAML document that a line of `...` closes, and is answered by one, as confstore(1) says. The"
+        " run holds the store. So a store that a server holds is refused (Locked): the server's socket takes the same"
+        " commands, and `batch` makes edits through it. What would end this program by SIGTERM or SIGHUP ends the run.",
+    ),
+    (
+        "confstorectl run store < commands.yaml",
+        "confstorectl run store --group --checkpoint-after 1000000 < commands.yaml",
+    ),
+    common=WITHOUT_SERVER,
+)
+BACKUP = Word(
+    "backup",
+    "Makes a new store with the same base and records as another one",
+    (),
+    (FOLDER, NEW),
+    (
+        "Nothing is printed where it is done. The folder is read without a lock and stays as it is, so this runs beside"
+        " a server that holds its store. NEW is made if it is missing, and is refused if it has a store (StoreExists).",
+    ),
+    ("confstorectl backup store store-of-monday",),
+    common=WITHOUT_SERVER,
+)
+SALVAGE = Word(
+    "salvage",
+    "Makes a new store of what a damaged one says before its first bad piece",
+    (),
+    (FOLDER, NEW),
+    (
+        "The folder is read and stays as it is, also where a server holds its store. NEW is made if it is missing, and"
+        " is refused if it has a store (StoreExists). What was left out is written as `verify` writes it.",
+    ),
+    ("confstorectl salvage store new-store",),
+    common=WITHOUT_SERVER,
+)
+FORMAT_TEXT = Word(
+    "format",
+    "Writes the tree of a YAML text in the one style",
+    (IN_PLACE, DROP_COMMENTS, CHECK_ONLY, EXPLAIN),
+    (FILES,),
+    (
+        "It needs no store. One FILE, or standard input, is written to standard output. More of them need `--in-place`"
+        " or `--check`. With `--check` the status is 1 where a FILE would change.",
+    ),
+    (
+        "confstorectl format < web.yaml",
+        "confstorectl format --check a.yaml b.yaml",
+    ),
+    common=(HELP,),
+)
+CHECK_TEXT = Word(
+    "check",
+    "Writes where YAML texts depart from the one style",
+    (EXPLAIN,),
+    (FILES,),
+    ("It needs no store. Each finding is one line, and the status is 1 then. confstore(1) has the rules.",),
+    ("confstorectl check web.yaml",),
+    common=(HELP,),
+)
+
 CHANGING = (IMPORT, SET, DELETE, COPY, RENAME, EDIT, BATCH, CHECKPOINT)
 MOVING = (COPY, RENAME)
 READING = (EXPORT, NAMES, KEYS, GET, EXISTS, RENDER)
 LOOKING_BACK = (LOG, VERIFY, WATCH)
 
-WORDS: Dict[str, Word] = {word.name: word for word in (*CHANGING, *READING, *LOOKING_BACK)}
+# The words that only the program does. Of these some read the standard input of confstorectl.
+OF_PROGRAM = (INIT_STORE, RUN, BACKUP, SALVAGE, FORMAT_TEXT, CHECK_TEXT)
+FED = (RUN, FORMAT_TEXT, CHECK_TEXT)
+
+WORDS: dict[str, Word] = {word.name: word for word in (*CHANGING, *READING, *LOOKING_BACK, *OF_PROGRAM)}
+
+# What others call a word or an option.
+OTHER_NAMES = {
+    "list": "names", "ls": "names", "show": "get", "cat": "get", "read": "get", "rm": "delete", "remove": "delete",
+    "del": "delete", "unset": "delete", "cp": "copy", "mv": "rename", "move": "rename", "put": "set", "write": "set",
+    "add": "set", "create": "init", "new": "init", "load": "import", "dump": "export", "history": "log",
+    "compact": "checkpoint", "follow": "watch", "fmt": "format", "lint": "check", "version": "--version",
+}  # fmt: skip
 
 # Each group of words, with its heading.
 GROUPS = (
     ("change a store", CHANGING),
     ("read a store", READING),
     ("look into its file", LOOKING_BACK),
+    ("go to no server", OF_PROGRAM),
 )
 
 ABOUT = "Changes and reads a store of confstore, also one that a server holds."
 
 # What is said of all words, a paragraph each.
 DESCRIPTION = (
-    "The words are those of confstore, with the same arguments, output and statuses. Each goes to the server or the"
-    " replicated node that holds the store, through its socket, if there is one; else it is done by the program"
-    " confstore.",
+    "The words are those of confstore, with the same arguments, output and statuses, and a few more. Each goes to the"
+    " server or the replicated node that holds the store, through its socket, if there is one; else it is done by the"
+    " program confstore, as the words always are that go to no server.",
     "The socket is the one of `--socket`, else that of the environment's CONFSTORE_SOCKET, else"
     " FOLDER/confstore.sock if a server listens there; and of a FOLDER in /var/lib/confstore it is"
     " /run/confstore/NAME/socket. With one that is given FOLDER only counts for the words and options that look into"
@@ -449,6 +554,7 @@ OWN_FAULTS = (
     ("Replaced", "1", "another store stands in the place of the one that the server held; nothing was changed"),
     ("Failed", "3", "a replicated node could not perform a command; the word behind it says why"),
     ("MissingProgram", "3", "there is no program confstore where it was looked for"),
+    ("MissingModule", "3", "Python has no PyYAML, which some words need"),
     ("NotStarted", "3", "the system did not start the program"),
     ("Unknown", "3", "nobody says how the program ended"),
     ("Unsupported", "1", "a replicated node has no such word"),

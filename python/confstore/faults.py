@@ -8,9 +8,8 @@ of those that weren't, each was performed or not.
 from __future__ import annotations
 
 import errno
-import re
-from typing import TYPE_CHECKING, Dict, Optional, Tuple, Type
 
+TYPE_CHECKING = False
 if TYPE_CHECKING:
     from .texts import Place
 
@@ -18,9 +17,10 @@ __all__ = [
     "AnswerCut", "AnswerLong", "BadAnswer", "BadCommand", "BadName", "BadPath", "Closed", "CommandLong", "ConfigLarge",
     "ConfstoreError", "CountFull", "Damaged", "Device", "Disconnected", "Documents", "EmptyBatch", "InputFailed",
     "JournalLong", "KeyNotText", "KeyTwice", "LargeInStyle", "Locked", "MissingFolder", "MissingProgram", "NoConfig",
-    "NoSuchCommand", "NoSuchPlace", "NotAStore", "NotATree", "NotIndex", "NotStarted", "NotText", "NotUtf8",
+    "NoSuchCommand", "NoSuchPlace", "NotAStore", "NotAText", "NotATree", "NotIndex", "NotStarted", "NotText", "NotUtf8",
     "OutOfMemory", "OutputFailed", "RecordLong", "Refused", "SessionEnded", "SessionLong", "StoreFull", "StoreReplaced",
     "Syntax", "TimedOut", "TooDeep", "TooLong", "TooLongToSend", "Unknown", "Unmet", "Unsupported", "UnusablePath",
+    "Unwritten",
 ]  # fmt: skip
 
 
@@ -42,17 +42,17 @@ class Refused(ConfstoreError):
         super().__init__(word, about)
         self.word = word
         self.about = about
-        self.name: Optional[str] = None
-        self.path: Optional[str] = None
+        self.name: str | None = None
+        self.path: str | None = None
         #: The texts that were refused, or one of them, and the program that knows where.
-        self.texts: Tuple[bytes, ...] = ()
-        self.program: Optional[str] = None
+        self.texts: tuple[bytes, ...] = ()
+        self.program: str | None = None
 
     def __str__(self) -> str:
         return ": ".join(part for part in (self.about, self.word, self.because) if part)
 
     @property
-    def place(self) -> "Optional[Place]":
+    def place(self) -> Place | None:
         """Where a text was refused, or None: where no text was, the program names no place, or there is no program.
 
         It is asked of the program whenever this is looked at, by `confstore check -`. It raises what a run of the
@@ -205,48 +205,83 @@ class SessionEnded(ConfstoreError):
     """The session is over, or the run of the program that was to read. What was answered stands; `reopen` starts
     another session.
 
-    `status` is the program's, or the negative number of the signal that ended it, or None where it isn't known.
+    As a text it is a sentence, with the folder. `status` is the program's, or the negative number of the signal that
+    ended it, or None where it isn't known. `folder` is the store's, or None where it isn't known. `cause` is what the
+    program has said beside, as which call of the system failed, or empty.
     """
 
-    def __init__(self, about: str, status: Optional[int] = None) -> None:
+    #: What a program means that ends with this name.
+    because = ""
+
+    def __init__(self, about: str, status: int | None = None, folder: str | None = None, cause: str = "") -> None:
         super().__init__(about)
-        self.status = status
+        self.status, self.folder, self.cause = status, folder, cause
+
+    def __str__(self) -> str:
+        return self._sentence(self.because)
+
+    def _sentence(self, because: str) -> str:
+        """What is over, why where that isn't said yet, and of which folder."""
+        about = str(self.args[0])
+        parts = (about, because if " " not in about else "", repr(self.folder) if self.folder else "")
+        return ": ".join(part for part in parts if part)
 
 
 class Device(SessionEnded):
     """A call of the system failed, as on a full device. The command in hand was performed or not."""
 
+    because = "a call of the system failed, as on a full device"
+
+    def __str__(self) -> str:
+        return self._sentence(self.cause or self.because)
+
 
 class Locked(SessionEnded):
     """Another run holds the folder."""
+
+    because = "another run holds the folder"
 
 
 class NotAStore(SessionEnded):
     """`store.yaml` does not begin with a base. It is left as it was."""
 
+    because = "store.yaml does not begin with a base"
+
 
 class Damaged(SessionEnded):
     """A piece of `store.yaml` is no record. The file is left as it was."""
+
+    because = "a piece of store.yaml is no record"
 
 
 class OutOfMemory(SessionEnded):
     """The program's memory ran out. The command in hand changed nothing."""
 
+    because = "the program's memory ran out"
+
 
 class CommandLong(SessionEnded):
     """A command was longer than the program takes. Everything before it was performed."""
+
+    because = "a command was longer than the program takes"
 
 
 class SessionLong(SessionEnded):
     """The session was sent as many bytes as it takes, 1,073,741,824. Everything before was performed."""
 
+    because = "the session was sent as many bytes as it takes"
+
 
 class InputFailed(SessionEnded):
     """The program could not read its commands."""
 
+    because = "the program could not read its commands"
+
 
 class OutputFailed(SessionEnded):
     """The program could not write an answer."""
+
+    because = "the program could not write an answer"
 
 
 class AnswerCut(SessionEnded):
@@ -271,12 +306,45 @@ class Unknown(SessionEnded):
     how its program ended. Each command that was not answered was performed or not."""
 
 
-class NotATree(ConfstoreError, TypeError):
+class Unwritten(ConfstoreError):
+    """What was given has no text. Nothing was sent.
+
+    As a text it is a sentence, with the place. `within` is the path (RFC 6901) within the tree to what is at fault, and
+    `name` and `path` are those of the command; each is None where there is none.
+    """
+
+    def __init__(self, about: str, within: str | None = None) -> None:
+        super().__init__(about)
+        self.within = within
+        self.name: str | None = None
+        self.path: str | None = None
+
+    def __str__(self) -> str:
+        inner = f"at {self.within!r} of " if self.within else ""
+        what = "the command" if self.within is None else f"{inner}the tree"
+        of = f" for {self.name!r}" if self.name is not None else ""
+        at = f" at {self.path!r}" if self.path else ""
+        return f"{self.args[0]}: {what}{of}{at}" if inner or of else str(self.args[0])
+
+
+class NotATree(Unwritten, TypeError):
     """A tree is a str, a list of trees, or a dict of str to trees; this is none. Nothing was sent."""
 
 
-class NotText(ConfstoreError, ValueError):
+class NotText(Unwritten, ValueError):
     """A str that no YAML can hold, since it has a lone surrogate. Nothing was sent."""
+
+
+class NotAText(ConfstoreError, TypeError):
+    """What is at the path is a list or a mapping, where `get_text` was to read a text. `name` and `path` say where."""
+
+    def __init__(self, name: str, path: str, kind: str) -> None:
+        super().__init__(name, path, kind)
+        self.name, self.path, self.kind = name, path, kind
+
+    def __str__(self) -> str:
+        what = f"what is at {self.path!r} of {self.name!r}" if self.path else repr(self.name)
+        return f"{what} is a {self.kind}, and no text"
 
 
 class TooLongToSend(ConfstoreError, ValueError):
@@ -318,7 +386,7 @@ class Unsupported(ConfstoreError):
     """The program lacks a word or a command that this call needs."""
 
 
-REFUSALS: Dict[str, Type[Refused]] = {
+REFUSALS: dict[str, type[Refused]] = {
     kind.__name__: kind
     for kind in (
         BadCommand, Unmet, BadName, NoConfig, BadPath, NoSuchPlace, NotIndex, TooLong, NotUtf8, Syntax, Documents,
@@ -333,7 +401,7 @@ _NOTHING_THERE = (errno.ENOENT, errno.ENOTDIR)
 _NO_PROGRAM = (*_NOTHING_THERE, errno.EACCES, errno.EISDIR, errno.ENOEXEC)
 _NO_PATH = (errno.ENAMETOOLONG, errno.ELOOP, errno.EINVAL)
 
-ENDS: Dict[str, Type[SessionEnded]] = {
+ENDS: dict[str, type[SessionEnded]] = {
     "Device": Device,
     "Locked": Locked,
     "NotAStore": NotAStore,
@@ -366,15 +434,19 @@ def program_fault(error: OSError, program: str) -> ConfstoreError:
     return NotStarted(error.errno, f"the program was not started: {error.strerror}", program)
 
 
-def end_of(status: Optional[int], errors: bytes, cut: bool) -> SessionEnded:
+def end_of(status: int | None, errors: bytes, cut: bool, folder: str | None = None) -> SessionEnded:
     """Why a program is over: by its status, by what it wrote to standard error, and by whether an answer was cut."""
-    name = ""
+    name = cause = ""
     for line in errors.decode("utf-8", "replace").splitlines():
         if line.startswith("confstore: "):
-            name = line[len("confstore: ") :]
+            name, cause = line[len("confstore: ") :], ""
+        else:
+            cause = cause or (line if name else "")
+    import re  # by a process whose program has ended
+
     kind = ENDS.get(re.split(r"\W", name, maxsplit=1)[0])
     if kind is not None:
-        return kind(name, status)
+        return kind(name, status, folder, cause)
     if status is None:
         how = "how the program ended isn't known: SIGCHLD is ignored here, or somebody else waits for all children"
     elif status < 0:
@@ -384,5 +456,5 @@ def end_of(status: Optional[int], errors: bytes, cut: bool) -> SessionEnded:
     else:
         how = "the session ended"
     if cut:
-        return AnswerCut(f"{how}, in the middle of an answer", status)
-    return Unknown(how) if status is None else SessionEnded(how, status)
+        return AnswerCut(f"{how}, in the middle of an answer", status, folder)
+    return Unknown(how, None, folder) if status is None else SessionEnded(how, status, folder)

@@ -4,7 +4,7 @@ from __future__ import annotations
 
 from typing import Any, Iterator, ItemsView, List, Mapping, Tuple, TypeVar, Union, ValuesView, overload
 
-from .faults import BadName, NoConfig, NoSuchPlace, NotIndex, NotText
+from .faults import BadName, NoConfig, NoSuchPlace, NotAText, NotIndex, NotText
 from .style import Tree
 
 D = TypeVar("D")
@@ -20,6 +20,13 @@ MISSING_HERE = Missing()
 
 # A pointer at which hardly any configuration has something, so that the answer is short.
 NOWHERE = "/"
+
+
+def text_at(name: str, path: str, tree: Tree) -> str:
+    """The text that was found at a path. Raises `NotAText` where it is none."""
+    if not isinstance(tree, str):
+        raise NotAText(name, path, "list" if isinstance(tree, list) else "mapping")
+    return tree
 
 
 class Configurations(Mapping[str, Tree]):
@@ -58,6 +65,19 @@ class Configurations(Mapping[str, Tree]):
             if default is MISSING:
                 raise
             return default
+
+    @overload
+    def get_text(self, name: str, path: str = "") -> str: ...
+
+    @overload
+    def get_text(self, name: str, path: str = "", *, default: D) -> Union[str, D]: ...
+
+    def get_text(self, name: str, path: str = "", *, default: Any = MISSING) -> Any:
+        """The text at a path of a configuration, read as by `get`. Raises `NotAText` where a list or a mapping is."""
+        if default is MISSING:
+            return text_at(name, path, self.get(name, path))
+        tree = self.get(name, path, default=MISSING_HERE)
+        return default if isinstance(tree, Missing) else text_at(name, path, tree)
 
     def __getitem__(self, name: str) -> Tree:
         return self._read_at(name, "")

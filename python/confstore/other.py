@@ -23,33 +23,10 @@ GOING = 5.0
 # How long in seconds what was written to standard error is waited for at once.
 LOOK = 0.02
 
-CLOSING = b"...\n"
-
 # The sides that are open in this process. A forked process closes its copies, so that it does not hold the session.
 # The lock is held while a side is made or closed, so that no fork comes between that and its place here.
 _sides: Set["Other"] = set()
 _making = _thread.allocate_lock()
-
-
-class Cutter:
-    """Cuts bytes after each closing line, and never looks at a byte twice."""
-
-    def __init__(self) -> None:
-        self.rest = bytearray()
-        self._looked = 0
-
-    def cut(self, part: bytes) -> List[bytes]:
-        self.rest += part
-        pieces: List[bytes] = []
-        start = 0
-        while (found := self.rest.find(CLOSING, self._looked)) >= 0:
-            self._looked = found + len(CLOSING)
-            if found == start or self.rest[found - 1 : found] == b"\n":
-                pieces.append(bytes(self.rest[start : self._looked]))
-                start = self._looked
-        self._looked = max(len(self.rest) - len(CLOSING) + 1, self._looked) - start
-        del self.rest[:start]
-        return pieces
 
 
 class _WithoutForks:
@@ -79,6 +56,7 @@ class Program:
     process: "Child | Gone"
 
     def __init__(self, words: Sequence[str]) -> None:
+        self._folder = words[-1]
         with _WithoutForks():
             self._start(words)
             _sides.add(self)
@@ -122,7 +100,7 @@ class Program:
         """Why the program, which has closed its output, is over. `errors` is what was read of standard error."""
         assert not isinstance(self.process, Gone)
         status = finished(self.process, self.errors, errors)
-        return end_of(status, bytes(errors), cut)
+        return end_of(status, bytes(errors), cut, self._folder)
 
     def close(self) -> None:
         with _WithoutForks():

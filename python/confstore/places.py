@@ -5,14 +5,15 @@ from __future__ import annotations
 import errno
 import itertools
 import os
-import shutil
 import stat
-from typing import Iterator, List, Optional
-
 from .faults import ConfstoreError, Device, MissingFolder, MissingProgram, UnusablePath, folder_fault
 
+TYPE_CHECKING = False
+if TYPE_CHECKING:
+    from collections.abc import Iterator
 
-def path_of(path: "str | bytes | os.PathLike[str]") -> str:
+
+def path_of(path: str | bytes | os.PathLike[str]) -> str:
     """A path from the root, as a str of no other class."""
     wanted = str.__str__(os.fsdecode(path))
     if "\0" in wanted:
@@ -30,15 +31,28 @@ def need_folder(folder: str) -> None:
         raise MissingFolder(errno.ENOTDIR, "this is no folder", folder)
 
 
-def find_program(program: "str | os.PathLike[str] | None") -> str:
+def find_program(program: str | os.PathLike[str] | None) -> str:
     """The path of the program: the one that is given, or that of the environment's CONFSTORE, or of the PATH."""
     wanted = str.__str__(os.fsdecode(program or os.environ.get("CONFSTORE") or "confstore"))
     if "\0" in wanted:
         raise UnusablePath(errno.EINVAL, "a path can't have the character 0", wanted)
-    found = shutil.which(wanted)
+    found = _which(wanted)
     if found is None:
         raise _missing(wanted)
     return os.path.abspath(found)
+
+
+def _which(program: str) -> str | None:
+    """The program of a path, or of a name on the PATH, as `shutil.which` finds it: importing that takes longer."""
+    if os.path.dirname(program):
+        return program if _may_run(program) else None
+    folders = os.environ.get("PATH", os.defpath)
+    likely = (os.path.join(folder, program) for folder in folders.split(os.pathsep)) if folders else ()
+    return next((path for path in likely if _may_run(path)), None)
+
+
+def _may_run(path: str) -> bool:
+    return os.access(path, os.X_OK) and not os.path.isdir(path)
 
 
 def _missing(program: str) -> ConfstoreError:
@@ -73,7 +87,7 @@ def _levels(folder: str) -> Iterator[str]:
         yield folder
 
 
-def _make_missing(folder: str) -> List[str]:
+def _make_missing(folder: str) -> list[str]:
     """Makes a folder and those above it that are missing, and returns those that were made."""
     missing = list(itertools.takewhile(lambda level: not os.path.isdir(level), _levels(folder)))
     for path in reversed(missing):
@@ -90,7 +104,7 @@ def _make_missing(folder: str) -> List[str]:
 
 
 def _sync(folder: str, is_needed: bool) -> None:
-    opened: Optional[int] = None
+    opened: int | None = None
     try:
         opened = os.open(folder, os.O_RDONLY | os.O_DIRECTORY | os.O_CLOEXEC)
         os.fsync(opened)

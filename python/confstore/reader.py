@@ -18,12 +18,12 @@ from .faults import REFUSALS, BadAnswer, ConfstoreError, NotStarted, NotText, Re
 from .faults import end_of, refusal
 from .following import Changes
 from .mapping import MISSING, Configurations, D
-from .other import Cutter
+from .pieces import LONGEST_ANSWER, Cutter
 from .places import find_program, need_folder, path_of
 from .records import Record, record_of
 from .runs import Run
-from .session import LONGEST_ANSWER
-from .style import Tree, from_text, text_of, trees_of
+from .style import Tree, text_of
+from .trees import from_text, trees_of
 
 _FAULT = re.compile(r"confstore: (\w+)")
 _AT = re.compile(rb'(?:---\n)?at: "([0-9]{1,20})"\n')
@@ -53,6 +53,9 @@ class Reader(Configurations):
         self.program = find_program(program)
         self.timeout = timeout
 
+    def __repr__(self) -> str:
+        return f"Reader({self.folder!r})"
+
     def _read(self, word: str, options: List[str], *more: str, longest: int = LONGEST_ANSWER) -> bytes:
         need_folder(self.folder)
         run = Run([self.program, word, *options, self.folder, *more], self.timeout, longest)
@@ -76,7 +79,7 @@ class Reader(Configurations):
         found = _FAULT.search(errors)
         if found and found[1] in REFUSALS:
             return refusal(found[1])
-        return end_of(run.status, bytes(run.errors), False)
+        return end_of(run.status, bytes(run.errors), False, self.folder)
 
     def names(self, at: Optional[int] = None) -> List[str]:
         """The names of the configurations, in order."""
@@ -145,6 +148,9 @@ class View(Configurations):
     def __init__(self, reader: Reader, number: int) -> None:
         self._reader = reader
         self.number = number
+
+    def __repr__(self) -> str:
+        return f"{self._reader!r}.at({self.number})"
 
     def names(self) -> List[str]:
         """The names of the configurations, in order."""

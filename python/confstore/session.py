@@ -27,16 +27,13 @@ from typing import TYPE_CHECKING, Callable, Deque, Dict, List, Optional, Sequenc
 
 from .faults import AnswerLong, BadAnswer, Closed, ConfstoreError, NotStarted, SessionEnded, TimedOut, TooLongToSend
 from .faults import Unknown
-from .other import GOING, PART, Cutter, Other, Program, Server, take, take_errors
+from .other import GOING, PART, Other, Program, Server, take, take_errors
+from .pieces import LONGEST_ANSWER, LONGEST_COMMAND, Cutter
 
 if TYPE_CHECKING:
     import asyncio
 
 __all__ = ["LONGEST_ANSWER", "LONGEST_COMMAND", "Cutter", "Session"]
-
-# The longest command of a session, and the longest answer, in bytes.
-LONGEST_COMMAND = 16_777_216
-LONGEST_ANSWER = 67_108_864
 
 # How many seconds a command that the other side does not take waits before it is looked whether the session is to end.
 STUCK = 0.05

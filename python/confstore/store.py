@@ -9,7 +9,8 @@ import time
 from types import TracebackType
 from typing import Any, Callable, Dict, List, MutableMapping, Optional, Sequence, Tuple, Type, TypeVar, overload
 
-from .commands import CHECKPOINT, NAMES, Answers, delete_of, get_of, import_of, put_of, refused, set_of
+from .answers import Answers
+from .commands import CHECKPOINT, NAMES, delete_of, get_of, import_of, put_of, refused, set_of
 from .conditions import PROBE, Condition, Test, at_place, move_of, under
 from .edits import Edits
 from .faults import BadCommand, BadName, Closed, ConfstoreError, EmptyBatch, NoConfig, Refused, Unmet, Unsupported
@@ -159,6 +160,9 @@ class Store(Answers, Configurations, MutableMapping[str, Tree]):
     def close(self) -> None:
         """Ends the session. What was answered is on the disk. Does nothing the second time, and raises nothing."""
         self._session.latest().close(self._timeout)
+
+    def __repr__(self) -> str:
+        return f"Store({self._words[-1]!r})" if self._socket is None else f"Store.connect({self._socket!r})"
 
     def __enter__(self) -> "Store":
         return self

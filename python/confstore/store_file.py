@@ -13,10 +13,11 @@ import stat
 from typing import Iterator, Optional, Tuple
 
 from .faults import BadAnswer, Damaged, Device, NotAStore, end_of
-from .other import Cutter
+from .pieces import Cutter
 from .records import Record, record_of
 from .runs import Run
-from .style import Tree, document, from_text, trees_of
+from .style import Tree, document
+from .trees import from_text, trees_of
 
 NAME = "store.yaml"
 
@@ -85,7 +86,7 @@ class StoreFile:
         run.wait()
         found = _SURVEY.search(run.output)
         if found is None:
-            raise end_of(run.status, bytes(run.errors), False)
+            raise end_of(run.status, bytes(run.errors), False, self._folder)
         if self.is_replaced():
             raise Device(f"{self._path} was replaced while its base was read")
         return int(found[1])
@@ -116,7 +117,7 @@ class StoreFile:
         run = Run([self._program, "format", "-"], self._timeout, LONGEST, piece)
         run.wait()
         if run.status is None:
-            raise end_of(None, bytes(run.errors), False)
+            raise end_of(None, bytes(run.errors), False, self._folder)
         if run.status != 0:
             raise BadAnswer(run.errors.decode("utf-8", "replace").strip())
         return from_text(bytes(run.output))

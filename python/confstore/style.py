@@ -1,4 +1,4 @@
-"""Trees, and their texts in the one style of docs/STYLE.md.
+"""The texts of trees in the one style of docs/STYLE.md. `trees.py` reads them.
 
 A tree is a str, a list of trees, or a dict of str to trees. What a session is sent and what it answers is in this
 style, so a text of it is exactly as long as the store counts it.
@@ -7,14 +7,12 @@ style, so a text of it is exactly as long as the store counts it.
 from __future__ import annotations
 
 import re
-from typing import Any, Dict, List, Optional, Union
+from typing import Any
 
-import yaml
+from .faults import NotATree, NotText, TooDeep, Unwritten
+from .written import SPELLED, NotWritten, Scalar, Tree, quoted, scalar, text_of, written
 
-from .faults import BadAnswer, NotATree, NotText, TooDeep
-from .written import DEEPEST, SPELLED, NotWritten, Scalar, Tree, quoted, scalar, text_of, written
-
-__all__ = ["SPELLED", "Tree", "document", "from_text", "quoted", "text_of", "to_plain_text", "to_text", "trees_of"]
+__all__ = ["SPELLED", "Tree", "document", "quoted", "text_of", "to_plain_text", "to_text"]
 
 # What YAML's core schema (1.2.2, 10.3.2) reads as null, a truth value, an integer or a float.
 _TYPED = re.compile(
@@ -22,8 +20,7 @@ _TYPED = re.compile(
     r"|[-+]?(\.[0-9]+|[0-9]+(\.[0-9]*)?)([eE][-+]?[0-9]+)?"
 )
 
-_LOADER: Any = getattr(yaml, "CBaseLoader", yaml.BaseLoader)
-_parse: Any = yaml.parse
+_SURROGATE = re.compile("[\ud800-\udfff]")
 
 
 def to_text(tree: Tree) -> str:
@@ -42,7 +39,28 @@ def _written(tree: Tree, write: Scalar) -> str:
     except NotWritten as fault:
         if fault.name == "TooDeep":
             raise TooDeep(fault.name, fault.about) from None
-        raise (NotText if fault.name == "NotText" else NotATree)(fault.about) from None
+        raise (NotText if fault.name == "NotText" else NotATree)(fault.about, _path_to_fault(tree)) from None
+
+
+def _path_to_fault(tree: object) -> str | None:
+    """The path to the first part of a tree, in the order of its text, that has none; None if all of them have one."""
+    if isinstance(tree, str):
+        return "" if _SURROGATE.search(tree) else None
+    if isinstance(tree, list):
+        parts = [(str(index), item) for index, item in enumerate(tree)]
+    elif isinstance(tree, dict) and all(isinstance(key, str) for key in tree):
+        parts = [(text_of(key), value) for key, value in tree.items()]
+        if len({key for key, _ in parts}) < len(parts):
+            return ""
+    else:
+        return ""
+    for step, part in parts:
+        if isinstance(tree, dict) and _SURROGATE.search(step):
+            return ""
+        inner = _path_to_fault(part)
+        if inner is not None:
+            return "/" + step.replace("~", "~0").replace("/", "~1") + inner
+    return None
 
 
 def to_plain_text(tree: Tree) -> str:
@@ -58,69 +76,23 @@ def _plain_scalar(text: str, margin: str) -> str:
 def document(command: Tree) -> bytes:
     """The document of a command, as a session takes it: its text in the one style, between `---` and a closing line.
 
-    Raises as `to_text` does.
+    Raises as `to_text` does, by the name and the path of the command, and by the path within its tree.
     """
-    return f"---\n{to_text(command)}...\n".encode()
+    try:
+        return f"---\n{to_text(command)}...\n".encode()
+    except Unwritten as fault:
+        _say_where(fault, command)
+        raise
 
 
-class _Builder:
-    """Makes the trees of a stream of events. It keeps its own stack, so no depth of a text can end the process."""
-
-    def __init__(self) -> None:
-        self.trees: List[Tree] = []
-        self._open: List[Union[List[Tree], Dict[str, Tree]]] = []
-        self._keys: List[Optional[str]] = []  # of each open mapping, the key whose value comes next
-
-    def take(self, event: yaml.Event) -> None:
-        if isinstance(event, yaml.ScalarEvent):
-            _check_plain(event)
-            self._put(event.value)
-        elif isinstance(event, (yaml.SequenceStartEvent, yaml.MappingStartEvent)):
-            _check_plain(event)
-            if len(self._open) >= DEEPEST:
-                raise BadAnswer(f"collections are nested more than {DEEPEST} deep")
-            tree: Union[List[Tree], Dict[str, Tree]] = [] if isinstance(event, yaml.SequenceStartEvent) else {}
-            self._put(tree)
-            self._open.append(tree)
-            self._keys.append(None)
-        elif isinstance(event, (yaml.SequenceEndEvent, yaml.MappingEndEvent)):
-            self._open.pop()
-            self._keys.pop()
-        elif isinstance(event, yaml.AliasEvent):
-            raise BadAnswer("an alias is no tree")
-
-    def _put(self, tree: Tree) -> None:
-        if not self._open:
-            self.trees.append(tree)
-            return
-        around, key = self._open[-1], self._keys[-1]
-        if isinstance(around, list):
-            around.append(tree)
-        elif key is not None:
-            around[key] = tree
-            self._keys[-1] = None
-        elif isinstance(tree, str) and tree not in around:
-            self._keys[-1] = tree
-        else:
-            raise BadAnswer("a key is no text, or is there twice")
-
-
-def _check_plain(event: Any) -> None:
-    if event.anchor is not None or event.tag is not None:
-        raise BadAnswer("an anchor or a tag is part of no tree")
-
-
-def trees_of(text: Union[str, bytes]) -> List[Tree]:
-    """The trees of a stream of documents in the one style. Raises `BadAnswer`, or what PyYAML raises, for others."""
-    builder = _Builder()
-    for event in _parse(text, Loader=_LOADER):
-        builder.take(event)
-    return builder.trees
-
-
-def from_text(text: Union[str, bytes]) -> Tree:
-    """The tree of a text in the one style. Texts of other styles are read by a store, with `import_text`."""
-    trees = trees_of(text)
-    if len(trees) != 1:
-        raise BadAnswer("the text has no document, or more than one")
-    return trees[0]
+def _say_where(fault: Unwritten, command: Any) -> None:
+    """Has a fault of a command say which of its trees is at fault."""
+    steps = (fault.within or "").split("/")[1:]
+    while steps[:1] in (["batch"], ["if"]) and len(steps) > 1:
+        command, steps = command[steps[0]][int(steps[1])], steps[2:]
+    if not isinstance(command, dict) or not command:
+        return
+    name, path = next(iter(command.values())), command.get("path")
+    fault.name = name if isinstance(name, str) else None
+    fault.path = path if isinstance(path, str) else None
+    fault.within = "".join(f"/{step}" for step in steps[1:]) if steps[:1] == ["value"] else None

@@ -23,16 +23,17 @@ from unittest import mock
 
 import yaml
 from confstore import Store, to_text
-from confstore import ctl_sockets, ctl_streams
+from confstore import ctl_places, ctl_sockets, ctl_streams
 from confstore.ctl import perform_words
 from confstore.ctl_asked import Asked, Help, Version, asked_of
 from confstore.ctl_faults import Fault, shown
 from confstore.ctl_help import help_of, help_of_all
+from confstore.ctl_places import Place, place_of
 from confstore.ctl_program import Ended, Source
 from confstore.ctl_served import Served
-from confstore.ctl_sockets import Command, Connection, Place, SessionReply, line_of, place_of
-from confstore.ctl_words import COMMON, WORDS
-from confstore.other import Cutter
+from confstore.ctl_sockets import Command, Connection, SessionReply, line_of
+from confstore.ctl_words import WORDS
+from confstore.pieces import Cutter
 from confstore.style import Tree
 
 from . import TOP
@@ -98,11 +99,39 @@ class Words(unittest.TestCase):
 
     def test_help_and_version(self) -> None:
         for line, wanted in (
-            ("--help", Help("")), ("-h", Help("")), ("help", Help("")), ("help get", Help("get")),
-            ("get --help", Help("get")), ("get s web -h", Help("get")), ("--version", Version()), ("-V", Version()),
+            ("--help", ""), ("-h", ""), ("help", ""), ("help get", "get"), ("get --help", "get"),
+            ("get s web -h", "get"), ("--version", None), ("-V", None),
         ):  # fmt: skip
             with self.subTest(line):
-                self.assertEqual(asked_of(shlex.split(line)), wanted)
+                asked = asked_of(shlex.split(line))
+                self.assertIsInstance(asked, Version if wanted is None else Help)
+                self.assertEqual(getattr(asked, "word", None), wanted)
+
+    def test_tips(self) -> None:
+        """What is like no word gets no tip, and what others call a word gets that."""
+        for line, tip in (
+            ("lsit", "names"), ("list s", "names"), ("ls s", "names"), ("rm s web", "delete"), ("cat s web", "get"),
+            ("version", "--version"), ("gte s web", "get"), ("help improt", "import"), ("exprot s web", "export"),
+            ("--wiat 3 names s", "--wait"), ("get s web --josn", "--json"),
+            ("set s web /a b --if-vaule x", "--if-value"), ("names s --jsno=x", "--json"), ("run s --gropu", "--group"), ("hlep", "help"), ("xyzzy", None),
+            ("get s web --xyzzy", None), ("names s -x", None),
+        ):  # fmt: skip
+            with self.subTest(line):
+                with self.assertRaises(Fault) as caught:
+                    asked_of(shlex.split(line))
+                tips = re.findall("; `([^`]*)` may be meant", caught.exception.line)
+                self.assertEqual(tips, [] if tip is None else [tip])
+
+    def test_files_that_are_repeated(self) -> None:
+        asked = asked_of(shlex.split("format --check a b -- -c"))
+        assert isinstance(asked, Asked)
+        self.assertEqual((asked.arguments, asked.repeated), ({"FILE": "a"}, ("b", "-c")))
+        self.assertEqual(asked.options, {"--check": ""})
+        self.assertEqual(self.asked("check"), ("check", {}, {}))
+        self.assertEqual(self.asked("--check cmd set s web /a b")[2], {"--check": "cmd"})
+        for line in ("init --socket /x s", "format --wait 3 a", "backup a", "backup a b c", "set -i s web /a b"):
+            with self.subTest(line), self.assertRaisesRegex(Fault, "WrongWords"):
+                asked_of(shlex.split(line))
 
     def test_words_that_are_not_utf8(self) -> None:
         with self.assertRaises(Fault) as caught:
@@ -113,13 +142,14 @@ class Words(unittest.TestCase):
         for word in WORDS.values():
             for example in word.examples:
                 with self.subTest(example):
-                    line = example.rpartition("| ")[2].partition(" && ")[0]
+                    line = example.rpartition("| ")[2].partition(" && ")[0].partition(" < ")[0]
                     self.assertEqual(self.asked(line.partition(" ")[2])[0], word.name)
 
     def test_help_has_all(self) -> None:
         for word in WORDS.values():
             self.assertRegex(help_of_all(), rf"(?m)^  {word.name} +{re.escape(word.about)}$")
-            for name in [*(option.name for option in (*word.options, *COMMON)), *(one.name for one in word.arguments)]:
+            options = (option.name for option in (*word.options, *word.common))
+            for name in [*options, *(one.name for one in word.arguments)]:
                 self.assertRegex(help_of(word.name), rf"(?m)^  {name}\b")
         for text in (help_of_all(), *map(help_of, WORDS)):
             self.assertLess(max(map(len, text.splitlines())), 120)
@@ -518,29 +548,35 @@ class Stores(SocketTest):
 
 
 class Places(SocketTest):
+    def found(self, given: str, folder: str) -> tuple[str, str | None]:
+        """The path of the socket for a folder, and the folder for which it was found."""
+        place = place_of(given, folder)
+        assert place is not None
+        return place.path, place.folder
+
     def test_which_socket(self) -> None:
         place_in_folder = os.path.join(self.folder, "confstore.sock")
         with mock.patch.dict(os.environ, {"CONFSTORE_SOCKET": ""}):
             self.assertIsNone(place_of("", self.folder))
             with socket.socket(socket.AF_UNIX) as listener:
                 listener.bind(place_in_folder)
-                self.assertEqual(place_of("", self.folder), Place(place_in_folder, self.folder))
-                self.assertEqual(place_of("/x", self.folder), Place("/x"))
+                self.assertEqual(self.found("", self.folder), (place_in_folder, self.folder))
+                self.assertEqual(self.found("/x", self.folder), ("/x", None))
                 os.environ["CONFSTORE_SOCKET"] = "/y"
-                self.assertEqual(place_of("", self.folder), Place("/y"))
-                self.assertEqual(place_of("/x", self.folder), Place("/x"))
+                self.assertEqual(self.found("", self.folder), ("/y", None))
+                self.assertEqual(self.found("/x", self.folder), ("/x", None))
 
     def test_that_of_the_unit(self) -> None:
         """packaging/confstore@.service has stores and sockets there."""
         stores, sockets = os.path.join(self.top, "lib"), os.path.join(self.top, "run")
         os.makedirs(os.path.join(sockets, "app"))
         with open(os.path.join(TOP, "packaging", "confstore@.service"), encoding="utf-8") as unit:
-            self.assertIn(f"{ctl_sockets.SOCKETS}/%i/socket {ctl_sockets.STORES}/%i\n", unit.read())
-        with mock.patch.multiple(ctl_sockets, STORES=stores, SOCKETS=sockets):
+            self.assertIn(f"{ctl_places.SOCKETS}/%i/socket {ctl_places.STORES}/%i\n", unit.read())
+        with mock.patch.multiple(ctl_places, STORES=stores, SOCKETS=sockets):
             with socket.socket(socket.AF_UNIX) as listener:
                 listener.bind(os.path.join(sockets, "app", "socket"))
-                found = place_of("", os.path.join(stores, "app", ""))
-                self.assertEqual(found, Place(os.path.join(sockets, "app", "socket"), os.path.join(stores, "app")))
+                found = self.found("", os.path.join(stores, "app", ""))
+                self.assertEqual(found, (os.path.join(sockets, "app", "socket"), os.path.join(stores, "app")))
                 self.assertIsNone(place_of("", os.path.join(stores, "other")))
 
 

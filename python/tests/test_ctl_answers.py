@@ -14,7 +14,7 @@ from confstore import Record, ctl_sockets
 from confstore.ctl_faults import Fault
 from confstore.ctl_outputs import json_text
 from confstore.ctl_served import Served
-from confstore.ctl_sockets import Place
+from confstore.ctl_places import Place
 from confstore.ctl_watch import line_of
 from confstore.following import Told
 from confstore.style import Tree, document

@@ -16,7 +16,7 @@ from unittest import mock
 import confstore
 from confstore import ConfstoreError, Reader, Record, SessionEnded, Store, Tree, View
 from confstore import session as module
-from confstore.other import Cutter
+from confstore.pieces import Cutter
 from confstore.session import LONGEST_COMMAND, Session
 
 from . import TOP

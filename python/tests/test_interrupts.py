@@ -12,7 +12,7 @@ from unittest import mock
 
 import confstore
 from confstore import Reader, Store
-from confstore.other import Cutter
+from confstore.pieces import Cutter
 from confstore.session import LONGEST_COMMAND
 
 from .places import StoreTest
