@@ -43,7 +43,7 @@ from confstore import ConfstoreError, NotATree, NotText, Refused as StoreRefused
 
 from .answers import Answers
 from .bases import NAMES_KEPT
-from .beside import Fault, Sample, address, family, known, mode_of
+from .beside import Fault, Sample, address, family, known, mode_of, tell_manager
 from .entries import RESERVED, Refused, change_in, change_of, command_of, digest_of, entry_of
 from .etcd import Access, Created, Etcd, Item, Unavailable
 from .follower import Follower, NotReplicated
@@ -374,6 +374,7 @@ def _run(words: argparse.Namespace, ends: ExitStack) -> int:
         server.end()
     node.follower.start()
     print("ready", flush=True)
+    tell_manager()
     server.serve()
     node.end()
     return 0

@@ -5,6 +5,9 @@ from __future__ import annotations
 import contextlib
 import io
 import os
+import socket
+import subprocess
+import sys
 import tempfile
 import threading
 import time
@@ -13,6 +16,7 @@ from typing import Any, Callable, TypeVar
 from unittest import mock
 
 from confstore import Closed, Store, Tree
+from confstore_replicated import Client
 from confstore_replicated import follower as following
 from confstore_replicated import node as module
 from confstore_replicated.bases import Bases
@@ -268,6 +272,29 @@ class Conditions(NodeTest):
         until(lambda: "start the version that the other nodes have" in self.said.getvalue())
         self.assertIn("unless", self.said.getvalue())
         until(lambda: self.get(node, "no") == {"value": "0"})
+
+
+class Processes(NodeTest):
+    def test_a_manager_is_told_once_clients_are_taken(self) -> None:
+        """As systemd, which starts what comes after a node then. The session has no part in that."""
+        manager = socket.socket(socket.AF_UNIX, socket.SOCK_DGRAM)
+        self.addCleanup(manager.close)
+        manager.settimeout(30)
+        told, path = os.path.join(self.top, "told"), os.path.join(self.top, "socket")
+        manager.bind(told)
+        words = [sys.executable, "-m", "confstore_replicated.node", path, os.path.join(self.top, "a")]
+        process = subprocess.Popen(
+            [*words, self.etcd.address], stdout=subprocess.DEVNULL, stderr=subprocess.DEVNULL,
+            env={**os.environ, "PYTHONPATH": os.pathsep.join(sys.path), "NOTIFY_SOCKET": told},
+        )  # fmt: skip
+        try:
+            self.assertEqual(manager.recv(100), b"READY=1")
+            client = Client(path, 30)
+            self.assertEqual(client.ask({"import": "a", "text": "n: 0"}), {"ok": "1"})
+            client.close()
+        finally:
+            process.terminate()
+            self.assertEqual(process.wait(30), 0)
 
 
 class OtherHistories(NodeTest):
