@@ -1,6 +1,6 @@
 """A node: a follower with its store, and a Unix socket for clients.
 
-A client sends one JSON object a line, and gets one back for each, in order.
+A client sends one JSON object a line, and gets one back for each, in order. A line `...` is passed over.
 
     {"import": NAME, "text": TEXT}                       {"ok": COUNT} once the log has it and this node performed it
     {"set": NAME, "path": POINTER, "value": TREE}        the same
