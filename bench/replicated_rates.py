@@ -31,7 +31,7 @@ from lib.serving import served
 
 from confstore import Store
 from confstore_replicated import Client
-from confstore_replicated.entries import command_of, digest_of, edits_of, entry_of
+from confstore_replicated.entries import change_of, command_of, digest_of, entry_of
 from confstore_replicated.etcd import Etcd
 
 # How many commands all clients of a run send, if no other number is given.
@@ -68,7 +68,7 @@ def etcd_alone(cluster: Cluster, which: int) -> Call:
     mine = f"{os.getpid()}-{time.monotonic_ns()}-"
 
     def call(number: int) -> None:
-        command, name = command_of(edits_of(some_command(number))), f"{mine}{number}".encode()
+        command, name = command_of(change_of(some_command(number))), f"{mine}{number}".encode()
         etcd.create(b"/alone/ids/" + name, digest_of(command), b"/alone/log/" + name, lambda: entry_of(command))
 
     return call

@@ -1,13 +1,15 @@
 #!/usr/bin/env python3
 """Three members of etcd and three nodes of a replicated store, with faults all the time, and what they hold afterwards.
 
-First everything is on 127.0.0.1. Four clients send 2,000 commands; meanwhile, one at a time and at random moments, a
-node or a member is killed (SIGKILL), told to end (SIGTERM, SIGINT), or stopped for a while (SIGSTOP), or its disk is
-full. Then a node is kept away until the log has lost
-entries that it needs. Then each machine gets a network namespace of its own, and each in turn is cut off from the
-others while clients send 1,000 more commands. After each part it looks at these things:
+First everything is on 127.0.0.1. Four clients send 2,000 commands, half of them with conditions; meanwhile, one at a
+time and at random moments, a node or a member is killed (SIGKILL), told to end (SIGTERM, SIGINT), or stopped for a
+while (SIGSTOP), or its disk is full. Then these clients each add 1 to one number, again and again, while nodes and
+members are killed: each reads it, sets it under the condition that it is what was read, and tries again. Then a node is
+kept away until the log has lost entries that it needs. Then each machine gets a network namespace of its own, and each
+in turn is cut off from the others while clients send 1,000 more commands. After each part it looks at these things:
 
 - each command that was answered is in the log exactly once;
+- the number is how often a client was told that its 1 was added;
 - each answer is that of one session that performs the log by itself, and is given again to who asks again;
 - all nodes export the same, byte for byte, and so does that session;
 - a node that was too far behind, or comes last with an empty folder, starts from a base, and exports the same.
@@ -40,7 +42,7 @@ from lib.command_line import number_given
 from lib.replicated_cluster import (
     BASE_AFTER, MACHINES, Cluster, Ground, Loopback, Namespaces, Request, asked, end_after, limit_files, need_etcd,
 )
-from lib.replicated_log import BASE, LOG, Answers, Checks, Log, one_session, some_command
+from lib.replicated_log import BASE, LOG, Answers, Checks, Log, one_session, some_change
 from lib.store_runs import PROGRAM
 
 from confstore import Reader, Refused
@@ -48,9 +50,11 @@ from confstore_replicated.entries import RESERVED, number_in
 from confstore_replicated.etcd import Etcd, Unavailable
 from confstore_replicated.history import base_in
 
-# How many commands the clients send, if no other number is given, and how many clients there are.
+# How many commands the clients send, if no other number is given, how many clients there are, and how often each of
+# them adds 1 to a number.
 COMMANDS = 2000
 CLIENTS = 4
+ADDITIONS = 100
 
 # Where syncs cost nothing, for the store of the one session.
 MEMORY = "/dev/shm" if os.access("/dev/shm", os.W_OK) else None
@@ -67,9 +71,28 @@ def run_client(cluster: Cluster, part: str, which: int, count: int, answers: Ans
     chance = random.Random(f"{part}{which}")
     for number in range(count):
         identity = f"{part}-{which}-{number}"
-        command = {"id": identity, **some_command(chance, number)}
+        command = {"id": identity, **some_change(chance, number)}
         answers[identity] = command, asked(cluster, which % MACHINES, command)
         time.sleep(pause)
+
+
+def add_ones(cluster: Cluster, which: int, count: int, answers: Answers) -> None:
+    """Adds 1 to a number so often, by a condition on what was read. Each try has an id of its own, under which it is
+    sent again, to any node, until it is answered."""
+    for number in range(count):
+        tried = 0
+        while True:
+            read = {"get": "sum", "path": "/n", **({"fresh": "yes"} if tried % 2 else {})}
+            found = asked(cluster, which % MACHINES, read).get("value", "none")
+            identity = f"add-{which}-{number}-{tried}"
+            command = {
+                "id": identity, "if": [{"test": "sum", "path": "/n", "value": found}],
+                "set": "sum", "path": "/n", "value": str(int(found) + 1 if found.isdecimal() else 0),
+            }  # fmt: skip
+            answers[identity] = command, asked(cluster, (which + tried) % MACHINES, command)
+            if "ok" in answers[identity][1]:
+                break
+            tried += 1
 
 
 class Witness:
@@ -138,6 +161,18 @@ def make_trouble(cluster: Cluster, ended: threading.Event, done: Done) -> None:
                     done[f"({kind} that a node ended with status {status})"] = 1
             ended.wait(chance.uniform(0.1, 1))
             process.start()
+
+
+def kill_some(cluster: Cluster, ended: threading.Event, done: Done) -> None:
+    """Kills nodes and members, one at a time, until the clients are done."""
+    chance = random.Random(7)
+    until = time.monotonic() + TROUBLE
+    while time.monotonic() < until and not ended.wait(chance.uniform(0.1, 0.5)):
+        process = chance.choice([*cluster.nodes, *cluster.nodes, *cluster.members])
+        done["kill"] = done.get("kill", 0) + 1
+        process.kill()
+        ended.wait(chance.uniform(0.1, 0.5))
+        process.start()
 
 
 def cut_off_all(cluster: Cluster, ended: threading.Event, done: Done) -> None:
@@ -216,6 +251,34 @@ class Run:
         what = ", ".join(f"{times} times {kind}" for kind, times in sorted(done.items())) or "no trouble"
         print(f"{part}: {len(answered)} commands in {seconds:.0f} s, with {what}", flush=True)
 
+    def add_together(self, count: int, trouble: Trouble) -> None:
+        """Has the clients add 1 to one number so often each, with some trouble meanwhile."""
+        done: Done = {}
+        ended, began = threading.Event(), time.monotonic()
+        asked(self.cluster, 0, {"id": "add", "import": "sum", "text": "n: 0"})
+        clients = [
+            threading.Thread(target=add_ones, args=(self.cluster, which, count, self.answers), daemon=True)
+            for which in range(CLIENTS)
+        ]
+        troubles = threading.Thread(target=trouble, args=(self.cluster, ended, done), daemon=True)
+        for thread in [*clients, troubles]:
+            thread.start()
+        for thread in clients:
+            thread.join()
+        ended.set()
+        troubles.join()
+        added = [answer for identity, (_, answer) in self.answers.items() if identity.startswith("add-")]
+        unmet = sum(answer == {"refused": "Unmet"} for answer in added)
+        oks = sum("ok" in answer for answer in added)
+        self.checks.is_so(oks == CLIENTS * count, f"{oks} of {CLIENTS * count} additions were made")
+        self.checks.is_so(unmet > 0 and oks + unmet == len(added), f"{unmet} of {len(added)} tries met another's")
+        for node in range(MACHINES):
+            found = asked(self.cluster, node, {"get": "sum", "path": "/n", "fresh": "yes"}, elsewhere=False)
+            self.checks.is_so(found == {"value": str(oks)}, f"node {node} has the sum {found}, and not {oks}")
+        what = ", ".join(f"{times} times {kind}" for kind, times in sorted(done.items())) or "no trouble"
+        seconds = time.monotonic() - began
+        print(f"sum: {oks} additions and {unmet} tries that were unmet in {seconds:.0f} s, with {what}", flush=True)
+
     def ask_again(self, count: int) -> None:
         """The last commands are sent again, to each node: they are in the log once, and have their answers."""
         for identity, (command, answer) in list(self.answers.items())[-count:]:
@@ -285,6 +348,7 @@ class Run:
 def on_one_machine(run: Run, commands: int) -> None:
     run.start()
     run.send("faults", commands, make_trouble, pause=0.05)
+    run.add_together(ADDITIONS, kill_some)
     run.compare_members()
     run.ask_again(40)
     run.keep_behind()

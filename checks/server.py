@@ -3,6 +3,7 @@
 
 - Bounds: idle, slow and busy clients where the number of clients is at its bound, a burst of clients, unfinished
   commands, answers that nobody reads, and what all of that takes of memory.
+- Costs: what a command costs the server, in system calls and in time of the processor, however many are connected.
 - Sessions: others that hold the store while a session is renewed, programs that are missing or no confstore.
 - The socket: those may connect that may write in the folder, by modes and access lists, as the system itself decides
   it, also where access was narrowed since; the socket has its name only when it is ready; what is at the name stays
@@ -47,7 +48,8 @@ from lib.server_metrics import Crowds, Health, Hostile, Metrics, Readers, Reques
 from lib.server_sockets import ALICE, STAFF, Access, Names, shut_out
 from lib.server_stores import REPLACED, Identities, OwnFiles, Parents, Renewals, Replacements
 from lib.server_watches import HostileWatches, Watches
-from lib.servers import BOUNDED, MEGABYTE, NAMES, PATIENCE, PROGRAM, PYTHON, SERVER, TOP, Client, ServerTest, accepts
+from lib.servers import BOUNDED, MEGABYTE, NAMES, PATIENCE, PROGRAM, PYTHON, SERVER, TOP, Client, Running, ServerTest
+from lib.servers import accepts
 
 __all__ = [
     "Access", "Crowds", "Health", "Hostile", "HostileWatches", "Identities", "Metrics", "Names", "OwnFiles", "Parents",
@@ -231,6 +233,87 @@ class Holder(threading.Thread):
                 with contextlib.suppress(BrokenPipeError):
                     run.stdin.close()
             self.stop.wait(self.pause)
+
+
+class Costs(ServerTest):
+    """What a command costs the server. Nothing here is measured by the clock, which tells what else the machine does."""
+
+    SET = b'set: app\npath: /n\nvalue: "1"\n...\n'
+
+    def served_clients(self, count: int) -> list[Client]:
+        """Clients that are all taken."""
+        clients = self.clients(count)
+        for client in clients:
+            self.assertEqual(client.ask(NAMES), b"---\nnames:\n  - app\n...\n")
+        return clients
+
+    def test_clients_that_do_nothing_cost_nothing(self) -> None:
+        """A command of one client takes as much of the processor beside 250 others that are connected as alone."""
+        server = self.serve()
+        client = self.client()
+        client.ask(b'import: app\ntext: "n: 0"\n...\n')
+        alone = min(self.nanoseconds_of(server, client) for _ in range(3))
+        self.served_clients(250)
+        beside = min(self.nanoseconds_of(server, client) for _ in range(3))
+        self.assertLess(beside, 2 * alone)
+
+    def nanoseconds_of(self, server: Running, client: Client) -> int:
+        """How long the server runs for some commands."""
+        before = self.nanoseconds_of_processor(server)
+        for _ in range(400):
+            self.assertTrue(client.ask(self.SET).startswith(b"---\nok: "))
+        return self.nanoseconds_of_processor(server) - before
+
+    def nanoseconds_of_processor(self, server: Running) -> int:
+        with open(f"/proc/{server.process.pid}/schedstat", encoding="ascii") as figures:
+            return int(figures.read().split()[0])
+
+    @unittest.skipUnless(shutil.which("strace"), "needs strace")
+    def test_the_calls_of_a_command(self) -> None:
+        """A command is received, and its answer is sent. All else is shared by those that come together."""
+        for count in (8, 64, 256):
+            with self.subTest(clients=count):
+                called = self.calls_of(count, 40)
+                commands = count * 40
+                self.assertAlmostEqual(called["sendto"], commands, delta=3)  # those at the start and the end
+                self.assertLess(called["recvfrom"], 1.3 * commands)
+                self.assertLess(called.get("epoll_ctl", 0), 0.3 * commands)
+                self.assertLess(sum(called.values()), 4 * commands)
+
+    def calls_of(self, count: int, rounds: int) -> dict[str, int]:
+        """The calls by which a server serves so many clients that each send a command and await its answer."""
+        server = self.serve()
+        clients = self.clients(count)
+        clients[0].ask(b'import: app\ntext: "n: 0"\n...\n')
+        counted = os.path.join(self.top, f"calls{count}")
+        words = ["strace", "-c", "-o", counted, "-p", str(server.process.pid)]
+        with subprocess.Popen(words, stderr=subprocess.PIPE) as tracer:
+            assert tracer.stderr is not None
+            self.assertIn(b"attached", tracer.stderr.readline())
+            for _ in range(rounds):
+                for client in clients:
+                    client.send(self.SET)
+                for client in clients:
+                    self.assertTrue(client.answer().startswith(b"---\nok: "))
+            tracer.send_signal(signal.SIGINT)
+        server.end()
+        with open(counted, encoding="ascii") as lines:
+            rows = [line.split() for line in lines]
+        return {row[-1]: int(row[3]) for row in rows if len(row) >= 5 and row[3].isdecimal() and row[-1] != "total"}
+
+    def test_commands_beside_one_that_sends_without_end(self) -> None:
+        """Those who ask now and then wait for a turn, and not for all that another has sent."""
+        self.serve()
+        busy, other = self.clients(2)
+        busy.ask(b'import: app\ntext: "n: 0"\n...\n')
+        sent = 0
+        for number in range(20):
+            sent += busy.send_some(self.SET * 4_000)
+            answer = other.ask(self.SET)
+            self.assertTrue(answer.startswith(b"---\nok: "), number)
+            while busy.next_byte():
+                self.assertTrue(busy.socket.recv(MEGABYTE))
+        self.assertGreater(sent, 100_000)
 
 
 class Sessions(ServerTest):

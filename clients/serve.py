@@ -108,12 +108,29 @@ def may_be_long(start: bytes) -> bool:
     return not start.removeprefix(b"---\n").startswith(SHORT)
 
 
+class Work:
+    """The clients that there is something to do for. Each turn goes over them, and not over all that are connected."""
+
+    def __init__(self) -> None:
+        self.changed: dict[Client, None] = {}  # who sent, got or read something since its events were watched
+        self.answered: dict[Client, None] = {}  # who got an answer that nothing was sent of yet
+        self.waiting: dict[Client, None] = {}  # who has a whole command that no session has, in order of their turns
+        self.watching: dict[Client, None] = {}  # who watches the store
+
+    def leave(self, client: Client) -> None:
+        for clients in (self.changed, self.answered, self.waiting, self.watching):
+            clients.pop(client, None)
+
+
 class Client:
     """A client: what it sent and is not in the session, and what it has to read."""
 
-    def __init__(self, connection: socket.socket, monitor: Monitor, serve: Callable[[Client, int], None]) -> None:
+    def __init__(
+        self, connection: socket.socket, monitor: Monitor, work: Work, serve: Callable[[Client, int], None]
+    ) -> None:
         self.connection = connection
         self.monitor = monitor
+        self.work = work
         self.descriptor = connection.fileno()
         self.serve = lambda events: serve(self, events)
         self.heard = Pieces()
@@ -125,6 +142,13 @@ class Client:
         self.is_gone = False
         self.watcher: Optional[Watcher] = None
         self.came = self.read_last = self.active = self.asked = time.monotonic()
+        self.has_changed()
+
+    def has_changed(self) -> None:
+        """Notes that the next turn has to look at it, and whether it has a command for the session."""
+        self.work.changed[self] = None
+        if self.heard.end:
+            self.work.waiting.setdefault(self)
 
     def may_send(self) -> bool:
         """Whether its next command may go to the session."""
@@ -139,7 +163,10 @@ class Client:
         self.waits_for_long = self.wants_long()
         self.due += 1
         self.may_hear = PART
-        return self.heard.take()
+        command = self.heard.take()
+        del self.work.waiting[self]  # its next turn is behind those of the others
+        self.has_changed()
+        return command
 
     def hear(self) -> bool:
         """Takes what it sends. Whether it may go on."""
@@ -154,6 +181,7 @@ class Client:
             return False
         self.has_sent_all = not part
         self.heard.add(part)
+        self.has_changed()
         self.monitor.received += len(part)
         if self.heard.end:
             self.active = self.asked = time.monotonic()  # all whole commands here came by now: none was here before
@@ -163,6 +191,7 @@ class Client:
         self.active = time.monotonic()
         if not self.unsaid:
             self.read_last = self.active
+            self.work.answered[self] = None
         self.due -= 1
         self.waits_for_long = False
         self.unsaid = self.unsaid + answer if self.unsaid else answer
@@ -171,9 +200,11 @@ class Client:
         """Gives it a part of what it watches."""
         self.active = self.read_last = time.monotonic()
         self.unsaid = bytearray(part)
+        self.has_changed()
 
     def say(self) -> bool:
         """Sends it what it takes now. Whether it may go on."""
+        self.has_changed()
         try:
             count = self.connection.send(self.unsaid)
         except BlockingIOError:
@@ -199,6 +230,7 @@ class Client:
             self.read_last = time.monotonic()
         self.unsaid = self.unsaid + REFUSED * count
         self.has_sent_all = self.has_sent_all or count > 0
+        self.has_changed()
         return goes_on
 
     def leave(self) -> None:
@@ -270,6 +302,8 @@ class Server:
         self.signals = signals
         self.selector = selectors.DefaultSelector()
         self.watched: dict[int, int] = {}
+        self.may = READ | WRITE  # what is watched of clients
+        self.work = Work()
         self.watch(signals.ear.fileno(), READ, signals.hear)
         self.listener: Optional[Listener] = None
         self.clients: collections.deque[Client] = collections.deque()
@@ -352,7 +386,7 @@ class Server:
         self.store.look()
         peer = peer_of(connection)
         if may_write(peer, self.store.folder):
-            self.clients.append(Client(connection, self.monitor, self.serve_client))
+            self.clients.append(Client(connection, self.monitor, self.work, self.serve_client))
         else:
             connection.close()
             lost = f"user {peer.user} is not taken, since it may not write in the store's folder any more"
@@ -394,6 +428,7 @@ class Server:
         self.unwatch(client.descriptor)
         client.leave()
         self.clients.remove(client)
+        self.work.leave(client)
         self.long_commands.leave(client)
         self.long_answers.leave(client)
         if client.watcher is not None:
@@ -424,12 +459,19 @@ class Server:
         if not self.session.read_errors():
             self.unwatch(self.session.errors_end)
 
+    def say_answers(self) -> None:
+        """Sends the answers that came at once, as most clients take theirs whole. What is left waits for its event."""
+        for client in list(self.work.answered):
+            self.serve_client(client, WRITE)
+        self.work.answered.clear()
+
     def send_commands(self) -> None:
-        """Sends commands of the clients in turn, one of each, as long as there is room."""
+        """Sends commands of the clients in turn, one of each, as long as there is room. Who got no room is first in the
+        next turn."""
         was_sent = self.session.has_opened and not self.is_ending()
         while was_sent and not self.session.is_full:
             was_sent = bool(self.long_answers.give())
-            for client in list(self.clients):
+            for client in list(self.work.waiting):
                 if len(self.session.unsent) > MOST_UNSENT or not client.may_send() or not self.has_turn(client):
                     continue
                 if self.session.is_used_up(client.heard.end, self.bounds.renew_after):
@@ -440,13 +482,18 @@ class Server:
                 self.long_commands.leave(client)
                 was_sent = True
             was_sent = was_sent or (bool(self.long_answers.waiting) and bool(self.long_answers.give()))
-        self.clients.rotate(-1)
 
     def has_turn(self, client: Client) -> bool:
         """Whether a client may send its command now: one whose answer may be long waits for the answers before."""
         if not client.wants_long():
             return True
-        return not client.due and not self.watchers.begin(client) and self.long_answers.ask(client)
+        if client.due:
+            return False
+        if self.watchers.begin(client):
+            del self.work.waiting[client]
+            self.work.changed[client] = self.work.watching[client] = None
+            return False
+        return self.long_answers.ask(client)
 
     def finish_full_session(self) -> None:
         """Ends the session once it has answered all that it was sent, and notes how it leaves the store."""
@@ -482,7 +529,8 @@ class Server:
         if now >= self.next_look:
             self.next_look = now + LOOK
             self.look(now)
-        for client in [client for client in self.clients if client.is_done()]:
+        self.say_answers()
+        for client in [client for client in self.work.changed if client.is_done()]:
             self.drop(client)
         if not self.session.is_over:
             self.send_commands()
@@ -503,14 +551,22 @@ class Server:
             key.data(events)
 
     def watch_clients(self) -> None:
+        """Has the events watched of the clients that have changed, and of those who watch the store, which may be over.
+        Who is done is dropped in the next turn."""
         may = WRITE if self.is_ending() else READ | WRITE
-        for client in self.clients:
+        if may != self.may:
+            self.may = may
+            self.work.changed = dict.fromkeys(self.clients)
+        changed = self.work.changed
+        for client in changed:
             if client.needs_place():
                 self.long_commands.ask(client)
         for client in self.long_commands.give():
             client.may_hear = LONGEST + 1
-        for client in self.clients:
+            changed[client] = None
+        for client in changed:
             self.watch(client.descriptor, client.events() & may, client.serve)
+        self.work.changed = dict.fromkeys(client for client in (*changed, *self.work.watching) if client.is_done())
 
     def serve(self) -> int:
         """Serves until the session is over or the server is told to end. The status."""

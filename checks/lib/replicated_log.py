@@ -8,8 +8,9 @@ from collections.abc import Sequence
 from .replicated_cluster import Request
 from .store_runs import PROGRAM
 
-from confstore import Refused, Store
-from confstore_replicated.entries import NO_MARK, RESERVED, edits_in, marked, refused
+from confstore import Refused
+from confstore_replicated.entries import NO_MARK, RESERVED, batch_of, change_in, refusal_of
+from confstore_replicated.store import NodeStore
 
 # Where the base and the entries of the log are in etcd, and the log: of each entry its number, its id and its bytes.
 BASE = b"/confstore/default/base"
@@ -34,16 +35,33 @@ def some_command(chance: random.Random, number: int) -> Request:
     return {"batch": [{"set": name, "path": "/at", "value": str(number)}, other]}
 
 
+def some_condition(chance: random.Random, number: int) -> Request:
+    """A condition over the same names, that holds in some cases."""
+    name = f"c{chance.randrange(6)}"
+    conditions: list[Request] = [
+        {"absent": name, "path": "/list/0"}, {"absent": name}, {"test": name, "path": "/list/0", "value": "a"},
+        {"test": name, "path": "/list", "value": ["a", "b"]}, {"count": str(number)},
+    ]  # fmt: skip
+    return chance.choice(conditions)
+
+
+def some_change(chance: random.Random, number: int) -> Request:
+    """A command, under conditions in some cases."""
+    conditions = [some_condition(chance, number) for _ in range(chance.choice((0, 0, 1, 1, 2)))]
+    return {**({"if": conditions} if conditions else {}), **some_command(chance, number)}
+
+
 def one_session(folder: str, log: Log) -> tuple[dict[str, Request], dict[str, str]]:
     """What one session answers to the log, and what it exports then."""
     answers: dict[str, Request] = {}
     before = 0
-    with Store(folder, program=PROGRAM) as store:
+    store = NodeStore(folder, program=PROGRAM)
+    with store:
         for number, identity, entry in log:
-            (answer,) = store.perform_batches([marked(edits_in(entry)[0], number, before, NO_MARK)])
+            (answer,) = store.perform([batch_of(change_in(entry)[0], number, before, NO_MARK)])
             if isinstance(answer, Refused):
                 answers[identity] = {"refused": answer.word}
-                (answer,) = store.perform_batches([refused(answer.word, number, before, NO_MARK)])
+                (answer,) = store.perform([refusal_of(answer.word, number, before, NO_MARK)])
             else:
                 answers[identity] = {"ok": str(answer)}
             before = number

@@ -40,6 +40,7 @@ struct confstore {
     size_t taken;                /* where the first answer that was not taken begins */
     size_t whole;                /* where the last answer that is whole ends */
     size_t answers;              /* how many are whole and were not taken */
+    struct confstore_bytes command, answer; /* of the last call that was a command from its first byte to its answer */
     size_t error_length;
     char error_text[ERRORS_KEPT]; /* the end of standard error */
     struct confstore *before, *after; /* in the list of those that are open */
@@ -367,6 +368,72 @@ enum confstore_status confstore_ask(struct confstore *store, const char *command
     return status == CONFSTORE_OK ? confstore_take(store, answer) : status;
 }
 
+/* One call for one command. */
+
+/* How many bytes the answer to a change has at most. */
+#define SHORT_ANSWER 4096
+
+/* A line of a command. */
+struct pair {
+    const char *key, *text;
+    size_t length;
+};
+
+/* Writes a command, and has room for its answer if that is short, so that there is memory for all that a change takes
+ * before it is sent. */
+static enum confstore_status write_command(struct confstore *store, const struct pair *pairs, size_t count) {
+    enum confstore_status status = confstore_begin(&store->command);
+    for (size_t at = 0; at < count && status == CONFSTORE_OK; at++)
+        status = confstore_write_pair(&store->command, pairs[at].key, pairs[at].text, pairs[at].length);
+    if (status == CONFSTORE_OK) status = confstore_end(&store->command);
+    store->answer.length = 0;
+    if (status == CONFSTORE_OK) status = confstore_bytes_reserve(&store->answer, SHORT_ANSWER);
+    return status == CONFSTORE_OK ? confstore_bytes_reserve(&store->got, PART + SHORT_ANSWER) : status;
+}
+
+/* Has a command performed, to which the answer is of this kind, or a refusal. */
+static enum confstore_status perform(struct confstore *store, const struct pair *pairs, size_t count,
+                                     enum confstore_said kind, struct confstore_answer *said) {
+    *said = (struct confstore_answer){0};
+    if (is_forked(store)) return CONFSTORE_FORKED;
+    if (store->ended != CONFSTORE_OK) return store->ended;
+    if (store->due > 0) return CONFSTORE_TIMED_OUT;
+    enum confstore_status status = write_command(store, pairs, count);
+    if (status == CONFSTORE_OK)
+        status = confstore_ask(store, store->command.data, store->command.length, &store->answer);
+    if (status != CONFSTORE_OK) return status;
+    struct confstore_answer found;
+    status = confstore_read_answer(store->answer.data, store->answer.length, &found);
+    if (status != CONFSTORE_OK || (found.kind != kind && found.kind != CONFSTORE_SAID_REFUSED))
+        return distrust(store, CONFSTORE_BAD_ANSWER);
+    *said = found;
+    return CONFSTORE_OK;
+}
+
+enum confstore_status confstore_set(struct confstore *store, const char *name, const char *path, const char *text,
+                                    size_t length, struct confstore_answer *said) {
+    const struct pair pairs[] = {{"set", name, strlen(name)}, {"path", path, strlen(path)}, {"value", text, length}};
+    return perform(store, pairs, 3, CONFSTORE_SAID_OK, said);
+}
+
+enum confstore_status confstore_import(struct confstore *store, const char *name, const char *text, size_t length,
+                                       struct confstore_answer *said) {
+    const struct pair pairs[] = {{"import", name, strlen(name)}, {"text", text, length}};
+    return perform(store, pairs, 2, CONFSTORE_SAID_OK, said);
+}
+
+enum confstore_status confstore_delete(struct confstore *store, const char *name, const char *path,
+                                       struct confstore_answer *said) {
+    const struct pair pairs[] = {{"delete", name, strlen(name)}, {"path", path, strlen(path)}};
+    return perform(store, pairs, 2, CONFSTORE_SAID_OK, said);
+}
+
+enum confstore_status confstore_get(struct confstore *store, const char *name, const char *path,
+                                    struct confstore_answer *said) {
+    const struct pair pairs[] = {{"get", name, strlen(name)}, {"path", path, strlen(path)}};
+    return perform(store, pairs, 2, CONFSTORE_SAID_VALUE, said);
+}
+
 /* A store of these ends. The lock of the stores is held. */
 static struct confstore *new_store(pid_t process, int to, int from, int errors, int timeout) {
     struct confstore *store = calloc(1, sizeof *store);
@@ -608,6 +675,8 @@ enum confstore_status confstore_close_counted(struct confstore *store, int *stat
     if (unanswered) *unanswered = store->due - store->answers;
     forget_store(store);
     confstore_bytes_free(&store->got);
+    confstore_bytes_free(&store->command);
+    confstore_bytes_free(&store->answer);
     free(store);
     return ended;
 }

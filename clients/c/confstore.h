@@ -2,18 +2,23 @@
  * changes of a store that anybody holds.
  *
  *     struct confstore *store;
- *     struct confstore_bytes command = {0}, answer = {0};
  *     struct confstore_answer said;
  *
  *     if (confstore_open(NULL, "store", 60000, &store) != CONFSTORE_OK) ...
+ *     confstore_set(store, "web", "/port", "81", 2, &said);           said.kind is CONFSTORE_SAID_OK
+ *     confstore_close(store, NULL);
+ *
+ * Any command, as one with conditions or a batch, is written, sent and read by calls of its own:
+ *
+ *     struct confstore_bytes command = {0}, answer = {0};
+ *
  *     confstore_begin(&command);
  *     confstore_write_pair(&command, "set", "web", 3);
  *     confstore_write_pair(&command, "path", "/port", 5);
  *     confstore_write_pair(&command, "value", "81", 2);
  *     confstore_end(&command);
  *     confstore_ask(store, command.data, command.length, &answer);
- *     confstore_read_answer(answer.data, answer.length, &said);       said.kind is CONFSTORE_SAID_OK
- *     confstore_close(store, NULL);
+ *     confstore_read_answer(answer.data, answer.length, &said);
  *
  * docs/SESSION.md has the commands and the answers. What this promises of the disk is the session's promise: once an
  * `ok` was taken, its command is on the disk. When a session ends, what was answered stands; of a command that was sent
@@ -231,6 +236,26 @@ struct confstore_answer {
 
 /* Reads an answer. Returns CONFSTORE_BAD_ANSWER for what is none. */
 enum confstore_status confstore_read_answer(const char *answer, size_t length, struct confstore_answer *said);
+
+/* One command, from its first byte to what is said of it: a text is put at a path, or a text of YAML under a name; what
+ * is at a path is taken out, or the configuration, where the path is empty; and what is at a path is read, whose text
+ * confstore_read_text gives where it is one. Names and paths end in a zero byte.
+ *
+ * They return what confstore_ask returns, or CONFSTORE_NOT_TEXT. Where they return CONFSTORE_OK, `said` is the answer:
+ * of a change CONFSTORE_SAID_OK with its count, of confstore_get CONFSTORE_SAID_VALUE, of each CONFSTORE_SAID_REFUSED.
+ * Its `value` points into the store, until the next call of one of these. A session that says anything else is ended:
+ * CONFSTORE_BAD_ANSWER. After CONFSTORE_NO_MEMORY no change was sent.
+ *
+ * While the answer to another command is due, as after CONFSTORE_TIMED_OUT, they send nothing and return
+ * CONFSTORE_TIMED_OUT: take that answer by confstore_take first. */
+enum confstore_status confstore_set(struct confstore *store, const char *name, const char *path, const char *text,
+                                    size_t length, struct confstore_answer *said);
+enum confstore_status confstore_import(struct confstore *store, const char *name, const char *text, size_t length,
+                                       struct confstore_answer *said);
+enum confstore_status confstore_delete(struct confstore *store, const char *name, const char *path,
+                                       struct confstore_answer *said);
+enum confstore_status confstore_get(struct confstore *store, const char *name, const char *path,
+                                    struct confstore_answer *said);
 
 /* A watch of the changes of a store. It takes no lock and writes nothing, so it runs beside whoever holds the store,
  * and goes on over checkpoints and over sessions that end and begin. It is used by one thread at a time, and by the

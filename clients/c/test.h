@@ -43,6 +43,11 @@ void conditions_written(void);
 void conditions(struct confstore *store);
 void adders(const char *served);
 
+/* What is tried of the calls that are one command each. */
+void single_calls(struct confstore *store);
+void single_calls_without_memory(const char *program);
+void single_calls_of_wrong_programs(void);
+
 /* What is tried of forked processes, and of programs that say too much. */
 void forks(const char *program, const char *served);
 void endless_programs(void);

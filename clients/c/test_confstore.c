@@ -195,6 +195,7 @@ static void all_of(struct confstore *store) {
     confstore_bytes_free(&answer);
     values(store);
     line_feeds(store);
+    single_calls(store);
     refusals(store);
     conditions(store);
     many_at_once(store);
@@ -409,6 +410,8 @@ int main(int count, char **words) {
     a_killed_session();
     without_streams();
     without_memory();
+    single_calls_without_memory(program);
+    single_calls_of_wrong_programs();
     forks(program, count > 3 ? words[3] : NULL);
     endless_programs();
     longest_answers();

@@ -30,11 +30,14 @@ static struct confstore *opened(const char *program, const char *place) {
 /* What a forked process is told by each call: bits of those that were wrong. */
 static int in_child(struct confstore *store) {
     struct confstore_bytes answer = {0};
+    struct confstore_answer said;
     int wrong = 0, status = -1;
     wrong |= (confstore_ask(store, NAMES, sizeof NAMES - 1, &answer) != CONFSTORE_FORKED) << 0;
     wrong |= (confstore_send(store, NAMES, sizeof NAMES - 1) != CONFSTORE_FORKED) << 1;
     wrong |= (confstore_take(store, &answer) != CONFSTORE_FORKED) << 2;
-    wrong |= (confstore_close(store, &status) != CONFSTORE_FORKED) << 3;
+    wrong |= (confstore_set(store, "c", "", "x", 1, &said) != CONFSTORE_FORKED) << 3;
+    wrong |= (confstore_get(store, "c", "", &said) != CONFSTORE_FORKED) << 4;
+    wrong |= (confstore_close(store, &status) != CONFSTORE_FORKED) << 5;
     confstore_bytes_free(&answer);
     return wrong;
 }

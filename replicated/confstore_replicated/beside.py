@@ -14,12 +14,12 @@ sys.path.append(_CLIENTS)
 try:
     from serve_metrics import Sample, Scrapers, Waits, address, family, known, listening, mode_of
     from serve_socket import ACL, GROUP, MASK, OTHER, OWN_GROUP, OWNER, USER, Entry, Fault, Listener, access_of
-    from serve_socket import give_mode, may_write, peer_of, written
+    from serve_socket import give_mode, may_write, peer_of, tell_manager, written
 finally:
     sys.path.remove(_CLIENTS)
 
 __all__ = [
     "ACL", "GROUP", "MASK", "OTHER", "OWNER", "OWN_GROUP", "USER", "Entry", "Fault", "Listener", "Sample", "Scrapers",
     "Waits", "access_of", "address", "family", "give_mode", "known", "listening", "may_write", "mode_of", "peer_of",
-    "written",
+    "tell_manager", "written",
 ]  # fmt: skip

@@ -1,14 +1,17 @@
 """Entries of the log: what a client asks to be changed, and the batches that perform an entry on a store.
 
-A command is a JSON object, `{"edits": [..]}`. Each edit is an object of strings, in the form that an edit of a
-session's `batch` has, but that a value may be a tree: a string, a list of trees, or an object of trees. An entry is a
-command with one more key, `nonce`, which no two requests to etcd have in common. Its number is the revision of etcd
-that made it, so later entries have greater numbers.
+A command is a JSON object, `{"edits": [..]}`, or `{"if": [..], "edits": [..]}` where it has conditions. Each edit and
+each condition is an object of strings, in the form that it has for a session, but that a value may be a tree: a string,
+a list of trees, or an object of trees. An entry is a command with one more key, `nonce`, which no two requests to etcd
+have in common. Its number is the revision of etcd that made it, so later entries have greater numbers.
 
 A store keeps the number of the last entry that it performed under a name of its own, with a mark (`history.py`). The
 batch of an entry takes out the number of the entry before it, makes the entry's edits, and puts its own number, all or
 nothing. So a store takes no entry twice, and none before its turn: the batch would be refused. An entry that is refused
 has its number put alone.
+
+The conditions of an entry stand before its batch, so each store judges them on what the entries before it have made.
+No node judges them elsewhere, and none that doesn't hold is anything else than a refusal, by `Unmet`.
 """
 
 from __future__ import annotations
@@ -17,7 +20,7 @@ import hashlib
 import json
 import re
 import secrets
-from typing import Any, Dict, List, Sequence, Tuple, Union
+from typing import Any, Dict, List, NamedTuple, Sequence, Tuple, Union
 
 from confstore import ConfstoreError, NotATree, NotText, TooDeep, document
 from confstore.session import LONGEST_COMMAND
@@ -39,9 +42,22 @@ MARK_LENGTH = len(NO_MARK)
 _NONCE = re.compile(rb',"nonce":"[0-9a-f]{32}"}\Z')
 
 KEYS = (("import", "text"), ("set", "path", "value"), ("delete", "path"))
+CONDITION_KEYS = (("test", "path", "value"), ("absent", "path"), ("absent",), ("count",))
+
+# The keys of an entry, where it has conditions and where it has none. One of an older version has no nonce.
+ENTRY_KEYS = (("edits", "nonce"), ("edits",), ("if", "edits", "nonce"))
 
 Tree = Union[str, List["Tree"], Dict[str, "Tree"]]
 Edit = Dict[str, Tree]
+Condition = Dict[str, Tree]
+Command = Dict[str, Tree]
+
+
+class Change(NamedTuple):
+    """What a command changes: its edits, and the conditions under which it makes them."""
+
+    edits: List[Edit]
+    conditions: Sequence[Condition] = ()
 
 
 class Refused(Exception):
@@ -62,33 +78,51 @@ def _is_tree(value: Any, depth: int = 0) -> bool:
     return isinstance(value, list) and all(_is_tree(item, depth + 1) for item in value)
 
 
-def _is_edit(edit: Any) -> bool:
-    if not isinstance(edit, dict) or tuple(edit) not in KEYS:
+def _is_one_of(item: Any, keys: Tuple[Tuple[str, ...], ...]) -> bool:
+    """Whether something is an edit, or a condition: it has these keys, and texts under all but `value`."""
+    if not isinstance(item, dict) or tuple(item) not in keys:
         return False
-    *texts, last = edit.values()
+    *texts, last = item.values()
     if not all(isinstance(text, str) for text in texts):
         return False
-    return _is_tree(last) if "value" in edit else isinstance(last, str)
+    return _is_tree(last) if "value" in item else isinstance(last, str)
 
 
-def edits_of(command: Any) -> List[Edit]:
-    """The edits of a client's command that changes something: an edit, or `{"batch": [..]}`. Raises `Refused`."""
-    edits = command["batch"] if isinstance(command, dict) and tuple(command) == ("batch",) else [command]
-    if not isinstance(edits, list) or not all(map(_is_edit, edits)):
+def _are_of(items: Any, keys: Tuple[Tuple[str, ...], ...]) -> bool:
+    return isinstance(items, list) and all(_is_one_of(item, keys) for item in items)
+
+
+def change_of(command: Any) -> Change:
+    """What a client's command changes: an edit, or `{"batch": [..]}`, with `if` before it where it has conditions.
+    Raises `Refused`.
+
+    A batch without edits is refused, but where it has conditions: then its entry says whether they hold.
+    """
+    if not isinstance(command, dict):
         raise Refused("BadCommand")
-    if not edits:
+    conditions: Any = ()
+    if next(iter(command), None) == "if":
+        conditions = command["if"]
+        if not conditions or not _are_of(conditions, CONDITION_KEYS):
+            raise Refused("BadCommand")
+        command = {key: value for key, value in command.items() if key != "if"}
+    edits = command["batch"] if tuple(command) == ("batch",) else [command]
+    if not _are_of(edits, KEYS):
+        raise Refused("BadCommand")
+    if not edits and not conditions:
         raise Refused("EmptyBatch")
-    if any(next(iter(edit.values())) == RESERVED for edit in edits):
+    if any(next(iter(item.values())) == RESERVED for item in (*edits, *conditions) if "count" not in item):
         raise Refused("BadName")
-    return edits
+    return Change(edits, conditions)
 
 
-def command_of(edits: Sequence[Edit]) -> bytes:
+def command_of(change: Change) -> bytes:
     """The bytes of a command. Raises `Refused` if it, or its batch, is too long, or has a text that YAML can't hold."""
+    told = {"if": list(change.conditions)} if change.conditions else {}
     try:
-        text = json.dumps({"edits": list(edits)}, ensure_ascii=False, separators=(",", ":"))
+        text = json.dumps({**told, "edits": change.edits}, ensure_ascii=False, separators=(",", ":"))
         command = text.encode("utf-8", "strict")
-        batch = document({"batch": [*marked(edits, 1, 1, NO_MARK)]})
+        batch = document(batch_of(change, 1, 1, NO_MARK))
     except (NotText, UnicodeEncodeError):
         raise Refused("NotText") from None
     except NotATree:
@@ -115,13 +149,21 @@ def has_nonce(entry: bytes) -> bool:
     return _NONCE.search(entry) is not None
 
 
-def edits_in(entry: bytes) -> Tuple[List[Edit], bytes]:
-    """The edits of an entry that stands in the log, and its command. Raises `Refused` for what no node puts there."""
+def change_in(entry: bytes) -> Tuple[Change, bytes]:
+    """What an entry that stands in the log changes, and its command. Raises `Refused` for what no node puts there, and
+    `ConfstoreError` for an entry with keys that this version doesn't know: it must not perform less than it says."""
     try:
-        edits: List[Edit] = json.loads(entry)["edits"]
-    except (ValueError, KeyError, TypeError, RecursionError):
+        told = json.loads(entry)
+        keys, edits, conditions = tuple(told), told["edits"], told.get("if")
+    except (ValueError, KeyError, TypeError, AttributeError, RecursionError):
         raise Refused("BadCommand") from None
-    return edits, command_of(edits_of({"batch": edits}))
+    if keys not in ENTRY_KEYS:
+        raise ConfstoreError(
+            f"an entry of the log has the keys {json.dumps(keys)[:200]}, which this version of confstore_replicated "
+            "does not know: end this node, and start the version that the other nodes have"
+        )
+    change = change_of({"batch": edits} if conditions is None else {"if": conditions, "batch": edits})
+    return change, command_of(change)
 
 
 def _path_of(number: int) -> str:
@@ -136,14 +178,22 @@ def _without(before: int) -> Edit:
 
 
 def marked(edits: Sequence[Edit], number: int, before: int, mark: str) -> List[Edit]:
-    """The batch of an entry with this number and mark, on a store whose last entry has the number `before`, or 0
+    """The edits of an entry with this number and mark, on a store whose last entry has the number `before`, or 0
     without one."""
     return [_without(before), *edits, {"set": RESERVED, "path": _path_of(number), "value": mark}]
 
 
-def refused(word: str, number: int, before: int, mark: str) -> List[Edit]:
-    """The batch that puts the number of a refused entry alone. Its record has the word; the state has not."""
-    return marked([{"set": RESERVED, "path": _path_of(number), "value": word}], number, before, mark)
+def batch_of(change: Change, number: int, before: int, mark: str) -> Command:
+    """The command of a session by which an entry is performed. Of one without edits it is refused in any case."""
+    edits = marked(change.edits, number, before, mark) if change.edits else []
+    conditions: Command = {"if": list(change.conditions)} if change.conditions else {}
+    return {**conditions, "batch": list(edits)}
+
+
+def refusal_of(word: str, number: int, before: int, mark: str) -> Command:
+    """The command that puts the number of a refused entry alone. Its record has the word; the state has not."""
+    told: Edit = {"set": RESERVED, "path": _path_of(number), "value": word}
+    return batch_of(Change([told]), number, before, mark)
 
 
 def number_in(tree: Tree) -> Tuple[int, str]:

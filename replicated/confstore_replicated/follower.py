@@ -18,17 +18,18 @@ import sys
 import threading
 import time
 from collections import deque
-from dataclasses import dataclass, field
+from dataclasses import dataclass
 from typing import Callable, Deque, List, NamedTuple, Optional, Sequence
 
-from confstore import ConfstoreError, NoConfig, Refused as StoreRefused, Store
+from confstore import ConfstoreError, NoConfig, Refused as StoreRefused
 
 from .answers import Answer, Performed, answers_in, base_length_in, count_in
 from .bases import NAMES_KEPT, Bases, install
-from .entries import RESERVED, Edit, Refused, digest_of, edits_in, marked, number_in, refused
+from .entries import RESERVED, Change, Command, Refused, batch_of, change_in, digest_of, number_in, refusal_of
 from .etcd import MOST_ENTRIES, Access, Etcd, Item, Look, Unavailable
 from .history import Behind, OtherHistory, Place, base_in, judge, mark_of, short_of
 from .metrics import OLDEST_LOOK, Counts
+from .store import NodeStore
 from .stream import Stream
 
 # How many bytes of entries are sent to the session before the first is answered.
@@ -54,7 +55,7 @@ WORDS = frozenset(
     (
         "BadCommand", "BadName", "BadPath", "ConfigLarge", "CountFull", "Documents", "EmptyBatch", "KeyNotText",
         "KeyTwice", "LargeInStyle", "NoConfig", "NoSuchPlace", "NotIndex", "NotUtf8", "RecordLong", "StoreFull",
-        "Syntax", "TooDeep", "TooLong",
+        "Syntax", "TooDeep", "TooLong", "Unmet",
     )
 )  # fmt: skip
 JOURNAL_LONG = "JournalLong"
@@ -66,27 +67,27 @@ class NotReplicated(ConfstoreError):
 
 @dataclass
 class _Turn:
-    """An entry whose turn it is: its edits, its mark, and why it is refused, once that is known."""
+    """An entry whose turn it is: what it changes, its mark, and why it is refused, once that is known."""
 
     entry: Item
     mark: str
     word: Optional[str] = None
-    edits: List[Edit] = field(default_factory=list)
+    change: Change = Change([])
     digest: Optional[bytes] = None
     is_short: bool = False
 
     def __post_init__(self) -> None:
         try:
-            self.edits, command = edits_in(self.entry.value)
+            self.change, command = change_in(self.entry.value)
             self.digest = digest_of(command)
         except Refused as fault:
             self.word = fault.word
 
-    def batch(self, before: int) -> List[Edit]:
+    def batch(self, before: int) -> Command:
         """What is sent to the store, whose last entry has this number."""
         if self.word is not None:
-            return refused(self.word, self.entry.created, before, self.mark)
-        return marked(self.edits, self.entry.created, before, self.mark)
+            return refusal_of(self.word, self.entry.created, before, self.mark)
+        return batch_of(self.change, self.entry.created, before, self.mark)
 
     def refuse(self, word: str) -> None:
         """Notes that the store refused it; of a number alone, that there is no room for the whole mark."""
@@ -183,7 +184,7 @@ class Follower(threading.Thread):
         self._pause = PAUSE
         self._said = ""
         #: The store, which others may read. None while there is no session.
-        self.store: Optional[Store] = None
+        self.store: Optional[NodeStore] = None
 
     # ---- for others
 
@@ -309,7 +310,7 @@ class Follower(threading.Thread):
     def open(self) -> None:
         """Opens the store, and tells what the entries in its file were answered. Raises `NotReplicated`."""
         os.makedirs(self._folder, exist_ok=True)
-        self.store = store = Store(self._folder, program=self._program)
+        self.store = store = NodeStore(self._folder, program=self._program)
         self._counts.add("sessions")
         try:
             place = self._place_in(store)
@@ -324,7 +325,7 @@ class Follower(threading.Thread):
             self._place = place
             self._state.notify_all()
 
-    def _place_in(self, store: Store) -> Place:
+    def _place_in(self, store: NodeStore) -> Place:
         """Which entry the store holds as the last one. Raises `NotReplicated` if it holds commands and no entry."""
         try:
             return Place(*number_in(store.get(RESERVED)))
@@ -422,14 +423,15 @@ class Follower(threading.Thread):
         """Performs entries, and tells what each was answered. Raises if the session ended, with some of them done.
 
         All are sent at once. Where one is refused, those behind it are too, since they wait for its number; so they are
-        sent again, behind its number alone. Where the file is too long, it is made short, and they are sent again.
+        sent again, behind its number alone. Then their conditions are judged again, and only that counts. Where the
+        file is too long, it is made short, and they are sent again.
         """
         store = self.store
         assert store is not None
         was_checkpoint = False
         while turns:
             befores = [self._place.number, *(turn.entry.created for turn in turns)]
-            for answer in store.perform_batches([turn.batch(before) for turn, before in zip(turns, befores)]):
+            for answer in store.perform([turn.batch(before) for turn, before in zip(turns, befores)]):
                 if isinstance(answer, StoreRefused):
                     if answer.word == JOURNAL_LONG and not was_checkpoint:
                         was_checkpoint = True
@@ -448,7 +450,7 @@ class Follower(threading.Thread):
     def _length(self) -> int:
         return os.path.getsize(os.path.join(self._folder, "store.yaml"))
 
-    def _checkpoint(self, store: Store) -> None:
+    def _checkpoint(self, store: NodeStore) -> None:
         self._progress.base = None
         store.checkpoint()
         self._checkpoint_length = self._progress.base = self._length()

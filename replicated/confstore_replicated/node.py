@@ -1,14 +1,18 @@
 """A node: a follower with its store, and a Unix socket for clients.
 
-A client sends one JSON object a line, and gets one back for each, in order.
+A client sends one JSON object a line, and gets one back for each, in order. A line `...` is passed over.
 
     {"import": NAME, "text": TEXT}                       {"ok": COUNT} once the log has it and this node performed it
     {"set": NAME, "path": POINTER, "value": TREE}        the same
     {"delete": NAME, "path": POINTER}                    the same
     {"batch": [EDIT, ..]}                                the same, all edits or none
+    {"if": [CONDITION, ..], ..}                          the same of one of these four, where the conditions hold
     {"get": NAME, "path": POINTER}                       {"value": TREE}, of what this node holds
     {"export": NAME}                                     {"text": TEXT}
     {"names": ""}                                        {"names": [NAME, ..]}
+
+A condition is `{"test": NAME, "path": POINTER, "value": TREE}`, `{"absent": NAME, "path": POINTER}`,
+`{"absent": NAME}` or `{"count": COUNT}`, as a session has it. All nodes judge it at the command's place in the log.
 
 A refusal is `{"refused": WORD}`, with the words of a session, and three more: `NotText` of a text with a lone
 surrogate, which no YAML can hold, `TooLong` of a command that is too long for the log, and `IdTaken`. The name
@@ -39,8 +43,8 @@ from confstore import ConfstoreError, NotATree, NotText, Refused as StoreRefused
 
 from .answers import Answers
 from .bases import NAMES_KEPT
-from .beside import Fault, Sample, address, family, known, mode_of
-from .entries import RESERVED, Refused, command_of, digest_of, edits_in, edits_of, entry_of
+from .beside import Fault, Sample, address, family, known, mode_of, tell_manager
+from .entries import RESERVED, Refused, change_in, change_of, command_of, digest_of, entry_of
 from .etcd import Access, Created, Etcd, Item, Unavailable
 from .follower import Follower, NotReplicated
 from .history import Behind, OtherHistory, Place
@@ -138,7 +142,7 @@ class Node:
 
     def _change(self, request: Request, identity: Optional[str]) -> Dict[str, Any]:
         """Puts a change into the log, and waits until it was performed here."""
-        command, wait = command_of(edits_of(request)), Wait()
+        command, wait = command_of(change_of(request)), Wait()
         name = (identity or uuid.uuid4().hex).encode()
         self.follower.wait_for_look(wait.left())
         created = self._create(name, command, wait)
@@ -253,7 +257,7 @@ def _digest_in(created: Created) -> Optional[bytes]:
     if created.digest is not None:
         return created.digest
     try:
-        return digest_of(edits_in(created.value or b"")[1])
+        return digest_of(change_in(created.value or b"")[1])
     except Refused:
         return None
 
@@ -370,6 +374,7 @@ def _run(words: argparse.Namespace, ends: ExitStack) -> int:
         server.end()
     node.follower.start()
     print("ready", flush=True)
+    tell_manager()
     server.serve()
     node.end()
     return 0

@@ -24,6 +24,10 @@ PATIENCE = 30.0
 LONGEST_LINE = 8_388_608
 PART = 65_536
 
+# A line that closes a document of YAML. It is passed over, so that a client may send a command as a line that is JSON
+# and YAML, and this one, to whoever listens, and go on with the next command on the same connection.
+CLOSING = b"...\n"
+
 # How many bytes of lines are kept for all clients together, beyond PART for each. Where there is no room, the client is
 # cut off whose line has been unfinished for the longest time, and for so many seconds at least.
 ROOM = 67_108_864
@@ -100,11 +104,9 @@ class _Client:
     def serve(self) -> None:
         try:
             while (line := self._line()) is not None:
-                self._is_asking = True
-                told = self._say(self._counted_answer_to(line))
+                told = line == CLOSING or self._is_told(line)
                 self._server.room.give_back(self, self._taken)
                 self._taken = 0
-                self._answered, self._is_asking = time.monotonic(), False
                 if not told:
                     return
         except OSError:
@@ -113,6 +115,13 @@ class _Client:
             self._server.room.give_back(self, self._taken)
             self._server.forget(self)
             self._connection.close()
+
+    def _is_told(self, line: bytes) -> bool:
+        """Answers a line. Whether the client took the answer in time."""
+        self._is_asking = True
+        told = self._say(self._counted_answer_to(line))
+        self._answered, self._is_asking = time.monotonic(), False
+        return told
 
     def _line(self) -> Optional[bytes]:
         """The next line, or None if there is no more, or no room for it. Says so of one that is too long."""

@@ -46,10 +46,17 @@ class Rules(NamedTuple):
     only_empty_stores_join: bool = True
     #: A fresh question is answered after a look that is linearizable.
     fresh_looks_are_linearizable: bool = True
+    #: The condition of a command is judged at its place in the log, and not by the node that a client sends it to.
+    judges_conditions_in_the_log: bool = True
+    #: And on what the entries before it have made, though many are taken from the log at once.
+    judges_conditions_in_turn: bool = True
 
 
 NEW = Rules()
-OLD = Rules(*[False] * len(NEW))._replace(installs_when_behind=True, fresh_looks_are_linearizable=True)
+OLD = Rules(*[False] * len(NEW))._replace(
+    installs_when_behind=True, fresh_looks_are_linearizable=True, judges_conditions_in_the_log=True,
+    judges_conditions_in_turn=True,
+)  # fmt: skip
 
 
 class Bounds(NamedTuple):

@@ -6,12 +6,14 @@ from typing import NamedTuple, Tuple
 
 from .properties import DIVIDED_ANSWERS, DIVIDED_STORES, LOST_COMMAND
 from .rules import NEW, OLD, Bounds, Rules
-from .states import NEEDY, Command
+from .states import FIRST_OF_ALL, NEEDY, Command
 from .steps import ANEW, BUMPED, OTHER_ID
 
 FIRST, SECOND, THIRD = Command(1, 1), Command(2, NEEDY), Command(3, 1)
 # Another command under the first id.
 OTHER = Command(1, 3)
+# Two commands with a condition, of which the first in the log makes that the other's does not hold.
+ONE_IF, OTHER_IF = Command(1, FIRST_OF_ALL), Command(2, FIRST_OF_ALL)
 
 RESTORED = "with the same id"
 
@@ -70,6 +72,7 @@ _RESTORED = _TWO._replace(snapshots=1, restores=1, ways=(RESTORED,))
 _REPLACED = Bounds(
     (FIRST, SECOND, THIRD), (2, 3, 1), base_after=1, other_writes=1, restores=1, ways=(ANEW,), first=_BEHIND_FLOOR
 )
+_IF = Bounds((ONE_IF, OTHER_IF), (1, 1))
 _IDS = Bounds((FIRST, OTHER, THIRD), (1, 1, 1), base_after=1, ids_kept=1, other_writes=1, other_write=2)
 
 # What has to be found under the old rules.
@@ -106,6 +109,8 @@ LEFT_OUT = {
     "ids_with_entries": _IDS,
     "only_empty_stores_join": _TWO._replace(store_before=True),
     "fresh_looks_are_linearizable": _TWO._replace(questions=1, lag=1),
+    "judges_conditions_in_the_log": _IF,
+    "judges_conditions_in_turn": _IF,
 }
 
 # Where nothing may be found. The old rules hold without a restore, a long journal, old ids and a store before; but two
@@ -125,6 +130,11 @@ NO_FAULTS = (
     Scenario("etcd made anew, bases", NEW, _REMADE._replace(base_after=1)),
     Scenario("etcd made anew, a store at the floor", NEW, LEFT_OUT["compares_the_floor"]),
     Scenario("etcd made anew, a store behind the floor, kills", NEW, _REPLACED._replace(kills=1, losses=1)),
+    Scenario("conditions, kills, lost answers, one command twice", NEW, _IF._replace(sends=(2, 1), kills=1, losses=1)),
+    Scenario("conditions, journals that are too long, fresh questions", NEW, _IF._replace(full=1, questions=1)),
+    Scenario("conditions, bases, kills", NEW, _IF._replace(base_after=1, kills=1)),
+    Scenario("conditions, etcd from a snapshot", NEW, _IF._replace(snapshots=1, restores=1, ways=(RESTORED,))),
+    Scenario("conditions, etcd made anew, bases", NEW, _IF._replace(restores=1, ways=(ANEW,), base_after=1)),
 )  # fmt: skip
 
 # The same with more, for once in a while.
@@ -134,6 +144,10 @@ LARGE = (
     Scenario("etcd from a snapshot, bases", NEW, _RESTORED._replace(base_after=1)),
     Scenario("etcd made anew, bases, one command twice", NEW, _REMADE._replace(sends=(2, 1), base_after=1)),
     Scenario("etcd from a snapshot, kills, lost answers", NEW, _RESTORED._replace(kills=1, losses=1)),
+    Scenario("three commands, two with conditions, bases", NEW,
+             Bounds((ONE_IF, OTHER_IF, Command(3, NEEDY)), (1, 1, 1), base_after=1)),
+    Scenario("conditions, etcd from a snapshot, kills, lost answers", NEW,
+             _IF._replace(snapshots=1, restores=1, ways=(RESTORED,), kills=1, losses=1)),
     Scenario("etcd restored twice", NEW, _RESTORED._replace(restores=2, ways=(RESTORED, OTHER_ID))),
 )  # fmt: skip
 

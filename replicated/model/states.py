@@ -12,29 +12,34 @@ from typing import NamedTuple, Tuple, Union
 # What an entry may be answered: the count of its store's commands, or one of these words.
 JOURNAL_LONG = 101
 NO_CONFIG = 102
-WORDS = {JOURNAL_LONG: "refused JournalLong", NO_CONFIG: "refused NoConfig"}
+UNMET = 103
+WORDS = {JOURNAL_LONG: "refused JournalLong", NO_CONFIG: "refused NoConfig", UNMET: "refused Unmet"}
 
 
 class Command(NamedTuple):
-    """A change that clients ask for, under an id. A store that accepted no command yet refuses the value `NEEDY`."""
+    """A change that clients ask for, under an id. A store that accepted no command yet refuses the value `NEEDY`. The
+    value `FIRST_OF_ALL` has a condition: that the store has accepted no command with this value."""
 
     identity: int
     value: int
 
 
 NEEDY = 2
+FIRST_OF_ALL = 4
 
 # What a client asks for that wants a fresh answer to a question.
 QUESTION = Command(0, 0)
 
 
 class Entry(NamedTuple):
-    """A key of the log, made at the revision `number`."""
+    """A key of the log, made at the revision `number`. `judged` says what a node has judged of its condition too early;
+    it is 0 where all is right, since a store judges it."""
 
     number: int
     life: int
     identity: int
     value: int
+    judged: int = 0
 
 
 # What a store performed before it joined.
@@ -170,8 +175,21 @@ class State(NamedTuple):
         return State(self.etcd, nodes, self.left, self.snapshot, self.lives)
 
 
-def answer_of(history: Tuple[Done, ...], value: int) -> int:
-    """What a store that performed this answers to a command. Each entry is one accepted command of the store."""
+# What may be judged of a condition.
+MET, NOT_MET = 1, 2
+
+
+def judged(history: Tuple[Done, ...], value: int) -> int:
+    """Whether the condition of a command holds for a store that performed this. One without a condition is met."""
+    is_made = any(done.entry.value == FIRST_OF_ALL and done.answer < JOURNAL_LONG for done in history)
+    return NOT_MET if value == FIRST_OF_ALL and is_made else MET
+
+
+def answer_of(history: Tuple[Done, ...], value: int, too_early: int = 0) -> int:
+    """What a store that performed this answers to a command. Each entry is one accepted command of the store. What a
+    node has judged too early stands in the place of what the store judges."""
+    if (too_early or judged(history, value)) == NOT_MET:
+        return UNMET
     if value == NEEDY and not any(done.answer < JOURNAL_LONG for done in history):
         return NO_CONFIG
     return len(history) + 1

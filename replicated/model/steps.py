@@ -9,7 +9,7 @@ from typing import Callable, Dict, Iterator, NamedTuple, Optional, Tuple
 
 from .rules import Bounds, Rules
 from .states import BEFORE, JOURNAL_LONG, QUESTION, WORDS, Command, Disk, Done, Entry, Etcd, Identity, Known, Left, Log
-from .states import Node, Request, State, answer_of
+from .states import Node, Request, State, answer_of, judged
 
 
 class Claim(NamedTuple):
@@ -162,7 +162,7 @@ class Steps:
             number, made = there[0].number, state
             words += f", which is there as entry {number}"
         else:
-            number, made = etcd.revision + 1, self._made(state, command)
+            number, made = etcd.revision + 1, self._made(state, node, command)
             words += f" into the log as entry {number}"
         entry = next((entry for entry in made.etcd.log if entry.identity == command.identity), ())
         waits = Request(command, number, etcd.life, entry)
@@ -175,11 +175,12 @@ class Steps:
         """What etcd has of an id, which is then not put."""
         raise NotImplementedError
 
-    def _made(self, state: State, command: Command) -> State:
-        """The state after an id and its entry were put."""
+    def _made(self, state: State, node: Node, command: Command) -> State:
+        """The state after a node has put an id and its entry."""
         etcd = state.etcd
         number = etcd.revision + 1
-        entry = Entry(number, etcd.life, command.identity, command.value)
+        too_early = 0 if self.rules.judges_conditions_in_the_log else judged(node.disk.history, command.value)
+        entry = Entry(number, etcd.life, command.identity, command.value, too_early)
         lives, log = state.lives, etcd.log
         if any(old.identity == command.identity for old in log):
             # A key that is put again has another value. Its number stays, and streams don't tell of it.
@@ -235,6 +236,12 @@ class Steps:
 
     # ---- a follower
 
+    def takes(self, node: Node, entries: Tuple[Entry, ...]) -> Tuple[Entry, ...]:
+        """What a node takes from the log. By the rules it judges none of it before its turn."""
+        if self.rules.judges_conditions_in_turn:
+            return entries
+        return tuple(entry._replace(judged=judged(node.disk.history, entry.value)) for entry in entries)
+
     def _follower(self, state: State, place: int, node: Node) -> Iterator[Step]:
         """What the follower of a node does next. The method has the name of where the node is."""
         does = self._does.get(node.at)
@@ -250,7 +257,9 @@ class Steps:
     def at_performing(self, etcd: Etcd, node: Node, _state: State) -> Iterator[Does]:
         """The batch of an entry, or two if it is refused: the second puts its number alone."""
         entry, disk = node.taken[0], node.disk
-        answer = answer_of(disk.history, entry.value)
+        answer = answer_of(disk.history, entry.value, entry.judged)
+        if not self.rules.judges_conditions_in_turn:
+            entry = entry._replace(judged=0)
         words = f"performs entry {entry.number} as one batch: {WORDS.get(answer, f'ok {answer}')}"
         yield words, _batch(node, entry, answer), etcd
         if node.full and len(disk.history) > disk.checkpoint:
@@ -286,7 +295,7 @@ class Steps:
         if new:
             taken = tuple(entry for entry in new if entry.number > node.position)
             at = "performing" if taken else "following"
-            then = node._replace(at=at, taken=taken, next=new[-1].number + 1)
+            then = node._replace(at=at, taken=self.takes(node, taken), next=new[-1].number + 1)
             yield f"is told of {numbers(new)}", then, etcd
 
     # ---- a base

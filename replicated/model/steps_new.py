@@ -66,7 +66,8 @@ class NewSteps(Steps):
         seen = node._replace(cluster=etcd.cluster)
         taken = tuple(entry for entry in etcd.log if entry.number > node.position)
         if taken:
-            yield f"{words}: {numbers(taken)}", seen._replace(at="performing", taken=taken, next=0), etcd
+            seen = seen._replace(at="performing", taken=self.takes(node, taken), next=0)
+            yield f"{words}: {numbers(taken)}", seen, etcd
         else:
             at = "connecting" if state.left.restores else "following"
             yield f"{words}: nothing", seen._replace(at=at, next=etcd.revision + 1), etcd

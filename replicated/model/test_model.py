@@ -9,8 +9,8 @@ from .properties import fault_of, faults
 from .rules import NEW, OLD, Bounds, Rules
 from .scenarios import FIRST, LARGE, LEFT_OUT, OLD_FAULTS, OTHER, SECOND, Scenario, small
 from .search import Result, schedules, search
-from .states import BEFORE, JOURNAL_LONG, NO_CONFIG, QUESTION, Base, Disk, Done, Entry, Etcd, Log, Node, State
-from .states import Left, answer_of, performed
+from .states import BEFORE, FIRST_OF_ALL, JOURNAL_LONG, MET, NO_CONFIG, NOT_MET, QUESTION, UNMET, Base, Disk, Done
+from .states import Entry, Etcd, Left, Log, Node, State, answer_of, performed
 from .steps import ANEW, Claim, start
 from .steps_new import BEHIND, OTHER as OTHER_HISTORY, YES, NewSteps
 
@@ -37,6 +37,15 @@ class Stores(unittest.TestCase):
         self.assertEqual(answer_of((), 2), NO_CONFIG)
         self.assertEqual(answer_of((Done(ONE, 1),), 2), 2)
         self.assertEqual(answer_of((Done(ONE, NO_CONFIG),), 2), NO_CONFIG)
+
+    def test_the_condition_of_a_command(self) -> None:
+        """It holds for the first one alone. One that doesn't hold is an entry, and changes nothing."""
+        log = tuple(Entry(number, 0, number, FIRST_OF_ALL) for number in (2, 3, 4))
+        self.assertEqual([done.answer for done in performed(log)], [1, UNMET, UNMET])
+        later = (Entry(2, 0, 2, FIRST_OF_ALL), Entry(3, 0, 3, FIRST_OF_ALL), Entry(4, 0, 1, 1))
+        self.assertEqual([done.answer for done in performed(later)], [1, UNMET, 3])
+        self.assertEqual(answer_of((Done(log[0], UNMET),), FIRST_OF_ALL), 2)
+        self.assertEqual([answer_of((), FIRST_OF_ALL, judged) for judged in (MET, NOT_MET)], [1, UNMET])
 
     def test_a_refused_entry_counts(self) -> None:
         log = (Entry(2, 0, 2, 2), Entry(3, 0, 1, 1))
@@ -172,7 +181,8 @@ class Searches(unittest.TestCase):
         self.assertFalse(passes(Scenario("x", OLD, BOUNDS, finds=True, ends=": ok 99"), found))
 
     def test_quick_rules_left_out(self) -> None:
-        for rule in ("journal_is_own", "only_empty_stores_join", "behind_answers_nothing", "forgets_on_install"):
+        quick = ("journal_is_own", "only_empty_stores_join", "behind_answers_nothing", "forgets_on_install")
+        for rule in (*quick, "judges_conditions_in_the_log", "judges_conditions_in_turn"):
             self.assertIsNotNone(search(NEW._replace(**{rule: False}), LEFT_OUT[rule]).found, rule)
             self.assertIsNone(search(NEW, LEFT_OUT[rule]).found, rule)
 

@@ -13,16 +13,19 @@ from confstore import Refused as StoreRefused, Store, Tree
 from confstore_replicated import answers as answers_module
 from confstore_replicated import follower as following
 from confstore_replicated.answers import answers_in, base_length_in, count_in
-from confstore_replicated.entries import LONGEST, MARK_LENGTH, NO_MARK, RESERVED, Refused, command_of, edits_in
-from confstore_replicated.entries import Edit, edits_of, entry_of, has_nonce, number_in
-from confstore_replicated.entries import marked as marked_with, refused as refusal_with
+from confstore_replicated.entries import LONGEST, MARK_LENGTH, NO_MARK, RESERVED, Command, Condition, Edit, Refused
+from confstore_replicated.entries import batch_of, change_in, change_of, command_of, entry_of, has_nonce, number_in
+from confstore_replicated.entries import marked as marked_with, refusal_of as refusal_with
 from confstore_replicated.etcd import Item
 from confstore_replicated.follower import Follower, NotReplicated
 from confstore_replicated.history import mark_of, short_of
+from confstore_replicated.store import NodeStore
 
 IMPORT: Edit = {"import": "a", "text": "n: x"}
 SET: Edit = {"set": "a", "path": "/n", "value": "y"}
 WRONG: Edit = {"set": "b", "path": "/n", "value": "y"}
+NUMBERED: Condition = {"count": "1"}
+IS_X: Condition = {"test": "a", "path": "/n", "value": "x"}
 
 MARK = "e" + "x" * (MARK_LENGTH - 1)
 
@@ -35,7 +38,8 @@ def marked(edits: Edits, number: int, before: int) -> Edits:
 
 
 def refusal_of(word: str, number: int, before: int) -> Edits:
-    return refusal_with(word, number, before, MARK)
+    edits: Any = refusal_with(word, number, before, MARK)["batch"]
+    return list(edits)
 
 
 # The longest base of a store, as docs/STORE.md says.
@@ -63,6 +67,21 @@ class Entries(unittest.TestCase):
             ("EmptyBatch", {"batch": []}),
             ("BadName", {"delete": RESERVED, "path": ""}),
             ("BadName", {"batch": [IMPORT, {"import": RESERVED, "text": "{}"}]}),
+            ("BadCommand", {"if": [], **SET}),
+            ("BadCommand", {"if": "a", **SET}),
+            ("BadCommand", {"if": [NUMBERED]}),
+            ("BadCommand", {**SET, "if": [NUMBERED]}),
+            ("BadCommand", {"if": [NUMBERED], "names": ""}),
+            ("BadCommand", {"if": [NUMBERED], "batch": [{"if": [NUMBERED], **SET}]}),
+            ("BadCommand", {"if": [SET], **SET}),
+            ("BadCommand", {"if": [{"count": 3}], **SET}),
+            ("BadCommand", {"if": [{"test": "a", "path": "/n"}], **SET}),
+            ("BadCommand", {"if": [{"path": "/n", "absent": "a"}], **SET}),
+            ("BadName", {"if": [NUMBERED, {"absent": RESERVED}], **SET}),
+            ("BadName", {"if": [{"test": RESERVED, "path": "", "value": "x"}], **SET}),
+            ("NotText", {"if": [{"test": "a", "path": "/n", "value": "\ud800"}], **SET}),
+            ("TooLong", {"if": [{"test": "a", "path": "/n", "value": "x" * LONGEST}], **SET}),
+            ("TooDeep", {"if": [{"test": "a", "path": "", "value": nested(151)}], **SET}),
             ("TooDeep", {"set": "a", "path": "", "value": nested(151)}),
             ("NotText", {"set": "a", "path": "/\ud800", "value": "y"}),
             ("NotText", {"set": "a", "path": "", "value": {"\udc80": "y"}}),
@@ -73,20 +92,31 @@ class Entries(unittest.TestCase):
         ]
         for word, command in rows:
             with self.assertRaises(Refused) as caught:
-                command_of(edits_of(command))
+                command_of(change_of(command))
             self.assertEqual(caught.exception.word, word, str(command)[:100])
 
     def test_what_stands_in_the_log(self) -> None:
-        for command in (IMPORT, SET, {"batch": [IMPORT, SET]}, {"set": "a", "path": "", "value": nested(150)}):
-            edits = edits_of(command)
-            wanted = command_of(edits)
+        commands: list[Any] = [IMPORT, SET, {"batch": [IMPORT, SET]}, {"set": "a", "path": "", "value": nested(150)}]
+        for command in [*commands, *({"if": [NUMBERED, IS_X], **command} for command in commands)]:
+            change = change_of(command)
+            wanted = command_of(change)
             entry, another = entry_of(wanted), entry_of(wanted)
-            self.assertEqual((edits_in(entry), edits_in(another)), ((edits, wanted), (edits, wanted)))
+            self.assertEqual((change_in(entry), change_in(another)), ((change, wanted), (change, wanted)))
             self.assertTrue(entry != another and has_nonce(entry) and not has_nonce(wanted))
-            self.assertEqual(edits_in(wanted), (edits, wanted), "an entry of an older version has no nonce")
+            if not change.conditions:
+                self.assertEqual(change_in(wanted), (change, wanted), "an entry of an older version has no nonce")
+        self.assertEqual(command_of(change_of(SET)), b'{"edits":[{"set":"a","path":"/n","value":"y"}]}')
         for entry in (b"", b"[]", b"{", b'{"edits": 1}', b'{"edits": []}', b"\xff", b"[" * 100_000):
             with self.assertRaises(Refused):
-                edits_in(entry)
+                change_in(entry)
+
+    def test_an_entry_of_a_later_version(self) -> None:
+        """It is not performed without what this version doesn't know, and it isn't refused either."""
+        nonce = b',"nonce":"' + b"0" * 32 + b'"}'
+        for entry in (b'{"edits":[],"when":"x"', b'{"unless":[],"edits":[]', b'{"edits":[],"if":[{"count":"1"}]'):
+            with self.assertRaises(confstore.ConfstoreError) as caught:
+                change_in(entry + nonce)
+            self.assertIn("start the version that the other nodes have", str(caught.exception))
 
     def test_numbers(self) -> None:
         self.assertEqual(number_in({"00000000000000000012": NO_MARK}), (12, NO_MARK))
@@ -143,7 +173,7 @@ class Batches(StoreTest):
         self.assertEqual(self.answers(store, refusal_of("NoConfig", 5, 0), marked([IMPORT], 6, 5)), [1, 2])
 
 
-def store_of(follower: Follower) -> Store:
+def store_of(follower: Follower) -> NodeStore:
     """The store that a follower holds."""
     assert follower.store is not None
     return follower.store
@@ -158,7 +188,7 @@ class Followers(StoreTest):
         return follower, told
 
     def items(self, *commands: dict[str, Any], start: int = 1) -> list[Item]:
-        return [self.item(command_of(edits_of(command)), start + at) for at, command in enumerate(commands)]
+        return [self.item(command_of(change_of(command)), start + at) for at, command in enumerate(commands)]
 
     def item(self, command: bytes, number: int) -> Item:
         return Item(b"k", entry_of(command) if command.endswith(b"}") else command, number, number)
@@ -179,8 +209,46 @@ class Followers(StoreTest):
         self.assertEqual((again._place.number, store_of(again)["a"]), (20, {"n": "y"}))
         for (_, performed), entry in zip(from_file, entries):
             self.assertEqual([performed.is_of(other) for other in entries], [other is entry for other in entries])
-            another = entry._replace(value=entry_of(edits_in(entry.value)[1]))
+            another = entry._replace(value=entry_of(change_in(entry.value)[1]))
             self.assertFalse(performed.is_of(another), "the same command with another nonce is another entry")
+
+    def test_conditions_are_judged_one_entry_after_the_other(self) -> None:
+        """All are sent at once. What one entry makes or refuses is seen by the conditions of the next."""
+        follower, told = self.follower()
+        is_y: Condition = {**IS_X, "value": "y"}
+        is_gone: Condition = {"absent": "a", "path": "/n"}
+        rows: list[tuple[dict[str, Any], dict[str, str]]] = [
+            (IMPORT, {"ok": "1"}),
+            ({"if": [IS_X], **SET}, {"ok": "2"}),
+            ({"if": [IS_X], **SET}, {"refused": "Unmet"}),
+            ({"if": [is_y], "batch": [WRONG]}, {"refused": "NoConfig"}),
+            ({"if": [is_y, {"count": "3"}], **SET}, {"refused": "Unmet"}),
+            ({"if": [is_y, {"count": "5"}], "delete": "a", "path": "/n"}, {"ok": "6"}),
+            ({"if": [is_gone], "batch": []}, {"refused": "EmptyBatch"}),
+            ({"if": [is_y], "batch": []}, {"refused": "Unmet"}),
+            ({"if": [{"absent": "-"}], **SET}, {"refused": "BadName"}),
+            ({"if": [{"absent": "a", "path": "n"}], **SET}, {"refused": "BadPath"}),
+            ({"if": [is_gone], **SET}, {"ok": "11"}),
+        ]
+        follower._perform(self.items(*[command for command, _ in rows]))
+        wanted = [answer for _, answer in rows]
+        self.assertEqual([performed.answer for _, performed in told], wanted)
+        follower.close()
+        _, from_file = self.follower()
+        self.assertEqual([performed.answer for _, performed in from_file], wanted)
+
+    def test_a_performed_entry_under_conditions_is_not_performed_again(self) -> None:
+        """Whether its conditions hold or not, a batch whose number before isn't there changes nothing."""
+        follower, told = self.follower()
+        entries = self.items(IMPORT, {"if": [IS_X], "set": "a", "path": "/m", "value": "y"})
+        follower._perform(entries)
+        store = store_of(follower)
+        tree = store["a"]
+        for number, before in ((2, 1), (2, 3), (3, 1)):
+            change, _ = change_in(entries[1].value)
+            answers = store.perform([batch_of(change, number, before, MARK)])
+            self.assertEqual([answer_shown(answer) for answer in answers], ["NoSuchPlace"])
+            self.assertEqual((store["a"], number_in(store[RESERVED])[0]), (tree, 2))
 
     def test_a_store_of_something_else(self) -> None:
         self.store()[RESERVED] = {"entry": "1"}
@@ -230,9 +298,9 @@ class Followers(StoreTest):
         follower, told = self.follower()
         follower._perform(self.items(IMPORT))
         sent: list[int] = []
-        perform = store_of(follower).perform_batches
+        perform = store_of(follower).perform
 
-        def too_long(batches: list[Edits]) -> list[int | confstore.ConfstoreError]:
+        def too_long(batches: list[Command]) -> list[int | confstore.ConfstoreError]:
             sent.append(len(batches))
             if len(sent) in wanted:
                 first = perform(batches[: wanted[len(sent)]])
@@ -241,7 +309,7 @@ class Followers(StoreTest):
 
         wanted = {1: 2}
         answers = [{"ok": "1"}, {"ok": "2"}, {"refused": "NoConfig"}, {"ok": "4"}, {"ok": "5"}]
-        with mock.patch.object(store_of(follower), "perform_batches", too_long):
+        with mock.patch.object(store_of(follower), "perform", too_long):
             follower._perform(self.items(SET, WRONG, SET, SET, start=2))
             self.assertEqual([performed.answer for _, performed in told], answers)
             sent.clear()
@@ -252,7 +320,7 @@ class Followers(StoreTest):
 
     def test_a_word_that_is_not_known(self) -> None:
         follower, told = self.follower()
-        refused = mock.patch.object(store_of(follower), "perform_batches", return_value=[confstore.Refused("NewWord")])
+        refused = mock.patch.object(store_of(follower), "perform", return_value=[confstore.Refused("NewWord")])
         with refused, self.assertRaises(confstore.ConfstoreError):
             follower._perform(self.items(IMPORT))
         self.assertEqual(told, [])

@@ -5,6 +5,9 @@ from __future__ import annotations
 import contextlib
 import io
 import os
+import socket
+import subprocess
+import sys
 import tempfile
 import threading
 import time
@@ -13,10 +16,11 @@ from typing import Any, Callable, TypeVar
 from unittest import mock
 
 from confstore import Closed, Store, Tree
+from confstore_replicated import Client
 from confstore_replicated import follower as following
 from confstore_replicated import node as module
 from confstore_replicated.bases import Bases
-from confstore_replicated.entries import RESERVED, command_of, digest_of, edits_of
+from confstore_replicated.entries import RESERVED, change_of, command_of, digest_of
 from confstore_replicated.etcd import Etcd
 from confstore_replicated.history import base_in
 from confstore_replicated.node import Node
@@ -147,6 +151,152 @@ class Questions(NodeTest):
         self.assertEqual(self.get(node), {"value": "x"})
 
 
+class Conditions(NodeTest):
+    def set_if(self, node: Node, expected: str, value: str, **more: str) -> Body:
+        condition = {"test": "a", "path": "/n", "value": expected}
+        return node.answer({"if": [condition], "set": "a", "path": "/n", "value": value, **more})
+
+    def test_it_is_judged_in_the_log_and_not_where_it_came(self) -> None:
+        """A node that is behind, and for which the condition does not hold, or holds still, has no say."""
+        one, two = self.node("a"), self.node("b")
+        self.begin(one, 1)
+        self.get(two)
+        self.hold_back(two)
+        self.assertEqual(self.set(one, "9"), {"ok": "3"})
+        answers: list[Body] = []
+        asks = [
+            threading.Thread(target=lambda expected: answers.append(self.set_if(two, expected, "x")), args=[expected])
+            for expected in ("0", "9")
+        ]
+        for count, ask in enumerate(asks, 4):
+            ask.start()
+            until(lambda: len(self.commands()) == count)
+        self.assertEqual(self.get(two, "no"), {"value": "0"})
+        self.go_on.set()
+        for ask in asks:
+            ask.join(20)
+        self.assertCountEqual(answers, [{"refused": "Unmet"}, {"ok": "5"}])
+        self.assertEqual([self.get(node) for node in (one, two)], [{"value": "x"}] * 2)
+
+    def commands(self) -> list[bytes]:
+        with self.etcd.lock:
+            return [key for key in self.etcd.keys.keys if key.startswith(LOG)]
+
+    def hold_back(self, node: Node) -> None:
+        """Has a node perform nothing until `go_on` is set."""
+        self.go_on = go_on = threading.Event()
+        perform = node.follower._perform
+
+        def late(entries: list[Any]) -> None:
+            go_on.wait(20)
+            perform(entries)
+
+        self.patched(node.follower, "_perform", late)
+
+    def test_it_is_answered_again_as_it_was(self) -> None:
+        """What is sent again under its id has its answer, though the condition holds now."""
+        one, two = self.node("a"), self.node("b")
+        self.begin(one, 1)
+        self.assertEqual(self.set_if(one, "7", "x", id="i"), {"refused": "Unmet"})
+        self.assertEqual(self.set(one, "7"), {"ok": "4"})
+        for node in (two, one):
+            self.assertEqual(self.set_if(node, "7", "x", id="i"), {"refused": "Unmet"})
+            self.assertEqual(self.set_if(node, "8", "x", id="i"), {"refused": "IdTaken"})
+            self.assertEqual(self.set(node, "x", id="i"), {"refused": "IdTaken"})
+        self.assertEqual(self.get(two), {"value": "7"})
+
+    def test_an_answer_of_etcd_that_is_lost(self) -> None:
+        """The command is in the log once: it isn't told that its own change keeps its condition from holding."""
+        node = self.node()
+        self.begin(node, 1)
+        lost: list[Body] = []
+
+        def lose(path: str, body: Body) -> bool:
+            if path == "/v3/kv/txn" and body["compare"] and not lost:
+                lost.append(body)
+                return True
+            return False
+
+        self.etcd.lose = lose
+        self.assertEqual(self.set_if(node, "0", "x"), {"ok": "3"})
+        self.assertEqual((len(lost), self.get(node)), (1, {"value": "x"}))
+
+    def test_clients_that_add_to_one_number(self) -> None:
+        nodes = [self.node("a"), self.node("b")]
+        nodes[0].answer({"import": "a", "text": "n: 0"})
+        refused: list[Body] = []
+
+        def add(node: Node, client: int) -> None:
+            for number in range(6):
+                tried = 0
+                while True:
+                    found = self.get(node, "no" if client % 2 else "yes").get("value", "")
+                    answer = self.set_if(node, found, f"{int(found or 0) + 1}", id=f"{client}-{number}-{tried}")
+                    if "ok" in answer:
+                        break
+                    refused.append(answer)
+                    tried += 1
+
+        clients = [threading.Thread(target=add, args=(nodes[client % 2], client)) for client in range(4)]
+        for client in clients:
+            client.start()
+        for client in clients:
+            client.join(60)
+        self.assertEqual([self.get(node) for node in nodes], [{"value": "24"}] * 2)
+        self.assertTrue(all(answer == {"refused": "Unmet"} for answer in refused), refused)
+
+    def test_words_before_the_log(self) -> None:
+        node = self.node()
+        rows: list[tuple[str, Body]] = [
+            ("BadCommand", {"if": [{"count": "0"}], "get": "a", "path": ""}),
+            ("BadCommand", {"if": [], "set": "a", "path": "", "value": "x"}),
+            ("BadName", {"if": [{"absent": RESERVED}], "set": "a", "path": "", "value": "x"}),
+            ("EmptyBatch", {"batch": []}),
+        ]
+        for word, request in rows:
+            self.assertEqual(node.answer(request), {"refused": word})
+        self.assertEqual(self.commands(), [])
+        self.assertEqual(node.answer({"if": [{"absent": "a"}], "batch": []}), {"refused": "EmptyBatch"})
+        self.assertEqual(node.answer({"if": [{"count": "2"}], "batch": []}), {"refused": "Unmet"})
+        self.assertEqual(node.answer({"if": [{"count": "2"}], "import": "a", "text": "n: 0"}), {"ok": "3"})
+
+    def test_an_entry_of_a_later_version(self) -> None:
+        """The node stops before it, says so, and performs it no other way."""
+        node = self.node()
+        self.begin(node, 1)
+        with self.etcd.lock:
+            keys = self.etcd.keys
+            keys.revision += 1
+            keys.put(LOG + b"new", b'{"unless":[],"edits":[{"delete":"a","path":""}],"nonce":"1"}', keys.revision)
+            self.etcd.lock.notify_all()
+        until(lambda: "start the version that the other nodes have" in self.said.getvalue())
+        self.assertIn("unless", self.said.getvalue())
+        until(lambda: self.get(node, "no") == {"value": "0"})
+
+
+class Processes(NodeTest):
+    def test_a_manager_is_told_once_clients_are_taken(self) -> None:
+        """As systemd, which starts what comes after a node then. The session has no part in that."""
+        manager = socket.socket(socket.AF_UNIX, socket.SOCK_DGRAM)
+        self.addCleanup(manager.close)
+        manager.settimeout(30)
+        told, path = os.path.join(self.top, "told"), os.path.join(self.top, "socket")
+        manager.bind(told)
+        words = [sys.executable, "-m", "confstore_replicated.node", path, os.path.join(self.top, "a")]
+        process = subprocess.Popen(
+            [*words, self.etcd.address], stdout=subprocess.DEVNULL, stderr=subprocess.DEVNULL,
+            env={**os.environ, "PYTHONPATH": os.pathsep.join(sys.path), "NOTIFY_SOCKET": told},
+        )  # fmt: skip
+        try:
+            self.assertEqual(manager.recv(100), b"READY=1")
+            client = Client(path, 30)
+            self.assertEqual(client.ask({"import": "a", "text": "n: 0"}), {"ok": "1"})
+            client.close()
+        finally:
+            process.terminate()
+            self.assertEqual(process.wait(30), 0)
+
+
 class OtherHistories(NodeTest):
     def refuses_all(self, node: Node) -> None:
         until(lambda: self.get(node, "no") == FAILED)
@@ -223,7 +373,7 @@ class OtherHistories(NodeTest):
 
     def test_another_cluster_has_the_same_entry(self) -> None:
         """Entries of an older version have no nonce, so only the id of the cluster tells them apart."""
-        command = command_of(edits_of({"import": "a", "text": "n: 0"}))
+        command = command_of(change_of({"import": "a", "text": "n: 0"}))
         self.etcd.keys.put(LOG + b"old", command, 2)
         self.etcd.keys.revision = 2
         node = self.node()
@@ -286,8 +436,8 @@ class StoresOfTheVersionBefore(NodeTest):
                     edits = [{"import": RESERVED, "text": "{}\n"}]
                 last: Tree = {"set": RESERVED, "path": f"/{number:020}", "value": "spare-room-for-the-count"}
                 store.perform_batches([[*edits, command, last]])
-                self.etcd.keys.put(LOG + b"k%d" % number, command_of([command]), number)
-                self.etcd.keys.put(IDS + b"k%d" % number, digest_of(command_of([command])), number)
+                self.etcd.keys.put(LOG + b"k%d" % number, command_of(change_of(command)), number)
+                self.etcd.keys.put(IDS + b"k%d" % number, digest_of(command_of(change_of(command))), number)
                 self.etcd.keys.revision = number
 
     def test_it_goes_on_and_is_tied_then(self) -> None:

@@ -65,6 +65,14 @@ class ServerTest(unittest.TestCase):
 
 
 class Lines(ServerTest):
+    def test_lines_that_close_a_document_of_yaml(self) -> None:
+        """They have no answer, so that each command has its own, and no other line is taken for one."""
+        self.serve(lambda request: {"asked": request["a"]})
+        lines = b'{"a": 1}\n...\n...\n{"a": 2}\n...\n'
+        self.assertEqual(self.said(lines), b'{"asked": 1}\n{"asked": 2}\n')
+        for line in (b"....\n", b" ...\n", b"... \n", b"...\r\n", b"\n"):
+            self.assertEqual(self.said(line), b'{"refused": "BadCommand"}\n', line)
+
     def test_lines(self) -> None:
         self.serve()
         wrong = b'{"refused": "BadCommand"}\n'
