@@ -4,8 +4,8 @@
 - **Words.** Each row of `lib/ctl_rows.py` is done four times, on stores of their own: by confstore, by confstorectl
   without a server, through the socket of `clients/serve.py`, and through a node of a replicated store. The status, the
   output, the name of the fault and the other lines on standard error are those of confstore, and in the end so is the
-  store's file, byte by byte. (A node's store has its own marks, and a node takes neither a checkpoint nor conditions
-  nor the words that look into the file.) A folder without a store gets none.
+  store's file, byte by byte. (A node's store has its own marks, and a node takes neither a checkpoint nor the words that
+  look into the file.) A folder without a store gets none.
 - **The table of words** of confstorectl has the words, arguments and options that the help of confstore has.
 - **Streams** that are closed, full, or that nobody reads, and a terminal, where more is said of a refused text.
 - **Waiting** for a store that is locked, and for a server that is not there; and which socket is taken. In a copy of a

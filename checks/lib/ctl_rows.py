@@ -41,8 +41,8 @@ NO_TEXTS = (
     b"a: [1\n", b"\xff", b"", b"a\n---\nb\n", b"? [a]\n: b\n", b"a: 1\na: 2\n", b"*a\n", b"!t a\n", b"a\0b",
 )  # fmt: skip
 
-# Changes, refusals and questions that a node answers as a session does.
-NODE_ROWS = [
+# Changes, refusals and questions.
+PLAIN_ROWS = [
     row("import --init STORE web", TREE),
     row("get STORE web"),
     row("import STORE file TOP/web.yaml"),
@@ -201,7 +201,7 @@ NODE_ROWS = [
     row("export STORE web"),
 ]
 
-# Conditions, and the words that need them, which a node does not take.
+# Conditions, and the words that need them.
 CONDITIONAL_ROWS = [
     row("import STORE app", b"{n: 1, list: [a]}"),
     row("set STORE app /n 2 --if-value 1"),
@@ -265,13 +265,15 @@ CONDITIONAL_ROWS = [
     row("names STORE"),
     row("get STORE text"),
     row("copy STORE text app"),
-    row("log STORE --yaml"),
 ]
+
+# What a node answers as a session does.
+NODE_ROWS = [*PLAIN_ROWS, *CONDITIONAL_ROWS]
 
 # All of them, and what only a session takes, or what only the file of a store says.
 ROWS = [
     *NODE_ROWS,
-    *CONDITIONAL_ROWS,
+    row("log STORE --yaml"),
     row("import STORE controls TOP/controls.yaml"),
     row("import STORE web TOP/too-long.yaml"),
     row("import STORE web TOP/large.yaml"),

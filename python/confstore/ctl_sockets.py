@@ -57,7 +57,6 @@ _NUMBER = re.compile("0|[1-9][0-9]*")
 # What a replicated node takes for no command, and why.
 _NOT_BY_NODES = {
     "checkpoint": "a replicated node makes its checkpoints itself",
-    "if": "a replicated node takes no conditions, nor the words that need them",
     "watch": "a replicated node tells no changes: watch its folder",
 }
 

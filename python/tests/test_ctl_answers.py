@@ -89,9 +89,9 @@ class Changes(AnswerTest):
             self.answered(VALUE, b"---\nrefused: BadName\n...\n")
             self.assertEqual(self.fault(word, "S", "web", "9"), (1, "BadName"))
 
-    def test_a_node_takes_no_conditions(self) -> None:
+    def test_a_node_that_knows_no_conditions(self) -> None:
         self.answered(b'{"refused": "BadCommand"}\n')
-        self.assertEqual(self.fault("set", "S", "web", "/a", "b", "--if-count", "1"), (1, "Unsupported"))
+        self.assertEqual(self.fault("set", "S", "web", "/a", "b", "--if-count", "1"), (1, "BadCommand"))
 
     def test_a_file_that_is_no_text(self) -> None:
         file = os.path.join(self.top, "key.pem")
