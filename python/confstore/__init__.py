@@ -47,7 +47,7 @@ _MODULES = {
 
 if not TYPE_CHECKING:
 
-    def __getattr__(name):
+    def __getattr__(name: str) -> object:
         """A name of the package, of a module that is imported now."""
         from importlib import import_module
 
@@ -58,5 +58,5 @@ if not TYPE_CHECKING:
         found = globals()[name] = getattr(import_module(f".{_MODULES.get(name, 'faults')}", __name__), name)
         return found
 
-    def __dir__():
+    def __dir__() -> "list[str]":
         return sorted({*globals(), *__all__, "faults", *__getattr__("faults").__all__})
