@@ -1,7 +1,7 @@
 -- The log of a store's file: a line for each command, with or without its values, or the records as they stand.
 use Rattle.std.specs.Prelude.{◌≡◌, ◌<◌, ◌⊎◌, ℕ, ◌+◌, List, [], ◌∷◌, ◌++◌, length, take, codes, decimal, encode_utf8_all, String}
 use Rattle.std.specs.Prelude.{string_bytes, Option, Some, None, IfSome}
-use Rattle.conf_history.specs.Prelude.{Appends, Keeps, Pieces, in_double_quotes, store_limit, Edit}
+use Rattle.conf_history.specs.Prelude.{All, IsNoRecord, StartsWithHole, Appends, Keeps, Pieces, in_double_quotes, store_limit, Edit}
 use Rattle.conf_history.specs.Prelude.{import_as, set_at, delete_at, Command, single, batch, Contents, PiecesMean}
 use Rattle.std.specs.declared.alloc.Global.{Global}
 use Rattle.yaml_grammar.specs.Trees.{Tree}
@@ -71,9 +71,9 @@ pub record BeginsLog (bytes : List ℕ) (form : LogForm) (log : List ℕ) : Type
   pub mean : PiecesMean pieces s
   pub is : log ≡ log_of_pieces form mean.start.count pieces mean.commands
 
--- the number is reached, or no piece follows
+-- the number is reached, or no piece follows but those that a crash may have left
 abbrev pub IsUpTo : Option ℕ → Contents → List (List ℕ) → Type 0
-IsUpTo None s further = further ≡ []
+IsUpTo None s further = StartsWithHole further × All IsNoRecord further
 IsUpTo (Some number) s further = s.count ≡ number
 
 -- what is written for all records, or for those up to a number

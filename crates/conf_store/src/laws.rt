@@ -7,6 +7,7 @@ ghost use Rattle.conf_store.specs.Opens.{OneMeaning, RefusedMeansNothing, Recove
 
 use conf_record::{documents_are_read, documents_close};
 use yaml_recognizers::closings::one_list_of_pieces;
+use yaml_recognizers::zeros::no_zero_read;
 
 /// Whatever crashes happen, no acknowledged command is lost, and no command is kept that was not accepted.
 ///
@@ -50,7 +51,8 @@ pub fn one_state_is_flushed()
     one_list_of_pieces();
 }
 
-/// Bytes mean at most one state; it is the one that opening recovers, and bytes that opening refuses mean none.
+/// Bytes mean at most one state; it is the one that opening recovers. Bytes that opening refuses mean none, unless a
+/// record stands behind a piece with a zero.
 pub fn bytes_mean_one_state()
     ensures one { OneMeaning }
     ensures refused { RefusedMeansNothing }
@@ -58,6 +60,7 @@ pub fn bytes_mean_one_state()
 {
     documents_are_read();
     one_list_of_pieces();
+    no_zero_read();
 }
 
 /// The record that is made for a command, to be measured and then appended, is as long as the record with the number
