@@ -2,7 +2,7 @@
 use Rattle.std.proofs.Common.{◌≡◌, ⊎_elim, refl, sym, ◌∙◌, ap, subst, arith, ◌<◌, ◌≤◌, append_assoc, take-append-drop, length-take}
 use Rattle.std.specs.Prelude.{ℕ, ◌+◌, ◌-◌, zero, suc, List, [], ◌∷◌, ◌++◌, length, take, drop, replicate}
 use Rattle.conf_history.proofs.Prelude.{All, concat, All-nil, All-cons, All-head, All-tail, ClosesAt, ClosesOnce, Pieces, File, Command}
-use Rattle.conf_history.proofs.Prelude.{RecordsTear, records_bytes, AreRecords, after-prefix, journal-left, StartsWithHole}
+use Rattle.conf_history.proofs.Prelude.{RecordsTear, records_bytes, AreRecords, after-prefix, journal-left, IsNoRecord, StartsWithHole}
 use Rattle.std.proofs.lemmas.Bool.{cases_lt}
 use Rattle.yaml_docs.proofs.ClosingLines.{lies_within}
 use Rattle.yaml_docs.proofs.CutLines.{closes-longer, closes-shorter}
@@ -91,6 +91,11 @@ take-hole zero others hole = tt
 take-hole (suc k) [] hole = tt
 take-hole (suc k) (other ∷ others) hole = hole
 
+All-take : (P : List ℕ → Type 0) (k : ℕ) (ps : List (List ℕ)) → All P ps → All P (take k ps)
+All-take P zero ps all = All-nil P
+All-take P (suc k) [] all = All-nil P
+All-take P (suc k) (p ∷ ps) all = All-cons P p (take k ps) (All-head P p ps all) (All-take P k ps (All-tail P p ps all))
+
 pub prefixes-are-read : PrefixesAreRead
 prefixes-are-read bytes s m kept holds =
     let mean = m.mean in
@@ -132,6 +137,7 @@ prefixes-are-read bytes s m kept holds =
           leads = mid.1;
         };
         hole = take-hole split.1 m.others m.hole;
+        lost = All-take IsNoRecord split.1 m.others m.lost;
       };
     }
 

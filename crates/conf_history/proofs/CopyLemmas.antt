@@ -20,6 +20,7 @@ copy-means s pieces start commands copy is performed short = record {
   cut = no-others copy pieces [] (record { joined = is ∙ sym (append-nil (concat pieces)); closed = performed.closed; unclosed = no_closing });
   mean = performed.mean;
   hole = tt;
+  lost = All-nil IsNoRecord;
 }
 
 -- a file was read to its end, and the copy is its pieces

@@ -408,6 +408,7 @@ torn-means given left s pieces start commands t =
       cut = t.cut;
       mean = t.performed.mean;
       hole = t.hole;
+      lost = t.lost;
     })
 
 -- the fault of a piece that is not performed
@@ -432,6 +433,7 @@ module _ (given left : Option (List â„•)) (walk : Walked) (pieces : List (List â
             (record { joined = refl; closed = e.performed.closed; unclosed = e.unclosed });
         mean = e.performed.mean;
         hole = tt;
+        lost = All-nil IsNoRecord;
       })
 
   -- before the end, the bytes mean the state up to its count

@@ -81,3 +81,8 @@ pub means-longer : NoZeroByte → (ps qs os ts : List (List ℕ)) (bad : List �
     → StartsWithHole os → ps ++ os ≡ (qs ++ (bad ∷ [])) ++ ts → (more : List (List ℕ)) × (ps ≡ (qs ++ (bad ∷ [])) ++ more)
 means-longer law ps qs os ts bad s mean clean =
     front-longer ps (qs ++ (bad ∷ [])) os ts (one-after qs bad (pieces-clean law qs s mean) clean)
+
+-- what comes after equal pieces is the same
+pub same-others : (ps os ts : List (List ℕ)) → ps ++ os ≡ ps ++ ts → os ≡ ts
+same-others [] os ts e = e
+same-others (p ∷ ps) os ts e = same-others ps os ts (cc e)

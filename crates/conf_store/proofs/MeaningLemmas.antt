@@ -1,7 +1,7 @@
 -- What bytes mean: at most one state. After a crash it is the state after the records that are whole.
 use Rattle.std.proofs.Common.{◌≡◌, refl, sym, ◌∙◌, ap, subst, arith, ◌≤◌, append_assoc, length-append, length-take}
 use Rattle.std.specs.Prelude.{ℕ, zero, suc, ◌+◌, List, [], ◌∷◌, ◌++◌, length, take, replicate, Some, Result, Ok}
-use Rattle.conf_store.proofs.Prelude.{append-nil, NoZeroByte, length-replicate, ClosesOnce, Pieces, OnePieces, File, IsTorn, Command, Contents, step, after}
+use Rattle.conf_store.proofs.Prelude.{All-nil, IsNoRecord, append-nil, NoZeroByte, length-replicate, ClosesOnce, Pieces, OnePieces, File, IsTorn, Command, Contents, step, after}
 use Rattle.conf_store.proofs.Prelude.{and_then, StoreFault, after-append, after-count, and_then-Ok, Enough, IsRecord, IsBase, record_pieces}
 use Rattle.conf_store.proofs.Prelude.{records_bytes, TornRecords, OneBase, OneRecord, RecordsTear, store_limit}
 use Rattle.conf_store.specs.Meaning.{AreRecords, PiecesMean, Means}
@@ -146,6 +146,7 @@ whole-means bytes s whole short = record {
   cut = no-others bytes whole.pieces [] whole.cut;
   mean = whole.mean;
   hole = tt;
+  lost = All-nil IsNoRecord;
 }
 
 -- a base that closes once is a whole store
@@ -204,6 +205,7 @@ journal-left tear file flushed end since bytes journal torn =
             (pieces-joined file.synced tail journal.whole.pieces
             (record_pieces flushed.count (take t.whole since)) t.rest journal.whole.cut t.pieces));
         hole = tt;
+        lost = All-nil IsNoRecord;
         mean = pieces-mean-more journal.whole.pieces (record_pieces flushed.count (take t.whole since)) flushed mid.0 (take t.whole since)
             journal.whole.mean (records-prefix flushed.count t.whole since journal.are_records) mid.1;
       };

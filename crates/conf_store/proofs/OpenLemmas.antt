@@ -1,12 +1,12 @@
 -- What opening finds, and that it changes no meaning.
 use Rattle.std.proofs.Common.{◌≡◌, inl, inr, ⊎_elim, refl, sym, ◌∙◌, ap, subst, arith, ◌≤◌}
-use Rattle.std.specs.Prelude.{ℕ, Bool, true, false, zero, suc, List, Option, Some, None, option_map, Vec}
+use Rattle.std.specs.Prelude.{ℕ, zero, suc, List, Option, Some, None, option_map, Vec}
 use Rattle.conf_store.proofs.Prelude.{Folder, Tells, bytes_under, Image, IsImage, image_now, synced_file, ReadingIsAnImage}
 use Rattle.conf_store.proofs.Prelude.{Bytes, TooLong, Store, HoldsStore, OnlyHeldIsLeft, IsStoreOf, store_limit, Contents}
-use Rattle.conf_store.proofs.Prelude.{false≢true, no_zero, base_bytes, cases_lt, DiskFault}
+use Rattle.conf_store.proofs.Prelude.{base_bytes, cases_lt, DiskFault}
 use Rattle.std.specs.declared.alloc.Global.{Global}
 use Rattle.conf_store.specs.{Faults.open_fault, Calls.HasFailed, Durable.IsDurable, declared.fault.OpenFault.OpenFault}
-use Rattle.conf_store.specs.{Holes.HoldsRecord, Meaning.FileMeans, Meaning.MeanTheSame}
+use Rattle.conf_store.specs.Meaning.{FileMeans, MeanTheSame}
 use Rattle.conf_store.specs.Opens.{RecoversTo, FileRecoversTo, HasNoBase, RefusesBytes, IsFound, RefusesOpening, RefusalMeans}
 use Rattle.conf_store.specs.Opens.{OneMeaning, RefusedMeansNothing, ReadsAfterOpening, MeantAtEntry}
 use Rattle.conf_store.specs.declared.fault.OpenFault.TheVariants.{NotAStore, Damaged, Device, OutOfMemory}
@@ -103,15 +103,7 @@ refused-nothing nothing NotAStore None refused = absurd refused
 refused-nothing nothing (Damaged number) None refused = absurd refused
 refused-nothing nothing NotAStore (Some bytes) (inl long) = λ s means. (let short = means.short in omega (arith, long, short))
 refused-nothing nothing NotAStore (Some bytes) (inr none) = λ s means. (nothing bytes s means).0 none
-refused-nothing nothing (Damaged number) (Some bytes) damaged =
-    elim damaged.1.kept [ | inl clean ↦ none clean | inr holds ↦ behind (no_zero damaged.1.bad) refl holds ]
-  where
-    none : no_zero damaged.1.bad ≡ true → RefusalMeans (Damaged number) (Some bytes)
-    none clean = inl (λ s means. false≢true (sym ((nothing bytes s means).1 number damaged.1).0 ∙ clean))
-
-    behind : (b : Bool) → no_zero damaged.1.bad ≡ b → HoldsRecord damaged.1.further → RefusalMeans (Damaged number) (Some bytes)
-    behind true clean holds = none clean
-    behind false hole holds = inr (damaged.1, hole, holds)
+refused-nothing nothing (Damaged number) (Some bytes) damaged = λ s means. (nothing bytes s means).1 number damaged.1
 
 -- ---- failures
 

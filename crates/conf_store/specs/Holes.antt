@@ -1,7 +1,6 @@
 -- What a crash leaves behind the last whole record: a piece with a zero, and behind it pieces that are no records.
 use Rattle.std.specs.Prelude.{◌≡◌, ◌⊎◌, ℕ, true, false, List, Contains}
-use Rattle.std.specs.List.{All}
-use Rattle.conf_store.specs.Prelude.{Pieces, Command, IsRecord, IsNoRecord, no_zero}
+use Rattle.conf_store.specs.Prelude.{All, Pieces, Command, IsRecord, IsNoRecord, no_zero}
 
 -- the bytes are a record of some command, whatever its number
 abbrev pub IsAnyRecord : List ℕ → Type 0

@@ -51,8 +51,7 @@ pub fn one_state_is_flushed()
     one_list_of_pieces();
 }
 
-/// Bytes mean at most one state; it is the one that opening recovers. Bytes that opening refuses mean none, unless a
-/// record stands behind a piece with a zero.
+/// Bytes mean at most one state; it is the one that opening recovers, and bytes that opening refuses mean none.
 pub fn bytes_mean_one_state()
     ensures one { OneMeaning }
     ensures refused { RefusedMeansNothing }

@@ -1,5 +1,5 @@
 use Rattle.std.proofs.Common.{ℕ, ◌+◌, List, [], ◌∷◌, arith}
-use Rattle.conf_store.proofs.Prelude.{chars, single, Contents, IsRecord, IsBase}
+use Rattle.conf_store.proofs.Prelude.{All-nil, IsNoRecord, chars, single, Contents, IsRecord, IsBase}
 use Rattle.yaml_data.specs.OwnLimits.{own_limits}
 use Rattle.conf_store.specs.Meaning.{AreRecords, PiecesMean}
 use Rattle.conf_store.proofs.FirstStepLemmas.{gives-wider, as_edit, as_commands, after-accepted, state-wider}
@@ -61,4 +61,5 @@ returns c = λ bytes s m.
       cut = no-others bytes m.pieces m.rest m.cut;
       mean = pieces-mean m.pieces s m.mean;
       hole = tt;
+      lost = All-nil IsNoRecord;
     }
