@@ -25,7 +25,7 @@ records-joined count (p ∷ ps) qs [] ds first second = absurd first
 records-joined count (p ∷ ps) qs (c ∷ cs) ds first second =
     (first.0, records-joined (count + 1) ps qs cs ds first.1 (subst (λ n. AreRecords n qs ds) (omega arith) second))
 
-records-prefix : (count k : ℕ) (commands : List Command) → AreRecords count (record_pieces count commands) commands
+pub records-prefix : (count k : ℕ) (commands : List Command) → AreRecords count (record_pieces count commands) commands
     → AreRecords count (record_pieces count (take k commands)) (take k commands)
 records-prefix count zero commands are = tt
 records-prefix count (suc k) [] are = tt

@@ -32,5 +32,5 @@ pub use Rattle.tree_path.specs.Paths.{at, set, delete}
 pub use Rattle.yaml_grammar.specs.Closings.{ClosesOnce, Pieces}
 pub use Rattle.yaml_grammar.specs.Style.{style_text}
 pub use Rattle.yaml_grammar.specs.Texts.{byte_len, same_text, spaces}
-pub use Rattle.yaml_recognizers.specs.Zeroed.{no_zero, StartsWithHole}
+pub use Rattle.yaml_recognizers.specs.Zeroed.{no_zero, StartsWithHole, Zeroed}
 pub use Rattle.yaml_grammar.specs.Trees.{Tree, depth, text, sequence, mapping, no_member, member}
