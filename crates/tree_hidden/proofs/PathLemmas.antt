@@ -21,7 +21,7 @@ tokens-push : (tokens : List Text) (token : Text)
 tokens-push [] token = refl
 tokens-push (t ∷ tokens) token = ap (λ ts. chars (text_bytes t) ∷ ts) (tokens-push tokens token)
 
-paths-push : (paths : List (Bor (List Text))) (path : Bor (List Text))
+pub paths-push : (paths : List (Bor (List Text))) (path : Bor (List Text))
     → paths_of (paths ++ path ∷ []) ≡ paths_of paths ++ tokens_of path.now ∷ []
 paths-push [] path = refl
 paths-push (p ∷ paths) path = ap (λ ps. tokens_of p.now ∷ ps) (paths-push paths path)
