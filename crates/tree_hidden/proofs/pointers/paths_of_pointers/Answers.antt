@@ -1,8 +1,7 @@
-use Rattle.std.proofs.Common.{◌+◌, ◌++◌, drop, [], ◌∷◌, map, ap, sym, ◌∙◌, arith}
-use Rattle.std.specs.Prelude.{Ok}
-use Rattle.tree_hidden.proofs.Prelude.{drop_item}
-use Rattle.tree_hidden.proofs.PointerLemmas.{after_paths, one-read, owned-push}
-use Rattle.tree_hidden.specs.{Pointers.owned_paths, Pointers.path_and, Pointers.paths_or, Tokens.tokens_of}
+use Rattle.std.proofs.Common.{◌+◌, drop, map, ap, ◌∙◌}
+use Rattle.std.proofs.lemmas.List.{drop_more}
+use Rattle.tree_hidden.proofs.PointerLemmas.{after_paths, next-read, owned-push}
+use Rattle.tree_hidden.specs.{Pointers.owned_paths, Pointers.paths_or, Tokens.tokens_of}
 use Rattle.tree_hidden.proofs.pointers.paths_of_pointers.Goals as goal
 
 pub loop-place-preserved : goal.loop-place-preserved
@@ -11,11 +10,9 @@ loop-place-preserved c =
     let pointers = c.args.pointers.now in
     let before = owned_paths l.paths.items in
     let path = c.in-Ok.path in
-    let others = paths_or (map (λ pointer. pointer.now) (drop (l.place + 1) pointers)) in
-    let here = drop_item pointers l.place c.index-pointers-place.result c.loop-place-test.true c.index-pointers-place.is in
-    ap (λ items. after_paths (owned_paths items) others) c.in_ok-push-in-Ok.ensures.items
-    ∙ ap (λ ps. after_paths ps others) (owned-push l.paths.items path)
-    ∙ one-read before (tokens_of path.items) others
-    ∙ ap (λ read. after_paths before (path_and read others)) (sym c.in-Ok.ensures.ok)
-    ∙ sym (ap (λ ps. after_paths before (paths_or (map (λ pointer. pointer.now) ps))) here)
+    let others = drop (l.place + 1) pointers in
+    ap (λ items. after_paths (owned_paths items) (paths_or (map (λ pointer. pointer.now) others))) c.in_ok-push-in-Ok.ensures.items
+    ∙ ap (λ ps. after_paths ps (paths_or (map (λ pointer. pointer.now) others))) (owned-push l.paths.items path)
+    ∙ next-read (drop l.place pointers) others _ before (tokens_of path.items) (drop_more pointers l.place _ c.loop-place-test.true)
+    c.in-Ok.ensures.ok
     ∙ l.invariant
