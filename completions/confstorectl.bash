@@ -18,7 +18,7 @@ _confstorectl_options() {
     keys) echo '--at --socket --wait --help' ;;
     get) echo '--raw --no-newline --json --plain --default --at --socket --wait --help' ;;
     exists) echo '--at --socket --wait --help' ;;
-    log) echo '--values --yaml --at --socket --wait --help' ;;
+    log) echo '--values --hide --yaml --at --socket --wait --help' ;;
     watch) echo '--values --yaml --from --settle --socket --wait --help' ;;
     *) echo '--socket --wait --help' ;;
     esac
@@ -36,7 +36,7 @@ _confstorectl() {
     COMPREPLY=()
     for ((index = 1; index < COMP_CWORD; index++)); do
         case ${COMP_WORDS[index]} in
-        --at | --check | --default | --dir | --document | --file | --from | --if-count | --if-value | --settle | --socket | --wait) index=$((index + 1)) ;;
+        --at | --check | --default | --dir | --document | --file | --from | --hide | --if-count | --if-value | --settle | --socket | --wait) index=$((index + 1)) ;;
         -?*) ;;
         *)
             place=$((place + 1))
@@ -51,7 +51,7 @@ _confstorectl() {
         mapfile -t COMPREPLY < <(compgen -f -- "$current")
         return
         ;;
-    --at | --check | --default | --dir | --document | --from | --if-count | --if-value | --settle | --wait) return ;;
+    --at | --check | --default | --dir | --document | --from | --hide | --if-count | --if-value | --settle | --wait) return ;;
     esac
     if [[ $current == -* ]]; then
         [ -n "$word" ] || more=--version

@@ -28,7 +28,7 @@ from .ctl_program import Source, edits_of, is_without_store, program_if_any, run
 from .ctl_sockets import NO_SERVER, Command, Connection, Place, SessionReply, answer_of, place_of
 from .ctl_streams import MOST_INPUT, ClosedPipe, hold_closed, is_error_terminal, read_text, write, write_error
 from .ctl_watch import watch
-from .ctl_words import AT, BATCH, CHECK, EDIT, EXISTS, EXPLAIN, FOREIGN, FROM_FILE, IMPORT, LOOKING_BACK, MOVING
+from .ctl_words import AT, BATCH, CHECK, EDIT, EXISTS, EXPLAIN, FOREIGN, FROM_FILE, HIDE, IMPORT, LOOKING_BACK, MOVING
 from .ctl_words import READING, RENDER, SET, WATCH, YAML_VALUE, Option
 from .session import LONGEST_COMMAND
 from .style import Tree, document
@@ -126,6 +126,8 @@ class Work:
 
     def _parts(self, option: Option) -> List[str]:
         """An option for the program."""
+        if option is HIDE:
+            return [f"{option.name}={pointer}" for pointer in self.asked.hidden]
         value = "-" if option is FROM_FILE else self.asked.options[option.name]
         if not option.value:
             return [option.name]

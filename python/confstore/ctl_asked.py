@@ -6,7 +6,7 @@ import re
 from typing import Dict, List, NamedTuple, Sequence, Tuple
 
 from .ctl_faults import Fault, shown
-from .ctl_words import COMMON, FROM_FILE, HELP, IF_ABSENT, IF_VALUE, JSON, NO_NEWLINE, PLAIN, RAW
+from .ctl_words import COMMON, FROM_FILE, HELP, HIDE, IF_ABSENT, IF_VALUE, JSON, NO_NEWLINE, PLAIN, RAW
 from .ctl_words import RENDER, SET, SETTLE, SOCKET, VALUES, VERSION, WAIT, WHOLE, WORDS, YAML_RECORDS, YAML_VALUE
 from .ctl_words import Option, Word
 
@@ -33,12 +33,16 @@ _EXCLUDING = (
 
 
 class Asked(NamedTuple):
-    """A word with its arguments and options, by their names. An option without a value has an empty one."""
+    """A word with its arguments and options, by their names. An option without a value has an empty one.
+
+    `hidden` are the pointers of the option that may be given again.
+    """
 
     word: Word
     arguments: Dict[str, str]
     options: Dict[str, str]
     command: Tuple[str, ...] = ()
+    hidden: Tuple[str, ...] = ()
 
     @property
     def folder(self) -> str:
@@ -87,6 +91,7 @@ class _Cut:
         self.arguments: List[str] = []
         self.options: Dict[str, str] = {}
         self.command: Tuple[str, ...] = ()
+        self.hidden: List[str] = []
         self._left = list(reversed(words))
         while self._left:
             self._take(self._left.pop())
@@ -135,7 +140,7 @@ class _Cut:
         option = _OPTIONS.get(name)
         if option is None:
             raise wrong(f"there is no option {shown(name)}", self._word())
-        if name in self.options:
+        if name in self.options and option is not HIDE:
             raise wrong(f"{name} is there twice", self._word())
         if not option.value and mark:
             raise wrong(f"{name} takes no value", self._word())
@@ -146,6 +151,8 @@ class _Cut:
             if option not in COMMON and value.startswith("-") and value != "-" and not _NUMBER.fullmatch(value):
                 raise wrong(f"{name} wants {option.value}; {name}={shown(value)} gives it that", self._word())
         self.options[name] = value
+        if option is HIDE:
+            self.hidden.append(value)
 
 
 def asked_of(words: Sequence[str]) -> "Asked | Help | Version":
@@ -166,7 +173,7 @@ def asked_of(words: Sequence[str]) -> "Asked | Help | Version":
     if HELP.name in cut.options:
         return Help(name)
     _check_options(word, cut.options)
-    asked = Asked(word, _arguments_of(word, cut.arguments[1:]), cut.options, cut.command)
+    asked = Asked(word, _arguments_of(word, cut.arguments[1:]), cut.options, cut.command, tuple(cut.hidden))
     _check_pointer(asked)
     _check_together(asked)
     return asked
@@ -226,6 +233,8 @@ def _check_together(asked: Asked) -> None:
     for one, other in _EXCLUDING:
         if asked.has(one) and asked.has(other):
             raise wrong(f"{one.name} beside {other.name}", asked.word)
+    if asked.has(HIDE) and not asked.has(VALUES):
+        raise wrong(f"{HIDE.name} needs {VALUES.name}", asked.word)
     if asked.has(NO_NEWLINE) and not asked.has(RAW):
         raise wrong(f"{NO_NEWLINE.name} needs {RAW.name}", asked.word)
     if asked.has(SETTLE) and not asked.command:
