@@ -45,7 +45,8 @@ pub trait World {
     /// Nothing is claimed of it.
     fn cause(&self) -> Option<(Cause, &str)>;
 
-    /// Why the last call on a file failed, or a read of it, if one did and the system said so. Nothing is claimed of it.
+    /// Why the last call on a file failed, or a read of it, if one did and the system said so. Nothing is claimed of
+    /// it.
     fn file_cause(&self) -> Option<Cause>;
 
     /// Makes a folder. Whatever is at the path stays as it is.

@@ -287,7 +287,7 @@ pub(crate) const LOG: Listing = Listing {
             name: YAML,
             help: "Writes the records as they stand in store.yaml",
             form: Form::Flag,
-            relation: Relation::Free,
+            relation: Relation::Excludes(&[HIDE]),
         },
         AT_ARGUMENT,
         FOLDER_ARGUMENT,

@@ -46,8 +46,8 @@ impl<W: Write> Write for Output<'_, W> {
     }
 }
 
-/// Standard error. A line is one write, so that the lines of two runs are not mixed: what it is given is held back up to
-/// a line feed at its end. It drops what it is given once it has to be silent.
+/// Standard error. A line is one write, so that the lines of two runs are not mixed: what it is given is held back up
+/// to a line feed at its end. It drops what it is given once it has to be silent.
 #[derive(Drop)]
 pub(crate) struct Errors<'c, E> {
     inner: E,

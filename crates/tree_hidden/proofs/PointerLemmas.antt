@@ -4,7 +4,7 @@ use Rattle.std.specs.Prelude.{Result, Ok, Err, Vec}
 use Rattle.std.specs.declared.alloc.Global.{Global}
 use Rattle.tree_hidden.specs.Prelude.{PathFault, chars, path_of}
 use Rattle.tree_hidden.proofs.Prelude.{Bor, Text, append-nil}
-use Rattle.tree_hidden.specs.{Pointers.owned_paths, Pointers.path_and, Pointers.paths_or, Tokens.paths_of, Tokens.tokens_of}
+use Rattle.tree_hidden.specs.{Pointers.owned_paths, Pointers.path_and, Pointers.paths_or, Tokens.tokens_of}
 
 -- paths before others, or a fault
 abbrev pub after_paths : List (List (List ℕ)) → Result (List (List (List ℕ))) PathFault → Result (List (List (List ℕ))) PathFault

@@ -1,10 +1,10 @@
 -- What is shown of a value of which not the whole is hidden, and texts of ASCII, by a test that computes.
-use Rattle.std.proofs.Common.{◌≡◌, ◌<◌, ◌+◌, nat_lt, arith, codes, [], ◌++◌, refl, ap, ap₂, ◌∙◌}
+use Rattle.std.proofs.Common.{◌≡◌, ◌<◌, ◌+◌, nat_lt, arith, codes, [], ◌++◌, refl, ap, ap₂}
 use Rattle.std.specs.Prelude.{ℕ, true, false, List}
 use Rattle.yaml_grammar.specs.Trees.{Elements, no_element, element, Members, no_member, member, text, sequence, mapping}
-use Rattle.tree_hidden.proofs.Prelude.{list_all, IsUtf8, IsUtf8-from_ascii, every-IsAscii, json_member, json_string}
+use Rattle.tree_hidden.proofs.Prelude.{list_all, IsUtf8, IsUtf8-from_ascii, every-IsAscii, json_member}
 use Rattle.yaml_forms.specs.Json.{json_elements, json_members, json_text, more_elements, more_members}
-use Rattle.tree_hidden.specs.Hidden.{hides_whole, mark, shown_elements, shown_json, shown_members}
+use Rattle.tree_hidden.specs.Hidden.{hides_whole, shown_elements, shown_json, shown_members}
 use Rattle.yaml_grammar.specs.Trees.{Tree}
 use Rattle.std.proofs.lemmas.Bool.Decides.{nat_tests}
 
@@ -13,19 +13,6 @@ ascii-text cs e = IsUtf8-from_ascii cs (every-IsAscii (λ c. nat_lt c 128) below
   where
     below : (c : ℕ) → nat_lt c 128 ≡ true → c < 128
     below c passed = grind (arith, nat_tests)
-
-pub shown-whole : (paths : List (List (List ℕ))) (t : Tree) → hides_whole paths ≡ true → mark ≡ shown_json paths t
-shown-whole paths (text value) hidden = rw hidden refl
-shown-whole paths (sequence ts) hidden = rw hidden refl
-shown-whole paths (mapping ms) hidden = rw hidden refl
-
-pub shown-text : (paths : List (List (List ℕ))) (value : List ℕ) → hides_whole paths ≡ false
-    → json_string value ≡ shown_json paths (text value)
-shown-text paths value visible = rw visible refl
-
-pub shown-sequence : (paths : List (List (List ℕ))) (ts : Elements) → hides_whole paths ≡ false
-    → codes "[" ++ shown_elements paths [] 0 ts ++ codes "]" ≡ shown_json paths (sequence ts)
-shown-sequence paths ts visible = rw visible refl
 
 pub shown-mapping : (paths : List (List (List ℕ))) (ms : Members) → hides_whole paths ≡ false
     → codes "{" ++ shown_members paths [] ms ++ codes "}" ≡ shown_json paths (mapping ms)

@@ -16,8 +16,8 @@ use yaml_writer::Sink;
 const MARK: &str = "hidden";
 
 /// Writes the JSON text of a value at the place to which a pointer leads (RFC 8259, RFC 6901), on one line and without
-/// whitespace. What is at one of the paths, or below it, is hidden: the word `hidden` stands for it. If the place itself
-/// is at or below one, or the text is no pointer, that word is all.
+/// whitespace. What is at one of the paths, or below it, is hidden: the word `hidden` stands for it. If the place
+/// itself is at or below one, or the text is no pointer, that word is all.
 ///
 /// A mapping is an object with its members in order, a sequence an array, and each text a string. A token `-` of the
 /// place leads to a new element of a sequence, whose index it does not say: so it leads wherever another token does.

@@ -1,4 +1,4 @@
-use Rattle.std.proofs.Common.{◌+◌, ◌++◌, [], drop, codes, subst, refl, sym, ap, ◌∙◌, arith}
+use Rattle.std.proofs.Common.{◌++◌, [], codes, subst, refl, sym, ap, ◌∙◌, arith}
 use Rattle.tree_hidden.proofs.Prelude.{chars, chars-IsAscii, chars-literal, drop_all, drop_item, on_ok_weaker, json_member}
 use Rattle.tree_hidden.proofs.Prelude.{tree_of, elements_of, members_of, tree_of-Map}
 use Rattle.tree_hidden.proofs.ShownLemmas.{ascii-text, shown-mapping}

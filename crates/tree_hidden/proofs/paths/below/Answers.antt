@@ -1,4 +1,4 @@
-use Rattle.std.proofs.Common.{◌+◌, ◌++◌, drop, [], ◌∷◌, ap, sym, ◌∙◌, arith}
+use Rattle.std.proofs.Common.{◌+◌, ◌++◌, drop, ap, sym, ◌∙◌, arith}
 use Rattle.tree_hidden.proofs.Prelude.{chars, drop_item}
 use Rattle.tree_hidden.proofs.PathLemmas.{below-kept, below-left}
 use Rattle.tree_hidden.specs.{Hidden.below, Tokens.paths_of}

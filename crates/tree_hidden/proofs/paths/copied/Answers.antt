@@ -1,4 +1,4 @@
-use Rattle.std.proofs.Common.{◌+◌, ◌++◌, drop, [], ◌∷◌, ap, sym, ◌∙◌, arith}
+use Rattle.std.proofs.Common.{◌+◌, ◌++◌, drop, ap, sym, ◌∙◌, arith}
 use Rattle.tree_hidden.proofs.Prelude.{drop_item, texts}
 use Rattle.tree_hidden.proofs.PathLemmas.{copied-one}
 use Rattle.tree_hidden.specs.Tokens.{tokens_of}
