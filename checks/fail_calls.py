@@ -188,7 +188,7 @@ class Expected:
         if call.reads_input() and kind.answer == "zero":
             self.ended = (0, not_performed(story.commands[: call.taken]))
         if whole or call.is_begun():
-            self.ended = (self.ended[0], dropped(rest_of(story.files)) + self.ended[1])
+            self.ended = (self.ended[0], dropped(len(rest_of(story.files))) + self.ended[1])
 
 
 def not_performed(taken: bytes) -> str:
@@ -249,7 +249,7 @@ def try_fault(trial: Trial, call: PlacedCall, kind: Kind) -> tuple[Failures, str
     status, output, errors = session(folder, LOOK)
     held: int | bytes = trial.story.states.index(output) if output in trial.story.states else output
     allowed = range(expected.least, expected.most + 1)
-    failures.expect(f"{name}: opened again", (status, errors), (0, dropped(rest_of(left))))
+    failures.expect(f"{name}: opened again", (status, errors), (0, dropped(len(rest_of(left)))))
     failures.expect(f"{name}: held {held!r}, of {list(allowed)}", held in allowed, True)
     shutil.rmtree(folder)
     return failures, name_of(expected.ended)
@@ -259,7 +259,7 @@ def try_story(top: str, story: Story, most: int, failures: Failures) -> None:
     """Tries each kind of fault at each call of a story."""
     trial = Trial(top, story, most)
     ended, calls = trial.calls()
-    failures.expect(f"{story.name} without faults", ended, (0, story.output, dropped(rest_of(story.files))))
+    failures.expect(f"{story.name} without faults", ended, (0, story.output, dropped(len(rest_of(story.files)))))
     if story.name.startswith(NEW.name) and not most:
         changing = [f"{call.name} {call.file}" for call in calls if is_change(call)]
         wanted = CHANGES_OF_NEW if story is NEW else CHANGES_IN_A_GROUP

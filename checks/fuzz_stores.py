@@ -2,11 +2,11 @@
 """Opens 100,000 changed store files with the built program.
 
 Ten stores are made by sessions. Their files are changed at random: bits flipped, bytes and words changed, pieces
-swapped, doubled, taken out or exchanged with those of another store, cut anywhere, and followed by zeros. Then a
-checkpoint is made, and the state is read from the new base.
+swapped, doubled, taken out or exchanged with those of another store, cut anywhere, followed by zeros, and with zeros in
+up to three places. Then a checkpoint is made, and the state is read from the new base.
 
 - Each file is opened, or refused by `NotAStore` or `Damaged`. A refused file stays as it is. Standard error has the
-  name of the refusal, or else one line if bytes after the last piece are dropped, which says how many.
+  name of the refusal, or else one line if bytes are dropped, which says how many.
 - After a change of whole pieces, a cut, or zeros, the state or the refusal has to be that of lib/store_model.py.
 - After a change of bytes, the states have to be the same where both find one. The model reads by libyaml, which
   reads another YAML in places. Files that only one of them opens are counted, and so are those with breaks of YAML
@@ -37,7 +37,7 @@ from concurrent.futures import ProcessPoolExecutor
 from typing import Union
 
 from lib.command_line import number_given, seed_given
-from lib.mutations import changed, flip_bit, place
+from lib.mutations import changed, flip_bit, part, place
 from lib.store_model import OLD_BREAKS, Damaged, NotAStore, meaning, pieces_of, read_base
 from lib.store_runs import EMPTY, PROGRAM, Failures, dropped, need_program, read_file, session, write_file
 from lib.trees import Refused, Tree
@@ -137,6 +137,15 @@ def with_zeros(chance: random.Random, store: bytes, _other: bytes) -> bytes:
     return store[: place(chance, store)] + bytes(chance.randrange(1, 100))
 
 
+def with_holes(chance: random.Random, store: bytes, _other: bytes) -> bytes:
+    """The store with zeros in up to three places, perhaps without its end."""
+    content = bytearray(store[: chance.choice((len(store), place(chance, store)))])
+    for _ in range(chance.randrange(1, 4)):
+        start, end = part(chance, bytes(content), chance.choice((2, 40, 400)))
+        content[start:end] = bytes(end - start)
+    return bytes(content)
+
+
 def with_flipped_bit(chance: random.Random, store: bytes, _other: bytes) -> bytes:
     return flip_bit(chance, store)
 
@@ -147,15 +156,16 @@ def with_changed_bytes(chance: random.Random, store: bytes, _other: bytes) -> by
 
 # The ways to change a store, and whether the model has to agree with the program on every file.
 EXACT: dict[Change, bool] = {
-    change_pieces: True, cut_off: True, with_zeros: True, with_flipped_bit: False, with_changed_bytes: False,
+    change_pieces: True, cut_off: True, with_zeros: True, with_holes: True, with_flipped_bit: False,
+    with_changed_bytes: False,
 }  # fmt: skip
 
 
 def outcome_of_model(content: bytes) -> Outcome:
     """The state that the model finds, or the name of a refusal."""
     try:
-        configs, count, rest = meaning(content)
-        return list(configs.items()), count, rest
+        configs, count, lost = meaning(content)
+        return list(configs.items()), count, lost
     except NotAStore:
         return "NotAStore"
     except Damaged:
@@ -175,22 +185,28 @@ def outcome_of_program(folder: str, content: bytes, failures: Failures) -> Outco
     if (status, output, errors) in ((1, b"", "confstore: NotAStore\n"), (1, b"", "confstore: Damaged\n")):
         failures.expect(f"the refused file {content!r}", left, content)
         return errors.removeprefix("confstore: ").strip()
-    rest = pieces_of(content)[1]
-    failures.expect(f"the session over {content!r}", (status, errors), (0, dropped(rest)))
+    lost = dropped_in(errors)
+    failures.expect(f"the session over {content!r}", (status, errors), (0, dropped(lost)))
     try:
         configs, count = read_base(left)
     except Refused:
         failures.expect(f"the base of {content!r}", left, "a base")
         return "no base"
     failures.expect(f"the answer over {content!r}", output, f'---\nok: "{count}"\n...\n'.encode())
-    return list(configs.items()), count, len(rest)
+    return list(configs.items()), count, lost
+
+
+def dropped_in(errors: str) -> int:
+    """How many bytes a line on standard error says are dropped."""
+    found = re.match(r"confstore: the last (?:(\d+) bytes|byte) of store\.yaml ", errors)
+    return int(found[1] or 1) if found else 0
 
 
 def opening_changes_nothing(folder: str, content: bytes, outcome: Outcome, failures: Failures) -> None:
-    """A session without commands says what it drops, and leaves the file unless it drops bytes after the last piece."""
+    """A session without commands says what it drops, and leaves the file unless it drops bytes."""
     file = os.path.join(folder, "store.yaml")
     write_file(file, content)
-    said = f"confstore: {outcome}\n" if isinstance(outcome, str) else dropped(pieces_of(content)[1])
+    said = f"confstore: {outcome}\n" if isinstance(outcome, str) else dropped(outcome[2])
     status = 1 if isinstance(outcome, str) else 0
     failures.expect(f"opening {content!r}", session(folder, b"", timeout=HANGS), (status, b"", said))
     left = read_file(file)
@@ -234,10 +250,8 @@ def place_of_damage(content: bytes, commands: int) -> tuple[bytes, dict[str, int
     }
 
 
-def verified_damage(content: bytes, said: tuple[int, str], found: Findings, failures: Failures) -> bytes:
-    """Looks at what `verify` says of a damaged file. Returns its first bytes, up to the damage."""
-    what = (*said, found.word("state"))
-    failures.expect(f"verify of {content!r}", what, (1, "confstore: Damaged", "damaged"))
+def verified_bad(content: bytes, found: Findings, failures: Failures) -> bytes:
+    """Looks at what `verify` says of the bad piece of a file. Returns its first bytes, up to that piece."""
     kept, place = place_of_damage(content, found.number("commands"))
     failures.expect(f"the damage in {content!r}", {key: found.number(key) for key in place}, place)
     return kept
@@ -255,12 +269,17 @@ def verified(folder: str, content: bytes, outcome: Outcome, failures: Failures) 
         shutil.rmtree(saved, ignore_errors=True)
         return
     found, kept = Findings(output), content
-    if outcome == "Damaged":
-        kept = verified_damage(content, (status, errors), found, failures)
+    said = (status, errors, found.word("state"))
+    if isinstance(outcome, str):
+        failures.expect(f"verify of {content!r}", said, (1, "confstore: Damaged", "damaged"))
+        kept = verified_bad(content, found, failures)
     else:
-        failures.expect(f"verify of {content!r}", (status, errors, found.word("state")), (0, "", "whole"))
+        is_torn = outcome[2] > len(pieces_of(content)[1])
+        failures.expect(f"verify of {content!r}", said, (0, "", "torn" if is_torn else "whole"))
         failures.expect(f"the count in {content!r}", found.number("base") + found.number("commands"), outcome[1])
-    failures.expect(f"the bytes that {content!r} drops", found.number("dropped"), len(pieces_of(content)[1]))
+        if is_torn:
+            verified_bad(content, found, failures)
+    failures.expect(f"the rest of {content!r}", found.number("dropped"), len(pieces_of(content)[1]))
     failures.expect(f"salvage of {content!r}", run_word("salvage", folder, saved), (0, output, ""))
     configs, count = read_base(read_file(os.path.join(saved, "store.yaml")))
     salvaged = outcome_of_program(saved, kept, failures)[:2] if outcome == "Damaged" else outcome[:2]

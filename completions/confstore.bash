@@ -14,7 +14,7 @@ _confstore_options() {
     names) echo '--json --at --help' ;;
     get) echo '--raw --no-newline --json --plain --default --at --help' ;;
     keys | exists) echo '--at --help' ;;
-    log) echo '--values --yaml --at --help' ;;
+    log) echo '--values --hide --yaml --at --help' ;;
     format) echo '-i --in-place --drop-comments --check --explain --help' ;;
     check) echo '--explain --help' ;;
     *) echo '--help' ;;
@@ -41,7 +41,7 @@ _confstore() {
     fi
     for ((index = 2; index < COMP_CWORD; index++)); do
         case ${COMP_WORDS[index]} in
-        --checkpoint-after | --at | --default | --file | --if-value | --if-count) index=$((index + 1)) ;;
+        --checkpoint-after | --at | --default | --file | --hide | --if-value | --if-count) index=$((index + 1)) ;;
         -?*) ;;
         *)
             place=$((place + 1))
@@ -50,7 +50,7 @@ _confstore() {
         esac
     done
     case ${COMP_WORDS[COMP_CWORD - 1]} in
-    --checkpoint-after | --at | --default | --if-value | --if-count) return ;;
+    --checkpoint-after | --at | --default | --hide | --if-value | --if-count) return ;;
     --file)
         compopt -o filenames
         mapfile -t COMPREPLY < <(compgen -f -- "$current")

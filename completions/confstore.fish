@@ -81,6 +81,7 @@ complete -c confstore -n '__fish_seen_subcommand_from get export names' -l json 
 complete -c confstore -n '__fish_seen_subcommand_from get export' -l plain -d 'Write numbers without quotes'
 complete -c confstore -n '__fish_seen_subcommand_from get' -l default -x -d 'Write a text where nothing is there'
 complete -c confstore -n '__fish_seen_subcommand_from log' -l values -d 'Write values as JSON texts'
+complete -c confstore -n '__fish_seen_subcommand_from log' -l hide -x -d 'Hide the values at a place'
 complete -c confstore -n '__fish_seen_subcommand_from log' -l yaml -d 'Write the records as they stand'
 complete -c confstore -n '__fish_seen_subcommand_from format check' -F
 complete -c confstore -n '__fish_seen_subcommand_from format' -s i -l in-place -d 'Replace each file that would change'

@@ -18,7 +18,7 @@ _confstorectl_options() {
     keys) echo '--at --socket --wait --help' ;;
     get) echo '--raw --no-newline --json --plain --default --at --socket --wait --help' ;;
     exists) echo '--at --socket --wait --help' ;;
-    log) echo '--values --yaml --at --socket --wait --help' ;;
+    log) echo '--values --hide --yaml --at --socket --wait --help' ;;
     watch) echo '--values --yaml --from --settle --socket --wait --help' ;;
     init) echo '--wait --help' ;;
     run) echo '--group --checkpoint-after --wait --help' ;;
@@ -43,7 +43,7 @@ _confstorectl() {
     for ((index = 1; index < COMP_CWORD; index++)); do
         case "$word ${COMP_WORDS[index]}" in
         'format --check') ;;
-        *' --at' | *' --check' | *' --checkpoint-after' | *' --default' | *' --dir' | *' --document' | *' --file' | *' --from' | *' --if-count' | *' --if-value' | *' --settle' | *' --socket' | *' --wait') index=$((index + 1)) ;;
+        *' --at' | *' --check' | *' --checkpoint-after' | *' --default' | *' --dir' | *' --document' | *' --file' | *' --from' | *' --hide' | *' --if-count' | *' --if-value' | *' --settle' | *' --socket' | *' --wait') index=$((index + 1)) ;;
         *' -'?*) ;;
         *)
             place=$((place + 1))
@@ -59,7 +59,7 @@ _confstorectl() {
         mapfile -t COMPREPLY < <(compgen -f -- "$current")
         return
         ;;
-    *' --at' | *' --check' | *' --checkpoint-after' | *' --default' | *' --dir' | *' --document' | *' --from' | *' --if-count' | *' --if-value' | *' --settle' | *' --wait') return ;;
+    *' --at' | *' --check' | *' --checkpoint-after' | *' --default' | *' --dir' | *' --document' | *' --from' | *' --hide' | *' --if-count' | *' --if-value' | *' --settle' | *' --wait') return ;;
     esac
     if [[ $current == -* ]]; then
         [ -n "$word" ] || more=--version

@@ -8,7 +8,7 @@ function __confstorectl_places
     for word in (commandline -opc)[2..-1]
         if test $is_value = 1
             set is_value 0
-        else if contains -- $word --at --check --checkpoint-after --default --dir --document --file --from --if-count --if-value --settle --socket --wait; and not contains -- "$places[1] $word" 'format --check'
+        else if contains -- $word --at --check --checkpoint-after --default --dir --document --file --from --hide --if-count --if-value --settle --socket --wait; and not contains -- "$places[1] $word" 'format --check'
             set is_value 1
         else if not string match -q -- '-?*' $word
             set -a places $word
@@ -182,6 +182,8 @@ complete -c confstorectl -n '__confstorectl_is exists' -l at -x \
     -d 'Reads the store as it was after command number N'
 complete -c confstorectl -n '__confstorectl_is log' -l values \
     -d 'Writes the value of each import and set, too, as a JSON text'
+complete -c confstorectl -n '__confstorectl_is log' -l hide -x \
+    -d 'Writes `hidden` for what is at POINTER, or below it; needs --values, and may be given again'
 complete -c confstorectl -n '__confstorectl_is log' -l yaml \
     -d 'Writes the records as they stand in store.yaml'
 complete -c confstorectl -n '__confstorectl_is log' -l at -x \

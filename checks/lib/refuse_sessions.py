@@ -25,14 +25,14 @@ def expect_prefix(run: Run, story: Story, output: bytes, files: Mapping[str, byt
     """The output is the answers to some commands, and the state is the one after exactly these."""
     answered = story.answered(len(output))
     run.expect("output", output, b"".join(story.answers[:answered]))
-    run.expect("left", left, (0, story.states[story.accepted(answered)], dropped(rest_of(files))))
+    run.expect("left", left, (0, story.states[story.accepted(answered)], dropped(len(rest_of(files)))))
 
 
 def expect_end(run: Run, story: Story, ended: Ended, files: Mapping[str, bytes]) -> str:
     """The session said what opening dropped, if it came so far, and ended out of memory, or answered everything.
     Returns how it ended."""
     status, output, errors = ended
-    torn = dropped(rest_of(story.files))
+    torn = dropped(len(rest_of(story.files)))
     said = torn if not rest_of(files) else ""
     is_out = errors.endswith(FAULT)
     run.expect("ending", (status, errors), (1, said + FAULT) if is_out else (0, torn))

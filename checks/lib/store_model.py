@@ -12,7 +12,7 @@ from typing import Any
 
 import yaml
 
-from .trees import NAME, NUMBER, Configs, Refused, Tree, edited
+from .trees import NAME, NUMBER, Configs, Refused, Tree, edited, steps_of
 
 # PyYAML's function has no types.
 compose_all: Callable[..., Any] = yaml.compose_all
@@ -33,7 +33,7 @@ class NotAStore(Exception):
 
 
 class Damaged(Exception):
-    """A piece after the base is no record, has the wrong number, or is refused."""
+    """A piece after the base is no record, has the wrong number, or is refused, and no crash left that."""
 
 
 def pieces_of(content: bytes) -> tuple[list[bytes], bytes]:
@@ -112,19 +112,58 @@ def perform(configs: Configs, keys: tuple[str, ...], values: Sequence[Tree]) -> 
     return configs
 
 
+def is_edit(keys: tuple[str, ...], values: Sequence[Tree]) -> bool:
+    """Whether these are the members of an edit, whatever there is to be edited."""
+    if not values or not isinstance(values[0], str) or not NAME.fullmatch(values[0]):
+        return False
+    if keys == ("import", "tree"):
+        return True
+    return keys in (("set", "path", "value"), ("delete", "path")) and isinstance(values[1], str) and is_pointer(values[1])
+
+
+def is_pointer(path: str) -> bool:
+    try:
+        steps_of(path)
+    except Refused:
+        return False
+    return True
+
+
+def is_record(piece: bytes) -> bool:
+    """Whether a piece is a record, whatever its number."""
+    try:
+        keys, values = read_mapping(piece)
+        number_of(values[0])
+    except Refused:
+        return False
+    if keys[0] != "at" or keys[1:] != ("batch",):
+        return keys[0] == "at" and is_edit(keys[1:], values[1:])
+    edits = values[1]
+    return isinstance(edits, list) and all(
+        isinstance(edit, tuple) and edit != () and is_edit(*keys_and_values(edit)) for edit in edits
+    )
+
+
+def may_be_left(bad: bytes, behind: Sequence[bytes]) -> bool:
+    """Whether a crash may have left a piece that is not the next record: it has a zero, and no record is behind it."""
+    return b"\0" in bad and not any(is_record(piece) for piece in behind)
+
+
 def meaning(content: bytes) -> tuple[Configs, int, int]:
-    """The configurations and the count that a store file means, and how many bytes come after its last piece."""
+    """The configurations and the count that a store file means, and how many bytes an opening drops."""
     pieces, rest = pieces_of(content)
     try:
         configs, count = read_base(pieces[0])
     except (IndexError, Refused) as error:
         raise NotAStore from error
-    for piece in pieces[1:]:
+    for at, piece in enumerate(pieces[1:], 1):
         try:
             keys, values = read_mapping(piece)
             if keys[0] != "at" or len(values) < 2 or number_of(values[0]) != count + 1:
                 raise Refused
             configs, count = perform(configs, keys[1:], values[1:]), count + 1
         except Refused as error:
+            if may_be_left(piece, pieces[at + 1 :]):
+                return configs, count, len(b"".join(pieces[at:])) + len(rest)
             raise Damaged from error
     return configs, count, len(rest)

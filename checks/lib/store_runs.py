@@ -99,12 +99,12 @@ def rest_of(files: Mapping[str, bytes]) -> bytes:
     return files.get("store.yaml", b"").rpartition(b"\n...\n")[2]
 
 
-def dropped(rest: bytes) -> str:
-    """What is said on standard error where opening drops these bytes after the last whole record."""
-    if not rest:
+def dropped(count: int) -> str:
+    """What is said on standard error where opening drops so many bytes after the last whole record."""
+    if not count:
         return ""
-    what = "last byte of store.yaml was" if len(rest) == 1 else f"last {len(rest)} bytes of store.yaml were"
-    return f"confstore: the {what} dropped: {'it was' if len(rest) == 1 else 'they were'} no whole record\n"
+    what = "last byte of store.yaml was" if count == 1 else f"last {count} bytes of store.yaml were"
+    return f"confstore: the {what} dropped: {'it was' if count == 1 else 'they were'} no whole record\n"
 
 
 def compiled(source: str, folder: str | PathLike[str]) -> str:

@@ -80,6 +80,7 @@ def under(conditions: Sequence[Condition], command: Dict[str, Tree]) -> Dict[str
 
 
 def move_of(word: str, source: str, target: str, tree: Tree) -> Dict[str, Tree]:
-    """The command of a `copy` or a `rename` of a configuration that is this tree."""
+    """The command of a `copy` or a `rename` of a configuration that is this tree. One that gets its own name is put where
+    it is, and so keeps its place among the names."""
     put = put_of(target, tree)
-    return put if word == "copy" else {"batch": [delete_of(source, ""), put]}
+    return put if word == "copy" or source == target else {"batch": [delete_of(source, ""), put]}

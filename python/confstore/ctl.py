@@ -21,8 +21,8 @@ from .ctl_faults import DEVICE, NOTHING_THERE, OF_TEXTS, REFUSED, WRONG_WORDS, F
 from .ctl_places import NO_SERVER, Place, place_of
 from .ctl_program import Source, is_without_store, program_if_any, run_shown, styled
 from .ctl_streams import ClosedPipe, hold_closed, is_error_terminal, read_text, write, write_error
-from .ctl_words import AT, BATCH, CHECK, EDIT, EXISTS, EXPLAIN, FED, FOREIGN, FROM_FILE, IMPORT, LOOKING_BACK, MOVING
-from .ctl_words import OF_PROGRAM, READING, RENDER, RUN, SET, WATCH, YAML_VALUE, Option
+from .ctl_words import AT, BATCH, CHECK, EDIT, EXISTS, EXPLAIN, FED, FOREIGN, FROM_FILE, HIDE, IMPORT, LOOKING_BACK
+from .ctl_words import MOVING, OF_PROGRAM, READING, RENDER, RUN, SET, WATCH, YAML_VALUE, Option
 
 TYPE_CHECKING = False  # `typing` takes as long to import as all of this
 if TYPE_CHECKING:
@@ -132,6 +132,8 @@ class Work:
 
     def _parts(self, option: Option) -> list[str]:
         """An option for the program."""
+        if option is HIDE:
+            return [f"{option.name}={pointer}" for pointer in self.asked.hidden]
         value = "-" if option is FROM_FILE else self.asked.options[option.name]
         if not option.value:
             return [option.name]

@@ -3,7 +3,7 @@
 from __future__ import annotations
 
 from .ctl_faults import Fault, shown
-from .ctl_words import COMMON, FROM_FILE, HELP, IF_ABSENT, IF_VALUE, IN_PLACE, JSON, NO_NEWLINE, OTHER_NAMES
+from .ctl_words import COMMON, FROM_FILE, HELP, HIDE, IF_ABSENT, IF_VALUE, IN_PLACE, JSON, NO_NEWLINE, OTHER_NAMES
 from .ctl_words import PLAIN, RAW, RENDER, SET, SETTLE, SOCKET, VALUES, VERSION, WAIT, WHOLE, WORDS, YAML_RECORDS
 from .ctl_words import YAML_VALUE, Option, Word
 
@@ -53,9 +53,11 @@ class Asked:
         options: dict[str, str],
         command: tuple[str, ...] = (),
         repeated: tuple[str, ...] = (),
+        hidden: tuple[str, ...] = (),
     ) -> None:
         self.word, self.arguments, self.options, self.command = word, arguments, options, command
         self.repeated = repeated  # what stands again for the last argument
+        self.hidden = hidden  # the pointers of `--hide`
 
     @property
     def folder(self) -> str:
@@ -132,6 +134,7 @@ class _Cut:
         self.arguments: list[str] = []
         self.options: dict[str, str] = {}
         self.command: tuple[str, ...] = ()
+        self.hidden: list[str] = []
         self._left = list(reversed(words))
         while self._left:
             self._take(self._left.pop())
@@ -180,7 +183,7 @@ class _Cut:
         option = _option_of(self._word(), name)
         if option is None:
             raise no_option(name, self._word())
-        if name in self.options:
+        if name in self.options and option is not HIDE:
             raise wrong(f"{name} is there twice", self._word())
         if not option.value and mark:
             raise wrong(f"{name} takes no value", self._word())
@@ -191,6 +194,8 @@ class _Cut:
             if option not in COMMON and value.startswith("-") and value != "-" and not _is(_NUMBER, value):
                 raise wrong(f"{name} wants {option.value}; {name}={shown(value)} gives it that", self._word())
         self.options[name] = value
+        if option is HIDE:
+            self.hidden.append(value)
 
 
 def asked_of(words: Sequence[str]) -> Asked | Help | Version:
@@ -212,7 +217,8 @@ def asked_of(words: Sequence[str]) -> Asked | Help | Version:
         return Help(name)
     _check_options(word, cut.options)
     repeated = tuple(cut.arguments[1 + len(word.arguments) :])
-    asked = Asked(word, _arguments_of(word, cut.arguments[1:]), cut.options, cut.command, repeated)
+    hidden = tuple(cut.hidden)
+    asked = Asked(word, _arguments_of(word, cut.arguments[1:]), cut.options, cut.command, repeated, hidden)
     _check_pointer(asked)
     _check_together(asked)
     return asked
@@ -273,6 +279,8 @@ def _check_together(asked: Asked) -> None:
     for one, other in _EXCLUDING:
         if asked.has(one) and asked.has(other):
             raise wrong(f"{one.name} beside {other.name}", asked.word)
+    if asked.has(HIDE) and not asked.has(VALUES):
+        raise wrong(f"{HIDE.name} needs {VALUES.name}", asked.word)
     if asked.has(NO_NEWLINE) and not asked.has(RAW):
         raise wrong(f"{NO_NEWLINE.name} needs {RAW.name}", asked.word)
     if asked.has(SETTLE) and not asked.command:

@@ -76,6 +76,9 @@ FROM_FILE = Option(
 )
 YAML_RECORDS = Option("--yaml", "Writes the records as they stand in store.yaml")
 VALUES = Option("--values", "Writes the value of each import and set, too, as a JSON text")
+HIDE = Option(
+    "--hide", "Writes `hidden` for what is at POINTER, or below it; needs --values, and may be given again", "POINTER"
+)
 SETTLE = Option("--settle", "Runs COMMAND once for the changes that come within so many seconds", "SECONDS")
 DEFAULT = Option(
     "--default", "Writes TEXT where nothing is at the place; `--default=TEXT` if it begins with `-`", "TEXT"
@@ -348,15 +351,18 @@ RENDER = Word(
 LOG = Word(
     "log",
     "Writes the commands since the last checkpoint",
-    (VALUES, YAML_RECORDS, AT),
+    (VALUES, HIDE, YAML_RECORDS, AT),
     (FOLDER,),
     (
         "Each command is one line, as `2 set web \"/port\"`: its number, what it did, and where. With `--values` the"
         " value of an import or a set follows as a JSON text, as `2 set web \"/port\" \"80\"`.",
+        "With `--hide POINTER` the word `hidden` stands for what is at the JSON Pointer of any configuration, or below"
+        " it. An index is the one that the command names, and `-` is taken for every index: hide a list whole.",
     ),
     (
         "confstorectl log store",
         "confstorectl log store --values",
+        "confstorectl log store --values --hide /key",
         "confstorectl log store --yaml",
     ),
 )

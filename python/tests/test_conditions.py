@@ -274,7 +274,8 @@ class Moves(ConditionTest):
         self.unmet(store.rename, "web", "dns", if_absent=True)
         self.assertEqual(store.rename("web", "site", if_absent=True), 6)
         self.assertEqual((store["site"], store.names()), (web, ["dns", "site"]))
-        self.assertEqual(store.rename("site", "site"), 7)
+        self.assertEqual(store.rename("dns", "dns"), 7)
+        self.assertEqual((store["dns"], store.names()), ("x", ["dns", "site"]))
         self.assertEqual(store.rename("site", "dns", if_value="x"), 8)
         self.assertEqual((store["dns"], store.names()), (web, ["dns"]))
         with self.assertRaises(confstore.NoConfig):

@@ -2,7 +2,7 @@
 use Rattle.std.proofs.Common.{◌≡◌, ⊎_elim, refl, sym, ◌∙◌, ap, subst, arith, ◌<◌, ◌≤◌, append_assoc, take-append-drop, length-take}
 use Rattle.std.specs.Prelude.{ℕ, ◌+◌, ◌-◌, zero, suc, List, [], ◌∷◌, ◌++◌, length, take, drop, replicate}
 use Rattle.conf_history.proofs.Prelude.{All, concat, All-nil, All-cons, All-head, All-tail, ClosesAt, ClosesOnce, Pieces, File, Command}
-use Rattle.conf_history.proofs.Prelude.{RecordsTear, records_bytes, AreRecords, after-prefix, journal-left}
+use Rattle.conf_history.proofs.Prelude.{RecordsTear, records_bytes, AreRecords, after-prefix, journal-left, IsNoRecord, StartsWithHole}
 use Rattle.std.proofs.lemmas.Bool.{cases_lt}
 use Rattle.yaml_docs.proofs.ClosingLines.{lies_within}
 use Rattle.yaml_docs.proofs.CutLines.{closes-longer, closes-shorter}
@@ -80,42 +80,64 @@ are-prefix (suc k) count [] (command ∷ commands) are = absurd are
 are-prefix (suc k) count (piece ∷ pieces) [] are = absurd are
 are-prefix (suc k) count (piece ∷ pieces) (command ∷ commands) are = (are.0, are-prefix k (count + 1) pieces commands are.1)
 
+-- the first of two lists of pieces: some of the first, or all of them and some of the second
+split-take : (k : ℕ) (ps qs : List (List ℕ)) → (a : ℕ) × (b : ℕ) × (take k (ps ++ qs) ≡ take a ps ++ take b qs)
+split-take k [] qs = (zero, k, refl)
+split-take zero (p ∷ ps) qs = (zero, zero, refl)
+split-take (suc k) (p ∷ ps) qs = (let more = split-take k ps qs in (suc more.0, more.1, ap (λ l. p ∷ l) more.2))
+
+take-hole : (k : ℕ) (others : List (List ℕ)) → StartsWithHole others → StartsWithHole (take k others)
+take-hole zero others hole = tt
+take-hole (suc k) [] hole = tt
+take-hole (suc k) (other ∷ others) hole = hole
+
+All-take : (P : List ℕ → Type 0) (k : ℕ) (ps : List (List ℕ)) → All P ps → All P (take k ps)
+All-take P zero ps all = All-nil P
+All-take P (suc k) [] all = All-nil P
+All-take P (suc k) (p ∷ ps) all = All-cons P p (take k ps) (All-head P p ps all) (All-take P k ps (All-tail P p ps all))
+
 pub prefixes-are-read : PrefixesAreRead
 prefixes-are-read bytes s m kept holds =
     let mean = m.mean in
-    let all = mean.base ∷ mean.records in
-    let closed : All ClosesOnce all = subst (All ClosesOnce) mean.are m.cut.closed in
-    let first = All-head ClosesOnce mean.base mean.records closed in
+    let behind = mean.records ++ m.others in
+    let all : m.pieces ++ m.others ≡ mean.base ∷ behind = ap (λ ps. ps ++ m.others) mean.are in
+    let closed : All ClosesOnce (mean.base ∷ behind) = subst (All ClosesOnce) all m.cut.closed in
+    let first = All-head ClosesOnce mean.base behind closed in
     let left = kept - length mean.base in
-    let cut = prefix-pieces mean.records m.rest left (All-tail ClosesOnce mean.base mean.records closed) m.cut.unclosed in
-    let mid = after-prefix mean.start s mean.commands cut.0 mean.leads in
-    let joined : bytes ≡ mean.base ++ (concat mean.records ++ m.rest) =
-    m.cut.joined ∙ ap (λ ps. concat ps ++ m.rest) mean.are ∙ append_assoc mean.base (concat mean.records) m.rest in
+    let cut = prefix-pieces behind m.rest left (All-tail ClosesOnce mean.base behind closed) m.cut.unclosed in
+    let split = split-take cut.0 mean.records m.others in
+    let mid = after-prefix mean.start s mean.commands split.0 mean.leads in
+    let joined : bytes ≡ mean.base ++ (concat behind ++ m.rest) =
+    m.cut.joined ∙ ap (λ ps. concat ps ++ m.rest) all ∙ append_assoc mean.base (concat behind) m.rest in
+    let whole : Pieces (take kept bytes) (mean.base ∷ take cut.0 behind) cut.1 = record {
+      joined = ap (take kept) joined ∙ take-past kept mean.base (concat behind ++ m.rest) holds
+          ∙ ap (λ l. mean.base ++ l) cut.2.joined
+          ∙ sym (append_assoc mean.base (concat (take cut.0 behind)) cut.1);
+      closed = All-cons ClosesOnce mean.base (take cut.0 behind) first cut.2.closed;
+      unclosed = cut.2.unclosed;
+    } in
     record {
-      count = cut.0;
+      count = split.0;
       state = mid.0;
       leads = mid.1;
       means = record {
         short = omega (arith, length-take kept bytes, m.short);
-        pieces = mean.base ∷ take cut.0 mean.records;
+        pieces = mean.base ∷ take split.0 mean.records;
+        others = take split.1 m.others;
         rest = cut.1;
-        cut = record {
-          joined = ap (take kept) joined ∙ take-past kept mean.base (concat mean.records ++ m.rest) holds
-              ∙ ap (λ l. mean.base ++ l) cut.2.joined
-              ∙ sym (append_assoc mean.base (concat (take cut.0 mean.records)) cut.1);
-          closed = All-cons ClosesOnce mean.base (take cut.0 mean.records) first cut.2.closed;
-          unclosed = cut.2.unclosed;
-        };
+        cut = subst (λ ps. Pieces (take kept bytes) (mean.base ∷ ps) cut.1) split.2 whole;
         mean = record {
           base = mean.base;
-          records = take cut.0 mean.records;
+          records = take split.0 mean.records;
           are = refl;
           start = mean.start;
           is_base = mean.is_base;
-          commands = take cut.0 mean.commands;
-          are_records = are-prefix cut.0 mean.start.count mean.records mean.commands mean.are_records;
+          commands = take split.0 mean.commands;
+          are_records = are-prefix split.0 mean.start.count mean.records mean.commands mean.are_records;
           leads = mid.1;
         };
+        hole = take-hole split.1 m.others m.hole;
+        lost = All-take IsNoRecord split.1 m.others m.lost;
       };
     }
 

@@ -1,36 +1,71 @@
 -- A store with the base and the records of another one: what was read, what was made of it, and what a crash leaves.
 use Rattle.std.proofs.Common.{◌≡◌, ◌⊎◌, inl, inr, ⊎_elim, refl, sym, ◌∙◌, ap, subst, arith, length-append}
-use Rattle.std.specs.Prelude.{ℕ, List, [], ◌++◌, length, Option, Some}
+use Rattle.std.specs.Prelude.{ℕ, List, [], ◌++◌, length, Option, Some, None, ◌≤◌}
 use Rattle.conf_history.proofs.Prelude.{concat, Consumes-whole, append-nil, piece_or_rest, Folder, DiskModel, LeavesOnly-weaker, IsStoreOf}
-use Rattle.conf_history.proofs.Prelude.{LeavesStoreOr, Command, Contents, FileMeans, no_closing}
-use Rattle.conf_history.specs.{Walks.IsAtEndOf, Walks.Walked, declared.fault.SalvageFault.SalvageFault}
+use Rattle.conf_history.proofs.Prelude.{LeavesStoreOr, Command, Contents, FileMeans, no_closing, no-others, concat-append, All-nil}
+use Rattle.conf_history.proofs.Prelude.{IsNoRecord, Means, store_limit}
+use Rattle.conf_history.specs.{Walks.ArePerformed, Walks.Ends, Walks.Walked, declared.fault.SalvageFault.SalvageFault}
 use Rattle.conf_history.specs.Copies.{BacksUp, CopiesPieces, CreatesFile, IsCopied, LeavesOldOrCopy, ReadsCopy, RefusesBackup, RefusesFile}
 use Rattle.conf_history.specs.declared.fault.SalvageFault.TheVariants.{History, StoreExists, Device, OutOfMemory}
 use Rattle.conf_history.proofs.WalkLemmas.{end-read}
 
+-- the pieces that were performed mean the state
+copy-means : (s : Contents) (pieces : List (List ℕ)) (start : Contents) (commands : List Command) (copy : List ℕ)
+    → copy ≡ concat pieces → ArePerformed pieces start commands s → length copy ≤ store_limit → Means copy s
+copy-means s pieces start commands copy is performed short = record {
+  short = short;
+  pieces = pieces;
+  others = [];
+  rest = [];
+  cut = no-others copy pieces [] (record { joined = is ∙ sym (append-nil (concat pieces)); closed = performed.closed; unclosed = no_closing });
+  mean = performed.mean;
+  hole = tt;
+  lost = All-nil IsNoRecord;
+}
+
 -- a file was read to its end, and the copy is its pieces
 pub reads-copy : (given left : Option (List ℕ)) (walk : Walked) (pieces : List (List ℕ)) (start : Contents)
     (commands : List Command) (copy : List ℕ) → copy ≡ concat pieces
-    → IsAtEndOf given left walk pieces start commands → ReadsCopy given left copy
-reads-copy given left walk pieces start commands copy is e =
+    → Ends None given left walk pieces start commands → ReadsCopy given left copy
+reads-copy given left walk pieces start commands copy is (inl (inl (at, b))) = absurd (cc at)
+reads-copy given left walk pieces start commands copy is (inr (none, t)) = record {
+  s = walk.state;
+  holds = Consumes-whole given left t.bytes (λ bytes. CopiesPieces bytes copy walk.state) t.taken t.at_end
+      (record {
+        pieces = pieces;
+        others = t.others;
+        rest = t.rest;
+        cut = t.cut;
+        mean = t.performed.mean;
+        hole = t.hole;
+        lost = t.lost;
+        is = is;
+      });
+  means = copy-means walk.state pieces start commands copy is t.performed
+      (let both = ap length t.cut.joined ∙ length-append (concat (pieces ++ t.others)) t.rest in
+      let front = ap length (concat-append pieces t.others) ∙ length-append (concat pieces) (concat t.others) in
+      let own = ap length is in omega (arith, t.short, both, front, own));
+  at_end = t.at_end;
+  read = (t.bytes, t.taken, t.short);
+}
+reads-copy given left walk pieces start commands copy is (inl (inr (none, e))) =
     let rest = piece_or_rest walk.pieces in
     record {
       s = walk.state;
       holds = Consumes-whole given left (concat pieces ++ rest) (λ bytes. CopiesPieces bytes copy walk.state) e.taken e.at_end
           (record {
             pieces = pieces;
+            others = [];
             rest = rest;
-            cut = record { joined = refl; closed = e.performed.closed; unclosed = e.unclosed };
+            cut = no-others (concat pieces ++ rest) pieces rest
+                (record { joined = refl; closed = e.performed.closed; unclosed = e.unclosed });
             mean = e.performed.mean;
+            hole = tt;
+            lost = All-nil IsNoRecord;
             is = is;
           });
-      means = record {
-        short = omega (arith, e.short, length-append (concat pieces) rest, ap length is);
-        pieces = pieces;
-        rest = [];
-        cut = record { joined = is ∙ sym (append-nil (concat pieces)); closed = e.performed.closed; unclosed = no_closing };
-        mean = e.performed.mean;
-      };
+      means = copy-means walk.state pieces start commands copy is e.performed
+          (omega (arith, e.short, length-append (concat pieces) rest, ap length is));
       at_end = e.at_end;
       read = end-read given left walk pieces start commands e;
     }

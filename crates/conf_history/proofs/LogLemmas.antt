@@ -2,14 +2,13 @@
 use Rattle.std.proofs.Common.{◌≡◌, ◌⊎◌, inl, inr, refl, sym, ◌∙◌, ap, subst, arith, ◌<◌, append_assoc}
 use Rattle.std.specs.Prelude.{ℕ, ◌+◌, List, [], ◌∷◌, ◌++◌, length, take, Option, Some, None, IfSome}
 use Rattle.conf_history.proofs.Prelude.{All, concat, Appends, Appends-nil, Appends-trans, Consumes-whole, append-nil, ClosesOnce}
-use Rattle.conf_history.proofs.Prelude.{SomePieces, ahead, piece_or_rest, Command, Contents, after-count, AreRecords}
+use Rattle.conf_history.proofs.Prelude.{SomePieces, ahead, piece_or_rest, Command, Contents, after-count, AreRecords, All-nil, IsNoRecord}
 use Rattle.conf_history.specs.{declared.log.LogForm.LogForm, declared.fault.HistoryFault.HistoryFault}
 use Rattle.conf_history.specs.Histories.{RefusesReading, RefusesSurvey}
 use Rattle.conf_history.specs.Logs.{entry_bytes, log_bytes, log_of_pieces, BeginsLog, IsWholeLog, LogsAll, LogsBefore, CutsLog, StopsLog}
-use Rattle.conf_history.specs.Walks.{HasRead, ArePerformed, HasEnded, IsBetween, IsAtEndOf, RefusesStart, Stops, Walked}
+use Rattle.conf_history.specs.Walks.{HasRead, ArePerformed, ComesAfter, Ends, Fails, IsBetween, IsAtEndOf, IsTornBehind, RefusesStart, Walked}
 use Rattle.conf_history.specs.declared.fault.HistoryFault.TheVariants.{Input, Output, NotAStore, Damaged, NoSuchCommand, OutOfMemory}
 use Rattle.conf_history.proofs.WalkLemmas.{known, some-map, begins-with, end-read, between-read}
-use Rattle.conf_history.proofs.ReadingLemmas.{reads-stop}
 
 some-both : (given : Option (List ℕ)) (P Q R : List ℕ → Type 0) → ((bytes : List ℕ) → P bytes → Q bytes → R bytes)
     → IfSome given P → IfSome given Q → IfSome given R
@@ -135,7 +134,23 @@ module _ (form : LogForm) (given left : Option (List ℕ)) (walk : Walked) (piec
           mean = e.performed.mean;
           is = log-meant form pieces start commands walk.state e.performed;
         };
-        up_to = refl;
+        up_to = (tt, All-nil IsNoRecord);
+      })
+
+  whole-torn : IsTornBehind given left walk.state pieces start commands → IfSome given (λ bytes. IsWholeLog bytes None form log_here)
+  whole-torn t =
+      Consumes-whole given left t.bytes (λ bytes. IsWholeLog bytes None form log_here) t.taken t.at_end
+      (record {
+        begins = record {
+          pieces = pieces;
+          further = t.others;
+          rest = t.rest;
+          cut = t.cut;
+          s = walk.state;
+          mean = t.performed.mean;
+          is = log-meant form pieces start commands walk.state t.performed;
+        };
+        up_to = (t.hole, t.lost);
       })
 
 -- ---- how writing ends
@@ -147,16 +162,23 @@ module _ (form : LogForm) (given before : Option (List ℕ)) (old : Walked) (pie
   log = log_of_pieces form start.count pieces commands
 
   -- all was written
-  pub logs-all : (at : Option ℕ) (left : Option (List ℕ)) (now : Walked) → HasEnded at given left now pieces start commands
+  pub logs-all : (at : Option ℕ) (left : Option (List ℕ)) (now : Walked) → Ends at given left now pieces start commands
       → LogsAll at form given left held mid
-  logs-all at left now (inl (is, b)) = record {
+  logs-all at left now (inr (none, t)) = record {
+    log = log;
+    out = out;
+    whole = subst (λ a. IfSome given (λ bytes. IsWholeLog bytes a form log)) (sym none)
+        (whole-torn form given left now pieces start commands t);
+    read = (t.bytes, t.taken, t.short);
+  }
+  logs-all at left now (inl (inl (is, b))) = record {
     log = log;
     out = out;
     whole = subst (λ a. IfSome given (λ bytes. IsWholeLog bytes a form log)) (sym is)
         (whole-at form given left now pieces start commands some b);
     read = between-read given left now pieces start commands b;
   }
-  logs-all at left now (inr (none, e)) = record {
+  logs-all at left now (inl (inr (none, e))) = record {
     log = log;
     out = out;
     whole = subst (λ a. IfSome given (λ bytes. IsWholeLog bytes a form log)) (sym none)
@@ -164,40 +186,25 @@ module _ (form : LogForm) (given before : Option (List ℕ)) (old : Walked) (pie
     read = end-read given left now pieces start commands e;
   }
 
-  with-log : (P : List ℕ → Type 0) → IfSome given P → IfSome given (λ bytes. P bytes × ((log ≡ []) ⊎ BeginsLog bytes form log))
-  with-log P p =
-      some-both given P (λ bytes. BeginsLog bytes form log) (λ bytes. P bytes × ((log ≡ []) ⊎ BeginsLog bytes form log))
-      (λ bytes r begins. (r, inr begins)) p (begun-log form given before old pieces start commands some (ahead old.pieces) b)
-
   -- the walk stopped
-  pub stops-log : (at : Option ℕ) (left : Option (List ℕ)) (now : Walked) (f : HistoryFault)
-      → Stops at given left now pieces start commands f → StopsLog at form given held mid f
-  stops-log at left now (Damaged bad) s = record {
+  pub stops-log : (at : Option ℕ) (f : HistoryFault) → Fails at given pieces f → StopsLog at form given held mid f
+  stops-log at f fails = record {
     log = log;
     out = out;
-    before = some-both given (λ bytes. RefusesReading bytes at (Damaged bad))
+    before = some-both given (λ bytes. RefusesReading bytes at f × ComesAfter pieces f)
         (λ bytes. (begins : BeginsLog bytes form log) × (length begins.pieces ≡ length pieces))
-        (λ bytes. LogsBefore bytes at form log (Damaged bad))
-        (λ bytes refused begins. (refused, begins.0, begins.1 ∙ s.0.read.place.number ∙ s.1.number))
-        (reads-stop at given left now pieces start commands some (Damaged bad) s)
-        (begins-log form given left now pieces start commands some (piece_or_rest now.pieces ++ ahead now.pieces) s.0.read);
+        (λ bytes. LogsBefore bytes at form log f) (before-fault f) fails
+        (begins-log form given before old pieces start commands some (ahead old.pieces) b);
   }
-  stops-log at left now NoSuchCommand s =
-      record {
-        log = log;
-        out = out;
-        before = with-log (λ bytes. RefusesReading bytes at NoSuchCommand)
-            (reads-stop at given left now pieces start commands some NoSuchCommand s);
-      }
-  stops-log at left now NotAStore s = record { log = log; out = out; before = with-log (λ bytes. RefusesSurvey bytes NotAStore) s }
-  stops-log at left now Input s = record { log = log; out = out; before = with-log (λ bytes. RefusesSurvey bytes Input) s }
-  stops-log at left now OutOfMemory s = record { log = log; out = out; before = with-log (λ bytes. RefusesSurvey bytes OutOfMemory) s }
-  stops-log at left now Output s = record {
-    log = log;
-    out = out;
-    before = some-map given (λ bytes. RefusesSurvey bytes Output)
-        (λ bytes. LogsBefore bytes at form log Output) (λ bytes r. absurd r) s;
-  }
+    where
+      before-fault : (f : HistoryFault) (bytes : List ℕ) → RefusesReading bytes at f × ComesAfter pieces f
+          → (begins : BeginsLog bytes form log) × (length begins.pieces ≡ length pieces) → LogsBefore bytes at form log f
+      before-fault (Damaged bad) bytes r begins = (r.0, begins.0, begins.1 ∙ r.1)
+      before-fault NoSuchCommand bytes r begins = (r.0, inr begins.0)
+      before-fault NotAStore bytes r begins = (r.0, inr begins.0)
+      before-fault Input bytes r begins = (r.0, inr begins.0)
+      before-fault OutOfMemory bytes r begins = (r.0, inr begins.0)
+      before-fault Output bytes r begins = absurd r.0
 
   module _ (written : Option (List ℕ)) (piece : List ℕ) (command : Command) where
     abbrev entry : List ℕ

@@ -3,17 +3,19 @@ pub use Rattle.conf_disk.proofs.Moments.{LeavesOnly-weaker}
 pub use Rattle.conf_disk.specs.Folder.{File, Folder}
 pub use Rattle.conf_disk.specs.Models.{DiskModel}
 pub use Rattle.conf_journal.specs.Store.{IsStoreOf, LeavesStoreOr, store_limit}
-pub use Rattle.conf_record.specs.Documents.{RecordsTear, records_bytes, IsRecord, IsBase, IsNoBase}
+pub use Rattle.conf_record.specs.Documents.{RecordsTear, records_bytes, IsRecord, IsBase, IsNoBase, IsNoRecord}
 pub use Rattle.conf_state.proofs.LineLemmas.{ascii}
 pub use Rattle.conf_state.proofs.RunLaws.{after-count, step-one}
 pub use Rattle.conf_state.specs.Commands.{Command, command_of, edit_of, text_of}
 pub use Rattle.conf_state.specs.Limits.{IsState}
 pub use Rattle.conf_state.specs.States.{Contents}
 pub use Rattle.conf_state.specs.declared.room.Room.TheVariants.{Enough}
-pub use Rattle.conf_store.proofs.MeaningLemmas.{after-prefix, journal-left, records-joined, after-joined}
+pub use Rattle.conf_store.proofs.HoleLemmas.{zero-no-record}
+pub use Rattle.conf_store.proofs.MeaningLemmas.{no-others, after-prefix, journal-left, records-joined, after-joined}
 pub use Rattle.conf_store.proofs.MeaningLemmas.{after-done}
 pub use Rattle.conf_store.proofs.PieceLemmas.{no_closing, pieces-joined}
 pub use Rattle.conf_store.proofs.RecoveryLemmas.{cut-apart, first-closes, first-no-base, no-closing-no-base}
+pub use Rattle.conf_store.specs.Holes.{HoldsRecord, IsAnyRecord, IsKept}
 pub use Rattle.conf_store.specs.Meaning.{AreRecords, FileMeans, PiecesMean, Means}
 pub use Rattle.conf_store.specs.NextRecords.{RefusesRecord}
 pub use Rattle.conf_store.specs.Opens.{RecoversTo, RefusesBytes}
@@ -34,3 +36,4 @@ pub use Rattle.yaml_docs.specs.PieceReading.{FindsTooLong, FindsInputLong, input
 pub use Rattle.yaml_grammar.specs.Closings.{ClosesAt, ClosesOnce, Pieces}
 pub use Rattle.yaml_grammar.specs.Style.{in_double_quotes}
 pub use Rattle.yaml_recognizers.specs.Closings.{SomePieces}
+pub use Rattle.yaml_recognizers.specs.Zeroed.{NoZeroByte, no_zero, StartsWithHole}

@@ -1,15 +1,24 @@
 -- A walk up to a number: how it goes on, and each way in which it ends.
 use Rattle.std.proofs.Common.{◌≡◌, ◌≢◌, inl, inr, refl, sym, ◌∙◌, ap, subst, arith, ◌<◌, ◌≤◌, length-append}
 use Rattle.std.specs.Prelude.{ℕ, ◌+◌, ◌-◌, true, List, [], ◌∷◌, ◌++◌, length, Option, Some, None, Ok, IfSome}
-use Rattle.conf_history.proofs.Prelude.{concat, ClosesOnce, Enough, SomePieces, Command, Contents, IsState, ahead, piece_or_rest}
+use Rattle.conf_history.proofs.Prelude.{Means, NoZeroByte, concat, ClosesOnce, Enough, SomePieces, Command, Contents, IsState, ahead, piece_or_rest}
 use Rattle.conf_history.proofs.Prelude.{step-one, store_limit}
 use Rattle.yaml_docs.specs.declared.pieces.Pieces.{Pieces as Reading}
 use Rattle.conf_history.specs.Histories.{HoldsAt, IsBadAt, ReadsState, RefusesReading, RefusesSurvey}
+use Rattle.conf_history.specs.Following.{Follow}
+use Rattle.conf_history.specs.declared.following.{BadKind.TheVariants.Torn, BadKind.TheVariants.Unexpected, Following.Following}
+use Rattle.conf_history.specs.declared.place.BadPiece.{BadPiece}
+use Rattle.conf_history.specs.Walks.{ComesAfter, Ends, Fails, end_at_bad}
+use Rattle.conf_history.specs.declared.following.BadKind.{BadKind}
+use Rattle.conf_history.specs.Histories.{IsOfKind}
+use Rattle.std.specs.Prelude.{IfErr, false}
+use Rattle.conf_history.proofs.Prelude.{IsNoRecord, zero-no-record}
 use Rattle.conf_history.specs.Walks.{AfterGoing, Goes, HasEnded, IsAtEndOf, IsAtPiece, IsBetween, IsOn, LacksPiece, Performs, RefusesPiece}
 use Rattle.conf_history.specs.Walks.{RefusesStart, Stops, Walked}
 use Rattle.conf_history.specs.declared.fault.HistoryFault.{HistoryFault}
 use Rattle.conf_history.specs.declared.fault.HistoryFault.TheVariants.{Input, Output, NotAStore, Damaged, NoSuchCommand, OutOfMemory}
-use Rattle.conf_history.proofs.WalkLemmas.{any-bytes, some-map, bad-at, concat-last, closed-some, end-means, end-read, between-read}
+use Rattle.conf_history.proofs.WalkLemmas.{bad-followed, torn-followed, torn-means}
+use Rattle.conf_history.proofs.WalkLemmas.{any-bytes, some-map, concat-last, closed-some, end-means, end-read, between-read}
 use Rattle.conf_history.proofs.WalkLemmas.{performs-on, up-to}
 
 -- a number that is not passed and not reached, if there is one, is greater
@@ -65,6 +74,19 @@ goes-further given mid left old new pieces piece start commands others b closes 
       closed-some piece closes,
     )
 
+-- what follows can't be had
+pub fails-lacking : (given : Option (List ℕ)) (at : Option ℕ) (pieces : List (List ℕ)) (f : HistoryFault)
+    → IfSome given (λ bytes. RefusesSurvey bytes f) → Fails at given pieces f
+fails-lacking given at pieces f = some-map given _ (λ bytes. RefusesReading bytes at f × ComesAfter pieces f) (lacking f)
+  where
+    lacking : (f : HistoryFault) (bytes : List ℕ) → RefusesSurvey bytes f → RefusesReading bytes at f × ComesAfter pieces f
+    lacking NotAStore bytes r = (r, tt)
+    lacking Input bytes r = (tt, tt)
+    lacking OutOfMemory bytes r = (tt, tt)
+    lacking Output bytes r = absurd r
+    lacking (Damaged bad) bytes r = absurd r
+    lacking NoSuchCommand bytes r = absurd r
+
 module _ (at : Option ℕ) (given left : Option (List ℕ)) (walk : Walked) (pieces : List (List ℕ)) (start : Contents)
     (commands : List Command) where
   -- the next piece can't be had
@@ -118,32 +140,37 @@ module _ (at : Option ℕ) (given left : Option (List ℕ)) (walk : Walked) (pie
 
   -- ---- what it means that the walk has ended, or stopped
 
-  pub reads-stop : SomePieces → (f : HistoryFault) → Stops at given left walk pieces start commands f
-      → IfSome given (λ bytes. RefusesReading bytes at f)
-  reads-stop some (Damaged bad) s =
-      some-map given (λ bytes. (following : ℕ) × IsBadAt bytes walk.state bad following)
-      (λ bytes. RefusesReading bytes at (Damaged bad)) (λ bytes b. (walk.state, b.0, b.1, s.2))
-      (bad-at given left walk pieces start commands s.0 some bad s.1)
-  reads-stop some NoSuchCommand s =
-      subst (λ a. IfSome given (λ bytes. RefusesReading bytes a NoSuchCommand)) (sym s.1)
-      (some-map given _ (λ bytes. RefusesReading bytes (Some s.0) NoSuchCommand)
-      (λ bytes m. inr (walk.state, m, s.2)) (end-means given left walk pieces start commands s.3))
-  reads-stop some NotAStore s = s
-  reads-stop some Input s = s
-  reads-stop some Output s = s
-  reads-stop some OutOfMemory s = s
+  -- a walk that has stopped, and not at a bad piece
+  pub fails-stop : (f : HistoryFault) → ((bad : BadPiece) → f ≡ Damaged bad → ⊥) → Stops at given left walk pieces start commands f
+      → Fails at given pieces f
+  fails-stop (Damaged bad) other s = absurd (other bad refl)
+  fails-stop NoSuchCommand other s =
+      subst (λ a. Fails a given pieces NoSuchCommand) (sym s.1)
+      (some-map given _ (λ bytes. RefusesReading bytes (Some s.0) NoSuchCommand × ComesAfter pieces NoSuchCommand)
+      (λ bytes m. (inr (walk.state, m, s.2), tt)) (end-means given left walk pieces start commands s.3))
+  fails-stop NotAStore other s = fails-lacking given at pieces NotAStore s
+  fails-stop Input other s = fails-lacking given at pieces Input s
+  fails-stop Output other s = fails-lacking given at pieces Output s
+  fails-stop OutOfMemory other s = fails-lacking given at pieces OutOfMemory s
 
   -- the state
-  pub reads-state : SomePieces → HasEnded at given left walk pieces start commands → IsState walk.state
+  pub reads-state : SomePieces → Ends at given left walk pieces start commands → IsState walk.state
       → ReadsState given left at walk.state
-  reads-state some (inl (is, b)) kept = record {
+  reads-state some (inr (none, t)) kept = record {
+    holds = subst (λ a. IfSome given (λ bytes. HoldsAt bytes a walk.state)) (sym none)
+        (torn-means given left walk.state pieces start commands t);
+    kept = kept;
+    read = (t.bytes, t.taken, t.short);
+    whole = λ none. t.at_end;
+  }
+  reads-state some (inl (inl (is, b))) kept = record {
     holds = subst (λ a. IfSome given (λ bytes. HoldsAt bytes a walk.state)) (sym is)
         (up-to given left walk pieces start commands some b walk.state.count refl);
     kept = kept;
     read = between-read given left walk pieces start commands b;
     whole = λ none. (let both : Some walk.state.count ≡ None = sym is ∙ none in absurd (cc both));
   }
-  reads-state some (inr (none, e)) kept = record {
+  reads-state some (inl (inr (none, e))) kept = record {
     holds = subst (λ a. IfSome given (λ bytes. HoldsAt bytes a walk.state)) (sym none)
         (end-means given left walk pieces start commands e);
     kept = kept;
@@ -151,9 +178,58 @@ module _ (at : Option ℕ) (given left : Option (List ℕ)) (walk : Walked) (pie
     whole = λ none. e.at_end;
   }
 
+-- why not all can be read
+pub fails-reading : (given : Option (List ℕ)) (at : Option ℕ) (pieces : List (List ℕ)) (f : HistoryFault) → Fails at given pieces f
+    → IfSome given (λ bytes. RefusesReading bytes at f)
+fails-reading given at pieces f = some-map given (λ bytes. RefusesReading bytes at f × ComesAfter pieces f) _ (λ bytes r. r.0)
+
 -- without a number, at the end of the file
 pub ended-whole : (given left : Option (List ℕ)) (walk : Walked) (pieces : List (List ℕ)) (start : Contents)
     (commands : List Command) → HasEnded None given left walk pieces start commands
     → IsAtEndOf given left walk pieces start commands
 ended-whole given left walk pieces start commands (inl (is, b)) = absurd (cc is)
 ended-whole given left walk pieces start commands (inr (none, e)) = e
+
+-- ---- a bad piece, and what follows it
+
+module _ (at : Option ℕ) (given mid left : Option (List ℕ)) (walk : Walked) (pieces : List (List ℕ)) (start : Contents)
+    (commands : List Command) (bad : BadPiece) (stops : Stops at given mid walk pieces start commands (Damaged bad))
+    (now : Reading) (following : Following)
+    (f : Follow given left (concat pieces ++ piece_or_rest walk.pieces) (piece_or_rest walk.pieces) now following) where
+  -- no crash left it
+  pub fails-bad : following.kind ≡ Unexpected → Fails at given pieces (Damaged bad)
+  fails-bad is =
+      some-map given (λ bytes. (n : ℕ) × IsBadAt bytes walk.state bad n)
+      (λ bytes. RefusesReading bytes at (Damaged bad) × ComesAfter pieces (Damaged bad))
+      (λ bytes b. ((walk.state, b.0, b.1, stops.2), stops.0.read.place.number ∙ stops.1.number))
+      (bad-followed given mid left walk pieces start commands stops.0 now following f is bad stops.1)
+
+  -- a crash may have left it, and the number is not reached
+  pub fails-torn : NoZeroByte → following.kind ≡ Torn → (number : ℕ) → at ≡ Some number → Fails at given pieces NoSuchCommand
+  fails-torn law is number asked =
+      subst (λ a. Fails a given pieces NoSuchCommand) (sym asked)
+      (some-map given (λ bytes. Means bytes walk.state)
+      (λ bytes. RefusesReading bytes (Some number) NoSuchCommand × ComesAfter pieces NoSuchCommand)
+      (λ bytes m. (inr (walk.state, m, subst (λ a. IfSome a (λ number. walk.state.count < number)) asked stops.2), tt))
+      (torn-means given left walk.state pieces start commands
+      (torn-followed given mid left walk pieces start commands stops.0 now following f law is)))
+
+  -- what is found there
+  pub fails-at : NoZeroByte → (kind : BadKind) → following.kind ≡ kind → (asked : Option ℕ) → at ≡ asked
+      → IfErr (end_at_bad bad kind asked) (Fails at given pieces)
+  fails-at law Unexpected is asked same = fails-bad is
+  fails-at law Torn is (Some number) same = fails-torn law is number same
+  fails-at law Torn is None same = tt
+
+  pub torn-at : (kind : BadKind) → following.kind ≡ kind → (asked : Option ℕ) → at ≡ asked → end_at_bad bad kind asked ≡ Ok false
+      → (at ≡ None) × (following.kind ≡ Torn)
+  torn-at Unexpected is asked same e = absurd (cc e)
+  torn-at Torn is (Some number) same e = absurd (cc e)
+  torn-at Torn is None same e = (same, is)
+
+  -- the piece is no record
+  pub torn-none : NoZeroByte → following.kind ≡ Torn → IsNoRecord (piece_or_rest walk.pieces)
+  torn-none law is =
+      let kind : IsOfKind Torn (piece_or_rest walk.pieces) f.further =
+      subst (λ kind. IsOfKind kind (piece_or_rest walk.pieces) f.further) is f.kind in
+      zero-no-record law (piece_or_rest walk.pieces) kind.0

@@ -1,16 +1,20 @@
 -- A survey: what was gone past after a bad piece, and what was found.
 use Rattle.std.proofs.Common.{◌≡◌, inl, inr, refl, sym, ◌∙◌, ap, subst, arith, ◌<◌, ◌≤◌, append_assoc, length-append, length-take}
-use Rattle.std.specs.Prelude.{ℕ, ◌+◌, ◌-◌, suc, List, [], ◌∷◌, ◌++◌, length, drop, Option, Some, None, IfSome}
+use Rattle.std.proofs.lemmas.List.Elements.{Contains-append_left, Contains-append_right}
+use Rattle.conf_history.proofs.Prelude.{IsAnyRecord, IsKept, IsNoRecord, no_zero}
+use Rattle.conf_history.specs.Following.{following_of}
+use Rattle.std.specs.Prelude.{Bool, true, false, ℕ, ◌+◌, ◌-◌, suc, List, [], ◌∷◌, ◌++◌, length, drop, Option, Some, None, IfSome}
 use Rattle.conf_history.proofs.Prelude.{All, concat, Consumes, Consumes-nil, Consumes-trans, Consumes-whole, append-nil, concat-append}
 use Rattle.conf_history.proofs.Prelude.{All-nil, All-cons, All-append, All-push, ClosesOnce, Advances, AdvancesToPiece, IsSound, ahead}
 use Rattle.conf_history.proofs.Prelude.{bytes_read, piece_or_rest, store_limit, Command, Contents, IsState, after-count, AreRecords}
 use Rattle.yaml_docs.specs.declared.pieces.Pieces.{Pieces as Reading}
-use Rattle.conf_history.specs.{BadPieces.IsBadPiece, Counting.CountsPieces, declared.place.BadPiece.BadPiece}
+use Rattle.conf_history.specs.{Following.Follow, Histories.IsOfKind, declared.place.BadPiece.BadPiece}
+use Rattle.conf_history.specs.declared.following.{BadKind.TheVariants.Torn, BadKind.TheVariants.Unexpected, Following.Following}
 use Rattle.conf_history.specs.{declared.fault.HistoryFault.HistoryFault, declared.survey.Bad.Bad, declared.survey.Findings.Findings}
 use Rattle.conf_history.specs.Histories.{IsSurvey, ReadsSurvey, RefusesSurvey}
 use Rattle.conf_history.specs.Walks.{IsAtPiece, IsAtEndOf, IsBadHere, ArePerformed, RefusesStart, Stops, Walked}
 use Rattle.conf_history.specs.declared.fault.HistoryFault.TheVariants.{Input, Output, NotAStore, Damaged, NoSuchCommand, OutOfMemory}
-use Rattle.conf_history.proofs.WalkLemmas.{moved, closed-some, some-map}
+use Rattle.conf_history.proofs.WalkLemmas.{moved, closed-some, some-map, all-read, cut-followed, bad-is}
 
 -- ---- going past pieces
 
@@ -97,6 +101,55 @@ module _ (given mid left : Option (List ℕ)) (old now new : Reading) (count : �
         length-append (piece_or_rest new) (ahead new),
       )
 
+-- ---- whether a crash may have left a bad piece, by what follows so far
+
+-- it has no zero, or a record follows; or it has one, and none does
+abbrev pub IsKnown : Bool → List ℕ → List (List ℕ) → Type 0
+IsKnown true bad further = IsOfKind Unexpected bad further
+IsKnown false bad further = IsOfKind Torn bad further
+
+known-first : (bad : List ℕ) (is_kept : Bool) → no_zero bad ≡ is_kept → IsKnown is_kept bad []
+known-first bad true is = inl is
+known-first bad false is = (is, All-nil IsNoRecord)
+
+kept-more : (bad : List ℕ) (further : List (List ℕ)) (piece : List ℕ) → IsKept bad further → IsKept bad (further ++ piece ∷ [])
+kept-more bad further piece (inl clean) = inl clean
+kept-more bad further piece (inr held) = inr (held.0, Contains-append_left further (piece ∷ []) held.0 held.1, held.2)
+
+known-more : (bad : List ℕ) (further : List (List ℕ)) (piece : List ℕ) (found : Bool) → IsKnown false bad further
+    → (found ≡ true → IsAnyRecord piece) → (found ≡ false → IsNoRecord piece) → IsKnown found bad (further ++ piece ∷ [])
+known-more bad further piece true known some none =
+    inr (piece, Contains-append_right further (piece ∷ []) piece (0, omega arith, refl), some refl)
+known-more bad further piece false known some none = (known.0, All-push IsNoRecord further piece known.1 (none refl))
+
+-- before any was gone past
+pub known-none : (given : Option (List ℕ)) (old : Reading) (sound : IsSound store_limit store_limit old) (bad : List ℕ)
+    (is_kept : Bool) → no_zero bad ≡ is_kept → IsKnown is_kept bad (counts-none given old sound).further
+unfolding counts-none
+known-none given old sound = known-first
+
+-- one more, which was looked at where nothing was known
+known-next : (bad : List ℕ) (further : List (List ℕ)) (piece : List ℕ) (old new : Bool) → IsKnown old bad further
+    → (old ≡ true → new ≡ true) → (old ≡ false → new ≡ true → IsAnyRecord piece) → (old ≡ false → new ≡ false → IsNoRecord piece)
+    → IsKnown new bad (further ++ piece ∷ [])
+known-next bad further piece true new known still some none =
+    subst (λ b. IsKnown b bad (further ++ piece ∷ [])) (sym (still refl)) (kept-more bad further piece known)
+known-next bad further piece false new known still some none = known-more bad further piece new known (some refl) (none refl)
+
+-- the same of what was gone past
+pub known-counted : (given mid left : Option (List ℕ)) (old now new : Reading) (count : ℕ) (s : CountsSoFar given mid old now count)
+    (a : AdvancesToPiece store_limit store_limit mid left now new) (bad : List ℕ) (was is : Bool) → IsKnown was bad s.further
+    → (was ≡ true → is ≡ true) → (was ≡ false → is ≡ true → IsAnyRecord (piece_or_rest new))
+    → (was ≡ false → is ≡ false → IsNoRecord (piece_or_rest new))
+    → IsKnown is bad (counts-more given mid left old now new count s a).further
+unfolding counts-more
+known-counted given mid left old now new count s a bad = known-next bad s.further (piece_or_rest new)
+
+pub kind-known : (bad : List ℕ) (further : List (List ℕ)) (pieces : ℕ) (is_kept : Bool) → IsKnown is_kept bad further
+    → IsOfKind (following_of pieces is_kept).kind bad further
+kind-known bad further pieces true known = known
+kind-known bad further pieces false known = known
+
 -- a piece that the walk is at was read too
 pub past-piece : (given left : Option (List ℕ)) (walk : Walked) (pieces : List (List ℕ)) (start : Contents)
     (commands : List Command) → IsAtPiece given left walk pieces start commands
@@ -170,48 +223,36 @@ module _ (given left : Option (List ℕ)) (walk : Walked) (pieces : List (List �
   -- a file with a bad piece
   pub surveyed-bad : (mid : Option (List ℕ)) (now : Reading) (bad : Bad)
       → IsAtPiece given mid walk pieces start commands → IsBadHere walk bad.piece
-      → CountsPieces given left (concat pieces ++ piece_or_rest walk.pieces) now bad.following → (base count : ℕ)
+      → (following : Following) → following ≡ record { pieces = bad.following; kind = bad.kind }
+      → Follow given left (concat pieces ++ piece_or_rest walk.pieces) (piece_or_rest walk.pieces) now following → (base count : ℕ)
       → base ≡ start.count → count ≡ walk.state.count → IsState walk.state → (findings : Findings)
       → findings ≡ record { base = base; commands = count - base; dropped = length (piece_or_rest now); bad = Some bad }
       → ReadsSurvey given left walk.state findings
-  surveyed-bad mid now bad p here c base count is all kept findings found =
+  surveyed-bad mid now bad p here following same f base count is all kept findings found =
       let piece = piece_or_rest walk.pieces in
-      let rest = piece_or_rest now in
-      let bytes = (concat pieces ++ piece) ++ (concat c.further ++ rest) in
       let read = p.read in
-      let joined : bytes ≡ concat (pieces ++ piece ∷ c.further) ++ rest =
-      append_assoc (concat pieces) piece (concat c.further ++ rest)
-      ∙ ap (λ l. concat pieces ++ l) (sym (append_assoc piece (concat c.further) rest))
-      ∙ sym (append_assoc (concat pieces) (piece ++ concat c.further) rest)
-      ∙ ap (λ l. l ++ rest) (sym (concat-append pieces (piece ∷ c.further))) in
-      let is_bad : IsBadPiece pieces piece walk.state bad.piece = record {
-        number = read.place.number ∙ here.number;
-        byte = read.place.byte ∙ here.byte;
-        line = ap (λ n. n + 1) read.place.feeds ∙ here.line;
-        why = here.why;
-      } in
+      let bytes = all-read given mid left walk pieces start commands p now following f in
       record {
-        holds = Consumes-whole given left bytes (λ bytes. IsSurvey bytes walk.state findings) c.taken c.at_end
+        holds = Consumes-whole given left bytes (λ bytes. IsSurvey bytes walk.state findings) f.taken f.at_end
             (subst (IsSurvey bytes walk.state) (sym found) (record {
-              short = c.short;
+              short = f.short;
               pieces = pieces;
-              unread = piece ∷ c.further;
-              rest = rest;
-              cut = record {
-                joined = joined;
-                closed = All-append ClosesOnce pieces (piece ∷ c.further) read.performed.closed
-                    (All-cons ClosesOnce piece c.further p.piece c.closed);
-                unclosed = c.unclosed;
-              };
+              unread = piece ∷ f.further;
+              rest = piece_or_rest now;
+              cut = cut-followed given mid left walk pieces start commands p now following f;
               mean = read.performed.mean;
               base = base-count pieces start commands walk.state read.performed base is;
               commands = counted-records pieces start commands walk.state read.performed base is ∙ ap (λ n. suc (n - base)) (sym all);
               dropped = refl;
-              bad = (is_bad, c.counted);
+              bad = (
+                bad-is given mid left walk pieces start commands p now following f bad.piece here,
+                f.counted ∙ ap (λ (f : Following). f.pieces) same,
+                subst (λ kind. IsOfKind kind piece f.further) (ap (λ (f : Following). f.kind) same) f.kind,
+              );
             }));
         kept = kept;
-        at_end = c.at_end;
-        read = (bytes, c.taken, c.short);
+        at_end = f.at_end;
+        read = (bytes, f.taken, f.short);
       }
 
 -- a file whose base is not refused for a number

@@ -6,11 +6,14 @@ use Rattle.conf_history.proofs.Prelude.{All, concat, Consumes, Consumes-trans, C
 use Rattle.conf_history.proofs.Prelude.{All-push, ClosesOnce, Pieces, SomePieces, Advances, AdvancesToPiece, AdvancesToEnd, FindsTooLong}
 use Rattle.conf_history.proofs.Prelude.{FindsInputLong, IsSound, ahead, bytes_read, input_limit, piece_limit, piece_or_rest, store_limit}
 use Rattle.conf_history.proofs.Prelude.{Command, Contents, after-count, IsBase, IsNoBase, AreRecords, Means, RefusesRecord, RecordFault}
-use Rattle.conf_history.proofs.Prelude.{pieces-joined, no_closing, records-joined, after-joined, after-done}
+use Rattle.conf_history.proofs.Prelude.{pieces-joined, no_closing, no-others, records-joined, after-joined, after-done, zero-no-record}
+use Rattle.conf_history.proofs.Prelude.{All-append, IsNoRecord, NoZeroByte}
 use Rattle.std.proofs.lemmas.List.Sums.{sum_by-append, count_by-le-length}
 use Rattle.yaml_chars.specs.Signs.{line_feed}
 use Rattle.yaml_docs.specs.declared.pieces.Pieces.{Pieces as Reading}
 use Rattle.yaml_docs.specs.declared.pieces.PiecesFault.{PiecesFault}
+use Rattle.conf_history.specs.{BadPieces.IsBadPiece, Following.Follow, Histories.IsOfKind, Walks.IsTornBehind}
+use Rattle.conf_history.specs.declared.following.{BadKind.TheVariants.Torn, BadKind.TheVariants.Unexpected, Following.Following}
 use Rattle.conf_history.specs.{BadPieces.line_feeds, declared.place.BadPiece.BadPiece, declared.place.Place.Place}
 use Rattle.conf_history.specs.Faults.{fault_here, fault_of_pieces}
 use Rattle.conf_history.specs.Histories.{MeansUpTo, IsBadAt, StartsAfter, IsNoStore, RefusesSurvey, ReadsAtMost}
@@ -325,31 +328,88 @@ module _ (given left : Option (List ℕ)) (old : Walked) (pieces : List (List �
         };
       }
 
-  -- a piece that is none is the first bad one
-  pub bad-at : SomePieces → (bad : BadPiece) → IsBadHere old bad
-      → IfSome given (λ bytes. (following : ℕ) × IsBadAt bytes old.state bad following)
-  bad-at some bad here =
-      let piece = piece_or_rest old.pieces in
-      known given left (concat pieces ++ (piece ++ ahead old.pieces)) _ at.read.taken
-      (λ after.
-      (let all = begins-with-piece some pieces piece (ahead old.pieces) after at.read.performed.closed at.piece in (
-        length all.0,
+-- ---- a bad piece, and what follows it
+
+module _ (given mid left : Option (List ℕ)) (walk : Walked) (pieces : List (List ℕ)) (start : Contents)
+    (commands : List Command) (at : IsAtPiece given mid walk pieces start commands) (now : Reading) (following : Following)
+    (f : Follow given left (concat pieces ++ piece_or_rest walk.pieces) (piece_or_rest walk.pieces) now following) where
+  abbrev bad-piece : List ℕ
+  bad-piece = piece_or_rest walk.pieces
+
+  abbrev pub all-read : List ℕ
+  all-read = (concat pieces ++ bad-piece) ++ (concat f.further ++ piece_or_rest now)
+
+  pub cut-followed : Pieces all-read (pieces ++ bad-piece ∷ f.further) (piece_or_rest now)
+  cut-followed =
+      let rest = piece_or_rest now in
+      record {
+        joined = append_assoc (concat pieces) bad-piece (concat f.further ++ rest)
+            ∙ ap (λ l. concat pieces ++ l) (sym (append_assoc bad-piece (concat f.further) rest))
+            ∙ sym (append_assoc (concat pieces) (bad-piece ++ concat f.further) rest)
+            ∙ ap (λ l. l ++ rest) (sym (concat-append pieces (bad-piece ∷ f.further)));
+        closed = All-append ClosesOnce pieces (bad-piece ∷ f.further) at.read.performed.closed
+            (All-cons ClosesOnce bad-piece f.further at.piece f.closed);
+        unclosed = f.unclosed;
+      }
+
+  pub bad-is : (bad : BadPiece) → IsBadHere walk bad → IsBadPiece pieces bad-piece walk.state bad
+  bad-is bad here = record {
+    number = at.read.place.number ∙ here.number;
+    byte = at.read.place.byte ∙ here.byte;
+    line = ap (λ n. n + 1) at.read.place.feeds ∙ here.line;
+    why = here.why;
+  }
+
+  -- one that no crash left is the first bad one
+  pub bad-followed : following.kind ≡ Unexpected → (bad : BadPiece) → IsBadHere walk bad
+      → IfSome given (λ bytes. (n : ℕ) × IsBadAt bytes walk.state bad n)
+  bad-followed is bad here =
+      Consumes-whole given left all-read (λ bytes. (n : ℕ) × IsBadAt bytes walk.state bad n) f.taken f.at_end (
+        following.pieces,
         record {
           pieces = pieces;
-          piece = piece;
-          further = all.0;
-          rest = all.1;
-          cut = all.2;
+          piece = bad-piece;
+          further = f.further;
+          rest = piece_or_rest now;
+          cut = cut-followed;
           mean = at.read.performed.mean;
-          is_bad = record {
-            number = at.read.place.number ∙ here.number;
-            byte = at.read.place.byte ∙ here.byte;
-            line = ap (λ n. n + 1) at.read.place.feeds ∙ here.line;
-            why = here.why;
-          };
-          counted = refl;
+          is_bad = bad-is bad here;
+          kept = subst (λ kind. IsOfKind kind bad-piece f.further) is f.kind;
+          counted = f.counted;
         },
-      )))
+      )
+
+  -- before one that a crash may have left, the file means the state
+  pub torn-followed : NoZeroByte → following.kind ≡ Torn → IsTornBehind given left walk.state pieces start commands
+  torn-followed law is =
+      let kind : IsOfKind Torn bad-piece f.further = subst (λ kind. IsOfKind kind bad-piece f.further) is f.kind in
+      record {
+        bytes = all-read;
+        others = bad-piece ∷ f.further;
+        rest = piece_or_rest now;
+        taken = f.taken;
+        at_end = f.at_end;
+        short = f.short;
+        cut = cut-followed;
+        hole = kind.0;
+        lost = All-cons IsNoRecord bad-piece f.further (zero-no-record law bad-piece kind.0) kind.1;
+        performed = at.read.performed;
+      }
+
+pub torn-means : (given left : Option (List ℕ)) (s : Contents) (pieces : List (List ℕ)) (start : Contents) (commands : List Command)
+    → IsTornBehind given left s pieces start commands → IfSome given (λ bytes. Means bytes s)
+torn-means given left s pieces start commands t =
+    Consumes-whole given left t.bytes (λ bytes. Means bytes s) t.taken t.at_end
+    (record {
+      short = t.short;
+      pieces = pieces;
+      others = t.others;
+      rest = t.rest;
+      cut = t.cut;
+      mean = t.performed.mean;
+      hole = t.hole;
+      lost = t.lost;
+    })
 
 -- the fault of a piece that is not performed
 pub refuses-here : (walk : Walked) (f : RecordFault) → RefusesRecord (piece_or_rest walk.pieces) walk.state f
@@ -367,9 +427,13 @@ module _ (given left : Option (List ℕ)) (walk : Walked) (pieces : List (List �
       (record {
         short = e.short;
         pieces = pieces;
+        others = [];
         rest = piece_or_rest walk.pieces;
-        cut = record { joined = refl; closed = e.performed.closed; unclosed = e.unclosed };
+        cut = no-others (concat pieces ++ piece_or_rest walk.pieces) pieces (piece_or_rest walk.pieces)
+            (record { joined = refl; closed = e.performed.closed; unclosed = e.unclosed });
         mean = e.performed.mean;
+        hole = tt;
+        lost = All-nil IsNoRecord;
       })
 
   -- before the end, the bytes mean the state up to its count

@@ -1,18 +1,22 @@
 -- A store's base and records as they stand in its file, in a new store, and why there is none.
-use Rattle.std.specs.Prelude.{◌≡◌, ◌≢◌, ◌⊎◌, ℕ, List, Option, Some, None, Result, Ok, Err, IfSome}
+use Rattle.std.specs.Prelude.{◌≡◌, ◌≢◌, ◌⊎◌, ℕ, List, ◌++◌, Option, Some, None, Result, Ok, Err, IfSome}
 use Rattle.conf_history.specs.Prelude.{IsAtEnd, concat, Pieces, Folder, bytes_under, Image, IsImage, image_now}
 use Rattle.conf_history.specs.Prelude.{DiskModel, LeavesOnly, Store, IsStoreOf, store_limit, Contents, AllImagesMean}
-use Rattle.conf_history.specs.Prelude.{Means, PiecesMean}
+use Rattle.conf_history.specs.Prelude.{All, IsNoRecord, Means, PiecesMean, StartsWithHole}
 use Rattle.conf_history.specs.Histories.{ReadsAtMost, RefusesReading}
 use Rattle.conf_history.specs.declared.fault.SalvageFault.{SalvageFault}
 use Rattle.conf_history.specs.declared.fault.SalvageFault.TheVariants.{History, StoreExists, Device, OutOfMemory}
 
--- The bytes are a base and records, which mean `s`, and a rest that isn't closed. The copy is the base and the records.
+-- The bytes are a base and records, which mean `s`, other pieces that a crash may have left, and a rest that isn't
+-- closed. The copy is the base and the records.
 pub record CopiesPieces (bytes copy : List ℕ) (s : Contents) : Type 0 where
   pub pieces : List (List ℕ)
+  pub others : List (List ℕ)
   pub rest : List ℕ
-  pub cut : Pieces bytes pieces rest
+  pub cut : Pieces bytes (pieces ++ others) rest
   pub mean : PiecesMean pieces s
+  pub hole : StartsWithHole others
+  pub lost : All IsNoRecord others
   pub is : copy ≡ concat pieces
 
 -- The copy is that of the known bytes, and means the state that they mean. All that there are were read, at most

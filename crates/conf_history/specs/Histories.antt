@@ -1,9 +1,11 @@
 -- What the bytes of a store's file hold: at each command, and before a bad piece.
-use Rattle.std.specs.Prelude.{◌≡◌, ◌<◌, ◌≤◌, ◌⊎◌, ℕ, suc, List, [], ◌∷◌, ◌++◌, length, Option, Some, None, IfSome}
+use Rattle.std.specs.Prelude.{◌≡◌, ◌<◌, ◌≤◌, ◌⊎◌, ℕ, suc, false, List, [], ◌∷◌, ◌++◌, length, Option, Some, None, IfSome}
 use Rattle.conf_history.specs.Prelude.{Consumes, IsAtEnd, Pieces, store_limit, Contents, IsState, IsBase, PiecesMean}
-use Rattle.conf_history.specs.Prelude.{Means, HasNoBase}
+use Rattle.conf_history.specs.Prelude.{All, Means, HasNoBase, IsKept, IsNoRecord, no_zero}
 use Rattle.conf_history.specs.{BadPieces.IsBadPiece, declared.place.BadPiece.BadPiece}
-use Rattle.conf_history.specs.{declared.fault.HistoryFault.HistoryFault, declared.survey.Bad.Bad}
+use Rattle.conf_history.specs.{declared.fault.HistoryFault.HistoryFault, declared.following.BadKind.BadKind}
+use Rattle.conf_history.specs.{declared.following.BadKind.TheVariants.Torn, declared.following.BadKind.TheVariants.Unexpected}
+use Rattle.conf_history.specs.declared.survey.Bad.{Bad}
 use Rattle.conf_history.specs.{declared.survey.Findings.Findings}
 use Rattle.conf_history.specs.declared.fault.HistoryFault.TheVariants.{Input, Output, NotAStore, Damaged, NoSuchCommand}
 use Rattle.conf_history.specs.declared.fault.HistoryFault.TheVariants.{OutOfMemory}
@@ -22,7 +24,7 @@ abbrev pub HoldsAt : List ℕ → Option ℕ → Contents → Type 0
 HoldsAt bytes None s = Means bytes s
 HoldsAt bytes (Some number) s = MeansUpTo bytes number s
 
--- The pieces before the first bad one mean `s`, and so many pieces follow it.
+-- The pieces before the first bad one mean `s`, and so many pieces follow it. No crash left it so.
 pub record IsBadAt (bytes : List ℕ) (s : Contents) (bad : BadPiece) (following : ℕ) : Type 0 where
   pub pieces : List (List ℕ)
   pub piece : List ℕ
@@ -31,6 +33,7 @@ pub record IsBadAt (bytes : List ℕ) (s : Contents) (bad : BadPiece) (following
   pub cut : Pieces bytes (pieces ++ piece ∷ further) rest
   pub mean : PiecesMean pieces s
   pub is_bad : IsBadPiece pieces piece s bad
+  pub kept : IsKept piece further
   pub counted : length further ≡ following
 
 -- The first piece is a base with a count above this number.
@@ -77,13 +80,18 @@ pub record ReadsState (given left : Option (List ℕ)) (at : Option ℕ) (s : Co
 
 -- ---- a survey
 
+-- Whether a crash may have left a bad piece, which these follow: it has a zero, and they are no records.
+abbrev pub IsOfKind : BadKind → List ℕ → List (List ℕ) → Type 0
+IsOfKind Torn piece further = (no_zero piece ≡ false) × All IsNoRecord further
+IsOfKind Unexpected piece further = IsKept piece further
+
 -- The pieces after these: none, or a bad one and others.
 abbrev pub AreUnread : List (List ℕ) → List (List ℕ) → Contents → Option Bad → Type 0
 AreUnread before [] s None = Unit {0}
 AreUnread before [] s (Some bad) = ⊥
 AreUnread before (piece ∷ further) s None = ⊥
 AreUnread before (piece ∷ further) s (Some bad) =
-    IsBadPiece before piece s bad.piece × (length further ≡ bad.following)
+    IsBadPiece before piece s bad.piece × (length further ≡ bad.following) × IsOfKind bad.kind piece further
 
 -- The bytes begin with a base and records, which mean `s`. What comes after these is as the findings say.
 pub record IsSurvey (bytes : List ℕ) (s : Contents) (findings : Findings) : Type 0 where

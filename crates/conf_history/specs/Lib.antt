@@ -2,7 +2,7 @@ pub mod Prelude
 pub mod BadPieces
 pub mod Beside
 pub mod Copies
-pub mod Counting
+pub mod Following
 pub mod Faults
 pub mod Histories
 pub mod Logs

@@ -1,7 +1,8 @@
--- The log of a store's file: a line for each command, with or without its values, or the records as they stand.
+-- The log of a store's file: a line for each command, without its values, with them, or with them but for what is hidden; or
+-- the records as they stand.
 use Rattle.std.specs.Prelude.{◌≡◌, ◌<◌, ◌⊎◌, ℕ, ◌+◌, List, [], ◌∷◌, ◌++◌, length, take, codes, decimal, encode_utf8_all, String}
 use Rattle.std.specs.Prelude.{string_bytes, Option, Some, None, IfSome}
-use Rattle.conf_history.specs.Prelude.{Appends, Keeps, Pieces, in_double_quotes, store_limit, Edit}
+use Rattle.conf_history.specs.Prelude.{All, IsNoRecord, StartsWithHole, Appends, Keeps, Pieces, in_double_quotes, store_limit, Edit}
 use Rattle.conf_history.specs.Prelude.{import_as, set_at, delete_at, Command, single, batch, Contents, PiecesMean}
 use Rattle.std.specs.declared.alloc.Global.{Global}
 use Rattle.yaml_grammar.specs.Trees.{Tree}
@@ -10,19 +11,23 @@ use Rattle.conf_history.specs.{declared.fault.HistoryFault.HistoryFault, declare
 use Rattle.conf_history.specs.{declared.log.LogForm.LogForm}
 use Rattle.conf_history.specs.Histories.{ReadsAtMost, RefusesReading}
 use Rattle.conf_history.specs.declared.fault.HistoryFault.TheVariants.{Output, Damaged, OutOfMemory}
-use Rattle.conf_history.specs.declared.line.LineForm.TheVariants.{Names, Values}
+use Rattle.conf_history.specs.declared.line.LineForm.TheVariants.{Names, Values, Hiding}
+use Rattle.json_pointer.specs.Pointers.{path_of}
+use Rattle.tree_hidden.specs.{Hidden.shown_at, Tokens.paths_of}
 use Rattle.conf_history.specs.declared.log.LogForm.TheVariants.{Lines, Records}
 
--- a space and the JSON text of an edit's value, where the line shows it
-abbrev pub value_words : LineForm → Tree → List ℕ
-value_words Names value = []
-value_words Values value = codes " " ++ json_text value
+-- a space and the JSON text of a value that an edit puts at the place of a pointer, where the line shows it; without what is
+-- hidden, if it hides anything
+abbrev pub value_words : LineForm → List ℕ → Tree → List ℕ
+value_words Names pointer value = []
+value_words Values pointer value = codes " " ++ json_text value
+value_words (Hiding paths) pointer value = codes " " ++ shown_at (path_of pointer) (paths_of paths.now) value
 
 -- a space and what an edit does
 abbrev pub edit_words : LineForm → Edit → List ℕ
-edit_words form (import_as name tree) = codes " import " ++ name ++ value_words form tree
+edit_words form (import_as name tree) = codes " import " ++ name ++ value_words form [] tree
 edit_words form (set_at name path value) =
-    codes " set " ++ name ++ codes " " ++ in_double_quotes path ++ value_words form value
+    codes " set " ++ name ++ codes " " ++ in_double_quotes path ++ value_words form path value
 edit_words form (delete_at name path) = codes " delete " ++ name ++ codes " " ++ in_double_quotes path
 
 -- what edits do, each after this mark, and the others after a `;`
@@ -71,9 +76,9 @@ pub record BeginsLog (bytes : List ℕ) (form : LogForm) (log : List ℕ) : Type
   pub mean : PiecesMean pieces s
   pub is : log ≡ log_of_pieces form mean.start.count pieces mean.commands
 
--- the number is reached, or no piece follows
+-- the number is reached, or no piece follows but those that a crash may have left
 abbrev pub IsUpTo : Option ℕ → Contents → List (List ℕ) → Type 0
-IsUpTo None s further = further ≡ []
+IsUpTo None s further = StartsWithHole further × All IsNoRecord further
 IsUpTo (Some number) s further = s.count ≡ number
 
 -- what is written for all records, or for those up to a number

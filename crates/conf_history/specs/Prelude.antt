@@ -5,7 +5,7 @@ pub use Rattle.conf_disk.specs.Models.{DiskModel}
 pub use Rattle.conf_disk.specs.Moments.{LeavesOnly}
 pub use Rattle.conf_disk.specs.declared.disk.Name.TheVariants.{Store}
 pub use Rattle.conf_journal.specs.Store.{store_limit, IsStoreOf, LeavesStoreOr}
-pub use Rattle.conf_record.specs.Documents.{record_pieces, records_bytes, IsBase, IsNoBase, IsRecord}
+pub use Rattle.conf_record.specs.Documents.{record_pieces, records_bytes, IsBase, IsNoBase, IsRecord, IsNoRecord}
 pub use Rattle.conf_state.specs.Commands.{Command, Edit, import_as, set_at, delete_at, single, batch, command_of}
 pub use Rattle.conf_state.specs.Commands.{edit_of, text_of}
 pub use Rattle.conf_state.specs.Limits.{IsState}
@@ -14,6 +14,7 @@ pub use Rattle.conf_state.specs.Steps.{after, step}
 pub use Rattle.conf_state.specs.declared.room.Room.TheVariants.{Enough}
 pub use Rattle.conf_store.specs.Calls.{HasFailed}
 pub use Rattle.conf_store.specs.Durable.{AfterPrefix, IsWholeStore, AllImagesMean}
+pub use Rattle.conf_store.specs.Holes.{IsAnyRecord, IsKept}
 pub use Rattle.conf_store.specs.Meaning.{AreRecords, Means, PiecesMean}
 pub use Rattle.conf_store.specs.NextRecords.{IsWhy, RefusesRecord}
 pub use Rattle.conf_store.specs.Opens.{HasNoBase, IsNextRecord, RecoversTo, RefusesBytes}
@@ -25,3 +26,4 @@ pub use Rattle.yaml_docs.specs.Cutting.{Unclosed}
 pub use Rattle.yaml_docs.specs.PieceReading.{piece_or_rest, IsSound, ahead, bytes_read}
 pub use Rattle.yaml_grammar.specs.Closings.{Pieces, ClosesOnce}
 pub use Rattle.yaml_grammar.specs.Style.{in_double_quotes}
+pub use Rattle.yaml_recognizers.specs.Zeroed.{no_zero, StartsWithHole}

@@ -3,12 +3,14 @@ use Rattle.std.specs.Prelude.{◌≡◌, ◌+◌, ◌≤◌, ◌<◌, ◌⊎◌,
 use Rattle.std.specs.Prelude.{None, Result, Ok, Err, IfSome}
 use Rattle.conf_history.specs.Prelude.{All, concat, Consumes, IsAtEnd, ClosesOnce, Unclosed, IsSound, ahead, bytes_read}
 use Rattle.conf_history.specs.Prelude.{piece_or_rest, store_limit, Command, Contents, step, Enough, IsBase, IsNoBase}
-use Rattle.conf_history.specs.Prelude.{IsRecord, PiecesMean, IsWhy}
+use Rattle.conf_history.specs.Prelude.{IsRecord, IsNoRecord, PiecesMean, IsWhy, StartsWithHole}
 use Rattle.yaml_docs.specs.declared.pieces.Pieces.{Pieces}
 use Rattle.conf_history.specs.{BadPieces.line_feeds, declared.place.BadPiece.BadPiece}
 use Rattle.conf_history.specs.{declared.fault.HistoryFault.HistoryFault, declared.place.Place.Place}
-use Rattle.conf_history.specs.{declared.walk.Walk.Walk}
-use Rattle.conf_history.specs.Histories.{IsNoStore, RefusesSurvey, StartsAfter}
+use Rattle.conf_history.specs.{declared.walk.Walk.Walk, declared.following.BadKind.BadKind}
+use Rattle.conf_history.specs.declared.following.BadKind.TheVariants.{Torn, Unexpected}
+use Rattle.conf_history.specs.Histories.{IsNoStore, RefusesReading, RefusesSurvey, StartsAfter}
+use Rattle.yaml_grammar.specs.Closings.{Pieces as Cut}
 use Rattle.conf_history.specs.declared.fault.HistoryFault.TheVariants.{Damaged, NoSuchCommand, OutOfMemory}
 
 -- the place is after these pieces
@@ -118,13 +120,49 @@ HasEnded at given left walk pieces start commands =
     ((at ≡ Some walk.state.count) × IsBetween given left walk pieces start commands)
     ⊎ ((at ≡ None) × IsAtEndOf given left walk pieces start commands)
 
+-- The file was read to its end. Behind the pieces come others, as a crash may have left them: the first has a zero, and
+-- none is a record. Then come bytes that are not closed.
+pub record IsTornBehind (given left : Option (List ℕ)) (s : Contents) (pieces : List (List ℕ)) (start : Contents)
+    (commands : List Command) : Type 0 where
+  pub bytes : List ℕ
+  pub others : List (List ℕ)
+  pub rest : List ℕ
+  pub taken : Consumes given left bytes
+  pub at_end : IsAtEnd left
+  pub short : length bytes ≤ store_limit
+  pub cut : Cut bytes (pieces ++ others) rest
+  pub hole : StartsWithHole others
+  pub lost : All IsNoRecord others
+  pub performed : ArePerformed pieces start commands s
+
+-- The walk has come to its end, or, without a number, to pieces that a crash may have left.
+abbrev pub Ends : Option ℕ → Option (List ℕ) → Option (List ℕ) → Walked → List (List ℕ) → Contents → List Command → Type 0
+Ends at given left walk pieces start commands =
+    HasEnded at given left walk pieces start commands
+    ⊎ ((at ≡ None) × IsTornBehind given left walk.state pieces start commands)
+
+-- the bad piece, if there is one, comes after these
+abbrev pub ComesAfter : List (List ℕ) → HistoryFault → Type 0
+ComesAfter pieces (Damaged bad) = length pieces ≡ bad.number
+ComesAfter pieces fault = Unit {0}
+
+-- why the records after these pieces, up to a number or to the end, are not all performed
+abbrev pub Fails : Option ℕ → Option (List ℕ) → List (List ℕ) → HistoryFault → Type 0
+Fails at given pieces fault = IfSome given (λ bytes. RefusesReading bytes at fault × ComesAfter pieces fault)
+
+-- what a walk up to a number, or to the end, finds at a bad piece of this kind
+abbrev pub end_at_bad : BadPiece → BadKind → Option ℕ → Result Bool HistoryFault
+end_at_bad bad Unexpected at = Err (Damaged bad)
+end_at_bad bad Torn (Some number) = Err NoSuchCommand
+end_at_bad bad Torn None = Ok false
+
 -- why a walk up to a number does not begin
 abbrev pub RefusesStart : Option ℕ → List ℕ → HistoryFault → Type 0
 RefusesStart at bytes fault =
     RefusesSurvey bytes fault
     ⊎ ((fault ≡ NoSuchCommand) × (number : ℕ) × (at ≡ Some number) × StartsAfter bytes number)
 
--- The one rule of where a state ends: why a walk does not come to its end. The piece that it is at is the first that is
+-- Why a walk does not come to its end. The piece that it is at is the first that is
 -- no next record, or the file was read and the number not reached, or the next piece can't be had.
 abbrev pub Stops : Option ℕ → Option (List ℕ) → Option (List ℕ) → Walked → List (List ℕ) → Contents → List Command
     → HistoryFault → Type 0

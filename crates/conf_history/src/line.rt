@@ -6,17 +6,21 @@ ghost use Rattle.conf_history.specs.Logs.{command_line, command_words, edit_word
 use conf_state::{Command, Edit};
 use itoa::Buffer;
 use std::alloc::{AllocError, Global};
+use tree_hidden::{Tokens, write_shown};
 use yaml_config::Config;
 use yaml_forms::write_json;
 use yaml_writer::{Sink, write_quoted};
 
 /// What a line says of each edit.
-#[derive(Clone, Copy, Debug, PartialEq, Eq)]
-pub enum LineForm {
+#[derive(Clone, Copy)]
+pub enum LineForm<'h> {
     /// What it does, the name of the configuration, and the place in it.
     Names,
     /// The same, and then the value of an import or a set as a JSON text (RFC 8259).
     Values,
+    /// The same, but what is at one of these paths of a configuration, or below it, is hidden: the word `hidden` stands
+    /// for it, as [`write_shown`] writes it.
+    Hiding(&'h [Tokens<'h>]),
 }
 
 /// The line of a command with a number.
@@ -24,100 +28,118 @@ pub(crate) fn record_line(
     alloc: Global,
     number: u64,
     command: &Command,
-    form: LineForm,
+    form: LineForm<'_>,
 ) -> Result<String, AllocError>
     ensures { IfOk result (λ line. string_bytes line
-        ≡ encode_utf8_all (command_line form number (command_of command.now))) }
+        ≡ encode_utf8_all (command_line form.entry number (command_of command.now))) }
 {
     let mut line = String::new(alloc);
-    write_line(number, command, form, &mut line)?;
+    write_line(alloc, number, command, form, &mut line)?;
     Ok(line)
 }
 
 /// Writes the line of a command with a number.
-fn write_line<S: Sink>(
+fn write_line<S: Sink<Fault = AllocError>>(
+    alloc: Global,
     number: u64,
     command: &Command,
-    form: LineForm,
+    form: LineForm<'_>,
     sink: &mut S,
-) -> Result<(), S::Fault>
+) -> Result<(), AllocError>
     ensures { OnOk result (S.Takes sink.old
-        (command_line form number (command_of command.now)) sink.new) }
+        (command_line form.entry number (command_of command.now)) sink.new) }
 {
     let mut digits = Buffer::new();
     sink.put_text(digits.format(number))?;
-    write_command(command, form, sink)?;
+    write_command(alloc, command, form, sink)?;
     sink.put_char('\n')
 }
 
 /// Writes a space and what a command does.
-fn write_command<S: Sink>(command: &Command, form: LineForm, sink: &mut S) -> Result<(), S::Fault>
+fn write_command<S: Sink<Fault = AllocError>>(
+    alloc: Global,
+    command: &Command,
+    form: LineForm<'_>,
+    sink: &mut S,
+) -> Result<(), AllocError>
     ensures { OnOk result (S.Takes sink.old
-        (command_words form (command_of command.now)) sink.new) }
+        (command_words form.entry (command_of command.now)) sink.new) }
 {
     match command {
-        Command::Import { name, tree } => write_import(name, tree, form, sink),
-        Command::Set { name, path, value } => write_set(name, path, value, form, sink),
+        Command::Import { name, tree } => write_import(alloc, name, tree, form, sink),
+        Command::Set { name, path, value } => write_set(alloc, name, path, value, form, sink),
         Command::Delete { name, path } => write_delete(name, path, sink),
-        Command::Batch { edits } => write_batch(edits, form, sink),
+        Command::Batch { edits } => write_batch(alloc, edits, form, sink),
     }
 }
 
 /// Writes the edits of a batch, with `;` between them.
-fn write_batch<S: Sink>(edits: &[Edit], form: LineForm, sink: &mut S) -> Result<(), S::Fault>
+fn write_batch<S: Sink<Fault = AllocError>>(
+    alloc: Global,
+    edits: &[Edit],
+    form: LineForm<'_>,
+    sink: &mut S,
+) -> Result<(), AllocError>
     ensures { OnOk result (S.Takes sink.old
-        (codes " batch" ++ edits_words form [] (map edit_of edits.now)) sink.new) }
+        (codes " batch" ++ edits_words form.entry [] (map edit_of edits.now)) sink.new) }
 {
     sink.put_text(" batch")?;
     let mut mark = "";
     for edit in edits {
         sink.put_text(mark)?;
-        write_edit(edit, form, sink)?;
+        write_edit(alloc, edit, form, sink)?;
         mark = ";";
     }
     Ok(())
 }
 
 /// Writes a space and what an edit does.
-fn write_edit<S: Sink>(edit: &Edit, form: LineForm, sink: &mut S) -> Result<(), S::Fault>
-    ensures { OnOk result (S.Takes sink.old (edit_words form (edit_of edit.now)) sink.new) }
+fn write_edit<S: Sink<Fault = AllocError>>(
+    alloc: Global,
+    edit: &Edit,
+    form: LineForm<'_>,
+    sink: &mut S,
+) -> Result<(), AllocError>
+    ensures { OnOk result (S.Takes sink.old (edit_words form.entry (edit_of edit.now)) sink.new) }
 {
     match edit {
-        Edit::Import { name, tree } => write_import(name, tree, form, sink),
-        Edit::Set { name, path, value } => write_set(name, path, value, form, sink),
+        Edit::Import { name, tree } => write_import(alloc, name, tree, form, sink),
+        Edit::Set { name, path, value } => write_set(alloc, name, path, value, form, sink),
         Edit::Delete { name, path } => write_delete(name, path, sink),
     }
 }
 
 /// Writes an import of a configuration.
-fn write_import<S: Sink>(
+fn write_import<S: Sink<Fault = AllocError>>(
+    alloc: Global,
     name: &str,
     tree: &Config,
-    form: LineForm,
+    form: LineForm<'_>,
     sink: &mut S,
-) -> Result<(), S::Fault>
+) -> Result<(), AllocError>
     ensures { OnOk result (S.Takes sink.old
-        (codes " import " ++ chars name.now ++ value_words form (tree_of tree.now)) sink.new) }
+        (codes " import " ++ chars name.now ++ value_words form.entry [] (tree_of tree.now)) sink.new) }
 {
     sink.put_text(" import ")?;
     sink.put_text(name)?;
-    write_value(tree, form, sink)
+    write_value(alloc, "", tree, form, sink)
 }
 
 /// Writes a set at a pointer.
-fn write_set<S: Sink>(
+fn write_set<S: Sink<Fault = AllocError>>(
+    alloc: Global,
     name: &str,
     path: &str,
     value: &Config,
-    form: LineForm,
+    form: LineForm<'_>,
     sink: &mut S,
-) -> Result<(), S::Fault>
+) -> Result<(), AllocError>
     ensures { OnOk result (S.Takes sink.old
         (codes " set " ++ chars name.now ++ codes " " ++ in_double_quotes (chars path.now)
-        ++ value_words form (tree_of value.now)) sink.new) }
+        ++ value_words form.entry (chars path.now) (tree_of value.now)) sink.new) }
 {
     write_at(" set ", name, path, sink)?;
-    write_value(value, form, sink)
+    write_value(alloc, path, value, form, sink)
 }
 
 /// Writes a delete at a pointer.
@@ -141,16 +163,26 @@ fn write_at<S: Sink>(word: &str, name: &str, path: &str, sink: &mut S) -> Result
     write_quoted(path, sink)
 }
 
-/// Writes a space and the JSON text of a value, where the line shows it.
-fn write_value<S: Sink>(value: &Config, form: LineForm, sink: &mut S) -> Result<(), S::Fault>
+/// Writes a space and the JSON text of a value, where the line shows it. The pointer leads to where the value is put.
+fn write_value<S: Sink<Fault = AllocError>>(
+    alloc: Global,
+    pointer: &str,
+    value: &Config,
+    form: LineForm<'_>,
+    sink: &mut S,
+) -> Result<(), AllocError>
     ensures { OnOk result (S.Takes sink.old
-        (value_words form (tree_of value.now)) sink.new) }
+        (value_words form.entry (chars pointer.now) (tree_of value.now)) sink.new) }
 {
     match form {
         LineForm::Names => Ok(()),
         LineForm::Values => {
             sink.put_char(' ')?;
             write_json(value.tree(), sink)
+        }
+        LineForm::Hiding(paths) => {
+            sink.put_char(' ')?;
+            write_shown(alloc, pointer, value.tree(), paths, sink)
         }
     }
 }

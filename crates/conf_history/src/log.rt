@@ -14,10 +14,10 @@ use std::io::{Read, Write};
 use yaml_recognizers::closings::one_list_of_pieces;
 
 /// How the commands of a file are written.
-#[derive(Clone, Copy, Debug, PartialEq, Eq)]
-pub enum LogForm {
+#[derive(Clone, Copy)]
+pub enum LogForm<'h> {
     /// A line for each: its number, what it does, the configuration and the place in it, and its values if asked for.
-    Lines(LineForm),
+    Lines(LineForm<'h>),
     /// The records as they stand in the file.
     Records,
 }
@@ -32,7 +32,8 @@ pub enum LogForm {
 /// delete the pointer in double quotes, as `2 set web "/port"`. A batch is one line: its number, the word `batch`, and
 /// its edits with `; ` between them, as `4 batch import web; set web "/port"`. With [`LineForm::Values`] each import
 /// and each set has a space and its value after it, as a JSON text (RFC 8259) without whitespace between its parts:
-/// `2 set web "/port" "81"`. With [`LogForm::Records`] the bytes of each record are written.
+/// `2 set web "/port" "81"`. With [`LineForm::Hiding`] the word `hidden` stands for what is at some paths, or below
+/// them, as `1 import web {"port":"80","key":hidden}`. With [`LogForm::Records`] the bytes of each record are written.
 ///
 /// # Errors
 /// Without a number, the commands before the fault are written, and at `Output` a part of the last one's text. With a
@@ -44,12 +45,12 @@ pub fn write_log<R: Read, W: Write>(
     alloc: Global,
     reader: &mut R,
     at: Option<u64>,
-    form: LogForm,
+    form: LogForm<'_>,
     writer: &mut W,
 ) -> Result<(), HistoryFault>
-    ensures ok { OnOk result (LogsAll at form (R.remaining reader.old) (R.remaining reader.new)
+    ensures ok { OnOk result (LogsAll at form.entry (R.remaining reader.old) (R.remaining reader.new)
         (W.contents writer.old) (W.contents writer.new)) }
-    ensures refused { IfErr result (FailsToLog at form (R.remaining reader.old)
+    ensures refused { IfErr result (FailsToLog at form.entry (R.remaining reader.old)
         (W.contents writer.old) (W.contents writer.new)) }
 {
     match at {
@@ -63,12 +64,12 @@ fn log_up_to<R: Read, W: Write>(
     alloc: Global,
     reader: &mut R,
     number: u64,
-    form: LogForm,
+    form: LogForm<'_>,
     writer: &mut W,
 ) -> Result<(), HistoryFault>
-    ensures ok { OnOk result (LogsAll (Some number) form (R.remaining reader.old) (R.remaining reader.new)
+    ensures ok { OnOk result (LogsAll (Some number) form.entry (R.remaining reader.old) (R.remaining reader.new)
         (W.contents writer.old) (W.contents writer.new)) }
-    ensures refused { IfErr result (FailsToLog (Some number) form (R.remaining reader.old)
+    ensures refused { IfErr result (FailsToLog (Some number) form.entry (R.remaining reader.old)
         (W.contents writer.old) (W.contents writer.new)) }
 {
     let mut held = Vec::new(alloc);
@@ -96,12 +97,12 @@ fn log_each<R: Read, W: Write>(
     alloc: Global,
     reader: &mut R,
     at: Option<u64>,
-    form: LogForm,
+    form: LogForm<'_>,
     writer: &mut W,
 ) -> Result<(), HistoryFault>
-    ensures ok { OnOk result (LogsAll at form (R.remaining reader.old) (R.remaining reader.new)
+    ensures ok { OnOk result (LogsAll at form.entry (R.remaining reader.old) (R.remaining reader.new)
         (W.contents writer.old) (W.contents writer.new)) }
-    ensures refused { IfErr result (StopsLog at form (R.remaining reader.old)
+    ensures refused { IfErr result (StopsLog at form.entry (R.remaining reader.old)
         (W.contents writer.old) (W.contents writer.new)) }
 {
     one_list_of_pieces();

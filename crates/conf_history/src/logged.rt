@@ -13,18 +13,18 @@ use std::alloc::{AllocError, Global};
 
 /// A part of a state that keeps what a log says of the last command.
 #[derive(Drop)]
-pub(crate) struct Logged {
+pub(crate) struct Logged<'h> {
     pub part: Part<Base>,
-    pub form: LogForm,
+    pub form: LogForm<'h>,
     /// The line of the last command, where lines are written.
     pub line: String,
 }
 
-impl Logged {
+impl<'h> Logged<'h> {
     /// A part of which no command is performed yet.
-    pub fn new(alloc: Global, part: Part<Base>, form: LogForm) -> Logged
+    pub fn new(alloc: Global, part: Part<Base>, form: LogForm<'h>) -> Logged<'h>
         ensures part { result.part ≡ part }
-        ensures form { result.form ≡ form }
+        ensures form { result.form ≡ form.entry }
     {
         Logged {
             part,
@@ -47,7 +47,7 @@ impl Logged {
 }
 
 // The line is made before the command is performed, which takes the command.
-impl Replayed for Logged {
+impl Replayed for Logged<'_> {
     ghost use Rattle.std.specs.Prelude.{◌≡◌};
     ghost use Rattle.conf_history.specs.Logs.{TellsEntry};
 
@@ -80,11 +80,11 @@ impl Replayed for Logged {
 /// The line of a command with a number, where lines are written.
 fn line_of(
     alloc: Global,
-    form: LogForm,
+    form: LogForm<'_>,
     number: u64,
     command: &Command,
 ) -> Result<String, AllocError>
-    ensures { IfOk result (λ line. TellsEntry form line number (command_of command.now)) }
+    ensures { IfOk result (λ line. TellsEntry form.entry line number (command_of command.now)) }
 {
     match form {
         LogForm::Lines(form) => record_line(alloc, number, command, form),

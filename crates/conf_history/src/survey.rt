@@ -1,12 +1,12 @@
 // What an opening of a store would find in its file.
-ghost use Rattle.std.specs.Prelude.{◌≡◌, ◌-◌, ◌≤◌, ◌++◌, ℕ, List, Option, IfOk, IfErr, IfSome, length};
-ghost use Rattle.conf_history.specs.Prelude.{Consumes, ahead, bytes_read, piece_or_rest, IsState, Contents};
+ghost use Rattle.std.specs.Prelude.{◌≡◌, ◌-◌, ◌≤◌, ℕ, List, Option, IfOk, IfErr, IfSome, length};
+ghost use Rattle.conf_history.specs.Prelude.{piece_or_rest, IsState, Contents};
 ghost use Rattle.conf_state.specs.Commands.{Command as Meant};
-ghost use Rattle.conf_history.specs.Counting.{AfterCount};
 ghost use Rattle.conf_history.specs.Histories.{ReadsSurvey, RefusesSurvey};
 ghost use Rattle.conf_history.specs.Walks.{HasLimits, IsAtPiece, IsBadHere, with_state};
 
-use crate::fault::{HistoryFault, fault_of_pieces};
+use crate::fault::HistoryFault;
+use crate::following::{BadKind, Following, look_behind};
 use crate::place::BadPiece;
 use crate::replayed::{BasePart, OfBase};
 use crate::walk::Walk;
@@ -14,14 +14,15 @@ use conf_state::State;
 use conf_store::OnRefusal;
 use std::alloc::Global;
 use std::io::Read;
-use yaml_docs::Pieces;
 
-/// The first bad piece of a file, and how many closed pieces follow it.
+/// The first bad piece of a file, and what follows it.
 #[derive(Clone, Copy, Debug, PartialEq, Eq)]
 pub struct Bad {
     pub piece: BadPiece,
-    /// The number of closed pieces after it. What they hold was not looked at.
+    /// The number of closed pieces after it.
     pub following: u64,
+    /// Whether a crash may have left it, with all that follows.
+    pub kind: BadKind,
 }
 
 /// What stands in a store's file.
@@ -33,7 +34,8 @@ pub struct Findings {
     pub commands: u64,
     /// The number of bytes after the last closing line, which an opening drops.
     pub dropped: u64,
-    /// The first piece that is not the next record; `None` if the file means a state.
+    /// The first piece that is not the next record, if there is one. An opening drops it, with all that follows, if a
+    /// crash may have left it, and is refused otherwise.
     pub bad: Option<Bad>,
 }
 
@@ -99,14 +101,14 @@ fn survey_pieces<R: Read, T: OfBase>(
     let base = held.accepted();
     'records: loop {
         let count = held.accepted();
-        match walk.next(alloc, reader, None, &mut held, OnRefusal::KeepState) {
+        match walk.step(alloc, reader, None, &mut held, OnRefusal::KeepState) {
             Ok(true) => {}
             Ok(false) => {
                 let findings = walk.findings(base, held.accepted(), None);
                 return Ok((held, findings));
             }
             Err(HistoryFault::Damaged(bad)) => {
-                let findings = walk.find_after(reader, base, count, bad)?;
+                let findings = walk.find_after(alloc, reader, base, count, bad)?;
                 return Ok((held, findings));
             }
             Err(fault) => return Err(fault),
@@ -115,13 +117,14 @@ fn survey_pieces<R: Read, T: OfBase>(
 }
 
 impl Walk {
-    /// Counts what follows a bad piece, at which the walk is, and returns what was found. The file's base has the count
+    /// Looks at what follows a bad piece, at which the walk is, and returns what was found. The file's base has the count
     /// `base`, and the state before the piece `count`.
     ///
     /// # Errors
     /// Those of [`Walk::advance`].
     fn find_after<R: Read>(
         &mut self,
+        alloc: Global,
         reader: &mut R,
         base: u64,
         count: u64,
@@ -140,8 +143,13 @@ impl Walk {
             → IsAtPiece given (R.remaining reader.old) (with_state self.old s) pieces start commands
             → IfErr result (λ fault. IfSome given (λ bytes. RefusesSurvey bytes fault)) }
     {
-        let following = count_pieces(&mut self.pieces, reader)?;
-        Ok(self.findings(base, count, Some(Bad { piece, following })))
+        let Following { pieces, kind } = look_behind(alloc, &mut self.pieces, reader)?;
+        let bad = Bad {
+            piece,
+            following: pieces,
+            kind,
+        };
+        Ok(self.findings(base, count, Some(bad)))
     }
 
     /// What was found in a file that was read to its end. Its base has the count `base`, and the state after the
@@ -160,27 +168,6 @@ impl Walk {
             commands: count - base,
             dropped: self.pieces.piece().len() as u64,
             bad,
-        }
-    }
-}
-
-/// Goes past all further pieces, and returns how many there are.
-///
-/// # Errors
-/// Those of [`Walk::advance`].
-fn count_pieces<R: Read>(pieces: &mut Pieces, reader: &mut R) -> Result<u64, HistoryFault>
-    requires { HasLimits pieces.old }
-    ensures { (given : Option (List ℕ)) (read : List ℕ)
-        → Consumes given (R.remaining reader.old) (read ++ ahead pieces.old)
-        → bytes_read pieces.old ≡ length (read ++ ahead pieces.old)
-        → AfterCount given (R.remaining reader.new) read pieces.new result }
-{
-    let mut count = 0;
-    'pieces: loop {
-        match pieces.advance(reader) {
-            Ok(true) => count += 1,
-            Ok(false) => return Ok(count),
-            Err(fault) => return Err(fault_of_pieces(fault)),
         }
     }
 }

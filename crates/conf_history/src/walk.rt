@@ -1,14 +1,15 @@
 // A walk over the pieces of a store's file.
 ghost use Rattle.std.specs.Prelude.{◌≡◌, ◌≢◌, ◌<◌, ◌≤◌, ◌+◌, ℕ, List, [], ◌∷◌, Option, Some, Ok, true, false};
 ghost use Rattle.std.specs.Prelude.{OnOk, OnErr, IfOk, IfErr, IfSome};
-ghost use Rattle.conf_history.specs.Prelude.{Contents, IsState, piece_or_rest};
+ghost use Rattle.conf_history.specs.Prelude.{Contents, IsNoRecord, IsState, piece_or_rest};
 ghost use Rattle.conf_state.specs.Commands.{Command as Meant};
 ghost use Rattle.conf_history.specs.Histories.{RefusesSurvey};
-ghost use Rattle.conf_history.specs.Walks.{AfterAdvance, AfterGoing, BeginsWith, Goes, HasEnded, HasLimits, HasRoom};
-ghost use Rattle.conf_history.specs.Walks.{IsBetween, IsOn, IsWalking, Performs, RefusesPiece, RefusesStart, Stops, with_state};
+ghost use Rattle.conf_history.specs.Walks.{AfterAdvance, AfterGoing, BeginsWith, Ends, Fails, Goes, HasEnded, HasLimits, HasRoom};
+ghost use Rattle.conf_history.specs.Walks.{IsBetween, IsOn, IsWalking, Performs, RefusesPiece, RefusesStart, Stops, end_at_bad, with_state};
 
 use crate::fault::{HistoryFault, fault_of_pieces};
-use crate::place::Place;
+use crate::following::{BadKind, Following, look_behind};
+use crate::place::{BadPiece, Place};
 use crate::replayed::OfBase;
 use conf_journal::STORE_LIMIT;
 use conf_store::{OnRefusal, Replayed, replay_record};
@@ -16,6 +17,7 @@ use std::alloc::Global;
 use std::io::Read;
 use yaml_docs::Pieces;
 use yaml_recognizers::closings::one_list_of_pieces;
+use yaml_recognizers::zeros::no_zero_read;
 
 /// A walk over the pieces of a store's file: the piece that it is at, and where the next one begins. What the pieces
 /// before mean is kept beside it ([`Replayed`]).
@@ -73,14 +75,58 @@ impl Walk {
     }
 
     /// Performs the next piece as the next record, and goes past it. Returns whether there was one: there is none once
-    /// the command with the number `at` is performed, and, without a number, where the file ends. The walk is at the
-    /// piece, or at the bytes after the last one.
+    /// the command with the number `at` is performed, and, without a number, where the file ends, or a piece stands that
+    /// a crash may have left, as an opening finds it.
     ///
     /// # Errors
-    /// `Damaged` if the piece is not the next record. `NoSuchCommand` if the file ends before the number. `Input` if a
-    /// read failed. `NotAStore` if the file has more than 1,073,741,824 bytes. `OutOfMemory`. What becomes of a state
-    /// says `on_refusal`, and a part has to be dropped.
+    /// `Damaged` if the piece is not the next record, and no crash left it. `NoSuchCommand` if the file ends before the
+    /// number, or such a piece stands there. `Input` if a read failed. `NotAStore` if the file has more than
+    /// 1,073,741,824 bytes. `OutOfMemory`. What becomes of a state says `on_refusal`, and a part has to be dropped.
     pub fn next<R: Read, T: Replayed>(
+        &mut self,
+        alloc: Global,
+        reader: &mut R,
+        at: Option<u64>,
+        held: &mut T,
+        on_refusal: OnRefusal,
+    ) -> Result<bool, HistoryFault>
+        requires { IsWalking at (R.remaining reader.old) (with_state self.old (T.contents held.old)) }
+        ensures goes { (given : Option (List ℕ)) (pieces : List (List ℕ)) (start : Contents)
+            (commands : List Meant)
+            → IsOn at given (R.remaining reader.old) (with_state self.old (T.contents held.old))
+            pieces start commands → result ≡ Ok true
+            → Goes at given (R.remaining reader.new) (with_state self.new (T.contents held.new))
+            (T.Tells held.old held.new ((T.contents held.old).count + 1)) pieces start commands }
+        ensures ended { (given : Option (List ℕ)) (pieces : List (List ℕ)) (start : Contents)
+            (commands : List Meant)
+            → IsOn at given (R.remaining reader.old) (with_state self.old (T.contents held.old))
+            pieces start commands → result ≡ Ok false
+            → Ends at given (R.remaining reader.new) (with_state self.new (T.contents held.new))
+            pieces start commands × IsState (T.contents held.new) }
+        ensures stops { (given : Option (List ℕ)) (pieces : List (List ℕ)) (start : Contents)
+            (commands : List Meant)
+            → IsOn at given (R.remaining reader.old) (with_state self.old (T.contents held.old))
+            pieces start commands
+            → IfErr result (Fails at given pieces) }
+    {
+        one_list_of_pieces();
+        no_zero_read();
+        match self.step(alloc, reader, at, held, on_refusal) {
+            Ok(goes_on) => Ok(goes_on),
+            Err(HistoryFault::Damaged(bad)) => {
+                let Following { kind, .. } = look_behind(alloc, &mut self.pieces, reader)?;
+                ends_at(bad, kind, at)
+            }
+            Err(fault) => Err(fault),
+        }
+    }
+
+    /// Performs the next piece as the next record, as [`Walk::next`] does. It stops at the first piece that is not the
+    /// next record.
+    ///
+    /// # Errors
+    /// `Damaged` if the piece is not the next record. The others are those of [`Walk::next`].
+    pub fn step<R: Read, T: Replayed>(
         &mut self,
         alloc: Global,
         reader: &mut R,
@@ -109,6 +155,9 @@ impl Walk {
             (with_state self.new (T.contents held.old)) pieces start commands) }
         ensures kept { on_refusal ≡ OnRefusal.KeepState
             → OnErr result (T.Keeps held.new (T.contents held.old)) }
+        ensures limits { IsState (T.contents held.old) }
+        // A piece that is no record changes nothing.
+        ensures unread { IsNoRecord (piece_or_rest self.new.pieces) → OnErr result (held.new ≡ held.old) }
     {
         if self.goes_on(reader, at, held.accepted())? {
             self.replay_piece(alloc, held, on_refusal)?;
@@ -185,6 +234,7 @@ impl Walk {
         ensures walk { OnErr result (self.new ≡ self.old) }
         ensures kept { on_refusal ≡ OnRefusal.KeepState
             → OnErr result (T.Keeps held.new (T.contents held.old)) }
+        ensures unread { IsNoRecord (piece_or_rest self.old.pieces) → held.new ≡ held.old }
     {
         match replay_record(alloc, held, self.pieces.piece(), on_refusal) {
             Ok(_) => {
@@ -193,6 +243,17 @@ impl Walk {
             }
             Err(fault) => Err(self.place.fault_here(fault)),
         }
+    }
+}
+
+/// What a walk up to a number, or to the end, finds at a bad piece of this kind: an end, or why it stops.
+fn ends_at(bad: BadPiece, kind: BadKind, at: Option<u64>) -> Result<bool, HistoryFault>
+    ensures { result ≡ end_at_bad bad kind at }
+{
+    match (kind, at) {
+        (BadKind::Unexpected, _) => Err(HistoryFault::Damaged(bad)),
+        (BadKind::Torn, Some(_)) => Err(HistoryFault::NoSuchCommand),
+        (BadKind::Torn, None) => Ok(false),
     }
 }
 

@@ -1,6 +1,6 @@
 -- What each word does to the folders of a world.
 use Rattle.std.proofs.Common.{◌≡◌, ◌≢◌, inl, inr, ℕ, Bool, true, false, List, [], ◌∷◌, Option, None, Some, Result, Ok}
-use Rattle.std.proofs.Common.{Err, IfOk, refl, sym, ap, subst, codes}
+use Rattle.std.proofs.Common.{Err, IfOk, map, refl, sym, ap, subst, codes}
 use Rattle.conf_disk.specs.Image.{Image}
 use Rattle.conf_disk.specs.Models.{DiskModel}
 use Rattle.conf_files.specs.declared.replace.ReplaceFault.{ReplaceFault}
@@ -21,10 +21,13 @@ use Rattle.conf_words.specs.declared.invocation.Invocation.TheVariants.{Log, Ver
 use Rattle.conf_words.specs.declared.invocation.Comments.{Comments}
 use Rattle.conf_words.specs.declared.invocation.Formatting.{Formatting}
 use Rattle.conf_words.specs.declared.invocation.Formatting.TheVariants as formatting
+use Rattle.conf_words.specs.declared.invocation.LogForm.{LogForm as AskedLog}
+use Rattle.conf_words.specs.declared.invocation.LogForm.TheVariants as asked
 use Rattle.conf_words.specs.declared.invocation.Value.{Value}
 use Rattle.conf_words.specs.declared.invocation.Value.TheVariants.{Text, Yaml, File}
 use Rattle.conf_tools.specs.Backups.{BacksUpFound, BacksUpInFolder, BacksUpStore, status_after_backup}
 use Rattle.conf_tools.specs.Asking.{AskedConditions}
+use Rattle.conf_tools.specs.LogWords.{Logs, LogsValues}
 use Rattle.conf_tools.specs.Performs.{ChangesAt, FormatsAll, ChecksAll, ImportsRead, Performs, access_of, grouping_of}
 use Rattle.conf_tools.specs.Exports.{disk_back}
 use Rattle.conf_tools.specs.Tools.{Taken}
@@ -169,6 +172,20 @@ module _ {W D F P : Type 0} (world : WorldModel W D F P) (disk : DiskModel D) (r
   of-open folder old (Err (reading.Salvage fault)) new opens = absurd opens
   of-open folder old (Err reading.Output) new opens = absurd opens
 
+  of-values : (folder : List ℕ) (at : Option ℕ) (hidden : List (List ℕ)) (old new : W) (held written : Option (List ℕ))
+      (status : Status) → LogsValues world remaining folder at hidden old new held written status → Steady old new
+  of-values folder at [] old new held written status does = of-open folder old does.file new does.opens
+  of-values folder at (pointer ∷ pointers) old new held written status (inl hides) =
+      of-open folder old hides.logs.file new hides.logs.opens
+  of-values folder at (pointer ∷ pointers) old new held written status (inr refuses) = same old new refuses.world_stays
+
+  of-log : (folder : List ℕ) (at : Option ℕ) (form : AskedLog) (old new : W) (held written : Option (List ℕ))
+      (status : Status) → Logs world remaining folder at form old new held written status → Steady old new
+  of-log folder at asked.Lines old new held written status does = of-open folder old does.file new does.opens
+  of-log folder at (asked.Values hidden) old new held written status does =
+      of-values folder at (map (λ pointer. pointer.now) hidden.items) old new held written status does
+  of-log folder at asked.Records old new held written status does = of-open folder old does.file new does.opens
+
   -- a store is made in one folder alone of what another one says
   abbrev Spares : List ℕ → W → W → Type 0
   Spares path old new = (other : List ℕ) (image : Image) → other ≢ path → leaves new other image → leaves old other image
@@ -177,7 +194,9 @@ module _ {W D F P : Type 0} (world : WorldModel W D F P) (disk : DiskModel D) (r
   spared path old new steady other image is_other is = steady other image is
 
   of-new : (folder : List ℕ) (old : W) (fault : ReadingFault) (new : W) → OpensNew world folder old (Err fault) new → Steady old new
-  of-new folder old (reading.Salvage salvage.StoreExists) new (made, file, makes, opens) =
+  of-new folder old (reading.Salvage salvage.StoreExists) new (made, makes, inl (file, opens)) =
+      then old made new (keeps.made folder old made _ makes) (keeps.stores folder made new _ opens)
+  of-new folder old (reading.Salvage salvage.StoreExists) new (made, makes, inr opens) =
       then old made new (keeps.made folder old made _ makes) (keeps.stores folder made new _ opens)
   of-new folder old (reading.Salvage (salvage.History fault)) new opens = absurd opens
   of-new folder old (reading.Salvage salvage.Device) new opens = absurd opens
@@ -324,7 +343,8 @@ module _ {W D F P : Type 0} (world : WorldModel W D F P) (disk : DiskModel D) (r
       nothing None (of-open folder.now old.world does.0.file new.world does.0.opens)
   effect (Exists folder name pointer at) old new status does not_new =
       nothing None (of-open folder.now old.world does.0.file new.world does.0.opens)
-  effect (Log folder at form) old new status does not_new = nothing None (of-open folder.now old.world does.0.file new.world does.0.opens)
+  effect (Log folder at form) old new status does not_new =
+      nothing None (of-log folder.now at form old.world new.world old.output new.output status does.0)
   effect (Verify folder) old new status does not_new = nothing None (of-open folder.now old.world does.0.file new.world does.0.opens)
   effect (Format formatting files reporting) old new status does not_new = nothing None (of-formatting formatting _ old new status does)
   effect (Salvage folder new_folder) old new status does not_new = cc

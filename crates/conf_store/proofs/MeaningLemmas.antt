@@ -1,12 +1,12 @@
 -- What bytes mean: at most one state. After a crash it is the state after the records that are whole.
 use Rattle.std.proofs.Common.{◌≡◌, refl, sym, ◌∙◌, ap, subst, arith, ◌≤◌, append_assoc, length-append, length-take}
 use Rattle.std.specs.Prelude.{ℕ, zero, suc, ◌+◌, List, [], ◌∷◌, ◌++◌, length, take, replicate, Some, Result, Ok}
-use Rattle.conf_store.proofs.Prelude.{length-replicate, ClosesOnce, Pieces, OnePieces, File, IsTorn, Command, Contents, step, after}
+use Rattle.conf_store.proofs.Prelude.{All-nil, IsNoRecord, append-nil, NoZeroByte, length-replicate, ClosesOnce, Pieces, OnePieces, File, IsTorn, Command, Contents, step, after}
 use Rattle.conf_store.proofs.Prelude.{and_then, StoreFault, after-append, after-count, and_then-Ok, Enough, IsRecord, IsBase, record_pieces}
 use Rattle.conf_store.proofs.Prelude.{records_bytes, TornRecords, OneBase, OneRecord, RecordsTear, store_limit}
 use Rattle.conf_store.specs.Meaning.{AreRecords, PiecesMean, Means}
 use Rattle.conf_store.specs.Durable.{IsWholeStore, IsJournal, AfterPrefix}
-use Rattle.conf_store.proofs.PieceLemmas.{pieces-joined, pieces-one}
+use Rattle.conf_store.proofs.{HoleLemmas.means-front, PieceLemmas.pieces-joined, PieceLemmas.pieces-one}
 
 -- ---- lists of records
 
@@ -25,7 +25,7 @@ records-joined count (p ∷ ps) qs [] ds first second = absurd first
 records-joined count (p ∷ ps) qs (c ∷ cs) ds first second =
     (first.0, records-joined (count + 1) ps qs cs ds first.1 (subst (λ n. AreRecords n qs ds) (omega arith) second))
 
-records-prefix : (count k : ℕ) (commands : List Command) → AreRecords count (record_pieces count commands) commands
+pub records-prefix : (count k : ℕ) (commands : List Command) → AreRecords count (record_pieces count commands) commands
     → AreRecords count (record_pieces count (take k commands)) (take k commands)
 records-prefix count zero commands are = tt
 records-prefix count (suc k) [] are = tt
@@ -120,16 +120,34 @@ pieces-mean-one one_base one_record pieces s end first second =
     ok-same s end (after second.start second.commands) ((λ i. after (sym starts i) (sym commands i)) ∙ first.leads) second.leads
 
 -- bytes mean at most one state
-pub means-one : OnePieces → OneBase → OneRecord → (bytes : List ℕ) (s end : Contents) → Means bytes s → Means bytes end → s ≡ end
-means-one one_pieces one_base one_record bytes s end first second =
-    let same = (one_pieces bytes first.pieces second.pieces first.rest second.rest first.cut second.cut).0 in
+pub means-one : NoZeroByte → OnePieces → OneBase → OneRecord → (bytes : List ℕ) (s end : Contents) → Means bytes s
+    → Means bytes end → s ≡ end
+means-one no_zero_byte one_pieces one_base one_record bytes s end first second =
+    let all = (one_pieces bytes (first.pieces ++ first.others) (second.pieces ++ second.others) first.rest second.rest
+    first.cut second.cut).0 in
+    let same = means-front no_zero_byte first.pieces second.pieces first.others second.others s end first.mean second.mean
+    first.hole second.hole all in
     pieces-mean-one one_base one_record second.pieces s end (subst (λ ps. PiecesMean ps s) same first.mean) second.mean
+
+-- pieces that no others follow
+pub no-others : (bytes : List ℕ) (pieces : List (List ℕ)) (rest : List ℕ) → Pieces bytes pieces rest
+    → Pieces bytes (pieces ++ []) rest
+no-others bytes pieces rest cut = subst (λ ps. Pieces bytes ps rest) (sym (append-nil pieces)) cut
 
 -- ---- files without a rest
 
 -- a whole store means its state, if it is within the limit
 pub whole-means : (bytes : List ℕ) (s : Contents) → IsWholeStore bytes s → length bytes ≤ store_limit → Means bytes s
-whole-means bytes s whole short = record { short = short; pieces = whole.pieces; rest = []; cut = whole.cut; mean = whole.mean }
+whole-means bytes s whole short = record {
+  short = short;
+  pieces = whole.pieces;
+  others = [];
+  rest = [];
+  cut = no-others bytes whole.pieces [] whole.cut;
+  mean = whole.mean;
+  hole = tt;
+  lost = All-nil IsNoRecord;
+}
 
 -- a base that closes once is a whole store
 pub base-whole : (base : List ℕ) (s : Contents) → ClosesOnce base → IsBase base s → IsWholeStore base s
@@ -180,10 +198,14 @@ journal-left tear file flushed end since bytes journal torn =
       means = record {
         short = omega (arith, torn-length file bytes torn, journal.short);
         pieces = journal.whole.pieces ++ record_pieces flushed.count (take t.whole since);
+        others = [];
         rest = t.rest;
-        cut = subst (λ b. Pieces b (journal.whole.pieces ++ record_pieces flushed.count (take t.whole since)) t.rest) (sym is)
+        cut = no-others bytes (journal.whole.pieces ++ record_pieces flushed.count (take t.whole since)) t.rest
+            (subst (λ b. Pieces b (journal.whole.pieces ++ record_pieces flushed.count (take t.whole since)) t.rest) (sym is)
             (pieces-joined file.synced tail journal.whole.pieces
-            (record_pieces flushed.count (take t.whole since)) t.rest journal.whole.cut t.pieces);
+            (record_pieces flushed.count (take t.whole since)) t.rest journal.whole.cut t.pieces));
+        hole = tt;
+        lost = All-nil IsNoRecord;
         mean = pieces-mean-more journal.whole.pieces (record_pieces flushed.count (take t.whole since)) flushed mid.0 (take t.whole since)
             journal.whole.mean (records-prefix flushed.count t.whole since journal.are_records) mid.1;
       };

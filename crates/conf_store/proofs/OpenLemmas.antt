@@ -1,16 +1,16 @@
 -- What opening finds, and that it changes no meaning.
 use Rattle.std.proofs.Common.{◌≡◌, inl, inr, ⊎_elim, refl, sym, ◌∙◌, ap, subst, arith, ◌≤◌}
 use Rattle.std.specs.Prelude.{ℕ, zero, suc, List, Option, Some, None, option_map, Vec}
-use Rattle.conf_store.proofs.Prelude.{OnePieces, Folder, Tells, bytes_under, Image, IsImage, image_now, synced_file, ReadingIsAnImage}
-use Rattle.conf_store.proofs.Prelude.{Bytes, TooLong, Store, HoldsStore, OnlyHeldIsLeft, IsStoreOf, store_limit, Contents, OneBase}
-use Rattle.conf_store.proofs.Prelude.{OneRecord, base_bytes, cases_lt, DiskFault}
+use Rattle.conf_store.proofs.Prelude.{Folder, Tells, bytes_under, Image, IsImage, image_now, synced_file, ReadingIsAnImage}
+use Rattle.conf_store.proofs.Prelude.{Bytes, TooLong, Store, HoldsStore, OnlyHeldIsLeft, IsStoreOf, store_limit, Contents}
+use Rattle.conf_store.proofs.Prelude.{base_bytes, cases_lt, DiskFault}
 use Rattle.std.specs.declared.alloc.Global.{Global}
 use Rattle.conf_store.specs.{Faults.open_fault, Calls.HasFailed, Durable.IsDurable, declared.fault.OpenFault.OpenFault}
 use Rattle.conf_store.specs.Meaning.{FileMeans, MeanTheSame}
 use Rattle.conf_store.specs.Opens.{RecoversTo, FileRecoversTo, HasNoBase, RefusesBytes, IsFound, RefusesOpening, RefusalMeans}
-use Rattle.conf_store.specs.Opens.{RefusedMeansNothing, ReadsAfterOpening, MeantAtEntry}
+use Rattle.conf_store.specs.Opens.{OneMeaning, RefusedMeansNothing, ReadsAfterOpening, MeantAtEntry}
 use Rattle.conf_store.specs.declared.fault.OpenFault.TheVariants.{NotAStore, Damaged, Device, OutOfMemory}
-use Rattle.conf_store.proofs.{MeaningLemmas.means-one, RecoveryLemmas.recovers-means, RecoveryLemmas.recovers-whole}
+use Rattle.conf_store.proofs.RecoveryLemmas.{recovers-means, recovers-whole}
 use Rattle.conf_disk.specs.declared.disk.DiskFault.TheVariants as disk
 
 -- ---- what is found
@@ -52,17 +52,17 @@ found-durable folder store s records dropped n size found is holds =
 
 -- ---- no meaning is changed
 
-store-one : OnePieces → OneBase → OneRecord → (store : Option (List ℕ)) (s end : Contents) → FileMeans store s
+store-one : OneMeaning → (store : Option (List ℕ)) (s end : Contents) → FileMeans store s
     → FileMeans store end → s ≡ end
-store-one one_pieces one_base one_record None s end first second = first ∙ sym second
-store-one one_pieces one_base one_record (Some bytes) s end first second = means-one one_pieces one_base one_record bytes s end first second
+store-one one None s end first second = first ∙ sym second
+store-one one (Some bytes) s end first second = one bytes s end first second
 
 -- two files that mean one state mean the same
-pub both-mean : OnePieces → OneBase → OneRecord → (store other : Option (List ℕ)) (s : Contents) → FileMeans store s
+pub both-mean : OneMeaning → (store other : Option (List ℕ)) (s : Contents) → FileMeans store s
     → FileMeans other s → MeanTheSame store other
-both-mean one_pieces one_base one_record store other s first second end = (
-  λ is. subst (FileMeans other) (store-one one_pieces one_base one_record store s end first is) second,
-  λ is. subst (FileMeans store) (store-one one_pieces one_base one_record other s end second is) first,
+both-mean one store other s first second end = (
+  λ is. subst (FileMeans other) (store-one one store s end first is) second,
+  λ is. subst (FileMeans store) (store-one one other s end second is) first,
 )
 
 same-alike : (store other : Option (List ℕ)) → store ≡ other → MeanTheSame store other
@@ -85,11 +85,11 @@ loaded-meant reading only entry now holds store is =
     read-meant reading entry store (same-alike store (bytes_under entry Store) (only now (bytes_under entry Store) store holds is))
 
 -- a file with the state that was found
-pub state-meant : OnePieces → OneBase → OneRecord → ReadingIsAnImage
+pub state-meant : OneMeaning → ReadingIsAnImage
     → (entry : Folder) (s : Contents) (records dropped : ℕ) (size : Option ℕ)
     → IsFound (bytes_under entry Store) s records dropped size → (store : Option (List ℕ)) → FileMeans store s → MeantAtEntry entry store
-state-meant one_pieces one_base one_record reading entry s records dropped size found store own =
-    read-meant reading entry store (both-mean one_pieces one_base one_record store (bytes_under entry Store) s own
+state-meant one reading entry s records dropped size found store own =
+    read-meant reading entry store (both-mean one store (bytes_under entry Store) s own
     (found-means (bytes_under entry Store) s records dropped size found))
 
 -- ---- a file that is refused

@@ -11,7 +11,7 @@ pub use Rattle.conf_disk.specs.declared.disk.Name.TheVariants.{Store, Next}
 pub use Rattle.conf_journal.specs.Held.{HoldsStore, OnlyHeldIsLeft, file_at, IsLeftOf, HeldIsLeft, SyncedIsLeft}
 pub use Rattle.conf_journal.specs.Store.{IsStoreOf, LeavesStoreOr, file_with_bytes, store_limit, ReadsAs}
 pub use Rattle.conf_record.specs.Documents.{IsBase, OneBase, OneRecord, IsRecord, RecordsTear, RecordsClose, record_pieces, records_bytes}
-pub use Rattle.conf_record.specs.Documents.{TornRecords, IsNoBase, BasesAreRead, BasesClose, BasesFit, RecordsAreRead}
+pub use Rattle.conf_record.specs.Documents.{TornRecords, IsNoBase, IsNoRecord, BasesAreRead, BasesClose, BasesFit, RecordsAreRead}
 pub use Rattle.conf_record.specs.Records.{command_members, record_tree, FitsRecord}
 unfoldable pub use Rattle.conf_record.specs.Records.{record_bytes, record_text}
 pub use Rattle.conf_record.specs.RecordsRead.{keys_are, values, number_from_digits, entries, base_keys, import_keys, set_keys, delete_keys}
@@ -42,7 +42,7 @@ pub use Rattle.std.proofs.lemmas.Bool.Decides.{nat_tests}
 pub use Rattle.std.proofs.lemmas.List.{drop-drop, append-nil, length-take-le, take-append-le, take_all, length-replicate, map_more}
 pub use Rattle.std.proofs.lemmas.List.{map-append, take-take, drop-take, length-drop, length-take, replicate-append-replicate}
 pub use Rattle.std.proofs.lemmas.List.{take-replicate, get_or-replicate}
-pub use Rattle.std.proofs.lemmas.List.Elements.{All-head, All-nil, All-cons, All-append, All-push}
+pub use Rattle.std.proofs.lemmas.List.Elements.{All-head, All-tail, All-nil, All-cons, All-append, All-push}
 pub use Rattle.std.proofs.lemmas.Result.{on_ok_weaker, IfOk-weaker, IfErr-weaker}
 pub use Rattle.std.proofs.lemmas.Str.{IsUtf8-string_bytes, encodes-append, encodes-chars}
 pub use Rattle.std.specs.HashMap.{get_by_text}
@@ -56,4 +56,5 @@ pub use Rattle.yaml_grammar.specs.Style.{style_text, members_after, scalar_lines
 pub use Rattle.yaml_grammar.specs.Texts.{same_text, byte_len, spaces}
 pub use Rattle.yaml_grammar.specs.Trees.{Tree, text, sequence, mapping, Members, no_member, member, depth}
 pub use Rattle.yaml_recognizers.specs.Closings.{PieceBetween, OnePieces, RestUnclosed, SomePieces}
+pub use Rattle.yaml_recognizers.specs.Zeroed.{NoZeroByte, no_zero, StartsWithHole}
 pub use Rattle.yaml_writer.proofs.ByteLemmas.{byte_len-encoded}

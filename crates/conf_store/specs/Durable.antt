@@ -1,8 +1,9 @@
 -- What an open store keeps on its disk, and what a crash leaves of it.
-use Rattle.std.specs.Prelude.{◌≡◌, ◌≤◌, ℕ, ◌+◌, Bool, false, List, [], ◌++◌, length, take, Option, Some, None}
+use Rattle.std.specs.Prelude.{◌≡◌, ◌≤◌, ℕ, ◌+◌, Bool, false, List, [], ◌∷◌, ◌++◌, length, take, Option, Some, None}
 use Rattle.std.specs.Prelude.{option_map, Ok}
 use Rattle.conf_store.specs.Prelude.{Pieces, File, Folder, bytes_under, Image, IsImage, synced_file, Next, HoldsStore}
 use Rattle.conf_store.specs.Prelude.{file_at, store_limit, Command, Contents, after, record_pieces, records_bytes}
+use Rattle.conf_store.specs.Prelude.{Zeroed}
 use Rattle.conf_store.specs.{Meaning.AreRecords, Meaning.PiecesMean, Meaning.FileMeans, Staged.Staged}
 
 -- The bytes mean `s`, and end with a closing line: nothing follows the last piece.
@@ -74,6 +75,13 @@ OneFlushed = (folder : Folder) (flushed other : Contents) (since others : List C
 -- the state after a prefix of no commands is the state
 abbrev pub NothingWaits : Type 0
 NothingWaits = (s : Contents) (file : Option (List ℕ)) → AfterPrefix s [] file → FileMeans file s
+
+-- Only the record of one command waits. However a crash cuts it, and whatever zeros it leaves in it, the file means the
+-- state before the command or after it.
+abbrev pub HolesMean : Type 0
+HolesMean = (file : File) (flushed end : Contents) (command : Command) (left : List ℕ)
+    → IsJournal file flushed (command ∷ []) end → Zeroed file.pending left
+    → AfterPrefix flushed (command ∷ []) (Some (file.synced ++ left))
 
 -- ---- a checkpoint that runs
 

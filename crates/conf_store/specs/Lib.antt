@@ -1,4 +1,5 @@
 pub mod Prelude
+pub mod Holes
 pub mod Meaning
 pub mod First
 pub mod OldStores

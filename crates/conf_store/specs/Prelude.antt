@@ -25,10 +25,12 @@ pub use Rattle.conf_state.specs.declared.fault.StoreFault.TheVariants.{ConfigLar
 pub use Rattle.conf_state.specs.declared.room.Room.{Room}
 pub use Rattle.conf_state.specs.declared.room.Room.TheVariants.{Enough}
 pub use Rattle.std.specs.Coded.{Coded, code_by, coded×, coded_ℕ, coded_list, coded_option, coded_bool}
+pub use Rattle.std.specs.List.{All}
 pub use Rattle.std.specs.Str.{bytes_eq, chars, IsUtf8}
 pub use Rattle.std.specs.declared.alloc.Global.{Global}
 pub use Rattle.tree_path.specs.Paths.{at, set, delete}
 pub use Rattle.yaml_grammar.specs.Closings.{ClosesOnce, Pieces}
 pub use Rattle.yaml_grammar.specs.Style.{style_text}
 pub use Rattle.yaml_grammar.specs.Texts.{byte_len, same_text, spaces}
+pub use Rattle.yaml_recognizers.specs.Zeroed.{no_zero, StartsWithHole, Zeroed}
 pub use Rattle.yaml_grammar.specs.Trees.{Tree, depth, text, sequence, mapping, no_member, member}

@@ -1,12 +1,13 @@
 // Laws of the definitions.
 ghost use Rattle.conf_store.specs.Calls.{RecordsAreMeasured};
-ghost use Rattle.conf_store.specs.Durable.{OneFlushed, NothingWaits};
+ghost use Rattle.conf_store.specs.Durable.{HolesMean, OneFlushed, NothingWaits};
 ghost use Rattle.conf_store.specs.Lives.{LivesHold};
 ghost use Rattle.conf_store.specs.OldStores.{OldStoresRead};
 ghost use Rattle.conf_store.specs.Opens.{OneMeaning, RefusedMeansNothing, RecoveredIsMeant};
 
 use conf_record::{documents_are_read, documents_close};
 use yaml_recognizers::closings::one_list_of_pieces;
+use yaml_recognizers::zeros::{no_zero_read, zeros_close_nothing};
 
 /// Whatever crashes happen, no acknowledged command is lost, and no command is kept that was not accepted.
 ///
@@ -50,6 +51,18 @@ pub fn one_state_is_flushed()
     one_list_of_pieces();
 }
 
+/// Suppose that the record of one command waits for its sync, as after a `set`, an `import` or a batch, and that the
+/// machine stops. However the crash cuts the record, and whatever zeros it leaves in the place of bytes that had not
+/// reached the device, `store.yaml` means the state before the command or the one after it.
+pub fn holes_mean()
+    ensures { HolesMean }
+{
+    documents_close();
+    one_list_of_pieces();
+    no_zero_read();
+    zeros_close_nothing();
+}
+
 /// Bytes mean at most one state; it is the one that opening recovers, and bytes that opening refuses mean none.
 pub fn bytes_mean_one_state()
     ensures one { OneMeaning }
@@ -58,6 +71,7 @@ pub fn bytes_mean_one_state()
 {
     documents_are_read();
     one_list_of_pieces();
+    no_zero_read();
 }
 
 /// The record that is made for a command, to be measured and then appended, is as long as the record with the number

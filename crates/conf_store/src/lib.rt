@@ -15,7 +15,8 @@
 //! makes a store of a state where there is none.
 //!
 //! [`replay_record`] performs one record on what is [`Replayed`], and [`replay_records`] all of them, for whoever goes
-//! over a store's file.
+//! over a store's file. [`has_zero`] and [`is_record`] say of a piece that is not the next record whether a crash may
+//! have left it.
 //!
 //! After a crash at any moment, opening finds the state after a prefix of the accepted commands, with every command
 //! that was acknowledged ([`lives_hold`]).
@@ -28,6 +29,7 @@ mod commands;
 mod creating;
 mod cutting;
 mod fault;
+mod holes;
 mod importing;
 mod laws;
 mod opening;
@@ -43,9 +45,10 @@ mod store;
 pub use base_file::replace_store;
 pub use creating::{CreateFault, create_store, find_no_store};
 pub use fault::OpenFault;
+pub use holes::{has_zero, is_record};
 pub use importing::import_command;
 pub use laws::{
-    bytes_mean_one_state, lives_hold, old_stores_read, one_state_is_flushed, records_are_measured,
+    bytes_mean_one_state, holes_mean, lives_hold, old_stores_read, one_state_is_flushed, records_are_measured,
 };
 pub use reading::read_state;
 pub use records::{NoRecord, OnRefusal, RecordFault, Replayed, replay_record};

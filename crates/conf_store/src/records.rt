@@ -1,6 +1,6 @@
 // The next record of a store's file: the one rule of which piece it is, and what its command is performed on.
 ghost use Rattle.std.specs.Prelude.{◌≡◌, ◌⊎◌, ◌<◌, ◌+◌, ℕ, List, Ok, Err, OnOk, OnErr, IfOk, IfErr};
-ghost use Rattle.conf_store.specs.Prelude.{command_of, Contents, Enough, IsState, step, IsRecord};
+ghost use Rattle.conf_store.specs.Prelude.{command_of, Contents, Enough, IsState, step, IsRecord, IsNoRecord};
 ghost use Rattle.conf_store.specs.NextRecords.{PerformsRecord, RefusesRecord};
 ghost use Rattle.conf_state.specs.Commands.{Command as Meant};
 
@@ -110,6 +110,8 @@ pub fn replay_record<T: Replayed>(
     ensures refused { IfErr result (RefusesRecord piece.now (T.contents held.old)) }
     ensures kept { on_refusal ≡ OnRefusal.KeepState
         → OnErr result (T.Keeps held.new (T.contents held.old)) }
+    // A piece that is no record changes nothing.
+    ensures unread { IsNoRecord piece.now → held.new ≡ held.old }
 {
     let command = next_command(alloc, held.accepted(), piece)?;
     held.perform(alloc, command, on_refusal)?;

@@ -11,6 +11,7 @@ use Rattle.conf_conditions.specs.declared.fault.ConditionFault.TheVariants.{OutO
 use Rattle.conf_state.specs.BaseTexts.{base_bytes}
 use Rattle.conf_state.specs.Commands.{Command as GivenCommand}
 use Rattle.conf_state.specs.declared.fault.StoreFault.TheVariants.{OutOfMemory}
+use Rattle.yaml_grammar.specs.Texts.{same_text}
 use Rattle.conf_store.specs.Imports.{AppendsImport, Imports, RefusesImport}
 use Rattle.conf_tools.specs.declared.stores.StoreToolFault.TheVariants.{Condition as OnCondition}
 use Rattle.conf_tools.specs.{declared.changes.Change.Change, declared.stores.StoreToolFault.StoreToolFault}
@@ -26,8 +27,12 @@ abbrev pub copies : List ℕ → Tree → GivenCommand
 copies to tree = single (import_as to tree)
 
 -- the command that deletes what is under a name, and then puts a tree under another one
+abbrev pub moves : List ℕ → List ℕ → Tree → GivenCommand
+moves name to tree = batch (delete_at name [] ∷ import_as to tree ∷ [])
+
+-- the same; where the two names are one, the tree is only put there, so that it keeps its place
 abbrev pub renames : List ℕ → List ℕ → Tree → GivenCommand
-renames name to tree = batch (delete_at name [] ∷ import_as to tree ∷ [])
+renames name to tree = if same_text name to then copies to tree else moves name to tree
 
 -- the command is made so of the tree under a name
 pub record IsMadeOf (s : Contents) (name : List ℕ) (makes : Tree → GivenCommand) (command : GivenCommand) : Type 0 where

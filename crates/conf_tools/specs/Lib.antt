@@ -16,6 +16,7 @@ pub mod ReadingStatuses
 pub mod Worlds
 pub mod StoreWords
 pub mod TextWords
+pub mod LogWords
 pub mod Performs
 pub mod FaultLines
 pub mod Listening

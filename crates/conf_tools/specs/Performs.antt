@@ -3,15 +3,11 @@ use Rattle.std.specs.Prelude.{◌≡◌, ℕ, List, [], ◌∷◌, map, Option, 
 use Rattle.conf_tools.specs.Prelude.{chars, DiskModel, After, Asked, Comments, Conditions, Invocation}
 use Rattle.conf_tools.specs.Prelude.{Init, Import, Set, Delete, Copy, Rename, Checkpoint, Run, Export, Names, Get}
 use Rattle.conf_tools.specs.Prelude.{Exists, Log, Verify, Salvage, Backup, Format, Check, Value}
-use Rattle.conf_history.specs.declared.line.LineForm.TheVariants.{Names as LineNames, Values as LineValues}
-use Rattle.conf_history.specs.declared.log.LogForm.{LogForm as HistoryForm}
 use Rattle.conf_words.specs.declared.invocation.Grouping.{Grouping as AskedGrouping}
-use Rattle.conf_words.specs.declared.invocation.LogForm.{LogForm}
-use Rattle.conf_words.specs.declared.invocation.LogForm.TheVariants.{Lines, Values, Records}
 use Rattle.conf_words.specs.declared.invocation.MissingStore.{MissingStore}
 use Rattle.conf_words.specs.declared.invocation.Formatting.{Formatting}
-use Rattle.conf_tools.specs.{Asking.AskedConditions, Asking.AsksFor, Backups.BacksUpStore, Tools.IsTaken, Tools.Taken}
-use Rattle.conf_tools.specs.{Statuses.status_of, Worlds.Around, Worlds.LeavesStreams, Worlds.WorldModel}
+use Rattle.conf_tools.specs.{Asking.AskedConditions, Asking.AsksFor, Backups.BacksUpStore, LogWords.Logs, Tools.IsTaken}
+use Rattle.conf_tools.specs.{Statuses.status_of, Tools.Taken, Worlds.Around, Worlds.LeavesStreams, Worlds.WorldModel}
 use Rattle.conf_tools.specs.{declared.changes.Change.Change, declared.file_words.Report.TheVariants.Findings}
 use Rattle.conf_tools.specs.{declared.file_words.Report.TheVariants.Name, declared.program.Status.Status}
 use Rattle.conf_tools.specs.{declared.program.Status.TheVariants.Done, declared.stores.Grouping.Grouping}
@@ -19,10 +15,9 @@ use Rattle.conf_tools.specs.{declared.stores.Grouping.TheVariants.Single, declar
 use Rattle.conf_tools.specs.{declared.texts.ToolFault.ToolFault, declared.world.Access.Access}
 use Rattle.conf_tools.specs.{declared.world.Access.TheVariants.Changing, declared.world.Access.TheVariants.Making}
 use Rattle.conf_tools.specs.StoreWords.{ChangesInFolder, ExportsFromFolder, Inits, MakesChange, Reads, RunsOnFolder}
-use Rattle.conf_tools.specs.StoreWords.{Salvages, SaysLog, SaysNames, SaysPresence, SaysSurvey, SaysValue}
+use Rattle.conf_tools.specs.StoreWords.{Salvages, SaysNames, SaysPresence, SaysSurvey, SaysValue}
 use Rattle.conf_tools.specs.TextWords.{ChecksRead, FormatsFile, FormatsRead, IsCopy, IsDelete, IsImport, IsRename}
 use Rattle.conf_tools.specs.TextWords.{IsSet, ReportsOnAll, RestylesAll, TakesText}
-use Rattle.conf_history.specs.declared.log.LogForm.TheVariants as history
 use Rattle.conf_words.specs.declared.invocation.Formatting.TheVariants as formatting
 use Rattle.conf_words.specs.declared.invocation.Grouping.TheVariants as asked
 use Rattle.conf_words.specs.declared.invocation.MissingStore.TheVariants as missing
@@ -39,11 +34,6 @@ grouping_of (asked.Grouped None) = Grouped Asked
 abbrev pub access_of : MissingStore → Access
 access_of missing.Refused = Changing
 access_of missing.Made = Making
-
-abbrev pub log_form_of : LogForm → HistoryForm
-log_form_of Lines = history.Lines LineNames
-log_form_of Values = history.Lines LineValues
-log_form_of Records = history.Records
 
 -- ---- the input alone
 
@@ -112,7 +102,7 @@ module _ {W D F P : Type 0} (world : WorldModel W D F P) (disk : DiskModel D) wh
     pub changes : ChangesAt world disk wanted Changing folder name path change old new status
 
 module _ {W D F P : Type 0} (world : WorldModel W D F P) (remaining : F → Option (List ℕ)) where
-  -- `names`, `get`, `exists`, `log` and `verify`
+  -- `names`, `get`, `exists` and `verify`
   abbrev pub Asks : List ℕ → (Option (List ℕ) → Option (List ℕ) → Option (List ℕ) → Status → Type 0)
       → Around W → Around W → Status → Type 0
   Asks folder says old new status =
@@ -176,7 +166,8 @@ module _ {W D F P : Type 0} (world : WorldModel W D F P) (disk : DiskModel D) (r
       Asks world remaining folder.now (SaysValue at name.now pointer.now absent form) old new status
   Performs (Exists folder name pointer at) old new status =
       Asks world remaining folder.now (SaysPresence at name.now pointer.now) old new status
-  Performs (Log folder at form) old new status = Asks world remaining folder.now (SaysLog at (log_form_of form)) old new status
+  Performs (Log folder at form) old new status =
+      Logs world remaining folder.now at form old.world new.world old.output new.output status × (new.input ≡ old.input)
   Performs (Verify folder) old new status = Asks world remaining folder.now SaysSurvey old new status
   Performs (Salvage folder new_folder) old new status =
       Salvages world disk remaining folder.now new_folder.now old.world new.world old.output new.output status

@@ -7,6 +7,7 @@ use Rattle.conf_tools.specs.Prelude.{NamesForm, TreeForm, ValueForm, streams_of}
 use Rattle.conf_history.specs.Logs.{FailsToLog, LogsAll}
 use Rattle.conf_history.specs.Salvages.{LeavesOldOrSaved, RefusesSalvage, Saves, disk_of}
 use Rattle.conf_history.specs.declared.fault.SalvageFault.TheVariants.{StoreExists as NewStoreExists}
+use Rattle.conf_folder.specs.declared.fault.FolderFault.TheVariants.{NotAStore as TooLongForStore}
 use Rattle.conf_tools.specs.declared.reading_fault.ReadingFault.TheVariants.{Folder as ReadingFolder}
 use Rattle.conf_tools.specs.declared.reads.Presence.TheVariants.{Absent as NothingThere}
 use Rattle.conf_tools.specs.declared.stores.StoreToolFault.TheVariants.{Folder as InFolder}
@@ -278,14 +279,19 @@ module _ {W D F P : Type 0} (world : WorldModel W D F P) where
       ⊎ ((made : W) × (seen : W) × world.made_folder folder old (Ok tt) made
       × world.opened_store folder made (Ok None) seen × world.opened New folder seen (Err fault) new)
 
+  -- the folder has a store, or a file that is too long for one
+  abbrev pub HasStore : List ℕ → W → W → Type 0
+  HasStore folder old new =
+      ((file : F) × world.opened_store folder old (Ok (Some file)) new)
+      ⊎ world.opened_store folder old (Err TooLongForStore) new
+
   -- The disk of a folder that is to hold a new store: it is made if it is missing, and has no store.
   abbrev pub OpensNew : List ℕ → W → Result D ReadingFault → W → Type 0
   OpensNew folder old (Ok first) new =
       (made : W) × (seen : W) × world.made_folder folder old (Ok tt) made
       × world.opened_store folder made (Ok None) seen × world.opened New folder seen (Ok first) new
   OpensNew folder old (Err (Salvage NewStoreExists)) new =
-      (made : W) × (file : F) × world.made_folder folder old (Ok tt) made
-      × world.opened_store folder made (Ok (Some file)) new
+      (made : W) × world.made_folder folder old (Ok tt) made × HasStore folder made new
   OpensNew folder old (Err (ReadingFolder fault)) new = CannotHoldNew folder old fault new
   OpensNew folder old (Err fault) new = ⊥
 

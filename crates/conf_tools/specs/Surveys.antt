@@ -5,6 +5,7 @@ use Rattle.conf_history.specs.declared.fault.HistoryFault.TheVariants.{OutOfMemo
 use Rattle.conf_store.specs.declared.records.NoRecord.{NoRecord}
 use Rattle.conf_store.specs.declared.records.NoRecord.TheVariants.{NotARecord, WrongNumber, Refused}
 use Rattle.conf_history.specs.declared.survey.Bad.{Bad}
+use Rattle.conf_history.specs.declared.following.{BadKind.BadKind, BadKind.TheVariants.Torn, BadKind.TheVariants.Unexpected}
 use Rattle.conf_tools.specs.{declared.reading_fault.ReadingFault.ReadingFault, declared.surveys.Soundness.Soundness}
 use Rattle.conf_tools.specs.declared.reading_fault.ReadingFault.TheVariants.{History, Output}
 use Rattle.conf_tools.specs.declared.surveys.Soundness.TheVariants.{Whole, Damaged}
@@ -25,14 +26,22 @@ word_line key word = key ++ codes ": " ++ word ++ codes "\n"
 abbrev pub number_line : List ℕ → ℕ → List ℕ
 number_line key number = key ++ codes ": \"" ++ decimal number ++ codes "\"\n"
 
--- whether the file can be opened
+-- whether the file can be opened: also if a crash may have left its bad piece
+abbrev pub soundness_of_kind : BadKind → Soundness
+soundness_of_kind Torn = Whole
+soundness_of_kind Unexpected = Damaged
+
 abbrev pub soundness_of : Option Bad → Soundness
 soundness_of None = Whole
-soundness_of (Some bad) = Damaged
+soundness_of (Some bad) = soundness_of_kind bad.kind
+
+abbrev pub kind_word : BadKind → List ℕ
+kind_word Torn = codes "torn"
+kind_word Unexpected = codes "damaged"
 
 abbrev pub state_word : Option Bad → List ℕ
 state_word None = codes "whole"
-state_word (Some bad) = codes "damaged"
+state_word (Some bad) = kind_word bad.kind
 
 -- the lines on the first bad piece, if there is one
 abbrev pub bad_lines : Option Bad → List ℕ

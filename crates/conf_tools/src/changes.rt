@@ -3,7 +3,8 @@ ghost use Rattle.std.specs.Prelude.{◌≡◌, ◌≢◌, ◌≤◌, ◌⊎◌, 
 ghost use Rattle.conf_tools.specs.Prelude.{chars, tree_of, conditions_of, bytes_under, LeavesOnly, command_of, text_of};
 ghost use Rattle.conf_tools.specs.Prelude.{Accepts, RefusesCommand, tree_named, AppendsRecord, DeviceHasCause};
 ghost use Rattle.conf_tools.specs.Prelude.{FailuresNeverFall, store_file, AllImagesMean, HasFlushed, MeantAtEntry};
-ghost use Rattle.conf_tools.specs.Changes.{CannotChange, CannotMake, ChangesOn, ChangeSurvives, IsMadeOf, LacksTree, MakesStore, Makes, MeansOneOf, ReadsChanged, RefusesChange, copies, renames};
+ghost use Rattle.conf_tools.specs.Changes.{CannotChange, CannotMake, ChangesOn, ChangeSurvives, IsMadeOf, LacksTree, MakesStore, Makes, MeansOneOf, ReadsChanged, RefusesChange, copies, moves, renames};
+ghost use Rattle.yaml_grammar.specs.Texts.{same_text};
 ghost use Rattle.conf_tools.specs.Dropped.{HasNoRest, TellsDropped, TellsDroppedOf};
 ghost use Rattle.conf_tools.specs.Exports.{disk_handed_back};
 ghost use Rattle.conf_tools.specs.Stores.{WasOpened};
@@ -28,7 +29,7 @@ pub enum Change<'t> {
     /// Puts a copy of the configuration under `name` under the name `to`, in place of one that is there: an import.
     Copy { name: String, to: String },
     /// Gives the configuration under `name` the name `to`, in place of one that is there: a batch that deletes it and
-    /// then imports it. A configuration that keeps its name comes last.
+    /// then imports it. Where the two names are one, it is an import, so that the configuration keeps its place.
     Rename { name: String, to: String },
     /// Makes the file as short as a base of the state, as [`Store::checkpoint`].
     Checkpoint,
@@ -143,9 +144,27 @@ fn rename_command<D: Disk>(
     ensures refused { IfErr result (LacksTree store.now.state (text_of name)) }
 {
     match copy_named(alloc, store, &name) {
-        Ok(tree) => Ok(rename_batch(alloc, name, to, tree)?),
+        Ok(tree) => Ok(rename_of(alloc, name, to, tree)?),
         Err(fault) => Err(fault),
     }
+}
+
+/// The command that gives a tree, which is under `name`, the name `to`. It fails only if memory runs out.
+fn rename_of(alloc: Global, name: String, to: String, tree: Config) -> Result<Command, AllocError>
+    ensures { IfOk result (λ command.
+        command_of command ≡ renames (text_of name) (text_of to) (tree_of tree)) }
+{
+    if is_same_name(&name, &to) {
+        return Ok(Command::Import { name: to, tree });
+    }
+    rename_batch(alloc, name, to, tree)
+}
+
+/// Whether two names are the same.
+fn is_same_name(name: &str, other: &str) -> bool
+    ensures { result ≡ same_text (chars name.now) (chars other.now) }
+{
+    other == name
 }
 
 /// The batch that deletes the configuration under `name`, and then imports a tree under the name `to`. It fails only if
@@ -157,7 +176,7 @@ fn rename_batch(
     tree: Config,
 ) -> Result<Command, AllocError>
     ensures { IfOk result (λ command.
-        command_of command ≡ renames (text_of name) (text_of to) (tree_of tree)) }
+        command_of command ≡ moves (text_of name) (text_of to) (tree_of tree)) }
 {
     let delete = Edit::Delete {
         name,

@@ -1,8 +1,8 @@
 // What stands in a store's file, as lines of text.
 ghost use Rattle.std.specs.Prelude.{◌≡◌, ◌++◌, IfOk, OnOk};
-ghost use Rattle.conf_tools.specs.Surveys.{bad_lines, findings_text, number_line, state_word, why_word, word_line};
+ghost use Rattle.conf_tools.specs.Surveys.{bad_lines, findings_text, kind_word, number_line, state_word, why_word, word_line};
 
-use conf_history::{Bad, Findings, NoRecord};
+use conf_history::{Bad, BadKind, Findings, NoRecord};
 use itoa::Buffer;
 use std::alloc::{AllocError, Global};
 
@@ -27,13 +27,23 @@ fn push_findings(text: &mut Vec<u8>, findings: &Findings) -> Result<(), AllocErr
     push_number(text, "dropped", findings.dropped)
 }
 
-/// Whether the store can be opened, in a word.
+/// What stands in the file, in a word: `whole`, `torn` or `damaged`.
 fn state_word(bad: &Option<Bad>) -> &'static str
     ensures { result.now ≡ state_word bad.now }
 {
     match bad {
         None => "whole",
-        Some(_) => "damaged",
+        Some(bad) => kind_word(bad.kind),
+    }
+}
+
+/// Whether a crash may have left a bad piece, in a word.
+fn kind_word(kind: BadKind) -> &'static str
+    ensures { result.now ≡ kind_word kind }
+{
+    match kind {
+        BadKind::Torn => "torn",
+        BadKind::Unexpected => "damaged",
     }
 }
 

@@ -1,11 +1,36 @@
 // The files and folders of the system.
 use crate::world::{Access, World};
-use conf_files::{Cause, Place, ReplaceFault, open_input, open_to_replace, replace_file};
+use conf_files::{Cause, Place, ReplaceFault, Subject, open_input, open_to_replace, replace_file};
 use conf_folder::{FolderDisk, FolderError, FolderFault, NewFolder, make_folder, open_store_file};
+use conf_journal::STORE_LIMIT;
 use conf_words::Reporting;
 use std::alloc::Global;
+use std::cell::Cell;
 use std::fs::File;
+use std::io;
+use std::io::{ErrorKind, Read};
 use std::rt::Files;
+
+/// Why the last read of a file failed, as the system says; `None` if it did not.
+pub type ReadFailure = Cell<Option<io::Error>>;
+
+/// A file that is open to be read. It notes why a read failed.
+#[derive(Drop)]
+pub struct InputFile<'r> {
+    file: File,
+    failure: &'r ReadFailure,
+}
+
+impl Read for InputFile<'_> {
+    fn read(&mut self, buf: &mut [u8]) -> io::Result<usize> {
+        let done = self.file.read(buf);
+        match &done {
+            Err(error) if error.kind() != ErrorKind::Interrupted => self.failure.set(Some(*error)),
+            _ => {}
+        }
+        done
+    }
+}
 
 /// The world that a runtime gives. It claims nothing of its folders and files, as a [`FolderDisk`] doesn't.
 #[derive(Drop)]
@@ -21,11 +46,14 @@ pub struct Host<'r, F> {
     cause: Option<Cause>,
     /// Why the last call on a file failed, if it did.
     file_cause: Option<Cause>,
+    /// Why a read of the file that was opened last failed, if one did.
+    read_failure: &'r ReadFailure,
 }
 
 impl<'r, F: Files<File = File>> Host<'r, F> {
     /// The files and folders that `rt` opens. Of a refused text so much is said, where the words ask for no more.
-    pub fn new(rt: &'r F, reporting: Reporting) -> Host<'r, F> {
+    /// Why a read failed is noted in `read_failure`.
+    pub fn new(rt: &'r F, reporting: Reporting, read_failure: &'r ReadFailure) -> Host<'r, F> {
         Host {
             rt,
             reporting,
@@ -33,6 +61,16 @@ impl<'r, F: Files<File = File>> Host<'r, F> {
             folder: None,
             cause: None,
             file_cause: None,
+            read_failure,
+        }
+    }
+
+    /// A file that was opened, of which no read has failed.
+    fn input(&self, file: File) -> InputFile<'r> {
+        self.read_failure.set(None);
+        InputFile {
+            file,
+            failure: self.read_failure,
         }
     }
 
@@ -95,7 +133,7 @@ impl<'r, F: Files<File = File>> Host<'r, F> {
 impl<'r, F: Files<File = File>> World for Host<'r, F> {
     type Disk = FolderDisk<'r, F>;
 
-    type File = File;
+    type File = InputFile<'r>;
 
     type Place = Place;
 
@@ -121,7 +159,10 @@ impl<'r, F: Files<File = File>> World for Host<'r, F> {
     }
 
     fn file_cause(&self) -> Option<Cause> {
-        self.file_cause
+        match self.read_failure.get() {
+            Some(error) => Some(Subject::Given.cause(error)),
+            None => self.file_cause,
+        }
     }
 
     fn make_folder(&mut self, alloc: Global, folder: &str) -> Result<(), FolderFault> {
@@ -155,11 +196,11 @@ impl<'r, F: Files<File = File>> World for Host<'r, F> {
     fn open_saved(
         &mut self,
         alloc: Global,
-        like: &File,
+        like: &InputFile<'r>,
         folder: &str,
     ) -> Result<FolderDisk<'r, F>, FolderFault> {
         self.begin(alloc, folder);
-        let opened = FolderDisk::for_new_store(self.rt, alloc, folder, Some(like));
+        let opened = FolderDisk::for_new_store(self.rt, alloc, folder, Some(&like.file));
         self.hand_out(opened)
     }
 
@@ -169,30 +210,50 @@ impl<'r, F: Files<File = File>> World for Host<'r, F> {
         self.leave_nothing();
     }
 
-    fn open_store(&mut self, alloc: Global, folder: &str) -> Result<Option<File>, FolderFault> {
+    fn open_store(
+        &mut self,
+        alloc: Global,
+        folder: &str,
+    ) -> Result<Option<InputFile<'r>>, FolderFault> {
         self.begin(alloc, folder);
         match open_store_file(self.rt, alloc, folder) {
-            Ok(file) => Ok(file),
+            Ok(Some(file)) if is_too_long(&file) => {
+                Err(self.refuse(FolderError::from(FolderFault::NotAStore)))
+            }
+            Ok(Some(file)) => Ok(Some(self.input(file))),
+            Ok(None) => Ok(None),
             Err(error) => Err(self.refuse(error)),
         }
     }
 
-    fn open_file(&mut self, path: &str) -> Option<File> {
+    fn open_file(&mut self, path: &str) -> Option<InputFile<'r>> {
+        self.read_failure.set(None);
         let opened = open_input(self.rt, path);
-        self.keep_of_file(opened).ok()
+        let file = self.keep_of_file(opened).ok()?;
+        Some(self.input(file))
     }
 
     fn open_to_replace(
         &mut self,
         alloc: Global,
         path: &str,
-    ) -> Result<(File, Place), ReplaceFault> {
+    ) -> Result<(InputFile<'r>, Place), ReplaceFault> {
+        self.read_failure.set(None);
         let opened = open_to_replace(self.rt, alloc, path);
-        self.keep_of_file(opened)
+        let (file, place) = self.keep_of_file(opened)?;
+        Ok((self.input(file), place))
     }
 
     fn replace(&mut self, alloc: Global, place: Place, bytes: &[u8]) -> Result<(), ReplaceFault> {
         let replaced = replace_file(self.rt, alloc, &place, bytes);
         self.keep_of_file(replaced)
+    }
+}
+
+/// Whether a file is known to have more bytes than a store may have.
+fn is_too_long(file: &File) -> bool {
+    match file.metadata() {
+        Ok(found) => found.len() > STORE_LIMIT,
+        Err(_) => false,
     }
 }

@@ -16,8 +16,9 @@ use crate::changes::Change;
 use crate::exports::export_text;
 use crate::file_words::{check_files, format_files, read_named};
 use crate::listener::Listener;
+use crate::logs::log_folder;
 use crate::outcome::{Ending, Outcome, tell_ending, tell_outcome};
-use crate::read_words::{Question, answer_on_folder, log_form_of, salvage_folder};
+use crate::read_words::{Question, answer_on_folder, salvage_folder};
 use crate::reads::Place;
 use crate::reporter::{Reporter, write_cause};
 use crate::rest::tell_rest;
@@ -252,9 +253,7 @@ fn perform_word<'w, A: World, R: Read, W: Write, E: Listener>(
             Ending::Of(answer_on_folder(world, alloc, folder, asked, output))
         }
         Invocation::Log { folder, at, form } => {
-            let form = log_form_of(form);
-            let asked = Question::Log { at, form };
-            Ending::Of(answer_on_folder(world, alloc, folder, asked, output))
+            Ending::Of(log_folder(world, alloc, folder, at, form, output))
         }
         Invocation::Verify { folder } => {
             let asked = Question::Survey;

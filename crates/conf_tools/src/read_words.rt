@@ -1,7 +1,6 @@
 // The words of the program that only read a store, and the one that makes a store of what a damaged one still says.
 ghost use Rattle.std.specs.Prelude.{◌≡◌};
 ghost use Rattle.conf_tools.specs.Outcomes.{status_of_outcome};
-ghost use Rattle.conf_tools.specs.Performs.{log_form_of};
 ghost use Rattle.conf_tools.specs.ReadingStatuses.{status_of_history, status_of_reading};
 ghost use Rattle.conf_tools.specs.Exports.{disk_back};
 ghost use Rattle.conf_tools.specs.StoreWords.{OpensFile, OpensNew, Reads, Salvages, SavesInFolder, Says, WritesFindings, status_after_log, status_after_presence, status_after_reading, status_after_survey};
@@ -13,7 +12,7 @@ use crate::reads::{Place, Presence, find_presence, write_names, write_value};
 use crate::surveys::{Soundness, write_findings, write_survey};
 use crate::world::World;
 use conf_folder::FolderFault;
-use conf_history::{Findings, HistoryFault, LineForm, LogForm, SalvageFault, salvage, write_log};
+use conf_history::{Findings, HistoryFault, LogForm, SalvageFault, salvage, write_log};
 use conf_words::{MissingValue, NamesForm, ValueForm};
 use std::alloc::Global;
 use std::io::{Read, Write};
@@ -37,7 +36,7 @@ pub(crate) enum Question<'w> {
     /// Its commands.
     Log {
         at: Option<u64>,
-        form: LogForm,
+        form: LogForm<'w>,
     },
     /// Whether it can be opened.
     Survey,
@@ -130,17 +129,6 @@ fn outcome_of_reading(ended: Result<(), ReadingFault>) -> Outcome<'static>
     }
 }
 
-/// How a log is written, as the words say.
-pub(crate) fn log_form_of(asked: conf_words::LogForm) -> LogForm
-    ensures { result ≡ log_form_of asked }
-{
-    match asked {
-        conf_words::LogForm::Lines => LogForm::Lines(LineForm::Names),
-        conf_words::LogForm::Values => LogForm::Lines(LineForm::Values),
-        conf_words::LogForm::Records => LogForm::Records,
-    }
-}
-
 /// How a survey of the store in a folder ended.
 fn outcome_of_survey<'w>(folder: &'w str, ended: Result<Soundness, ReadingFault>) -> Outcome<'w>
     ensures { status_of_outcome result ≡ status_after_survey ended }
@@ -230,7 +218,9 @@ pub(crate) fn open_new<A: World>(
     }
     match world.open_store(alloc, folder) {
         Ok(None) => {}
-        Ok(Some(_)) => return Err(ReadingFault::Salvage(SalvageFault::StoreExists)),
+        Ok(Some(_)) | Err(FolderFault::NotAStore) => {
+            return Err(ReadingFault::Salvage(SalvageFault::StoreExists));
+        }
         Err(fault) => return Err(ReadingFault::Folder(fault)),
     }
     match world.open_saved(alloc, like, folder) {

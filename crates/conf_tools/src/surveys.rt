@@ -1,21 +1,21 @@
 // What stands in a store's file, over any reader and writer.
 ghost use Rattle.std.specs.Prelude.{◌≡◌, IfOk, IfErr, OnOk};
 ghost use Rattle.conf_tools.specs.Prelude.{Appends};
-ghost use Rattle.conf_tools.specs.Surveys.{CannotWrite, RefusesWriting, WritesSurvey, findings_text, soundness_of};
+ghost use Rattle.conf_tools.specs.Surveys.{CannotWrite, RefusesWriting, WritesSurvey, findings_text, soundness_of, soundness_of_kind};
 
 use crate::findings::findings_text;
 use crate::reading_fault::ReadingFault;
 use crate::texts::write_whole;
-use conf_history::{Bad, Findings, HistoryFault, find_in_store};
+use conf_history::{Bad, BadKind, Findings, HistoryFault, find_in_store};
 use std::alloc::Global;
 use std::io::{Read, Write};
 
 /// Whether a store's file can be opened.
 #[derive(Clone, Copy, Debug, PartialEq, Eq)]
 pub enum Soundness {
-    /// The file means a state.
+    /// The file means a state. An opening drops what a crash may have left behind it.
     Whole,
-    /// One of its pieces is not the next record.
+    /// One of its pieces is not the next record, and no crash left that.
     Damaged,
 }
 
@@ -51,7 +51,17 @@ fn soundness_of(bad: &Option<Bad>) -> Soundness
 {
     match bad {
         None => Soundness::Whole,
-        Some(_) => Soundness::Damaged,
+        Some(bad) => soundness_of_kind(bad.kind),
+    }
+}
+
+/// Whether a store's file can be opened, by the kind of its first bad piece.
+fn soundness_of_kind(kind: BadKind) -> Soundness
+    ensures { result ≡ soundness_of_kind kind }
+{
+    match kind {
+        BadKind::Torn => Soundness::Whole,
+        BadKind::Unexpected => Soundness::Damaged,
     }
 }
 

@@ -45,7 +45,8 @@ pub trait World {
     /// Nothing is claimed of it.
     fn cause(&self) -> Option<(Cause, &str)>;
 
-    /// Why the last call on a file failed, if it did and the system said so. Nothing is claimed of it.
+    /// Why the last call on a file failed, or a read of it, if one did and the system said so. Nothing is claimed of
+    /// it.
     fn file_cause(&self) -> Option<Cause>;
 
     /// Makes a folder. Whatever is at the path stays as it is.
@@ -88,7 +89,8 @@ pub trait World {
     /// Opens the file of the store in a folder, to be read beside whoever holds the store. `None` if there is none.
     ///
     /// # Errors
-    /// `Device` if there is no folder or the file can't be opened, and `OutOfMemory`.
+    /// `Device` if there is no folder or the file can't be opened, `NotAStore` if it has more than 1,073,741,824 bytes,
+    /// and `OutOfMemory`.
     fn open_store(&mut self, alloc: Global, folder: &str) -> Result<Option<Self::File>, FolderFault>
         ensures { model.opened_store folder.now self.old result self.new };
 

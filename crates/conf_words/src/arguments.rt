@@ -28,6 +28,8 @@ pub(crate) enum Form {
     ShortFlag(char),
     /// By `--`, its name and a word, which help calls so.
     Word(&'static str),
+    /// As [`Form::Word`], any number of times.
+    Words(&'static str),
     /// As [`Form::Word`]. The word may be a negative number.
     Text(&'static str),
     /// By `--`, its name and a number that is at least so big, which help calls so.

@@ -284,9 +284,9 @@ pub(crate) const RENAME: Listing = Listing {
     ],
     help: "\
 A configuration that has the name TO is replaced, unless --if-absent is given; it keeps the place of TO
-among the names, and a new name comes last. All of it is done or nothing, in one command. Nothing is
-printed where it is done. If a condition does not hold, nothing changes (Unmet); --if-value and
---if-absent look at TO.
+among the names, and a new name comes last. Where NAME and TO are one name, all stays as it is, and the
+command is counted. All of it is done or nothing, in one command. Nothing is printed where it is done.
+If a condition does not hold, nothing changes (Unmet); --if-value and --if-absent look at TO.
 
 Examples:
   confstore rename store web site

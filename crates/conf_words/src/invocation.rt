@@ -98,7 +98,7 @@ pub enum Invocation<'w> {
     Log {
         folder: &'w str,
         at: Option<u64>,
-        form: LogForm,
+        form: LogForm<'w>,
     },
     /// Reads the whole store, and writes whether it can be opened.
     Verify {
@@ -217,12 +217,13 @@ pub enum RawEnd {
 }
 
 /// How `log` writes a command.
-#[derive(Clone, Copy, Debug, PartialEq, Eq)]
-pub enum LogForm {
+#[derive(Debug, Drop)]
+pub enum LogForm<'w> {
     /// In a line.
     Lines,
-    /// In a line, with the value of each import and each set as a JSON text (RFC 8259).
-    Values,
+    /// In a line, with the value of each import and each set as a JSON text (RFC 8259). What is at one of these JSON
+    /// Pointers of a configuration, or below it, is hidden.
+    Values { hidden: Vec<&'w str> },
     /// As its record stands in the store file.
     Records,
 }

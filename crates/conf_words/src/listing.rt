@@ -77,6 +77,7 @@ fn given_by<'a>(alloc: Global, name: &'a str, form: Form) -> Arg<'a> {
         Form::Flag => flag(alloc, name),
         Form::ShortFlag(letter) => flag(alloc, name).short(letter),
         Form::Word(value) => with_value(alloc, name, value),
+        Form::Words(value) => with_value(alloc, name, value).action(ArgAction::Append),
         Form::Text(value) => with_value(alloc, name, value).allow_negative_numbers(true),
         Form::Number(value, least) => with_number(alloc, name, value, least),
     }

@@ -1,5 +1,5 @@
 // The words of the program that only read a store, and those that make a new store of what is read.
-ghost use Rattle.std.specs.Prelude.{IfSome};
+ghost use Rattle.std.specs.Prelude.{IfOk, IfSome};
 ghost use Rattle.conf_words.specs.Invocations.{HasFittingFiles};
 
 use crate::arguments::{
@@ -10,7 +10,10 @@ use crate::invocation::{
     Invocation, LogForm, MissingValue, NamesForm, RawEnd, TreeForm, ValueForm,
 };
 use crate::listing::Listing;
+use crate::refusal::{OTHER, refused};
+use crate::unparsed::Unparsed;
 use clap::ArgMatches;
+use std::alloc::{AllocError, Global};
 
 /// The word that says after which command the store is read.
 const AT: &str = "at";
@@ -275,10 +278,16 @@ pub(crate) const LOG: Listing = Listing {
             relation: Relation::Excludes(&[YAML]),
         },
         Argument {
+            name: HIDE,
+            help: "Writes `hidden` for what is at POINTER, or below it; needs --values, and may be given again",
+            form: Form::Words("POINTER"),
+            relation: Relation::Needs(VALUES),
+        },
+        Argument {
             name: YAML,
             help: "Writes the records as they stand in store.yaml",
             form: Form::Flag,
-            relation: Relation::Free,
+            relation: Relation::Excludes(&[HIDE]),
         },
         AT_ARGUMENT,
         FOLDER_ARGUMENT,
@@ -290,9 +299,14 @@ the records are written as they stand in store.yaml, each a YAML document. No lo
 nothing is changed, so this runs beside a session that holds the store. With `--at` nothing is written
 unless command N is there.
 
+With `--hide POINTER` the word `hidden` stands for what is at the JSON Pointer of any configuration, or
+below it, as `1 import web {\"port\":\"80\",\"key\":hidden}`. An index is the one that the command names, and
+`-` is taken for every index: hide a list whole. A POINTER that is none is refused (BadPath).
+
 Examples:
   confstore log store
   confstore log store --values
+  confstore log store --values --hide /key
   confstore log store --yaml
   confstore log store --at 12",
 };
@@ -300,24 +314,35 @@ Examples:
 /// The word of `log` that has values written.
 const VALUES: &str = "values";
 
-pub(crate) fn log_invocation<'w>(words: &ArgMatches<'w>) -> Option<Invocation<'w>>
-    ensures { IfSome result HasFittingFiles }
+/// The word of `log` that hides the values at a pointer. It needs [`VALUES`].
+const HIDE: &str = "hide";
+
+pub(crate) fn log_invocation<'w>(
+    alloc: Global,
+    words: &ArgMatches<'w>,
+) -> Result<Invocation<'w>, Unparsed>
+    ensures { IfOk result HasFittingFiles }
 {
-    Some(Invocation::Log {
-        folder: words.get_str(FOLDER)?,
+    let Some(folder) = words.get_str(FOLDER) else {
+        return Err(refused(alloc, OTHER));
+    };
+    Ok(Invocation::Log {
+        folder,
         at: words.get_one(AT),
-        form: form_of_log(words),
+        form: form_of_log(alloc, words)?,
     })
 }
 
-fn form_of_log(words: &ArgMatches<'_>) -> LogForm {
+/// How a log is written, as the words say. It fails only if memory runs out.
+fn form_of_log<'w>(alloc: Global, words: &ArgMatches<'w>) -> Result<LogForm<'w>, AllocError> {
     if words.get_flag(YAML) {
-        LogForm::Records
-    } else if words.get_flag(VALUES) {
-        LogForm::Values
-    } else {
-        LogForm::Lines
+        return Ok(LogForm::Records);
     }
+    if !words.get_flag(VALUES) {
+        return Ok(LogForm::Lines);
+    }
+    let hidden = Vec::from_slice(alloc, words.get_strs(HIDE).unwrap_or_default())?;
+    Ok(LogForm::Values { hidden })
 }
 
 pub(crate) const VERIFY: Listing = Listing {

@@ -124,7 +124,7 @@ fn invocation_of<'w>(alloc: Global, matches: &ArgMatches<'w>) -> Result<Invocati
         Some(Subcommand::Get) => get_invocation(words),
         Some(Subcommand::Keys) => keys_invocation(words),
         Some(Subcommand::Exists) => exists_invocation(words),
-        Some(Subcommand::Log) => log_invocation(words),
+        Some(Subcommand::Log) => return log_invocation(alloc, words),
         Some(Subcommand::Verify) => verify_invocation(words),
         Some(Subcommand::Salvage) => salvage_invocation(words),
         Some(Subcommand::Backup) => backup_invocation(words),

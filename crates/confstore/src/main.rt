@@ -11,7 +11,9 @@
 mod pipe;
 
 use crate::pipe::{Errors, Output};
-use conf_tools::{Host, TailReader, Told, ToolFault, perform, refuse_words, show_unparsed};
+use conf_tools::{
+    Host, ReadFailure, TailReader, Told, ToolFault, perform, refuse_words, show_unparsed,
+};
 use conf_words::{Reporting, Subcommand, parse};
 use std::cell::Cell;
 use std::fs::{File, OpenOptions};
@@ -103,13 +105,14 @@ fn main(rt: HostRuntime) -> ExitCode {
         Some(Subcommand::Run) => &is_never,
         _ => &is_closed,
     };
-    let mut errors = Told::new(Errors::new(errors, is_silent));
+    let mut errors = Told::new(Errors::new(alloc, errors, is_silent));
     let reporting = if stderr.is_terminal() {
         Reporting::Explained
     } else {
         Reporting::Brief
     };
-    let mut host = Host::new(&rt, reporting);
+    let read_failure = ReadFailure::new(None);
+    let mut host = Host::new(&rt, reporting, &read_failure);
     let status = match parse(alloc, &words) {
         Ok(asked) => perform(
             &mut host,
@@ -121,5 +124,6 @@ fn main(rt: HostRuntime) -> ExitCode {
         ),
         Err(unparsed) => show_unparsed(&unparsed, &mut writer, &mut errors),
     };
+    let _ = errors.flush();
     ExitCode::from(status.code())
 }

@@ -2,6 +2,7 @@
 //
 // `confstore names store | head -1` has what it wants after one line. So a write that fails since nobody reads it any
 // more is no fault to tell: standard error stays silent from then on. The status is still that of a failed write.
+use std::alloc::Global;
 use std::cell::Cell;
 use std::io;
 use std::io::{ErrorKind, Write};
@@ -45,29 +46,51 @@ impl<W: Write> Write for Output<'_, W> {
     }
 }
 
-/// Standard error. It drops what it is given once it has to be silent.
+/// Standard error. A line is one write, so that the lines of two runs are not mixed: what it is given is held back up
+/// to a line feed at its end. It drops what it is given once it has to be silent.
 #[derive(Drop)]
 pub(crate) struct Errors<'c, E> {
     inner: E,
     is_silent: &'c Cell<bool>,
+    /// What is held back.
+    line: Vec<u8>,
 }
 
-impl<'c, E> Errors<'c, E> {
+impl<'c, E: Write> Errors<'c, E> {
     /// Writes to `inner` as long as `is_silent` holds false.
-    pub(crate) fn new(inner: E, is_silent: &'c Cell<bool>) -> Self {
-        Errors { inner, is_silent }
+    pub(crate) fn new(alloc: Global, inner: E, is_silent: &'c Cell<bool>) -> Self {
+        Errors {
+            inner,
+            is_silent,
+            line: Vec::new(alloc),
+        }
+    }
+
+    /// Writes what is held back. What can't be written is lost.
+    fn write_line(&mut self) -> io::Result<()> {
+        let done = if self.is_silent.get() {
+            Ok(())
+        } else {
+            self.inner.write_all(&self.line)
+        };
+        self.line.clear();
+        done
     }
 }
 
 impl<E: Write> Write for Errors<'_, E> {
     fn write(&mut self, buf: &[u8]) -> io::Result<usize> {
-        if self.is_silent.get() {
-            return Ok(buf.len());
+        if self.line.extend_from_slice(buf).is_err() {
+            self.write_line()?;
+            self.inner.write_all(buf)?;
+        } else if buf.last() == Some(&b'\n') {
+            self.write_line()?;
         }
-        self.inner.write(buf)
+        Ok(buf.len())
     }
 
     fn flush(&mut self) -> io::Result<()> {
+        self.write_line()?;
         self.inner.flush()
     }
 }

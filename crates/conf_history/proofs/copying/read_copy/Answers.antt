@@ -3,7 +3,7 @@ use Rattle.std.proofs.Common.{sym, ◌∙◌, ap, [], ◌∷◌, ◌++◌}
 use Rattle.std.specs.Prelude.{None, Ok}
 use Rattle.conf_history.proofs.Prelude.{concat, append-nil, err_from_is_err_and, piece_or_rest}
 use Rattle.conf_history.specs.Walks.{with_state}
-use Rattle.conf_history.proofs.{CopyLemmas.reads-copy, ReadingLemmas.ended-whole, ReadingLemmas.goes-further, ReadingLemmas.reads-stop}
+use Rattle.conf_history.proofs.{CopyLemmas.reads-copy, ReadingLemmas.goes-further, ReadingLemmas.fails-reading}
 use Rattle.conf_history.proofs.{ReadingLemmas.refuses-start, WalkLemmas.any-bytes, WalkLemmas.concat-last}
 use Rattle.conf_history.proofs.copying.read_copy.Goals as goal
 
@@ -34,8 +34,7 @@ pub returns-in_err-next-clause-refused : goal.returns-in_err-next-clause-refused
 returns-in_err-next-clause-refused g c =
     let given = g.R.Read.remaining c.args.reader.now in
     let walked = c.records.invariant in
-    let fails = reads-stop None given (g.R.Read.remaining c.next.new.reader) (with_state c.next.new.self c.records.part.part)
-    walked.0 walked.1 walked.2 c.one_list_of_pieces.ensures.some c.in_err-next.field-0.0
+    let fails = fails-reading given None walked.0 c.in_err-next.field-0.0
     (c.in_err-next.ensures.stops given walked.0 walked.1 walked.2 walked.3) in
     let p = err_from_is_err_and c.from_residual-in_err-next.result c.from_residual-in_err-next.ensures.1 in
     rw (p.1, p.2) fails
@@ -77,5 +76,4 @@ returns-clause-ok g c =
     let left = g.R.Read.remaining c.next.new.reader in
     let walk = with_state c.next.new.self c.next.new.held.part in
     let ended = c.in_ok-next.ensures.ended given walked.0 walked.1 walked.2 walked.3 (ap Ok c.if-branch.false) in
-    reads-copy given left walk walked.0 walked.1 walked.2 c.records.copy.items walked.4
-    (ended-whole given left walk walked.0 walked.1 walked.2 ended.0)
+    reads-copy given left walk walked.0 walked.1 walked.2 c.records.copy.items walked.4 ended.0

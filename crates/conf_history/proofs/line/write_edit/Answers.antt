@@ -1,4 +1,4 @@
-use Rattle.std.proofs.Common.{◌++◌, codes, subst, sym}
+use Rattle.std.proofs.Common.{◌++◌, codes, subst, sym, []}
 use Rattle.conf_history.proofs.Prelude.{chars, on_ok_weaker, in_double_quotes, tree_of, edit_of, text_of}
 use Rattle.conf_history.specs.Logs.{edit_words, value_words}
 use Rattle.conf_history.proofs.line.write_edit.Goals as goal
@@ -10,7 +10,7 @@ returns-in-Import g c =
     on_ok_weaker c.write_import.result
     (λ written. subst (λ v. g.S.Sink.Takes start (edit_words c.args.form (edit_of v)) end) (sym c.in-Import.is)
     (subst (λ x. g.S.Sink.Takes start (codes " import " ++ chars x
-    ++ value_words c.args.form (tree_of c.in-Import.tree)) end) c.deref.ensures written))
+    ++ value_words c.args.form [] (tree_of c.in-Import.tree)) end) c.deref.ensures written))
     c.write_import.ensures
 
 pub returns-in-Set : goal.returns-in-Set
@@ -20,9 +20,10 @@ returns-in-Set g c =
     on_ok_weaker c.write_set.result
     (λ written. subst (λ v. g.S.Sink.Takes start (edit_words c.args.form (edit_of v)) end) (sym c.in-Set.is)
     (subst (λ x. g.S.Sink.Takes start (codes " set " ++ text_of c.in-Set.name ++ codes " "
-    ++ in_double_quotes (chars x) ++ value_words c.args.form (tree_of c.in-Set.value)) end) c.deref-in-Set-2.ensures
+    ++ in_double_quotes (chars x) ++ value_words c.args.form (chars x) (tree_of c.in-Set.value)) end) c.deref-in-Set-2.ensures
     (subst (λ x. g.S.Sink.Takes start (codes " set " ++ chars x ++ codes " "
-    ++ in_double_quotes (chars c.deref-in-Set-2.result.now) ++ value_words c.args.form (tree_of c.in-Set.value))
+    ++ in_double_quotes (chars c.deref-in-Set-2.result.now)
+    ++ value_words c.args.form (chars c.deref-in-Set-2.result.now) (tree_of c.in-Set.value))
     end) c.deref-in-Set.ensures written)))
     c.write_set.ensures
 

@@ -48,8 +48,7 @@ returns-in_err-next-clause-refused g c =
     let walked = c.records.invariant.walked in
     let fails = stops-log c.args.form given (g.R.Read.remaining c.records.reader) (with_state c.records.walk c.records.logged.part)
     walked.0 walked.1 walked.2 walked.3.between c.one_list_of_pieces.ensures.some
-    (g.W.Write.contents c.args.writer.now) (g.W.Write.contents c.records.writer) walked.4 c.args.at
-    (g.R.Read.remaining c.next.new.reader) (with_state c.next.new.self c.records.logged.part) c.in_err-next.field-0.0
+    (g.W.Write.contents c.args.writer.now) (g.W.Write.contents c.records.writer) walked.4 c.args.at c.in_err-next.field-0.0
     (c.in_err-next.ensures.stops given walked.0 walked.1 walked.2 walked.3) in
     let p = err_from_is_err_and c.from_residual-in_err-next.result c.from_residual-in_err-next.ensures.1 in
     rw (p.1, p.2) fails

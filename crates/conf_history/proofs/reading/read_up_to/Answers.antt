@@ -3,7 +3,7 @@ use Rattle.std.proofs.Common.{ap, [], ◌∷◌, ◌++◌}
 use Rattle.std.specs.Prelude.{Ok}
 use Rattle.conf_history.proofs.Prelude.{err_from_is_err_and, piece_or_rest}
 use Rattle.conf_history.specs.Walks.{with_state}
-use Rattle.conf_history.proofs.ReadingLemmas.{goes-further, reads-state, reads-stop, refuses-start}
+use Rattle.conf_history.proofs.ReadingLemmas.{goes-further, reads-state, fails-reading, refuses-start}
 use Rattle.conf_history.proofs.reading.read_up_to.Goals as goal
 
 pub returns-in_err-held-clause-refused : goal.returns-in_err-held-clause-refused
@@ -31,9 +31,8 @@ pub returns-in_err-next-clause-refused : goal.returns-in_err-next-clause-refused
 returns-in_err-next-clause-refused g c =
     let given = g.R.Read.remaining c.args.reader.now in
     let walked = c.records.invariant in
-    let fails = reads-stop c.args.at given (g.R.Read.remaining c.next.new.reader)
-    (with_state c.next.new.self (g.T.Replayed.contents c.records.held)) walked.0 walked.1 walked.2
-    c.one_list_of_pieces.ensures.some c.in_err-next.field-0.0 (c.in_err-next.ensures.stops given walked.0 walked.1 walked.2 walked.3) in
+    let fails = fails-reading given c.args.at walked.0 c.in_err-next.field-0.0
+    (c.in_err-next.ensures.stops given walked.0 walked.1 walked.2 walked.3) in
     let p = err_from_is_err_and c.from_residual-in_err-next.result c.from_residual-in_err-next.ensures.1 in
     rw (p.1, p.2) fails
 

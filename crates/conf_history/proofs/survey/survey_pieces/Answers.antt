@@ -25,8 +25,8 @@ records-init g c = (
   c.accepted-base.ensures.count,
 )
 
-pub next-requires : goal.next-requires
-next-requires g c =
+pub step-requires : goal.step-requires
+step-requires g c =
     let walked = c.records.invariant in
     record { given = g.R.Read.remaining c.args.reader.now; pieces = walked.0; start = walked.1; commands = walked.2; on = walked.3 }
 
@@ -35,9 +35,9 @@ records-smaller g c =
     let given = g.R.Read.remaining c.args.reader.now in
     let walked = c.records.invariant in
     let goes = c.in-Ok-true.ensures.goes given walked.0 walked.1 walked.2 walked.3 (ap Ok c.in-Ok-true.field-0-test) in
-    goes-further given (g.R.Read.remaining c.records.reader) (g.R.Read.remaining c.next.new.reader)
-    (with_state c.records.walk (g.T.Replayed.contents c.records.held)) (with_state c.next.new.self (g.T.Replayed.contents c.next.new.held))
-    walked.0 (piece_or_rest c.next.new.self.pieces) walked.1 walked.2 (walked.2 ++ goes.command ∷ []) walked.3.between
+    goes-further given (g.R.Read.remaining c.records.reader) (g.R.Read.remaining c.step.new.reader)
+    (with_state c.records.walk (g.T.Replayed.contents c.records.held)) (with_state c.step.new.self (g.T.Replayed.contents c.step.new.held))
+    walked.0 (piece_or_rest c.step.new.self.pieces) walked.1 walked.2 (walked.2 ++ goes.command ∷ []) walked.3.between
     goes.closes goes.on.between
 
 pub records-preserved : goal.records-preserved
@@ -45,14 +45,14 @@ records-preserved g c =
     let walked = c.records.invariant in
     let goes = c.in-Ok-true.ensures.goes (g.R.Read.remaining c.args.reader.now) walked.0 walked.1 walked.2 walked.3
     (ap Ok c.in-Ok-true.field-0-test) in
-    (walked.0 ++ piece_or_rest c.next.new.self.pieces ∷ [], walked.1, walked.2 ++ goes.command ∷ [], goes.on, walked.4)
+    (walked.0 ++ piece_or_rest c.step.new.self.pieces ∷ [], walked.1, walked.2 ++ goes.command ∷ [], goes.on, walked.4)
 
 pub findings-findings-requires : goal.findings-findings-requires
 findings-findings-requires g c =
     let given = g.R.Read.remaining c.args.reader.now in
-    let left = g.R.Read.remaining c.next.new.reader in
+    let left = g.R.Read.remaining c.step.new.reader in
     let walked = c.records.invariant in
-    let walk = with_state c.next.new.self (g.T.Replayed.contents c.next.new.held) in
+    let walk = with_state c.step.new.self (g.T.Replayed.contents c.step.new.held) in
     let ended = c.in-Ok-false.ensures.ended given walked.0 walked.1 walked.2 walked.3 (ap Ok c.in-Ok-false.field-0-test) in
     let whole = ended-whole given left walk walked.0 walked.1 walked.2 ended.0 in
     subst (λ n. c.accepted-base.result ≤ n) (sym c.accepted.ensures.count)
@@ -61,21 +61,21 @@ findings-findings-requires g c =
 pub returns-in-Ok-false-clause-ok : goal.returns-in-Ok-false-clause-ok
 returns-in-Ok-false-clause-ok g c =
     let given = g.R.Read.remaining c.args.reader.now in
-    let left = g.R.Read.remaining c.next.new.reader in
+    let left = g.R.Read.remaining c.step.new.reader in
     let walked = c.records.invariant in
-    let walk = with_state c.next.new.self (g.T.Replayed.contents c.next.new.held) in
+    let walk = with_state c.step.new.self (g.T.Replayed.contents c.step.new.held) in
     let ended = c.in-Ok-false.ensures.ended given walked.0 walked.1 walked.2 walked.3 (ap Ok c.in-Ok-false.field-0-test) in
     let whole = ended-whole given left walk walked.0 walked.1 walked.2 ended.0 in
     let reads = surveyed-whole given left walk walked.0 walked.1 walked.2 whole c.accepted-base.result c.accepted.result walked.4
     c.accepted.ensures.count ended.1 c.findings-findings.result c.findings-findings.ensures in
-    (walk.state, reads, g.T.Replayed.keeps c.next.new.held)
+    (walk.state, reads, g.T.Replayed.keeps c.step.new.held)
 
 pub find_after-requires-clause-limits : goal.find_after-requires-clause-limits
 find_after-requires-clause-limits g c =
     let given = g.R.Read.remaining c.args.reader.now in
     let walked = c.records.invariant in
-    let walk = with_state c.next.new.self (g.T.Replayed.contents c.records.held) in
-    let stops = subst (Stops None given (g.R.Read.remaining c.next.new.reader) walk walked.0 walked.1 walked.2)
+    let walk = with_state c.step.new.self (g.T.Replayed.contents c.records.held) in
+    let stops = subst (Stops None given (g.R.Read.remaining c.step.new.reader) walk walked.0 walked.1 walked.2)
     c.in-Err-Damaged.field-0-is (c.in-Err-Damaged.ensures.stops given walked.0 walked.1 walked.2 walked.3) in
     stops.0.read.limits
 
@@ -91,8 +91,8 @@ returns-in_err-findings-in-Err-Damaged-clause-refused g c =
     let given = g.R.Read.remaining c.args.reader.now in
     let walked = c.records.invariant in
     let before = g.T.Replayed.contents c.records.held in
-    let walk = with_state c.next.new.self before in
-    let stops = subst (Stops None given (g.R.Read.remaining c.next.new.reader) walk walked.0 walked.1 walked.2)
+    let walk = with_state c.step.new.self before in
+    let stops = subst (Stops None given (g.R.Read.remaining c.step.new.reader) walk walked.0 walked.1 walked.2)
     c.in-Err-Damaged.field-0-is (c.in-Err-Damaged.ensures.stops given walked.0 walked.1 walked.2 walked.3) in
     let fails = c.in_err-findings-in-Err-Damaged.ensures.refused given before walked.0 walked.1 walked.2 stops.0 in
     let p = err_from_is_err_and c.from_residual-in_err-findings-in-Err-Damaged.result
@@ -104,8 +104,8 @@ returns-in-Err-Damaged-clause-ok g c =
     let given = g.R.Read.remaining c.args.reader.now in
     let walked = c.records.invariant in
     let before = g.T.Replayed.contents c.records.held in
-    let walk = with_state c.next.new.self before in
-    let stops = subst (Stops None given (g.R.Read.remaining c.next.new.reader) walk walked.0 walked.1 walked.2)
+    let walk = with_state c.step.new.self before in
+    let stops = subst (Stops None given (g.R.Read.remaining c.step.new.reader) walk walked.0 walked.1 walked.2)
     c.in-Err-Damaged.field-0-is (c.in-Err-Damaged.ensures.stops given walked.0 walked.1 walked.2 walked.3) in
     let told = subst (IsBadHere walk) (sym c.in-Err-Damaged.bad-is) stops.1 in
     let reads = c.in_ok-findings-in-Err-Damaged.ensures.ok given before walked.0 walked.1 walked.2 stops.0 told walked.4
@@ -120,6 +120,6 @@ returns-in-Err g c =
     let other : (bad : BadPiece) → fault ≡ Damaged bad → ⊥ = search rules in
     record {
       ok = tt;
-      refused = not-bad given (g.R.Read.remaining c.next.new.reader) (with_state c.next.new.self (g.T.Replayed.contents c.records.held))
+      refused = not-bad given (g.R.Read.remaining c.step.new.reader) (with_state c.step.new.self (g.T.Replayed.contents c.records.held))
           walked.0 walked.1 walked.2 fault other (c.in-Err.ensures.stops given walked.0 walked.1 walked.2 walked.3);
     }

@@ -1,4 +1,4 @@
-use Rattle.conf_store.proofs.Prelude.{base_bytes}
+use Rattle.conf_store.proofs.{Prelude.base_bytes, Prelude.image_now, StoreLemmas.durable-means}
 use Rattle.conf_store.proofs.CreateLemmas.{creation-leaves, creation-reads}
 use Rattle.conf_store.proofs.creating.create_store.Goals as goal
 
@@ -25,3 +25,15 @@ returns-in-Err-Device-clause-refused g c h =
     creation-reads d.model c.args.disk c.find_no_store.new.disk new c.reading_is_an_image.ensures c.held_store_is_the_only_one.ensures.left
     (base_bytes c.args.state.now) (c.in-Ok.ensures.missing h) (c.in-Ok.ensures.holds h)
     (c.write_base.ensures.leaves h) (λ t image le is. g.met.D.Disk.counts_now new t image h le is)
+
+-- ---- what the new file means
+
+pub returns-in-Ok-write_base-clause-now : goal.returns-in-Ok-write_base-clause-now
+returns-in-Ok-write_base-clause-now g c h =
+    durable-means c.held_store_is_left.ensures.synced (g.D.Disk.model.folder c.write_base.new.disk) c.args.state.now
+    c.in-Ok-write_base.field-0 (c.in-Ok-write_base.ensures.durable h)
+
+pub returns-in-Ok-write_base-clause-means : goal.returns-in-Ok-write_base-clause-means
+returns-in-Ok-write_base-clause-means g c h =
+    let new = g.D.Disk.model.folder c.write_base.new.disk in
+    returns-in-Ok-write_base-clause-now g c h (image_now new) (c.reading_is_an_image.ensures new)

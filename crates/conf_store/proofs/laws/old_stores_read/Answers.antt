@@ -1,8 +1,9 @@
 use Rattle.std.proofs.Common.{ℕ, ◌+◌, List, [], ◌∷◌, arith}
-use Rattle.conf_store.proofs.Prelude.{chars, single, Contents, IsRecord, IsBase}
+use Rattle.conf_store.proofs.Prelude.{All-nil, IsNoRecord, chars, single, Contents, IsRecord, IsBase}
 use Rattle.yaml_data.specs.OwnLimits.{own_limits}
 use Rattle.conf_store.specs.Meaning.{AreRecords, PiecesMean}
 use Rattle.conf_store.proofs.FirstStepLemmas.{gives-wider, as_edit, as_commands, after-accepted, state-wider}
+use Rattle.conf_store.proofs.MeaningLemmas.{no-others}
 use Rattle.conf_store.proofs.FirstReadLemmas.{record-more, base-more}
 use Rattle.conf_store.specs.First as first
 use Rattle.conf_store.proofs.laws.old_stores_read.Goals as goal
@@ -52,4 +53,13 @@ pieces-mean pieces s m =
 
 pub returns : goal.returns
 returns c = λ bytes s m.
-    record { short = m.short; pieces = m.pieces; rest = m.rest; cut = m.cut; mean = pieces-mean m.pieces s m.mean }
+    record {
+      short = m.short;
+      pieces = m.pieces;
+      others = [];
+      rest = m.rest;
+      cut = no-others bytes m.pieces m.rest m.cut;
+      mean = pieces-mean m.pieces s m.mean;
+      hole = tt;
+      lost = All-nil IsNoRecord;
+    }

@@ -1,8 +1,15 @@
 -- Each turn performs one more record.
-use Rattle.std.proofs.Common.{rules, ◌++◌, ◌-◌, length, arith, length-drop, subst, sym}
-use Rattle.conf_store.specs.Opens.{RefusesBytes}
-use Rattle.conf_store.proofs.RecoveryLemmas.{all-replayed, next-replayed, none-replayed, unread}
+use Rattle.std.proofs.Common.{rules, ◌++◌, ◌+◌, ◌-◌, ◌∙◌, ⊎_elim, ap, length, arith, length-drop, subst, sym}
+use Rattle.std.specs.Prelude.{ℕ, List, drop, slice_range, Result, Ok, Err, IfOk, OnOk}
+use Rattle.conf_store.proofs.Prelude.{Contents, IsState, IfOk-weaker, IfErr-weaker}
+use Rattle.conf_store.specs.{Holes.MayBeLeft, Holes.WasKept, Opens.RecoversTo, Opens.RefusesBytes}
+use Rattle.conf_store.proofs.{HoleLemmas.zero-no-record, KeptLemmas.slice-rest}
+use Rattle.conf_store.proofs.RecoveryLemmas.{all-replayed, left-replayed, next-replayed, none-replayed, unread}
 use Rattle.conf_store.proofs.recovery.replay_records.Goals as goal
+
+on-ok : {T E : Type 0} (r : Result T E) (P : T → Type 0) (Q : Type 0) → ((x : T) → P x → Q) → IfOk r P → OnOk r Q
+on-ok (Ok x) P Q f p = f x p
+on-ok (Err e) P Q f p = tt
 
 pub records-init : goal.records-init
 records-init g c = record {
@@ -25,13 +32,54 @@ records-preserved g c =
       few = omega (arith, c.records.invariant.few, c.in-Some.ensures.found.after);
     }
 
+-- ---- a piece that is not the next record
+
+pub ends_at-requires-clause-room : goal.ends_at-requires-clause-room
+ends_at-requires-clause-room g c = omega (arith, c.records.invariant.few, c.in-Some.ensures.found.after, c.in-Some.ensures.found.closes.ends)
+
+pub returns-in-Err-clause-ok : goal.returns-in-Err-clause-ok
+returns-in-Err-clause-ok g c base closes is =
+    let records = c.args.records.now in
+    let before = g.T.Replayed.contents c.records.held in
+    let piece = slice_range records c.records.at c.in-Some.end in
+    let rest = slice-rest records c.in-Some.end in
+    IfOk-weaker c.ends_at.result _ _
+    (λ opened left.
+    (let behind : MayBeLeft piece (drop c.in-Some.end records) = subst (MayBeLeft piece) rest left.0 in
+    let same = c.in-Err.ensures.unread (zero-no-record c.no_zero_read.ensures.bytes piece behind.0) in
+    subst (λ (s : Contents). RecoversTo (base ++ records) s opened.commands opened.dropped) (ap g.T.Replayed.contents (sym same))
+    (subst (λ n. RecoversTo (base ++ records) before n opened.dropped) (sym left.1)
+    (left-replayed base (g.T.Replayed.contents c.args.held.now) closes is c.piece_between_closings.ensures.piece records c.records.at
+    c.in-Some.end before c.records.commands c.records.invariant.starts c.in-Some.ensures.found c.records.invariant.read
+    c.no_zero_read.ensures.bytes behind opened.dropped
+    (left.2 ∙ ap (λ (l : List ℕ). length piece + length l) rest)))))
+    c.ends_at.ensures.ok
+
+pub returns-in-Err-clause-limits : goal.returns-in-Err-clause-limits
+returns-in-Err-clause-limits g c kept =
+    let piece = slice_range c.args.records.now c.records.at c.in-Some.end in
+    on-ok c.ends_at.result _ _
+    (λ opened left.
+    (let same = c.in-Err.ensures.unread (zero-no-record c.no_zero_read.ensures.bytes piece left.0.0) in
+    subst (λ (s : Contents). IsState s) (ap g.T.Replayed.contents (sym same)) (c.records.invariant.limits kept)))
+    c.ends_at.ensures.ok
+
 pub returns-in-Err-clause-refused : goal.returns-in-Err-clause-refused
 returns-in-Err-clause-refused g c base closes is =
-    subst (RefusesBytes (base ++ c.args.records.now)) (sym c.fault_at.ensures)
-    (unread base (g.T.Replayed.contents c.args.held.now) closes is c.piece_between_closings.ensures.piece
-    c.one_list_of_pieces.ensures.some c.documents_are_read.ensures.one_record c.args.records.now c.records.at c.in-Some.end
-    (g.T.Replayed.contents c.records.held) c.records.commands c.in-Err.fault c.records.invariant.starts c.in-Some.ensures.found
-    c.records.invariant.read c.in-Err.ensures.refused)
+    let records = c.args.records.now in
+    let rest = slice-rest records c.in-Some.end in
+    let piece = slice_range records c.records.at c.in-Some.end in
+    IfErr-weaker c.ends_at.result _ _
+    (λ reason. ⊎_elim
+    (λ memory. subst (RefusesBytes (base ++ records)) (sym memory) tt)
+    (λ kept. subst (RefusesBytes (base ++ records)) (sym kept.0)
+    (unread base (g.T.Replayed.contents c.args.held.now) closes is c.piece_between_closings.ensures.piece records c.records.at
+    c.in-Some.end (g.T.Replayed.contents c.records.held) c.records.commands c.records.invariant.starts c.in-Some.ensures.found
+    c.records.invariant.read c.one_list_of_pieces.ensures.some c.documents_are_read.ensures.one_record c.in-Err.fault
+    (subst (WasKept piece) rest kept.1) c.in-Err.ensures.refused)))
+    c.ends_at.ensures.refused
+
+-- ---- all records
 
 pub returns-clause-limits : goal.returns-clause-limits
 returns-clause-limits g c = c.records.invariant.limits

@@ -1,63 +1,85 @@
--- The next piece is performed, or the walk has ended, or stopped.
-use Rattle.std.proofs.Common.{◌≡◌, sym, subst}
-use Rattle.std.specs.Prelude.{ℕ, ◌+◌, Ok}
-use Rattle.conf_history.proofs.Prelude.{err_from_is_err_and}
-use Rattle.conf_history.specs.{Walks.AfterGoing, Walks.Stops, Walks.with_state, declared.walk.Walk.Walk}
-use Rattle.conf_history.proofs.{ReadingLemmas.goes, ReadingLemmas.stops-at-piece, WalkLemmas.has-room}
+-- At a bad piece, what follows it says whether a crash may have left it.
+use Rattle.std.proofs.Common.{◌≡◌, rules, refl, inl, inr, sym, ◌∙◌, ap, subst, List, ◌++◌}
+use Rattle.std.specs.Prelude.{ℕ, Option, IfErr, Result, Bool, Ok, false}
+use Rattle.conf_history.proofs.Prelude.{concat, err_from_is_err_and, piece_or_rest, Contents, Command, IsState}
+use Rattle.conf_history.specs.Walks.{Ends, Fails, IsOn, IsTornBehind, Stops, with_state}
+use Rattle.conf_history.specs.{Following.Follow, declared.fault.HistoryFault.HistoryFault, declared.fault.HistoryFault.TheVariants.Damaged}
+use Rattle.conf_history.specs.declared.place.BadPiece.{BadPiece}
+use Rattle.conf_history.proofs.ReadingLemmas.{fails-at, fails-lacking, fails-stop, torn-at, torn-none}
+use Rattle.conf_history.proofs.{SurveyLemmas.past-piece, WalkLemmas.torn-followed}
 use Rattle.conf_history.proofs.walk.Walk.next.Goals as goal
 
-pub goes_on-requires : goal.goes_on-requires
-goes_on-requires g c = c.requires.on.between.limits
+pub returns-in-Ok-clause-ended : goal.returns-in-Ok-clause-ended
+returns-in-Ok-clause-ended g c given pieces start commands on is =
+    let ended = c.in-Ok.ensures.ended given pieces start commands on is in (inl ended.0, ended.1)
 
-pub returns-in_err-goes_on-clause-stops : goal.returns-in_err-goes_on-clause-stops
-returns-in_err-goes_on-clause-stops g c = λ given pieces start commands on.
-    let before = g.T.Replayed.contents c.args.held.now in
-    let stops = c.in_err-goes_on.ensures given before pieces start commands c.accepted.ensures.count on in
-    let p = err_from_is_err_and c.from_residual.result c.from_residual.ensures.1 in
-    rw (p.1, p.2) stops
+pub returns-in-Err-clause-stops : goal.returns-in-Err-clause-stops
+returns-in-Err-clause-stops g c given pieces start commands on =
+    let fault = c.in-Err.fault in
+    let other : (bad : BadPiece) → fault ≡ Damaged bad → ⊥ = search rules in
+    fails-stop c.args.at given (g.R.Read.remaining c.step.new.reader) (with_state c.step.new.self (g.T.Replayed.contents c.args.held.now))
+    pieces start commands fault other (c.in-Err.ensures.stops given pieces start commands on)
 
-pub replay_piece-requires : goal.replay_piece-requires
-replay_piece-requires g c =
-    let before = g.T.Replayed.contents c.args.held.now in
+-- ---- a bad piece
+
+pub look_behind-requires : goal.look_behind-requires
+look_behind-requires g c =
     let r = c.requires in
-    let left = g.R.Read.remaining c.goes_on.new.reader in
-    let walk = with_state c.goes_on.new.self before in
-    let going = subst (λ b. AfterGoing c.args.at r.given left walk r.pieces r.start r.commands (Ok b)) c.if-branch.true
-    (c.in_ok-goes_on.ensures r.given before r.pieces r.start r.commands c.accepted.ensures.count r.on) in
-    has-room r.given left walk r.pieces r.start r.commands going.1
+    let mid = g.R.Read.remaining c.step.new.reader in
+    let walk = with_state c.step.new.self (g.T.Replayed.contents c.args.held.now) in
+    let stops = subst (Stops c.args.at r.given mid walk r.pieces r.start r.commands) c.in-Err-Damaged.field-0-is
+    (c.in-Err-Damaged.ensures.stops r.given r.pieces r.start r.commands r.on) in
+    stops.0.read.limits
 
-pub returns-in_err-replay_piece-clause-stops : goal.returns-in_err-replay_piece-clause-stops
-returns-in_err-replay_piece-clause-stops g c = λ given pieces start commands on.
-    let before = g.T.Replayed.contents c.args.held.now in
-    let left = g.R.Read.remaining c.goes_on.new.reader in
-    let walk = with_state c.goes_on.new.self before in
-    let going = subst (λ b. AfterGoing c.args.at given left walk pieces start commands (Ok b)) c.if-branch.true
-    (c.in_ok-goes_on.ensures given before pieces start commands c.accepted.ensures.count on) in
-    let f = c.in_err-replay_piece.field-0.0 in
-    let stops = subst (λ (w : Walk). Stops c.args.at given left (with_state w before) pieces start commands f)
-    (sym c.in_err-replay_piece.ensures.walk)
-    (stops-at-piece c.args.at given left walk pieces start commands going.0 going.1 f c.in_err-replay_piece.ensures.refused) in
-    let p = err_from_is_err_and c.from_residual-in_err-replay_piece.result c.from_residual-in_err-replay_piece.ensures.1 in
-    rw (p.1, p.2) stops
+pub returns-in_err-kind-in-Err-Damaged-clause-stops : goal.returns-in_err-kind-in-Err-Damaged-clause-stops
+returns-in_err-kind-in-Err-Damaged-clause-stops g c given pieces start commands on =
+    let mid = g.R.Read.remaining c.step.new.reader in
+    let walk = with_state c.step.new.self (g.T.Replayed.contents c.args.held.now) in
+    let stops : Stops c.args.at given mid walk pieces start commands (Damaged c.in-Err-Damaged.bad) =
+    subst (λ bad. Stops c.args.at given mid walk pieces start commands (Damaged bad)) (sym c.in-Err-Damaged.bad-is)
+    (subst (Stops c.args.at given mid walk pieces start commands) c.in-Err-Damaged.field-0-is
+    (c.in-Err-Damaged.ensures.stops given pieces start commands on)) in
+    let past = past-piece given mid walk pieces start commands stops.0 in
+    let fails = fails-lacking given c.args.at pieces c.in_err-kind-in-Err-Damaged.field-0.0
+    (c.in_err-kind-in-Err-Damaged.ensures given (concat pieces ++ piece_or_rest walk.pieces) past.0 past.1) in
+    let p = err_from_is_err_and c.from_residual.result c.from_residual.ensures.1 in
+    rw (p.1, p.2) fails
 
-pub returns-then-branch-clause-goes : goal.returns-then-branch-clause-goes
-returns-then-branch-clause-goes g c = λ given pieces start commands on is.
-    let before = g.T.Replayed.contents c.args.held.now in
-    let left = g.R.Read.remaining c.goes_on.new.reader in
-    let walk = with_state c.goes_on.new.self before in
-    let going = subst (λ b. AfterGoing c.args.at given left walk pieces start commands (Ok b)) c.if-branch.true
-    (c.in_ok-goes_on.ensures given before pieces start commands c.accepted.ensures.count on) in
-    let done = c.in_ok-replay_piece.ensures.ok in
-    goes c.args.at given left walk pieces start commands going.0 going.1
-    (with_state c.replay_piece.new.self (g.T.Replayed.contents c.replay_piece.new.held))
-    (g.T.Replayed.Tells c.args.held.now c.replay_piece.new.held (before.count + 1)) done.0 done.1 done.2
+pub returns-in_ok-kind-in-Err-Damaged-clause-stops : goal.returns-in_ok-kind-in-Err-Damaged-clause-stops
+returns-in_ok-kind-in-Err-Damaged-clause-stops g c given pieces start commands on =
+    let mid = g.R.Read.remaining c.step.new.reader in
+    let walk = with_state c.step.new.self (g.T.Replayed.contents c.args.held.now) in
+    let stops : Stops c.args.at given mid walk pieces start commands (Damaged c.in-Err-Damaged.bad) =
+    subst (λ bad. Stops c.args.at given mid walk pieces start commands (Damaged bad)) (sym c.in-Err-Damaged.bad-is)
+    (subst (Stops c.args.at given mid walk pieces start commands) c.in-Err-Damaged.field-0-is
+    (c.in-Err-Damaged.ensures.stops given pieces start commands on)) in
+    let left = g.R.Read.remaining c.look_behind.new.reader in
+    let past = past-piece given mid walk pieces start commands stops.0 in
+    let following = c.in_ok-kind-in-Err-Damaged.field-0 in
+    let follows = c.in_ok-kind-in-Err-Damaged.ensures given (concat pieces ++ piece_or_rest walk.pieces) past.0 past.1 in
+    subst (λ (r : Result Bool HistoryFault). IfErr r (Fails c.args.at given pieces)) (sym c.ends_at.ensures)
+    (fails-at c.args.at given mid left walk pieces start commands c.in-Err-Damaged.bad stops c.look_behind.new.pieces following follows
+    c.no_zero_read.ensures.bytes following.kind refl c.args.at refl)
 
-pub returns-clause-ended : goal.returns-clause-ended
-returns-clause-ended g c = λ given pieces start commands on is.
-    let before = g.T.Replayed.contents c.args.held.now in
-    let left = g.R.Read.remaining c.goes_on.new.reader in
-    let walk = with_state c.goes_on.new.self before in (
-      subst (λ b. AfterGoing c.args.at given left walk pieces start commands (Ok b)) c.if-branch.false
-          (c.in_ok-goes_on.ensures given before pieces start commands c.accepted.ensures.count on),
-      c.accepted.ensures.limits,
+pub returns-in_ok-kind-in-Err-Damaged-clause-ended : goal.returns-in_ok-kind-in-Err-Damaged-clause-ended
+returns-in_ok-kind-in-Err-Damaged-clause-ended g c given pieces start commands on is =
+    let mid = g.R.Read.remaining c.step.new.reader in
+    let walk = with_state c.step.new.self (g.T.Replayed.contents c.args.held.now) in
+    let stops : Stops c.args.at given mid walk pieces start commands (Damaged c.in-Err-Damaged.bad) =
+    subst (λ bad. Stops c.args.at given mid walk pieces start commands (Damaged bad)) (sym c.in-Err-Damaged.bad-is)
+    (subst (Stops c.args.at given mid walk pieces start commands) c.in-Err-Damaged.field-0-is
+    (c.in-Err-Damaged.ensures.stops given pieces start commands on)) in
+    let left = g.R.Read.remaining c.look_behind.new.reader in
+    let past = past-piece given mid walk pieces start commands stops.0 in
+    let following = c.in_ok-kind-in-Err-Damaged.field-0 in
+    let follows = c.in_ok-kind-in-Err-Damaged.ensures given (concat pieces ++ piece_or_rest walk.pieces) past.0 past.1 in
+    let torn = torn-at c.args.at given mid left walk pieces start commands c.in-Err-Damaged.bad stops c.look_behind.new.pieces following
+    follows following.kind refl c.args.at refl (sym c.ends_at.ensures ∙ is) in
+    let none = torn-none c.args.at given mid left walk pieces start commands c.in-Err-Damaged.bad stops c.look_behind.new.pieces following
+    follows c.no_zero_read.ensures.bytes torn.1 in
+    let same = ap g.T.Replayed.contents (c.in-Err-Damaged.ensures.unread none) in
+    let behind = torn-followed given mid left walk pieces start commands stops.0 c.look_behind.new.pieces following follows
+    c.no_zero_read.ensures.bytes torn.1 in (
+      inr (torn.0, subst (λ s. IsTornBehind given left s pieces start commands) (sym same) behind),
+      subst (λ (s : Contents). IsState s) (sym same) c.step.ensures.limits,
     )

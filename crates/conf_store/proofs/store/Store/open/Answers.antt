@@ -44,7 +44,7 @@ returns-in-Err-write_base-clause-any_moment g c h =
     (λ image. ⊎_elim
     (loaded-meant c.reading_is_an_image.ensures c.held_store_is_the_only_one.ensures.left (d.model.folder old)
     (d.model.folder mid) (c.in-Ok.ensures.holds h) image.store)
-    (state-meant c.one_list_of_pieces.ensures.one c.documents_are_read.ensures.one_base c.documents_are_read.ensures.one_record
+    (state-meant c.bytes_mean_one_state.ensures.one
     c.reading_is_an_image.ensures (d.model.folder old) s _ _ _ (c.in-Ok.ensures.ok h) image.store))
 
 pub invariant_of-store : goal.invariant_of-store
@@ -126,7 +126,7 @@ returns-clause-any_moment g c h =
           (λ image. ⊎_elim
           (loaded-meant c.reading_is_an_image.ensures c.held_store_is_the_only_one.ensures.left (d.model.folder old)
           (d.model.folder mid) (c.in-Ok.ensures.holds h) image.store)
-          (state-meant c.one_list_of_pieces.ensures.one c.documents_are_read.ensures.one_base c.documents_are_read.ensures.one_record
+          (state-meant c.bytes_mean_one_state.ensures.one
           c.reading_is_an_image.ensures (d.model.folder old) s _ _ _ (c.in-Ok.ensures.ok h) image.store)))
     ]
 

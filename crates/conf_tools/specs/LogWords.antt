@@ -1,0 +1,64 @@
+-- What `log` writes, and what it hides.
+use Rattle.std.specs.Prelude.{◌≡◌, ◌⊎◌, ℕ, List, [], ◌∷◌, map, Option, Ok, Err}
+use Rattle.std.specs.Borrow.{Bor}
+use Rattle.json_pointer.specs.declared.fault.PathFault.{PathFault}
+use Rattle.json_pointer.specs.declared.fault.PathFault.TheVariants.{OutOfMemory as NoMemory}
+use Rattle.conf_state.specs.declared.fault.StoreFault.TheVariants.{OutOfMemory}
+use Rattle.conf_history.specs.declared.line.LineForm.TheVariants as lines
+use Rattle.conf_history.specs.declared.log.LogForm.TheVariants as history
+use Rattle.conf_words.specs.declared.invocation.LogForm.{LogForm as AskedLog}
+use Rattle.conf_words.specs.declared.invocation.LogForm.TheVariants.{Lines, Values, Records}
+use Rattle.tree_hidden.specs.{Pointers.paths_or, Tokens.paths_of}
+use Rattle.yaml_data.specs.declared.text.Text.{Text}
+use Rattle.conf_tools.specs.Prelude.{LogForm, Path, StoreFault}
+use Rattle.conf_tools.specs.{ReadingStatuses.status_of_reading, declared.program.Status.Status}
+use Rattle.conf_tools.specs.{StoreWords.Reads, StoreWords.SaysLog, Worlds.WorldModel}
+use Rattle.conf_tools.specs.declared.reading_fault.ReadingFault.TheVariants.{Value}
+
+-- the fault of a pointer that is to be hidden
+abbrev pub fault_of_pointer : PathFault → StoreFault
+fault_of_pointer NoMemory = OutOfMemory
+fault_of_pointer fault = Path fault
+
+-- why what is at these pointers can't be hidden: memory ran out, or one of them is none
+abbrev pub CannotHide : List (List ℕ) → StoreFault → Type 0
+CannotHide pointers fault =
+    (fault ≡ OutOfMemory) ⊎ ((bad : PathFault) × (paths_or pointers ≡ Err bad) × (fault ≡ fault_of_pointer bad))
+
+module _ {W D F P : Type 0} (world : WorldModel W D F P) (remaining : F → Option (List ℕ)) (folder : List ℕ)
+    (at : Option ℕ) where
+  -- the commands of the store in the folder were written in a form
+  abbrev pub LogsAs : LogForm → W → W → Option (List ℕ) → Option (List ℕ) → Status → Type 0
+  LogsAs form old new held written status = Reads world remaining folder (SaysLog at form) old new held written status
+
+  -- They were written with their values, but for what is at these pointers of a configuration, or below them.
+  pub record LogsHiding (pointers : List (List ℕ)) (old new : W) (held written : Option (List ℕ)) (status : Status)
+      : Type 0 where
+    pub paths : Bor (List (Bor (List Text)))
+    pub are : paths_or pointers ≡ Ok (paths_of paths.now)
+    pub logs : LogsAs (history.Lines (lines.Hiding paths)) old new held written status
+
+  -- That can't be hidden: no folder was looked at, and nothing was written.
+  pub record RefusesHiding (pointers : List (List ℕ)) (old new : W) (held written : Option (List ℕ)) (status : Status)
+      : Type 0 where
+    pub fault : StoreFault
+    pub why : CannotHide pointers fault
+    pub ends : status ≡ status_of_reading (Value fault)
+    pub world_stays : new ≡ old
+    pub keeps : written ≡ held
+
+  abbrev pub Hides : List (List ℕ) → W → W → Option (List ℕ) → Option (List ℕ) → Status → Type 0
+  Hides pointers old new held written status =
+      LogsHiding pointers old new held written status ⊎ RefusesHiding pointers old new held written status
+
+  -- the same; all values, if nothing is hidden
+  abbrev pub LogsValues : List (List ℕ) → W → W → Option (List ℕ) → Option (List ℕ) → Status → Type 0
+  LogsValues [] old new held written status = LogsAs (history.Lines lines.Values) old new held written status
+  LogsValues (pointer ∷ pointers) old new held written status = Hides (pointer ∷ pointers) old new held written status
+
+  -- `log`
+  abbrev pub Logs : AskedLog → W → W → Option (List ℕ) → Option (List ℕ) → Status → Type 0
+  Logs Lines old new held written status = LogsAs (history.Lines lines.Names) old new held written status
+  Logs (Values hidden) old new held written status =
+      LogsValues (map (λ pointer. pointer.now) hidden.items) old new held written status
+  Logs Records old new held written status = LogsAs history.Records old new held written status

@@ -1,0 +1,116 @@
+// The word of the program that writes the commands of a store.
+ghost use Rattle.std.specs.Prelude.{◌≡◌, ℕ, List, Ok, map};
+ghost use Rattle.tree_hidden.specs.Pointers.{owned_paths, paths_or};
+ghost use Rattle.conf_tools.specs.LogWords.{Hides, Logs, LogsAs, LogsValues, fault_of_pointer};
+ghost use Rattle.conf_tools.specs.Outcomes.{status_of_outcome};
+
+use crate::outcome::Outcome;
+use crate::read_words::{Question, answer_on_folder};
+use crate::reading_fault::ReadingFault;
+use crate::world::World;
+use conf_history::{LineForm, LogForm};
+use conf_state::StoreFault;
+use std::alloc::Global;
+use std::io::Write;
+use tree_hidden::{paths_of_pointers, tokens_of_paths};
+use tree_path::PathFault;
+use yaml_tree::Text;
+
+/// Writes the commands of the store in a folder, beside whoever holds the store. A pointer of what is to be hidden that
+/// is none is a fault: then no folder is looked at.
+pub(crate) fn log_folder<'w, A: World, W: Write>(
+    world: &mut A,
+    alloc: Global,
+    folder: &'w str,
+    at: Option<u64>,
+    asked: conf_words::LogForm<'_>,
+    output: &mut W,
+) -> Outcome<'w>
+    ensures { Logs A.model A.File.remaining folder.now at asked.entry world.old world.new
+        (W.contents output.old) (W.contents output.new) (status_of_outcome result) }
+{
+    match asked {
+        conf_words::LogForm::Lines => {
+            let form = LogForm::Lines(LineForm::Names);
+            log_as(world, alloc, folder, at, form, output)
+        }
+        conf_words::LogForm::Values { hidden } => {
+            log_values(world, alloc, folder, at, &hidden, output)
+        }
+        conf_words::LogForm::Records => {
+            log_as(world, alloc, folder, at, LogForm::Records, output)
+        }
+    }
+}
+
+/// Writes the commands of the store in a folder in a form.
+fn log_as<'w, A: World, W: Write>(
+    world: &mut A,
+    alloc: Global,
+    folder: &'w str,
+    at: Option<u64>,
+    form: LogForm<'_>,
+    output: &mut W,
+) -> Outcome<'w>
+    ensures { LogsAs A.model A.File.remaining folder.now at form.entry world.old world.new
+        (W.contents output.old) (W.contents output.new) (status_of_outcome result) }
+{
+    let asked = Question::Log { at, form };
+    answer_on_folder(world, alloc, folder, asked, output)
+}
+
+/// Writes them with their values, but for what is at some pointers, or below them.
+fn log_values<'w, A: World, W: Write>(
+    world: &mut A,
+    alloc: Global,
+    folder: &'w str,
+    at: Option<u64>,
+    hidden: &[&str],
+    output: &mut W,
+) -> Outcome<'w>
+    ensures { LogsValues A.model A.File.remaining folder.now at (map (λ pointer. pointer.now) hidden.now)
+        world.old world.new (W.contents output.old) (W.contents output.new) (status_of_outcome result) }
+{
+    match hidden {
+        [] => {
+            let form = LogForm::Lines(LineForm::Values);
+            log_as(world, alloc, folder, at, form, output)
+        }
+        hidden => match paths_of_pointers(alloc, hidden) {
+            Ok(paths) => log_hiding(world, alloc, folder, at, &paths, output),
+            Err(fault) => Outcome::Reading(ReadingFault::Value(fault_of_pointer(fault))),
+        },
+    }
+}
+
+/// Writes them with their values, but for what is at some paths, or below them.
+fn log_hiding<'w, A: World, W: Write>(
+    world: &mut A,
+    alloc: Global,
+    folder: &'w str,
+    at: Option<u64>,
+    paths: &[Vec<Text>],
+    output: &mut W,
+) -> Outcome<'w>
+    ensures { (pointers : List (List ℕ)) → paths_or pointers ≡ Ok (owned_paths paths.now)
+        → Hides A.model A.File.remaining folder.now at pointers world.old world.new
+        (W.contents output.old) (W.contents output.new) (status_of_outcome result) }
+{
+    match tokens_of_paths(alloc, paths) {
+        Ok(tokens) => {
+            let form = LogForm::Lines(LineForm::Hiding(&tokens));
+            log_as(world, alloc, folder, at, form, output)
+        }
+        Err(_) => Outcome::Reading(ReadingFault::Value(StoreFault::OutOfMemory)),
+    }
+}
+
+/// The fault of a pointer that is to be hidden.
+fn fault_of_pointer(fault: PathFault) -> StoreFault
+    ensures { result ≡ fault_of_pointer fault }
+{
+    match fault {
+        PathFault::OutOfMemory => StoreFault::OutOfMemory,
+        fault => StoreFault::Path(fault),
+    }
+}

@@ -1,0 +1,4 @@
+pub mod Prelude
+pub mod PathLemmas
+pub mod PointerLemmas
+pub mod ShownLemmas

@@ -1,0 +1,4 @@
+pub mod Prelude
+pub mod Hidden
+pub mod Tokens
+pub mod Pointers
