@@ -12,6 +12,7 @@ use crate::invocation::{
 use crate::listing::Listing;
 use crate::refusal::{OTHER, refused};
 use crate::unparsed::Unparsed;
+use crate::waiting::WAIT_ARGUMENT;
 use clap::ArgMatches;
 use std::alloc::{AllocError, Global};
 
@@ -61,6 +62,7 @@ pub(crate) const EXPORT: Listing = Listing {
     arguments: &[
         JSON_ARGUMENT,
         PLAIN_ARGUMENT,
+        WAIT_ARGUMENT,
         FOLDER_ARGUMENT,
         NAME_ARGUMENT,
     ],
