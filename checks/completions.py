@@ -49,6 +49,7 @@ LINES = [
     ("import --ini", "import --init"),
     ("set --who", "set --whole"),
     ("delete --who", "delete --whole"),
+    ("checkpoint --wa", "checkpoint --wait"),
     ("check --exp", "check --explain"),
     ("format -i --dro", "format -i --drop-comments"),
 ]

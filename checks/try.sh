@@ -28,8 +28,8 @@ as_root=
 # The scripts, those that take longest first, each with the commands that it needs.
 SCRIPTS=(
     "checks/read_beside_session.py" "checks/fail_calls.py cc" "checks/fail_word_calls.py cc" "checks/sessions.py cc"
-    "checks/kills.py" "checks/release.py xz" "python/tests" "checks/completions.py" "checks/many_clients.py"
-    "checks/fail_file_calls.py cc" "checks/refuse_allocations.py cc -- texts sessions words"
+    "checks/kills.py" "checks/waiting_words.py" "checks/release.py xz" "python/tests" "checks/completions.py"
+    "checks/many_clients.py" "checks/fail_file_calls.py cc" "checks/refuse_allocations.py cc -- texts sessions words"
     "packaging/deb/try.sh dpkg-deb $as_root" "checks/editors.py git" "checks/image.py ldd"
     "checks/names.py" "checks/program.py" "checks/guide.py" "checks/edits.py" "checks/lines.py" "checks/unused.py"
 )

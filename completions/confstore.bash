@@ -5,12 +5,13 @@ _confstore_words='init import set delete copy rename checkpoint run export names
 _confstore_options() {
     local conditions='--if-value --if-absent --if-count'
     case $1 in
-    run) echo '--group --checkpoint-after --help' ;;
-    import) echo "--init --explain $conditions --help" ;;
-    set) echo "--yaml --file --whole --explain $conditions --help" ;;
-    delete) echo "--whole $conditions --help" ;;
-    copy | rename) echo "$conditions --help" ;;
-    export) echo '--json --plain --help' ;;
+    init | checkpoint) echo '--wait --help' ;;
+    run) echo '--group --checkpoint-after --wait --help' ;;
+    import) echo "--init --explain $conditions --wait --help" ;;
+    set) echo "--yaml --file --whole --explain $conditions --wait --help" ;;
+    delete) echo "--whole $conditions --wait --help" ;;
+    copy | rename) echo "$conditions --wait --help" ;;
+    export) echo '--json --plain --wait --help' ;;
     names) echo '--json --at --help' ;;
     get) echo '--raw --no-newline --json --plain --default --at --help' ;;
     keys | exists) echo '--at --help' ;;
@@ -41,7 +42,7 @@ _confstore() {
     fi
     for ((index = 2; index < COMP_CWORD; index++)); do
         case ${COMP_WORDS[index]} in
-        --checkpoint-after | --at | --default | --file | --hide | --if-value | --if-count) index=$((index + 1)) ;;
+        --checkpoint-after | --at | --default | --file | --hide | --if-value | --if-count | --wait) index=$((index + 1)) ;;
         -?*) ;;
         *)
             place=$((place + 1))
@@ -50,7 +51,7 @@ _confstore() {
         esac
     done
     case ${COMP_WORDS[COMP_CWORD - 1]} in
-    --checkpoint-after | --at | --default | --hide | --if-value | --if-count) return ;;
+    --checkpoint-after | --at | --default | --hide | --if-value | --if-count | --wait) return ;;
     --file)
         compopt -o filenames
         mapfile -t COMPREPLY < <(compgen -f -- "$current")

@@ -3,6 +3,7 @@
 set -l stores run export import set delete copy rename checkpoint init names get keys exists log verify salvage backup
 set -l named export import set delete copy rename get keys exists
 set -l conditional import set delete copy rename
+set -l locking init import set delete copy rename checkpoint run export
 
 # The words after the subcommand that are no options and no option's value.
 function __confstore_places
@@ -11,7 +12,7 @@ function __confstore_places
     for word in (commandline -opc)[3..-1]
         if test $is_value = 1
             set is_value 0
-        else if contains -- $word --checkpoint-after --at --default --file --if-value --if-count
+        else if contains -- $word --checkpoint-after --at --default --file --if-value --if-count --wait
             set is_value 1
         else if not string match -q -- '-?*' $word
             set -a places $word
@@ -72,6 +73,7 @@ complete -c confstore -n '__fish_seen_subcommand_from set' -l file -r -F -d 'Tak
 complete -c confstore -n "__fish_seen_subcommand_from $conditional" -l if-value -x -d 'Change only if this text is there'
 complete -c confstore -n "__fish_seen_subcommand_from $conditional" -l if-absent -d 'Change only if nothing is there'
 complete -c confstore -n "__fish_seen_subcommand_from $conditional" -l if-count -x -d 'Change only after so many commands'
+complete -c confstore -n "__fish_seen_subcommand_from $locking" -l wait -x -d 'Try again for so many seconds'
 complete -c confstore -n '__fish_seen_subcommand_from set delete' -l whole -d 'Allow the empty pointer'
 complete -c confstore -n '__fish_seen_subcommand_from import set format check' -l explain -d 'Show the line at fault of a refused text'
 complete -c confstore -n '__fish_seen_subcommand_from names get keys exists log' -l at -x -d 'Read the store as it was after a command'

@@ -6,7 +6,8 @@ use Rattle.conf_history.proofs.Prelude.{SomePieces, ahead, piece_or_rest, Comman
 use Rattle.conf_history.specs.{declared.log.LogForm.LogForm, declared.fault.HistoryFault.HistoryFault}
 use Rattle.conf_history.specs.Histories.{RefusesReading, RefusesSurvey}
 use Rattle.conf_history.specs.Logs.{entry_bytes, log_bytes, log_of_pieces, BeginsLog, IsWholeLog, LogsAll, LogsBefore, CutsLog, StopsLog}
-use Rattle.conf_history.specs.Walks.{HasRead, ArePerformed, ComesAfter, Ends, Fails, IsBetween, IsAtEndOf, IsTornBehind, RefusesStart, Walked}
+use Rattle.conf_history.specs.Walks.{HasRead, ArePerformed, ComesAfter, Ends, Fails, IsBetween}
+use Rattle.conf_history.specs.Walks.{IsAtEndOf, IsTornBehind, RefusesStart, Walked}
 use Rattle.conf_history.specs.declared.fault.HistoryFault.TheVariants.{Input, Output, NotAStore, Damaged, NoSuchCommand, OutOfMemory}
 use Rattle.conf_history.proofs.WalkLemmas.{known, some-map, begins-with, end-read, between-read}
 

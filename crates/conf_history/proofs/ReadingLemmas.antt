@@ -1,7 +1,8 @@
 -- A walk up to a number: how it goes on, and each way in which it ends.
 use Rattle.std.proofs.Common.{◌≡◌, ◌≢◌, inl, inr, refl, sym, ◌∙◌, ap, subst, arith, ◌<◌, ◌≤◌, length-append}
 use Rattle.std.specs.Prelude.{ℕ, ◌+◌, ◌-◌, true, List, [], ◌∷◌, ◌++◌, length, Option, Some, None, Ok, IfSome}
-use Rattle.conf_history.proofs.Prelude.{Means, NoZeroByte, concat, ClosesOnce, Enough, SomePieces, Command, Contents, IsState, ahead, piece_or_rest}
+use Rattle.conf_history.proofs.Prelude.{Means, NoZeroByte, concat, ClosesOnce, Enough, SomePieces}
+use Rattle.conf_history.proofs.Prelude.{Command, Contents, IsState, ahead, piece_or_rest}
 use Rattle.conf_history.proofs.Prelude.{step-one, store_limit}
 use Rattle.yaml_docs.specs.declared.pieces.Pieces.{Pieces as Reading}
 use Rattle.conf_history.specs.Histories.{HoldsAt, IsBadAt, ReadsState, RefusesReading, RefusesSurvey}

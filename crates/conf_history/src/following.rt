@@ -58,8 +58,8 @@ pub(crate) fn look_behind<R: Read>(
     }
 }
 
-/// Whether it is known that no crash left a bad piece, once this piece, which follows it, was looked at. It fails only if
-/// memory runs out.
+/// Whether it is known that no crash left a bad piece, once this piece, which follows it, was looked at. It fails only
+/// if memory runs out.
 fn is_known_kept(alloc: Global, is_kept: bool, piece: &[u8]) -> Result<bool, AllocError>
     ensures still { is_kept ≡ true → IfOk result (λ known. known ≡ true) }
     ensures some { is_kept ≡ false → result ≡ Ok true → IsAnyRecord piece.now }

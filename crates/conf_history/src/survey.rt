@@ -117,8 +117,8 @@ fn survey_pieces<R: Read, T: OfBase>(
 }
 
 impl Walk {
-    /// Looks at what follows a bad piece, at which the walk is, and returns what was found. The file's base has the count
-    /// `base`, and the state before the piece `count`.
+    /// Looks at what follows a bad piece, at which the walk is, and returns what was found. The file's base has the
+    /// count `base`, and the state before the piece `count`.
     ///
     /// # Errors
     /// Those of [`Walk::advance`].

@@ -75,8 +75,8 @@ impl Walk {
     }
 
     /// Performs the next piece as the next record, and goes past it. Returns whether there was one: there is none once
-    /// the command with the number `at` is performed, and, without a number, where the file ends, or a piece stands that
-    /// a crash may have left, as an opening finds it.
+    /// the command with the number `at` is performed, and, without a number, where the file ends, or a piece stands
+    /// that a crash may have left, as an opening finds it.
     ///
     /// # Errors
     /// `Damaged` if the piece is not the next record, and no crash left it. `NoSuchCommand` if the file ends before the

@@ -58,7 +58,8 @@ journal-holed law behind holes close some file flushed end command left journal 
     (All-nil ClosesOnce) in
     let p : (pieces : List (List ℕ)) × (rest : List ℕ) × Pieces left pieces rest = some left in
     let h : HoleAfter texts p.0 p.1 = holes texts p.0 left p.1 closed (subst (λ l. Zeroed l left) journal.pending zeroed) p.2 in
-    let front : h.whole ≡ record_pieces count (take (length h.whole) (command ∷ [])) = front-records count command h.whole h.further h.all in
+    let front : h.whole ≡ record_pieces count (take (length h.whole) (command ∷ [])) =
+    front-records count command h.whole h.further h.all in
     let commands : List Command = take (length h.whole) (command ∷ []) in
     let mid = after-prefix flushed end (command ∷ []) (length h.whole) journal.leads in
     let cut : Pieces left (h.whole ++ h.others) p.1 = subst (λ ps. Pieces left ps p.1) h.found p.2 in

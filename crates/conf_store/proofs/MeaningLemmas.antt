@@ -1,7 +1,8 @@
 -- What bytes mean: at most one state. After a crash it is the state after the records that are whole.
 use Rattle.std.proofs.Common.{◌≡◌, refl, sym, ◌∙◌, ap, subst, arith, ◌≤◌, append_assoc, length-append, length-take}
 use Rattle.std.specs.Prelude.{ℕ, zero, suc, ◌+◌, List, [], ◌∷◌, ◌++◌, length, take, replicate, Some, Result, Ok}
-use Rattle.conf_store.proofs.Prelude.{All-nil, IsNoRecord, append-nil, NoZeroByte, length-replicate, ClosesOnce, Pieces, OnePieces, File, IsTorn, Command, Contents, step, after}
+use Rattle.conf_store.proofs.Prelude.{All-nil, IsNoRecord, append-nil, NoZeroByte, length-replicate, ClosesOnce, Pieces}
+use Rattle.conf_store.proofs.Prelude.{OnePieces, File, IsTorn, Command, Contents, step, after}
 use Rattle.conf_store.proofs.Prelude.{and_then, StoreFault, after-append, after-count, and_then-Ok, Enough, IsRecord, IsBase, record_pieces}
 use Rattle.conf_store.proofs.Prelude.{records_bytes, TornRecords, OneBase, OneRecord, RecordsTear, store_limit}
 use Rattle.conf_store.specs.Meaning.{AreRecords, PiecesMean, Means}

@@ -1,4 +1,5 @@
 // The files and folders of the system.
+use crate::waiting::Waiting;
 use crate::world::{Access, World};
 use conf_files::{Cause, Place, ReplaceFault, Subject, open_input, open_to_replace, replace_file};
 use conf_folder::{FolderDisk, FolderError, FolderFault, NewFolder, make_folder, open_store_file};
@@ -9,7 +10,8 @@ use std::cell::Cell;
 use std::fs::File;
 use std::io;
 use std::io::{ErrorKind, Read};
-use std::rt::Files;
+use std::rt::{Clock, Files};
+use std::time::Duration;
 
 /// Why the last read of a file failed, as the system says; `None` if it did not.
 pub type ReadFailure = Cell<Option<io::Error>>;
@@ -38,6 +40,8 @@ pub struct Host<'r, F> {
     rt: &'r F,
     /// How much is said of a text that is refused, where the words ask for no more.
     reporting: Reporting,
+    /// For how long a folder is tried again whose lock another run holds.
+    wait: Duration,
     /// The folder that was made last, until a disk of it is given back, or could not be opened.
     made: Option<NewFolder>,
     /// The path that the last call on a folder was given.
@@ -50,13 +54,19 @@ pub struct Host<'r, F> {
     read_failure: &'r ReadFailure,
 }
 
-impl<'r, F: Files<File = File>> Host<'r, F> {
+impl<'r, F: Files<File = File> + Clock> Host<'r, F> {
     /// The files and folders that `rt` opens. Of a refused text so much is said, where the words ask for no more.
-    /// Why a read failed is noted in `read_failure`.
-    pub fn new(rt: &'r F, reporting: Reporting, read_failure: &'r ReadFailure) -> Host<'r, F> {
+    /// A folder whose lock another run holds is tried again for so long. Why a read failed is noted in `read_failure`.
+    pub fn new(
+        rt: &'r F,
+        reporting: Reporting,
+        wait: Duration,
+        read_failure: &'r ReadFailure,
+    ) -> Host<'r, F> {
         Host {
             rt,
             reporting,
+            wait,
             made: None,
             folder: None,
             cause: None,
@@ -104,6 +114,48 @@ impl<'r, F: Files<File = File>> Host<'r, F> {
         }
     }
 
+    /// Opens the disk of the folder at a path, once.
+    fn try_open(
+        &self,
+        alloc: Global,
+        access: Access,
+        folder: &str,
+    ) -> Result<FolderDisk<'r, F>, FolderError> {
+        let opened = match access {
+            Access::Changing => FolderDisk::of_store(self.rt, alloc, folder),
+            Access::Making | Access::Reading => FolderDisk::new(self.rt, alloc, folder),
+            Access::New => FolderDisk::for_new_store(self.rt, alloc, folder, None),
+        };
+        match (opened, access) {
+            (Err(error), Access::Reading) if error.fault == FolderFault::Device => {
+                FolderDisk::for_reading(self.rt, alloc, folder)
+            }
+            (opened, _) => opened,
+        }
+    }
+
+    /// Opens the disk of the folder at a path. While another run holds a lock, it tries again, as long as it may.
+    fn open_in_time(
+        &self,
+        alloc: Global,
+        access: Access,
+        folder: &str,
+    ) -> Result<FolderDisk<'r, F>, FolderError> {
+        let waiting = Waiting::new(self.rt, self.wait);
+        let mut opened = self.try_open(alloc, access, folder);
+        for number in 0..waiting.most_tries() {
+            match &opened {
+                Err(error) if error.fault == FolderFault::Locked => {}
+                _ => break,
+            }
+            if !waiting.pause(self.rt, number) {
+                break;
+            }
+            opened = self.try_open(alloc, access, folder);
+        }
+        opened
+    }
+
     /// Hands out a disk that was opened. If none was, a folder that was made for it is removed.
     fn hand_out(
         &mut self,
@@ -130,7 +182,7 @@ impl<'r, F: Files<File = File>> Host<'r, F> {
     }
 }
 
-impl<'r, F: Files<File = File>> World for Host<'r, F> {
+impl<'r, F: Files<File = File> + Clock> World for Host<'r, F> {
     type Disk = FolderDisk<'r, F>;
 
     type File = InputFile<'r>;
@@ -179,17 +231,7 @@ impl<'r, F: Files<File = File>> World for Host<'r, F> {
         folder: &str,
     ) -> Result<FolderDisk<'r, F>, FolderFault> {
         self.begin(alloc, folder);
-        let opened = match access {
-            Access::Changing => FolderDisk::of_store(self.rt, alloc, folder),
-            Access::Making | Access::Reading => FolderDisk::new(self.rt, alloc, folder),
-            Access::New => FolderDisk::for_new_store(self.rt, alloc, folder, None),
-        };
-        let opened = match (opened, access) {
-            (Err(error), Access::Reading) if error.fault == FolderFault::Device => {
-                FolderDisk::for_reading(self.rt, alloc, folder)
-            }
-            (opened, _) => opened,
-        };
+        let opened = self.open_in_time(alloc, access, folder);
         self.hand_out(opened)
     }
 

@@ -38,6 +38,7 @@ mod stores;
 mod surveys;
 mod tail;
 mod texts;
+mod waiting;
 mod world;
 
 pub use changes::{Change, change_store, make_store};

@@ -11,12 +11,13 @@ use crate::invocation::{Grouping, Invocation, MissingStore, STANDARD_INPUT, Valu
 use crate::listing::Listing;
 use crate::refusal::refused;
 use crate::unparsed::Unparsed;
+use crate::waiting::WAIT_ARGUMENT;
 use clap::ArgMatches;
 use std::alloc::Global;
 
 pub(crate) const INIT: Listing = Listing {
     about: "Makes a folder with an empty store",
-    arguments: &[FOLDER_ARGUMENT],
+    arguments: &[WAIT_ARGUMENT, FOLDER_ARGUMENT],
     help: "\
 A folder that is there serves too. It is refused if it has a store.yaml (StoreExists).
 
@@ -44,6 +45,7 @@ pub(crate) const IMPORT: Listing = Listing {
         IF_VALUE_ARGUMENT,
         IF_ABSENT_ARGUMENT,
         IF_COUNT_ARGUMENT,
+        WAIT_ARGUMENT,
         FOLDER_ARGUMENT,
         NAME_ARGUMENT,
         Argument {
@@ -113,6 +115,7 @@ pub(crate) const SET: Listing = Listing {
         IF_VALUE_ARGUMENT,
         IF_ABSENT_ARGUMENT,
         IF_COUNT_ARGUMENT,
+        WAIT_ARGUMENT,
         FOLDER_ARGUMENT,
         NAME_ARGUMENT,
         Argument {
@@ -206,6 +209,7 @@ pub(crate) const DELETE: Listing = Listing {
         IF_VALUE_ARGUMENT,
         IF_ABSENT_ARGUMENT,
         IF_COUNT_ARGUMENT,
+        WAIT_ARGUMENT,
         FOLDER_ARGUMENT,
         NAME_ARGUMENT,
         POINTER_ARGUMENT,
@@ -237,6 +241,7 @@ pub(crate) const COPY: Listing = Listing {
         IF_VALUE_ARGUMENT,
         IF_ABSENT_ARGUMENT,
         IF_COUNT_ARGUMENT,
+        WAIT_ARGUMENT,
         FOLDER_ARGUMENT,
         NAME_ARGUMENT,
         TO_ARGUMENT,
@@ -278,6 +283,7 @@ pub(crate) const RENAME: Listing = Listing {
         IF_VALUE_ARGUMENT,
         IF_ABSENT_ARGUMENT,
         IF_COUNT_ARGUMENT,
+        WAIT_ARGUMENT,
         FOLDER_ARGUMENT,
         NAME_ARGUMENT,
         TO_ARGUMENT,
@@ -306,7 +312,7 @@ pub(crate) fn rename_invocation<'w>(words: &ArgMatches<'w>) -> Option<Invocation
 
 pub(crate) const CHECKPOINT: Listing = Listing {
     about: "Makes the store file as short as its state",
-    arguments: &[FOLDER_ARGUMENT],
+    arguments: &[WAIT_ARGUMENT, FOLDER_ARGUMENT],
     help: "\
 What earlier commands were is gone then.
 
@@ -336,6 +342,7 @@ pub(crate) const RUN: Listing = Listing {
             form: Form::Number("BYTES", 1),
             relation: Relation::Needs(GROUP),
         },
+        WAIT_ARGUMENT,
         FOLDER_ARGUMENT,
     ],
     help: "\

@@ -1,5 +1,6 @@
 //! The words that the program `confstore` takes. [`parse`] reads them to an [`Invocation`], or says what their help is
-//! or why they are wrong; [`escaped`] shows texts from outside.
+//! or why they are wrong; [`parse_with_wait`] says how long locks are waited for, too; [`escaped`] shows texts from
+//! outside.
 #![tactic(auto)]
 
 mod arguments;
@@ -15,6 +16,7 @@ mod refusal;
 mod subcommand;
 mod text_words;
 mod unparsed;
+mod waiting;
 mod words;
 
 pub use escapes::escaped;
@@ -26,4 +28,5 @@ pub use invocation::{
 pub use laws::no_two_texts_are_shown_alike;
 pub use subcommand::Subcommand;
 pub use unparsed::Unparsed;
-pub use words::parse;
+pub use waiting::WAIT_VARIABLE;
+pub use words::{Asked, parse, parse_with_wait};

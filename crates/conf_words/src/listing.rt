@@ -31,6 +31,12 @@ pub(crate) fn listed<'a>(alloc: Global, subcommand: Subcommand) -> Result<Comman
     Ok(command)
 }
 
+/// Whether a subcommand takes the argument of this name.
+pub(crate) fn takes(subcommand: Subcommand, name: &str) -> bool {
+    let arguments = listing_of(subcommand).arguments;
+    arguments.iter().any(|argument| argument.name == name)
+}
+
 /// What the program lists of this subcommand.
 fn listing_of(subcommand: Subcommand) -> Listing {
     match subcommand {

@@ -12,6 +12,7 @@ use crate::invocation::{
 use crate::listing::Listing;
 use crate::refusal::{OTHER, refused};
 use crate::unparsed::Unparsed;
+use crate::waiting::WAIT_ARGUMENT;
 use clap::ArgMatches;
 use std::alloc::{AllocError, Global};
 
@@ -61,6 +62,7 @@ pub(crate) const EXPORT: Listing = Listing {
     arguments: &[
         JSON_ARGUMENT,
         PLAIN_ARGUMENT,
+        WAIT_ARGUMENT,
         FOLDER_ARGUMENT,
         NAME_ARGUMENT,
     ],
@@ -349,19 +351,18 @@ pub(crate) const VERIFY: Listing = Listing {
     about: "Reads a whole store, and writes whether it can be opened",
     arguments: &[FOLDER_ARGUMENT],
     help: "\
-The answer is a YAML mapping, a line for each key. Of a store that can be opened:
-  state: whole
+The answer is a YAML mapping, a line for each key:
+  state       whole; torn if a crash left zeros in the last record; or damaged
   base        how many commands its base stands for
-  commands    how many records follow the base
-  dropped     how many bytes follow the last record; opening drops them
-Of one that can't:
-  state: damaged
-  base, commands  the same, of what comes before the first bad piece
+  commands    how many records follow the base, up to the first bad piece
+  dropped     how many bytes follow the last closing line
+Of a torn or damaged store also:
   piece       the number of the first bad piece, from 1 after the base
   byte, line  where that piece begins: the byte from 0, the line from 1
   why         NotARecord, WrongNumber, or why its command is refused
   following   how many pieces follow it
-Then the fault is `Damaged`, and the status is 1.
+A store that is whole or torn can be opened: that drops what follows its last record. Of a damaged
+one the fault is `Damaged`, and the status is 1.
 
 Example:  confstore verify store",
 };
@@ -380,7 +381,7 @@ pub(crate) const SALVAGE: Listing = Listing {
     help: "\
 FOLDER is read and stays as it is. NEW is made if it is missing, and is refused if it has a
 store.yaml (StoreExists). What was left out is written as `confstore verify` writes it: piece, byte,
-line, why and following; `piece: none` where nothing was.
+line, why and following, unless nothing was.
 
 Example:  confstore salvage store new-store",
 };

@@ -16,9 +16,11 @@ use crate::refusal::{OTHER, refused, wrong_words};
 use crate::subcommand::Subcommand;
 use crate::text_words::{check_invocation, format_invocation};
 use crate::unparsed::Unparsed;
+use crate::waiting::wait_of;
 use clap::error::ErrorKind;
 use clap::{ArgMatches, Command, Error};
 use std::alloc::{AllocError, Global};
+use std::time::Duration;
 
 const VERSION: &str = "0.2.0";
 
@@ -31,7 +33,9 @@ The words by what they do:
   read a text     format, check
 
 `names`, `get`, `keys`, `exists`, `log`, `verify` and `backup` take no lock, so they run beside a
-session that holds the store.
+session that holds the store. A word that changes a store, and `export`, end with `Locked` while
+another run holds it. With --wait SECONDS they try again for so long, or for as long as the
+environment's CONFSTORE_WAIT says.
 
 Statuses:
   0  done
@@ -51,8 +55,36 @@ A fault is one line on standard error, as `confstore: KeyTwice`.
 pub fn parse<'w>(alloc: Global, words: &'w [String]) -> Result<Invocation<'w>, Unparsed>
     ensures { IfOk result HasFittingFiles }
 {
+    let asked = parse_with_wait(alloc, words, None)?;
+    Ok(asked.invocation)
+}
+
+/// What words ask for, and how long they have the locks of its store waited for.
+#[derive(Debug, Drop)]
+pub struct Asked<'w> {
+    pub invocation: Invocation<'w>,
+    /// For so long the word tries again while another run holds a lock; once if it is zero.
+    pub wait: Duration,
+}
+
+/// Returns what the words ask for, as [`parse`] does, and how long they have locks waited for. `wait` is what
+/// [`WAIT_VARIABLE`](crate::WAIT_VARIABLE) holds, if it is there.
+///
+/// # Errors
+/// Those of [`parse`], and [`Unparsed::Wrong`] if `wait` counts and is no time.
+pub fn parse_with_wait<'w>(
+    alloc: Global,
+    words: &'w [String],
+    wait: Option<&str>,
+) -> Result<Asked<'w>, Unparsed>
+    ensures { IfOk result (λ asked. HasFittingFiles asked.invocation) }
+{
     match matches_of(alloc, words) {
-        Ok(matches) => invocation_of(alloc, &matches),
+        Ok(matches) => {
+            let invocation = invocation_of(alloc, &matches)?;
+            let wait = wait_of(alloc, &matches, wait)?;
+            Ok(Asked { invocation, wait })
+        }
         Err(error) => Err(unparsed(alloc, words, &error)?),
     }
 }

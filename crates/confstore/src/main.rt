@@ -14,8 +14,9 @@ use crate::pipe::{Errors, Output};
 use conf_tools::{
     Host, ReadFailure, TailReader, Told, ToolFault, perform, refuse_words, show_unparsed,
 };
-use conf_words::{Reporting, Subcommand, parse};
+use conf_words::{Asked, Reporting, Subcommand, Unparsed, WAIT_VARIABLE, parse_with_wait};
 use std::cell::Cell;
+use std::env::VarError;
 use std::fs::{File, OpenOptions};
 use std::io::{IsTerminal, Write};
 use std::os::fd::AsFd;
@@ -27,6 +28,9 @@ const DEVICE: u8 = 3;
 
 /// The system's number for the error of a descriptor that is not open.
 const NOT_OPEN: i32 = 9;
+
+/// What stands for a value of the environment that is no text.
+const NO_TIME: &str = "?";
 
 /// What has the numbers of the standard streams that are closed, as long as it lives.
 #[derive(Drop)]
@@ -80,6 +84,17 @@ fn is_closed<S: AsFd>(stream: &S) -> bool {
     }
 }
 
+/// What the words ask for, and how long they have locks waited for, with the environment.
+fn asked_of<'w>(rt: &HostRuntime, words: &'w [String]) -> Result<Asked<'w>, Unparsed> {
+    let alloc = rt.alloc();
+    match env::var(rt, WAIT_VARIABLE) {
+        Ok(wait) => parse_with_wait(alloc, words, Some(&wait)),
+        Err(VarError::NotPresent) => parse_with_wait(alloc, words, None),
+        Err(VarError::NotUnicode) => parse_with_wait(alloc, words, Some(NO_TIME)),
+        Err(VarError::OutOfMemory) => Err(Unparsed::OutOfMemory),
+    }
+}
+
 fn main(rt: HostRuntime) -> ExitCode {
     let alloc = rt.alloc();
     let stderr = rt.stderr();
@@ -112,12 +127,11 @@ fn main(rt: HostRuntime) -> ExitCode {
         Reporting::Brief
     };
     let read_failure = ReadFailure::new(None);
-    let mut host = Host::new(&rt, reporting, &read_failure);
-    let status = match parse(alloc, &words) {
-        Ok(asked) => perform(
-            &mut host,
+    let status = match asked_of(&rt, &words) {
+        Ok(Asked { invocation, wait }) => perform(
+            &mut Host::new(&rt, reporting, wait, &read_failure),
             alloc,
-            asked,
+            invocation,
             &mut reader,
             &mut writer,
             &mut errors,

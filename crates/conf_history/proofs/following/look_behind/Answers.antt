@@ -41,7 +41,8 @@ pieces-preserved g c =
     record {
       so_far = more;
       few = counts-few given left c.args.pieces.now new (c.pieces.count + 1) c.requires more;
-      known = known-counted given mid left c.args.pieces.now now new c.pieces.count so_far next (piece_or_rest c.args.pieces.now) c.pieces.is_kept c.in_ok-is_kept-in-Ok-true.is_kept
+      known = known-counted given mid left c.args.pieces.now now new c.pieces.count so_far next
+          (piece_or_rest c.args.pieces.now) c.pieces.is_kept c.in_ok-is_kept-in-Ok-true.is_kept
           c.pieces.invariant.known c.in_ok-is_kept-in-Ok-true.ensures.still
           (λ old is. subst IsAnyRecord c.piece-in-Ok-true.ensures (c.in_ok-is_kept-in-Ok-true.ensures.some old (ap Ok is)))
           (λ old is. subst IsNoRecord c.piece-in-Ok-true.ensures (c.in_ok-is_kept-in-Ok-true.ensures.none old (ap Ok is)));
