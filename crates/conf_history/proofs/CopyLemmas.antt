@@ -18,7 +18,10 @@ copy-means s pieces start commands copy is performed short = record {
   others = [];
   rest = [];
   cut = no-others copy pieces [] (record {
-    joined = is ∙ sym (append-nil (concat pieces)); closed = performed.closed; unclosed = no_closing });
+    joined = is ∙ sym (append-nil (concat pieces));
+    closed = performed.closed;
+    unclosed = no_closing;
+  });
   mean = performed.mean;
   hole = tt;
   lost = All-nil IsNoRecord;

@@ -1,5 +1,5 @@
 -- The log: what is written so far, and how writing it ends.
-use Rattle.std.proofs.Common.{◌≡◌, ◌⊎◌, inl, inr, refl, sym, ◌∙◌, ap, subst, arith, ◌<◌, append_assoc}
+use Rattle.std.proofs.Common.{◌≡◌, inl, inr, refl, sym, ◌∙◌, ap, subst, arith, ◌<◌, append_assoc}
 use Rattle.std.specs.Prelude.{ℕ, ◌+◌, List, [], ◌∷◌, ◌++◌, length, take, Option, Some, None, IfSome}
 use Rattle.conf_history.proofs.Prelude.{All, concat, Appends, Appends-nil, Appends-trans, Consumes-whole, append-nil, ClosesOnce}
 use Rattle.conf_history.proofs.Prelude.{SomePieces, ahead, piece_or_rest, Command, Contents, after-count, AreRecords, All-nil, IsNoRecord}

@@ -4,8 +4,8 @@ use Rattle.std.proofs.lemmas.List.Elements.{Contains-append_left, Contains-appen
 use Rattle.conf_history.proofs.Prelude.{IsAnyRecord, IsKept, IsNoRecord, no_zero}
 use Rattle.conf_history.specs.Following.{following_of}
 use Rattle.std.specs.Prelude.{Bool, true, false, ℕ, ◌+◌, ◌-◌, suc, List, [], ◌∷◌, ◌++◌, length, drop, Option, Some, None, IfSome}
-use Rattle.conf_history.proofs.Prelude.{All, concat, Consumes, Consumes-nil, Consumes-trans, Consumes-whole, append-nil, concat-append}
-use Rattle.conf_history.proofs.Prelude.{All-nil, All-cons, All-append, All-push, ClosesOnce, Advances, AdvancesToPiece, IsSound, ahead}
+use Rattle.conf_history.proofs.Prelude.{All, concat, Consumes, Consumes-nil, Consumes-trans, Consumes-whole, append-nil}
+use Rattle.conf_history.proofs.Prelude.{All-nil, All-push, ClosesOnce, AdvancesToPiece, IsSound, ahead}
 use Rattle.conf_history.proofs.Prelude.{bytes_read, piece_or_rest, store_limit, Command, Contents, IsState, after-count, AreRecords}
 use Rattle.yaml_docs.specs.declared.pieces.Pieces.{Pieces as Reading}
 use Rattle.conf_history.specs.{Following.Follow, Histories.IsOfKind, declared.place.BadPiece.BadPiece}

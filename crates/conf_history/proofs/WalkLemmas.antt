@@ -1,6 +1,6 @@
 -- The walk over a store's file: what each call makes of what was read, and what the bytes of the file are then.
 use Rattle.std.proofs.Common.{◌≡◌, inl, inr, refl, sym, ◌∙◌, ap, subst, arith, ◌<◌, append_assoc, length-append}
-use Rattle.std.specs.Prelude.{ℕ, ◌+◌, ◌-◌, Bool, true, false, List, [], ◌∷◌, ◌++◌, length, ◌==◌, cond, Option, Some, None, Result, Ok, Err}
+use Rattle.std.specs.Prelude.{ℕ, ◌+◌, Bool, true, false, List, [], ◌∷◌, ◌++◌, length, ◌==◌, cond, Option, Some, None, Result, Ok, Err}
 use Rattle.std.specs.Prelude.{IfSome}
 use Rattle.conf_history.proofs.Prelude.{All, concat, Consumes, Consumes-trans, Consumes-whole, append-nil, concat-append, All-nil, All-cons}
 use Rattle.conf_history.proofs.Prelude.{All-push, ClosesOnce, Pieces, SomePieces, Advances, AdvancesToPiece, AdvancesToEnd, FindsTooLong}

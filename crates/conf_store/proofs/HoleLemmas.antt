@@ -1,6 +1,6 @@
 -- Pieces that mean a state have no zero, so what comes before the first one with a zero is one list.
-use Rattle.std.proofs.Common.{◌≡◌, refl, sym, ◌∙◌, ap, subst, arith}
-use Rattle.std.specs.Prelude.{ℕ, ◌+◌, Bool, true, false, not, ◌==◌, ◌&&◌, List, [], ◌∷◌, ◌++◌, length}
+use Rattle.std.proofs.Common.{◌≡◌, refl, sym, ◌∙◌, ap, subst}
+use Rattle.std.specs.Prelude.{ℕ, ◌+◌, true, false, List, [], ◌∷◌, ◌++◌}
 use Rattle.conf_store.proofs.Prelude.{All, All-nil, All-cons, All-head, All-tail, false≢true, NoZeroByte, no_zero, StartsWithHole}
 use Rattle.conf_store.proofs.Prelude.{Command, Contents, IsRecord, IsBase, IsNoRecord}
 use Rattle.conf_store.specs.Meaning.{AreRecords, PiecesMean}

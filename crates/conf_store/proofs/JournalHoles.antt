@@ -1,12 +1,12 @@
 -- What is left of the record of one command that waits, with zeros in any places.
-use Rattle.std.proofs.Common.{◌≡◌, refl, sym, ◌∙◌, ap, subst, arith, ◌≤◌, append_assoc, length-append}
-use Rattle.std.specs.Prelude.{ℕ, zero, suc, ◌+◌, Bool, true, false, List, [], ◌∷◌, ◌++◌, length, take, Contains}
-use Rattle.conf_store.proofs.Prelude.{All, concat, append-nil, All-nil, All-cons, All-head, All-tail, ClosesOnce, Pieces, SomePieces}
-use Rattle.conf_store.proofs.Prelude.{File, Command, Contents, IsNoRecord, RecordsClose, record_pieces, record_bytes, false≢true}
+use Rattle.std.proofs.Common.{◌≡◌, refl, sym, ap, subst, arith, ◌≤◌, append_assoc, length-append}
+use Rattle.std.specs.Prelude.{ℕ, ◌+◌, Bool, true, false, List, [], ◌∷◌, ◌++◌, length, take, Contains}
+use Rattle.conf_store.proofs.Prelude.{All, All-nil, All-cons, All-head, All-tail, ClosesOnce, Pieces, SomePieces}
+use Rattle.conf_store.proofs.Prelude.{Command, IsNoRecord, RecordsClose, record_pieces, record_bytes}
 use Rattle.conf_store.proofs.Prelude.{NoZeroByte, no_zero, StartsWithHole}
 use Rattle.std.proofs.lemmas.List.Elements.{All-weaker}
 use Rattle.yaml_recognizers.specs.Zeroed.{AreLeft, HoleAfter, HolesAfter, WholeBehind, Zeroed}
-use Rattle.conf_store.specs.Durable.{IsJournal, HolesMean}
+use Rattle.conf_store.specs.Durable.{HolesMean}
 use Rattle.conf_store.proofs.{HoleLemmas.zero-no-record, PieceLemmas.pieces-joined}
 use Rattle.conf_store.proofs.MeaningLemmas.{after-prefix, pieces-mean-more, records-prefix}
 

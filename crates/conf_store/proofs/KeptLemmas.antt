@@ -1,5 +1,5 @@
 -- Whether a record stands among pieces that are found one closing line after the other.
-use Rattle.std.proofs.Common.{◌≡◌, refl, sym, ap, arith}
+use Rattle.std.proofs.Common.{◌≡◌, refl, arith}
 use Rattle.std.specs.Prelude.{ℕ, Bool, true, false, not, ◌==◌, ◌&&◌, ◌||◌, ◌-◌, List, [], ◌∷◌, ◌++◌, length, drop, slice_range, Contains}
 use Rattle.std.specs.List.{list_any}
 use Rattle.conf_store.proofs.Prelude.{All, All-nil, All-push, take_all, length-drop, PieceBetween, RestUnclosed, SomePieces, IsNextClosing}

@@ -1,5 +1,5 @@
 -- What opening finds, and that it changes no meaning.
-use Rattle.std.proofs.Common.{◌≡◌, inl, inr, ⊎_elim, refl, sym, ◌∙◌, ap, subst, arith, ◌≤◌}
+use Rattle.std.proofs.Common.{◌≡◌, inl, inr, ⊎_elim, refl, sym, ◌∙◌, subst, arith, ◌≤◌}
 use Rattle.std.specs.Prelude.{ℕ, zero, suc, List, Option, Some, None, option_map, Vec}
 use Rattle.conf_store.proofs.Prelude.{Folder, Tells, bytes_under, Image, IsImage, image_now, synced_file, ReadingIsAnImage}
 use Rattle.conf_store.proofs.Prelude.{Bytes, TooLong, Store, HoldsStore, OnlyHeldIsLeft, IsStoreOf, store_limit, Contents}
@@ -7,7 +7,7 @@ use Rattle.conf_store.proofs.Prelude.{base_bytes, cases_lt, DiskFault}
 use Rattle.std.specs.declared.alloc.Global.{Global}
 use Rattle.conf_store.specs.{Faults.open_fault, Calls.HasFailed, Durable.IsDurable, declared.fault.OpenFault.OpenFault}
 use Rattle.conf_store.specs.Meaning.{FileMeans, MeanTheSame}
-use Rattle.conf_store.specs.Opens.{RecoversTo, FileRecoversTo, HasNoBase, RefusesBytes, IsFound, RefusesOpening, RefusalMeans}
+use Rattle.conf_store.specs.Opens.{FileRecoversTo, HasNoBase, RefusesBytes, IsFound, RefusesOpening, RefusalMeans}
 use Rattle.conf_store.specs.Opens.{OneMeaning, RefusedMeansNothing, ReadsAfterOpening, MeantAtEntry}
 use Rattle.conf_store.specs.declared.fault.OpenFault.TheVariants.{NotAStore, Damaged, Device, OutOfMemory}
 use Rattle.conf_store.proofs.RecoveryLemmas.{recovers-means, recovers-whole}

@@ -48,7 +48,8 @@ pub use fault::OpenFault;
 pub use holes::{has_zero, is_record};
 pub use importing::import_command;
 pub use laws::{
-    bytes_mean_one_state, holes_mean, lives_hold, old_stores_read, one_state_is_flushed, records_are_measured,
+    bytes_mean_one_state, holes_mean, lives_hold, old_stores_read, one_state_is_flushed,
+    records_are_measured,
 };
 pub use reading::read_state;
 pub use records::{NoRecord, OnRefusal, RecordFault, Replayed, replay_record};

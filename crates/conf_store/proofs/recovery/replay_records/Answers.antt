@@ -36,7 +36,7 @@ records-preserved g c =
 
 pub ends_at-requires-clause-room : goal.ends_at-requires-clause-room
 ends_at-requires-clause-room g c =
-  omega (arith, c.records.invariant.few, c.in-Some.ensures.found.after, c.in-Some.ensures.found.closes.ends)
+    omega (arith, c.records.invariant.few, c.in-Some.ensures.found.after, c.in-Some.ensures.found.closes.ends)
 
 pub returns-in-Err-clause-ok : goal.returns-in-Err-clause-ok
 returns-in-Err-clause-ok g c base closes is =

@@ -1,5 +1,5 @@
 -- Where the number is not reached, the next piece is looked for.
-use Rattle.std.proofs.Common.{◌≡◌, ◌≢◌, inl, inr, sym, ◌∙◌, ap, subst}
+use Rattle.std.proofs.Common.{inl, inr, sym, ◌∙◌, ap, subst}
 use Rattle.std.specs.Prelude.{Some, Ok}
 use Rattle.conf_history.proofs.Prelude.{err_from_is_err_and}
 use Rattle.conf_history.specs.Walks.{AfterAdvance, IsAtEndOf, IsAtPiece, with_state}

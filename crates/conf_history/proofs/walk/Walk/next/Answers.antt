@@ -1,9 +1,9 @@
 -- At a bad piece, what follows it says whether a crash may have left it.
-use Rattle.std.proofs.Common.{◌≡◌, rules, refl, inl, inr, sym, ◌∙◌, ap, subst, List, ◌++◌}
-use Rattle.std.specs.Prelude.{ℕ, Option, IfErr, Result, Bool, Ok, false}
-use Rattle.conf_history.proofs.Prelude.{concat, err_from_is_err_and, piece_or_rest, Contents, Command, IsState}
-use Rattle.conf_history.specs.Walks.{Ends, Fails, IsOn, IsTornBehind, Stops, with_state}
-use Rattle.conf_history.specs.{Following.Follow, declared.fault.HistoryFault.HistoryFault, declared.fault.HistoryFault.TheVariants.Damaged}
+use Rattle.std.proofs.Common.{◌≡◌, rules, refl, inl, inr, sym, ◌∙◌, ap, subst, ◌++◌}
+use Rattle.std.specs.Prelude.{IfErr, Result, Bool}
+use Rattle.conf_history.proofs.Prelude.{concat, err_from_is_err_and, piece_or_rest, Contents, IsState}
+use Rattle.conf_history.specs.Walks.{Fails, IsTornBehind, Stops, with_state}
+use Rattle.conf_history.specs.{declared.fault.HistoryFault.HistoryFault, declared.fault.HistoryFault.TheVariants.Damaged}
 use Rattle.conf_history.specs.declared.place.BadPiece.{BadPiece}
 use Rattle.conf_history.proofs.ReadingLemmas.{fails-at, fails-lacking, fails-stop, torn-at, torn-none}
 use Rattle.conf_history.proofs.{SurveyLemmas.past-piece, WalkLemmas.torn-followed}

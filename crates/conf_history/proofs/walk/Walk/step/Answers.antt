@@ -1,6 +1,6 @@
 -- The next piece is performed, or the walk has ended, or stopped.
-use Rattle.std.proofs.Common.{◌≡◌, sym, subst}
-use Rattle.std.specs.Prelude.{ℕ, ◌+◌, Ok}
+use Rattle.std.proofs.Common.{sym, subst}
+use Rattle.std.specs.Prelude.{◌+◌, Ok}
 use Rattle.conf_history.proofs.Prelude.{err_from_is_err_and, piece_or_rest, IsNoRecord}
 use Rattle.conf_history.specs.{Walks.AfterGoing, Walks.Stops, Walks.with_state, declared.walk.Walk.Walk}
 use Rattle.conf_history.proofs.{ReadingLemmas.goes, ReadingLemmas.stops-at-piece, WalkLemmas.has-room}

@@ -1,4 +1,4 @@
-use Rattle.std.proofs.Common.{◌≡◌, true, false, is_some, string_bytes, ap, sym, ◌∙◌, subst}
+use Rattle.std.proofs.Common.{◌≡◌, true, is_some, string_bytes, ap, sym, ◌∙◌, subst}
 use Rattle.conf_store.proofs.Prelude.{get_by_text, chars}
 use Rattle.conf_store.specs.Parts.{IsMade, texts}
 use Rattle.conf_store.proofs.PendingLemmas.{parts-unchanged, there-made, early-same, early-stays, absent-name, text-made, key-there}
