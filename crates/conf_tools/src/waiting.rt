@@ -3,9 +3,10 @@ use std::rt::Clock;
 use std::thread;
 use std::time::{Duration, Instant};
 
-/// The longest pause between two tries, in milliseconds: of the first ones, and of any.
+/// The longest that the first pause between two tries may be, in milliseconds.
 const FIRST_PAUSE: u64 = 2;
 
+/// The longest that any may be, in milliseconds.
 const LONGEST_PAUSE: u64 = 50;
 
 /// Half a millisecond, in nanoseconds.
