@@ -12,7 +12,7 @@ function __confstore_places
     for word in (commandline -opc)[3..-1]
         if test $is_value = 1
             set is_value 0
-        else if contains -- $word --checkpoint-after --at --default --file --if-value --if-count --wait
+        else if contains -- $word --checkpoint-after --at --default --file --hide --if-value --if-count --wait
             set is_value 1
         else if not string match -q -- '-?*' $word
             set -a places $word
