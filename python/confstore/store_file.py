@@ -74,7 +74,7 @@ class StoreFile:
     def read_base(self) -> int:
         """Reads the first piece. The number of the last command that it stands for."""
         piece = next(self._pieces(), None)
-        if piece is None:
+        if piece is None or b"\0" in piece:
             raise NotAStore(f"{self._path} has no base")
         found = _BASE.match(piece)
         self.number = int(found[1]) if found else self._base_by_program()
@@ -93,8 +93,15 @@ class StoreFile:
 
     def records(self) -> Iterator[Tuple[int, bytes]]:
         """The records that follow what was read, with their numbers. Raises `Damaged` where a number is not the next
-        one."""
-        for piece in self._pieces():
+        one. A piece with a zero ends them, as a crash leaves one, unless a record stands behind it."""
+        pieces = self._pieces()
+        for piece in pieces:
+            if b"\0" in piece:
+                begin = self._place - len(piece)
+                if any(map(self._is_record, pieces)):
+                    raise Damaged(f"Damaged: what follows command {self.number} has a zero, and a record behind it")
+                self._place = begin
+                return
             found = _AT.match(piece)
             number = int(found[1]) if found else self.record_of(piece).number
             if number != self.number + 1:
@@ -108,6 +115,13 @@ class StoreFile:
             return record_of(self._tree_of(piece))
         except BadAnswer as fault:
             raise Damaged(f"Damaged: after command {self.number}: {fault}") from None
+
+    def _is_record(self, piece: bytes) -> bool:
+        """Whether a piece is a record, whatever its number. None has a zero."""
+        try:
+            return b"\0" not in piece and record_of(self._tree_of(piece)).number >= 0
+        except BadAnswer:
+            return False
 
     def _tree_of(self, piece: bytes) -> Tree:
         """The tree of a piece. One that is not written as the program writes it is read by the program."""

@@ -223,6 +223,40 @@ class Faults(FollowTest):
             with self.assertRaises(Damaged):
                 changes.within(0)
 
+    def put_zero(self, value: str) -> None:
+        """Puts a zero in the place of a value in the file."""
+        with open(self.file, "rb") as file:
+            text = file.read()
+        self.assertEqual(text.count(f'value: "{value}"'.encode()), 1)
+        with open(self.file, "wb") as file:
+            file.write(text.replace(f'value: "{value}"'.encode(), b'value: "\0"'))
+
+    def test_a_zero_in_the_last_record_is_what_a_crash_left(self) -> None:
+        self.set(1, 2)
+        self.put_zero("2")
+        changes = self.follow(2)
+        self.assertEqual(self.all_of(changes), [self.was_set(2, 1)])
+        self.assertEqual(Reader(self.folder).get("web", "/n"), "1")
+        self.set(3)
+        self.assertEqual(self.all_of(changes), [self.was_set(3, 3)])
+
+    def test_a_zero_before_a_record_is_damage(self) -> None:
+        self.set(1, 2, 3)
+        self.put_zero("2")
+        changes = self.follow(2)
+        self.assertEqual(changes.within(0), self.was_set(2, 1))
+        with self.assertRaises(Damaged):
+            changes.within(0)
+        with self.assertRaises(Damaged):
+            Reader(self.folder).get("web", "/n")
+
+    def test_a_zero_before_what_is_no_record(self) -> None:
+        self.set(1, 2, 3)
+        self.put_zero("2")
+        self.put_zero("3")
+        self.assertEqual(self.all_of(self.follow(2)), [self.was_set(2, 1)])
+        self.assertEqual(Reader(self.folder).get("web", "/n"), "1")
+
     def test_no_store(self) -> None:
         os.remove(self.file)
         with self.assertRaises(NotAStore):

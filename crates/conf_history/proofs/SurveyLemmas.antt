@@ -145,11 +145,6 @@ pub known-counted : (given mid left : Option (List ℕ)) (old now new : Reading)
 unfolding counts-more
 known-counted given mid left old now new count s a bad = known-next bad s.further (piece_or_rest new)
 
-pub kind-known : (bad : List ℕ) (further : List (List ℕ)) (pieces : ℕ) (is_kept : Bool) → IsKnown is_kept bad further
-    → IsOfKind (following_of pieces is_kept).kind bad further
-kind-known bad further pieces true known = known
-kind-known bad further pieces false known = known
-
 -- a piece that the walk is at was read too
 pub past-piece : (given left : Option (List ℕ)) (walk : Walked) (pieces : List (List ℕ)) (start : Contents)
     (commands : List Command) → IsAtPiece given left walk pieces start commands
