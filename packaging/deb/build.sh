@@ -27,7 +27,7 @@ architecture=$(dpkg --print-architecture)
 
 put_files "$program" "$root/usr"
 rm -r "$root/usr/share/man/man3"
-for page in packaging/deb/README.md CHANGELOG.md docs/GUIDE.md docs/SESSION.md docs/STORE.md docs/FAULTS.md docs/STYLE.md; do
+for page in packaging/deb/README.md CHANGELOG.md docs/{GUIDE,OPERATING,SESSION,STORE,FAULTS,STYLE}.md; do
     put 644 "$top/$page" "$root/usr/share/doc/confstore/$(basename "$page")"
 done
 put_papers confstore "$version"

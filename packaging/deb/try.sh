@@ -224,6 +224,7 @@ try "the program" is_same "$tree/usr/bin/confstore" --version
 try "the same program" cmp "$program" "$tree/usr/bin/confstore"
 try "the licence" grep -q '^License: Apache-2.0$' "$tree/usr/share/doc/confstore/copyright"
 try "the guide" cmp "$top/docs/GUIDE.md" "$tree/usr/share/doc/confstore/GUIDE.md"
+try "the operating page" cmp "$top/docs/OPERATING.md" "$tree/usr/share/doc/confstore/OPERATING.md"
 try "a store" works
 for page in "$tree"/usr/share/man/man*/*.gz; do
     try "$(basename "$page")" has_page "$page"
