@@ -2,7 +2,6 @@
 use Rattle.std.proofs.Common.{◌≡◌, inl, inr, refl, sym, ◌∙◌, ap, subst, arith, ◌<◌, ◌≤◌, append_assoc, length-append, length-take}
 use Rattle.std.proofs.lemmas.List.Elements.{Contains-append_left, Contains-append_right}
 use Rattle.conf_history.proofs.Prelude.{IsAnyRecord, IsKept, IsNoRecord, no_zero}
-use Rattle.conf_history.specs.Following.{following_of}
 use Rattle.std.specs.Prelude.{Bool, true, false, ℕ, ◌+◌, ◌-◌, suc, List, [], ◌∷◌, ◌++◌, length, drop, Option, Some, None, IfSome}
 use Rattle.conf_history.proofs.Prelude.{All, concat, Consumes, Consumes-nil, Consumes-trans, Consumes-whole, append-nil}
 use Rattle.conf_history.proofs.Prelude.{All-nil, All-push, ClosesOnce, AdvancesToPiece, IsSound, ahead}
