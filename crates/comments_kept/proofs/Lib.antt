@@ -1,0 +1,5 @@
+pub mod Weaving
+pub mod LineEnds
+pub mod ScalarParts
+pub mod Walks
+pub mod Wholes

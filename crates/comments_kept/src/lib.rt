@@ -1,0 +1,9 @@
+//! `format` that keeps comments.
+#![tactic(auto)]
+
+mod lines;
+mod literal;
+mod long_key;
+mod scalars;
+mod weave;
+mod weaver;
