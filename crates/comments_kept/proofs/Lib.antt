@@ -3,3 +3,5 @@ pub mod LineEnds
 pub mod ScalarParts
 pub mod Walks
 pub mod Wholes
+pub mod FoundTexts
+pub mod Keeping

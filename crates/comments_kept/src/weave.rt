@@ -14,8 +14,8 @@ use std::alloc::{AllocError, Global};
 use yaml_data::{Text, Tree};
 use yaml_writer::Sink;
 
-/// The text of a tree in the one style with comments. Those whose place is at most `first` come before the tree. It is
-/// `None` if a comment is left over.
+/// The text of a tree in the one style with comments at their places. Those whose place is at most `first` come before
+/// the tree. It is `None` if a comment is left over.
 pub(crate) fn weave(
     alloc: Global,
     tree: &Tree,
