@@ -27,12 +27,12 @@ module _ (bytes text : List ℕ) (limits : Limits) (t : Tree) (cs : List (List �
   pub same_tree : CommentedReads → IsUtf8 text → GivesSameTree bytes limits text
   same_tree law utf8 =
       let source : commented_text w.lead t w.trails ≡ chars text =
-        chars_from_encodes (commented_text w.lead t w.trails) text utf8 (sym w.spells) in
+      chars_from_encodes (commented_text w.lead t w.trails) text utf8 (sym w.spells) in
       let good : Good t limits = read.gives.good in
       let wide : Good t (with_bytes limits (length text)) =
-        record { texts = good.texts; keys = good.keys; deep = good.deep; long = good.long } in
+      record { texts = good.texts; keys = good.keys; deep = good.deep; long = good.long } in
       let short : byte_len (commented_text w.lead t w.trails) ≤ length text =
-        omega (arith, ap byte_len source, byte_len-chars text utf8) in
+      omega (arith, ap byte_len source, byte_len-chars text utf8) in
       record {
         tree = t;
         reads = read;
@@ -81,7 +81,7 @@ pub found : (bytes : List ℕ) (es : List Event) (cs : List Comment) → IsUtf8 
     → AreComments bytes es 0 (places_of cs) → CommentsOnLines → AreFound bytes cs
 found bytes es cs utf8 reads are law =
     let has : HasComments bytes (map (comment_at bytes) (places_of cs)) =
-      record { events = es; reads = reads; places = places_of cs; are = are; written = refl } in
+    record { events = es; reads = reads; places = places_of cs; are = are; written = refl } in
     let on : AreOnLines (map (comment_at bytes) (places_of cs)) = law bytes (map (comment_at bytes) (places_of cs)) utf8 has in
     record {
       texts = on.texts;

@@ -141,7 +141,7 @@ module _ (most : ℕ) (a b c d : Weaver) (e : WroteEnd a b) (l : WroteLines most
   pub written_fits : list_all (list_all nb) (trail_comments written) ≡ true → trail_fits written ≡ true
   written_fits fit =
       let parts = and_parts (list_all (list_all nb) (behind_comments e.behind)) (list_all (list_all nb) (extras_comments l.lines))
-        (sym (list_all-append (list_all nb) (behind_comments e.behind) (extras_comments l.lines)) ∙ fit) in
+      (sym (list_all-append (list_all nb) (behind_comments e.behind) (extras_comments l.lines)) ∙ fit) in
       and_from _ _ (behind_fit e.behind parts.0) (l.fit parts.1)
 
   -- without comments it is bare

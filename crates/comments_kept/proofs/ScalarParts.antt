@@ -204,9 +204,9 @@ long_key_woven key i a b c d e f long ask w end indent colon =
     let fits : List Trail → Type 0 = λ ws. trail_fits (next_trail ws) ≡ true in
     let first = line all a c d (wrote_both a b c (codes "? ") (key_text key) ask w) end in
     let spaced = both (λ ws. all ++ trail_text (next_trail ws)) (λ ws. spaces i) later_trails (λ ws. ws) fits none a d e first
-      (plain (spaces i) d e indent) in
+    (plain (spaces i) d e indent) in
     let ended = both (λ ws. all ++ trail_text (next_trail ws) ++ spaces i) (λ ws. codes ":") later_trails (λ ws. ws)
-      (λ ws. fits ws × none ws) none a e f spaced (plain (codes ":") e f colon) in
+    (λ ws. fits ws × none ws) none a e f spaced (plain (codes ":") e f colon) in
     key_by_long (long_key key) (long_with key i) (short_with key) a f long
     (said (long_with key i) (long_with key i) later_trails later_trails (λ ws. (fits ws × none ws) × none ws) fits a f
     (λ ws. refl) (λ ws. refl) (λ ws h. h.0.0) ended)

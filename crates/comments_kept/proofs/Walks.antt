@@ -29,11 +29,11 @@ pub element_taken : (lead i : ℕ) (t : Tree) (ts : Elements) (a b c d e : Weave
 element_taken lead i t ts a b c d e indent dash one others =
     let none : List Trail → Type 0 = λ ws. Unit {0} in
     let mark = both (λ ws. spaces lead) (λ ws. codes "- ") (λ ws. ws) (λ ws. ws) none none a b c
-      (plain (spaces lead) a b indent) (plain (codes "- ") b c dash) in
+    (plain (spaces lead) a b indent) (plain (codes "- ") b c dash) in
     let first = both (λ ws. spaces lead ++ codes "- ") (element_with t i) (λ ws. ws) (after_tree t) (λ ws. none ws × none ws)
-      (ElementFits t i) a c d mark one in
+    (ElementFits t i) a c d mark one in
     let all = both (λ ws. spaces lead ++ codes "- " ++ element_with t i ws) (elements_led i ts i) (after_tree t) (after_elements ts)
-      (λ ws. (none ws × none ws) × ElementFits t i ws) (ElementsFit ts i) a d e first others in
+    (λ ws. (none ws × none ws) × ElementFits t i ws) (ElementsFit ts i) a d e first others in
     said (λ ws. spaces lead ++ codes "- " ++ element_with t i ws ++ elements_led i ts i (after_tree t ws))
     (elements_led lead (element t ts) i)
     (λ ws. after_elements ts (after_tree t ws)) (after_elements (element t ts))
@@ -60,20 +60,20 @@ member_taken lead i key t ms a b c d e indent name one others =
     let none : List Trail → Type 0 = λ ws. Unit {0} in
     let named : List Trail → Type 0 = λ ws. key_trail_fits key ws ≡ true in
     let mark = both (λ ws. spaces lead) (key_with i key) (λ ws. ws) (after_key key) none named a b c
-      (plain (spaces lead) a b indent) name in
+    (plain (spaces lead) a b indent) name in
     let first = both (λ ws. spaces lead ++ key_with i key ws) (value_with t i) (after_key key) (after_value t)
-      (λ ws. none ws × named ws) (ValueFits t i) a c d mark one in
+    (λ ws. none ws × named ws) (ValueFits t i) a c d mark one in
     let all = both (λ ws. spaces lead ++ key_with i key ws ++ value_with t i (after_key key ws)) (members_led i ms i)
-      (λ ws. after_value t (after_key key ws)) (after_members ms)
-      (λ ws. (none ws × named ws) × ValueFits t i (after_key key ws)) (MembersFit ms i) a d e first others in
+    (λ ws. after_value t (after_key key ws)) (after_members ms)
+    (λ ws. (none ws × named ws) × ValueFits t i (after_key key ws)) (MembersFit ms i) a d e first others in
     said (λ ws. spaces lead ++ key_with i key ws ++ value_with t i (after_key key ws)
-      ++ members_led i ms i (after_value t (after_key key ws)))
+    ++ members_led i ms i (after_value t (after_key key ws)))
     (members_led lead (member key t ms) i)
     (λ ws. after_members ms (after_value t (after_key key ws))) (after_members (member key t ms))
     (λ ws. ((none ws × named ws) × ValueFits t i (after_key key ws)) × MembersFit ms i (after_value t (after_key key ws)))
     (MembersFit (member key t ms) i) a e
     (λ ws. ap (λ cs. spaces lead ++ key_with i key ws ++ value_with t i (after_key key ws) ++ cs)
-      (led_members ms i (after_value t (after_key key ws))))
+    (led_members ms i (after_value t (after_key key ws))))
     (λ ws. refl) (λ ws h. (h.0.0.1, h.0.1, h.1)) all
 
 -- no member is left

@@ -56,7 +56,7 @@ module _ (P Q : List Trail → List ℕ) (f h : List Trail → List Trail) (F H 
     taken = x.taken ∙ ap (λ ts. x.used ++ ts) y.taken ∙ sym (append_assoc x.used y.used (left c));
     trails = λ fit us.
         let parts = and_parts (list_all (list_all nb) x.used) (list_all (list_all nb) y.used)
-          (sym (list_all-append (list_all nb) x.used y.used) ∙ fit) in
+        (sym (list_all-append (list_all nb) x.used y.used) ∙ fit) in
         let later : AreTrails Q h H (string_bytes b.text) (string_bytes c.text) y.used us = y.trails parts.1 us in
         let here : AreTrails P f F (string_bytes a.text) (string_bytes b.text) x.used later.trails = x.trails parts.0 later.trails in
         record {

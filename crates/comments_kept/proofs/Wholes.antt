@@ -19,11 +19,11 @@ pub whole : (t : Tree) (most : ℕ) (w a b : Weaver) → string_bytes w.text ≡
     → list_all (list_all nb) (left w) ≡ true → IsWoven t (left w) (string_bytes b.text)
 whole t most w a b empty lines top none fit =
     let all : left w ≡ extras_comments lines.lines ++ top.used = lines.taken
-      ∙ ap (λ ts. extras_comments lines.lines ++ ts) (top.taken ∙ ap (λ ts. top.used ++ ts) none ∙ append-nil top.used) in
+    ∙ ap (λ ts. extras_comments lines.lines ++ ts) (top.taken ∙ ap (λ ts. top.used ++ ts) none ∙ append-nil top.used) in
     let parts = and_parts (list_all (list_all nb) (extras_comments lines.lines)) (list_all (list_all nb) top.used)
-      (sym (list_all-append (list_all nb) (extras_comments lines.lines) top.used) ∙ ap (list_all (list_all nb)) (sym all) ∙ fit) in
+    (sym (list_all-append (list_all nb) (extras_comments lines.lines) top.used) ∙ ap (list_all (list_all nb)) (sym all) ∙ fit) in
     let it : AreTrails (tree_with t) (after_tree t) (TreeFits t) (string_bytes a.text) (string_bytes b.text) top.used [] =
-      top.trails parts.1 [] in
+    top.trails parts.1 [] in
     record {
       lead = lines.lines;
       trails = it.trails;
@@ -31,6 +31,8 @@ whole t most w a b empty lines top none fit =
       spells = encoded_both [] (string_bytes a.text) (string_bytes b.text) (extras_text lines.lines) (tree_with t it.trails)
           (lines.spells ∙ ap (λ bs. bs ++ encode_utf8_all (extras_text lines.lines)) empty) it.spells;
       has = ap (λ ts. extras_comments lines.lines ++ ts) (it.comments ∙ append-nil top.used) ∙ sym all;
-      bare = λ nothing. (lines.none (first_none (extras_comments lines.lines) top.used (sym all ∙ nothing)),
-          it.bare (last_none (extras_comments lines.lines) top.used (sym all ∙ nothing)) tt);
+      bare = λ nothing. (
+        lines.none (first_none (extras_comments lines.lines) top.used (sym all ∙ nothing)),
+        it.bare (last_none (extras_comments lines.lines) top.used (sym all ∙ nothing)) tt,
+      );
     }

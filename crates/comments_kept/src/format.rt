@@ -23,14 +23,15 @@ use yaml_tree::{Limits, ReadFault, bytes_give_one, read_one};
 
 /// Reads a text that is one document, and returns its tree in the one style, with the comments of the text.
 ///
+/// `bytes` are UTF-8 (YAML 1.2.2, 5.2), read by the failsafe schema (10.1) without aliases, anchors and tags. The
+/// limits of depth and style are at most those of a [`Config`](yaml_tree::Config). The result gives the tree within the
+/// same limits of depth and style; with its comments it may have more bytes than the limit.
+///
 /// # Errors
 ///
-/// Those of [`format_one`](yaml_tree::format_one), with the same faults.
-pub fn format_keeping(
-    alloc: Global,
-    bytes: &[u8],
-    limits: &Limits,
-) -> Result<String, ReadFault>
+/// Those of [`format_one`](yaml_tree::format_one): each fault of [`ReadFault`] is returned only if it holds and no
+/// earlier one does; [`ReadFault::OutOfMemory`] may come at any point.
+pub fn format_keeping(alloc: Global, bytes: &[u8], limits: &Limits) -> Result<String, ReadFault>
     requires deep { limits.now.depth ≤ own_limits.depth }
     requires long { limits.now.style ≤ own_limits.style }
     ensures tree { IfOk result (λ text.
@@ -58,11 +59,7 @@ pub fn format_keeping(
 }
 
 /// The text of a tree with comments at their places. If a place is behind the tree's lines, all comments are before it.
-fn woven(
-    alloc: Global,
-    tree: &Tree,
-    comments: &[Placed<'_>],
-) -> Result<String, AllocError>
+fn woven(alloc: Global, tree: &Tree, comments: &[Placed<'_>]) -> Result<String, AllocError>
     requires deep { depth (tree_of tree.now) ≤ own_limits.depth }
     requires lines { list_all (list_all nb) (texts_of comments.now) ≡ true }
     ensures { IfOk result (λ text.

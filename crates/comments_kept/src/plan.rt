@@ -1,5 +1,6 @@
 // Where the comments of a text are written.
-use crate::rows::{Row, rows_of};
+use crate::rows::{Layout, Level, Row, layout_of};
+use crate::signs::line_start;
 use std::alloc::{AllocError, Global};
 use yaml_comments::Comment;
 use yaml_events::Events;
@@ -18,22 +19,88 @@ pub(crate) fn plan(
     events: &Events<'_>,
     found: &[Comment],
 ) -> Result<Vec<Spot>, AllocError> {
-    let rows = rows_of(alloc, bytes, events)?;
+    let Layout { rows, levels } = layout_of(alloc, bytes, events)?;
     let mut spots = Vec::with_capacity(alloc, found.len())?;
     let mut row = 0;
     for comment in found {
-        let line = line_start(bytes, comment.start);
-        row = row_from(&rows, row, line, comment.start);
-        match rows.get(row) {
-            Some(here) if here.end <= comment.start => {
-                spots.push(behind(row))?;
-                row += 1;
-            }
-            Some(here) => spots.push(before(row, here.indent))?,
-            None => spots.push(before(row, 0))?,
+        let at = comment.start.min(bytes.len());
+        let line = line_start(bytes, at).min(at);
+        row = row_from(&rows, row, line, at);
+        if is_behind(&rows, row, at) {
+            spots.push(behind(row))?;
+            row = row.saturating_add(1);
+        } else {
+            let least = row_indent(&rows, row);
+            let own = if is_blank(&bytes[line..at]) {
+                indent_below(&levels, level_above(&rows, row), at - line)
+            } else {
+                0
+            };
+            spots.push(before(row, least.max(own)))?;
         }
     }
     Ok(spots)
+}
+
+/// Whether a comment is behind a line of the tree.
+fn is_behind(rows: &[Row], row: usize, comment: usize) -> bool {
+    match rows.get(row) {
+        Some(row) => row.end <= comment,
+        None => false,
+    }
+}
+
+/// The indentation of a line of the tree; behind the last one it is 0.
+fn row_indent(rows: &[Row], row: usize) -> u64 {
+    match rows.get(row) {
+        Some(row) => row.indent,
+        None => 0,
+    }
+}
+
+/// The block collection that holds the line of the tree above another one.
+fn level_above(rows: &[Row], row: usize) -> Option<usize> {
+    let above = row.checked_sub(1)?;
+    rows.get(above)?.level
+}
+
+/// The indentation of a comment in a column of the text, by the block collections that hold the line above it: in the
+/// innermost one if its column is greater, and else with the outermost one of the greatest column that isn't.
+fn indent_below(levels: &[Level], innermost: Option<usize>, column: usize) -> u64 {
+    let Some(first) = level_at(levels, innermost) else {
+        return 0;
+    };
+    if column > first.column {
+        return first.indent.saturating_add(2);
+    }
+    let mut best: Option<Level> = None;
+    let mut next = innermost;
+    for _ in 0..levels.len() {
+        let Some(here) = level_at(levels, next) else {
+            break;
+        };
+        if here.column <= column {
+            match best {
+                Some(best) if here.column < best.column => break,
+                _ => best = Some(here),
+            }
+        }
+        next = here.outer;
+    }
+    match best {
+        Some(level) => level.indent,
+        None => 0,
+    }
+}
+
+/// A block collection of the list, if there is one.
+fn level_at(levels: &[Level], at: Option<usize>) -> Option<Level> {
+    levels.get(at?).copied()
+}
+
+/// Whether there are only spaces and TABs.
+fn is_blank(bytes: &[u8]) -> bool {
+    bytes.iter().all(|byte| matches!(byte, b' ' | b'\t'))
 }
 
 /// Behind a line of the tree.
@@ -63,14 +130,4 @@ fn row_from(rows: &[Row], from: usize, line: usize, comment: usize) -> usize {
         }
     }
     from.max(rows.len())
-}
-
-/// The byte at which the line of another one begins.
-fn line_start(bytes: &[u8], at: usize) -> usize {
-    for before in (0..at.min(bytes.len())).rev() {
-        if matches!(bytes[before], b'\n' | b'\r') {
-            return before + 1;
-        }
-    }
-    0
 }

@@ -1,6 +1,6 @@
 // The lines of a tree in the one style, and where each ends in the text that the tree was read from.
 use crate::long_key::is_long_key;
-use crate::signs::{after_header, after_sign, next_sign, start_of_content};
+use crate::signs::{after_header, after_sign, line_start, next_sign, start_of_content};
 use std::alloc::{AllocError, Global};
 use yaml_events::{EventRef, Events, Span, Style};
 
@@ -11,14 +11,40 @@ pub(crate) struct Row {
     pub(crate) end: usize,
     /// How many spaces are before it.
     pub(crate) indent: u64,
+    /// The innermost block collection that holds it, in the list of those.
+    pub(crate) level: Option<usize>,
+}
+
+/// A block collection of a text.
+#[derive(Clone, Copy)]
+pub(crate) struct Level {
+    /// How many bytes are before it on its line of the text.
+    pub(crate) column: usize,
+    /// The indentation that it has in the one style.
+    pub(crate) indent: u64,
+    /// The innermost block collection that holds it, in the list of those.
+    pub(crate) outer: Option<usize>,
+}
+
+/// The lines of a tree, and the block collections of the text that it was read from.
+#[derive(Drop)]
+pub(crate) struct Layout {
+    pub(crate) rows: Vec<Row>,
+    pub(crate) levels: Vec<Level>,
 }
 
 /// A collection that is open.
 #[derive(Clone, Copy)]
 struct Open {
     kind: Kind,
-    /// Whether it stands between brackets.
+    /// Whether it has brackets.
     flow: bool,
+    /// Whether it stands between brackets, or has some.
+    within_flow: bool,
+    /// The innermost block collection: itself, or one that holds it.
+    level: Option<usize>,
+    /// The innermost block collection that holds it.
+    outer: Option<usize>,
     indent: u64,
     /// How many values and keys it has so far.
     children: u64,
@@ -45,6 +71,7 @@ enum Role {
 #[derive(Drop)]
 struct Rows {
     rows: Vec<Row>,
+    levels: Vec<Level>,
     open: Vec<Open>,
     /// The byte behind the last token.
     at: usize,
@@ -53,13 +80,14 @@ struct Rows {
 }
 
 /// The lines of the one document of a text. `events` are those of the text.
-pub(crate) fn rows_of(
+pub(crate) fn layout_of(
     alloc: Global,
     bytes: &[u8],
     events: &Events<'_>,
-) -> Result<Vec<Row>, AllocError> {
+) -> Result<Layout, AllocError> {
     let mut rows = Rows {
         rows: Vec::new(alloc),
+        levels: Vec::new(alloc),
         open: Vec::new(alloc),
         at: start_of_content(bytes),
         line: None,
@@ -74,7 +102,8 @@ pub(crate) fn rows_of(
             EventRef::Scalar { style, span, value } => rows.scalar(bytes, style, span, value)?,
         }
     }
-    Ok(rows.rows)
+    let Rows { rows, levels, .. } = rows;
+    Ok(Layout { rows, levels })
 }
 
 impl Rows {
@@ -86,6 +115,14 @@ impl Rows {
         }
     }
 
+    /// The innermost block collection that is open.
+    fn level(&self) -> Option<usize> {
+        match self.open.last() {
+            Some(open) => open.level,
+            None => None,
+        }
+    }
+
     /// Begins the line if none has begun.
     fn begin_line(&mut self) {
         if self.line.is_none() {
@@ -93,11 +130,11 @@ impl Rows {
         }
     }
 
-    /// Ends the line at a byte of the text.
-    fn end_line(&mut self, end: usize) -> Result<(), AllocError> {
+    /// Ends the line at a byte of the text, in a block collection.
+    fn end_line(&mut self, end: usize, level: Option<usize>) -> Result<(), AllocError> {
         let indent = self.line.unwrap_or(0);
         self.line = None;
-        self.rows.push(Row { end, indent })?;
+        self.rows.push(Row { end, indent, level })?;
         Ok(())
     }
 
@@ -111,12 +148,13 @@ impl Rows {
             flow,
             children,
             colon,
+            outer,
             ..
         } = *open;
         open.children = children.saturating_add(1);
         if children == 0 {
             if let Some(end) = colon {
-                self.end_line(end)?;
+                self.end_line(end, outer)?;
             }
         }
         match kind {
@@ -153,14 +191,38 @@ impl Rows {
             Role::Top => 0,
             Role::Element | Role::Key | Role::Value => self.indent().saturating_add(2),
         };
+        let within_flow = flow || self.is_within_flow();
+        let outer = self.level();
+        let level = if within_flow {
+            outer
+        } else {
+            let column = sign - line_start(bytes, sign).min(sign);
+            self.levels.push(Level {
+                column,
+                indent,
+                outer,
+            })?;
+            Some(self.levels.len() - 1)
+        };
         self.open.push(Open {
             kind,
             flow,
+            within_flow,
+            level,
+            outer,
             indent,
             children: 0,
             colon,
         })?;
         Ok(())
+    }
+
+    /// Whether the innermost collection stands between brackets, or has some.
+    fn is_within_flow(&self) -> bool {
+        match self.open.last() {
+            Some(open) => open.within_flow,
+            None => false,
+        }
     }
 
     /// Ends the innermost collection, whose closing bracket this would be.
@@ -172,7 +234,7 @@ impl Rows {
             self.at = after_sign(bytes, self.at, bracket);
         }
         if open.children == 0 {
-            return self.end_line(self.at);
+            return self.end_line(self.at, self.level());
         }
         Ok(())
     }
@@ -192,10 +254,10 @@ impl Rows {
         };
         self.at = self.at.max(span.end);
         if role != Role::Key {
-            return self.end_line(end);
+            return self.end_line(end, self.level());
         }
         if is_long_key(value) {
-            self.end_line(end)?;
+            self.end_line(end, self.level())?;
             self.begin_line();
         }
         Ok(())

@@ -56,11 +56,7 @@ fn weave_literal(
 }
 
 /// Writes a key in a mapping at `indent` through its `:`, with the comments behind a long key and below.
-pub(crate) fn weave_key(
-    key: &str,
-    indent: u64,
-    weaver: &mut Weaver<'_>,
-) -> Result<(), AllocError>
+pub(crate) fn weave_key(key: &str, indent: u64, weaver: &mut Weaver<'_>) -> Result<(), AllocError>
     ensures { OnOk result (WovenKey (chars key.now) indent weaver.old weaver.new) }
 {
     if is_long_key(key) {

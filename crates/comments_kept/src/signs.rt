@@ -44,7 +44,11 @@ pub(crate) fn after_header(bytes: &[u8], from: usize) -> usize {
 
 /// The byte at which the node of a document begins: behind the directives and the `---`, if they are there.
 pub(crate) fn start_of_content(bytes: &[u8]) -> usize {
-    let start = if bytes.starts_with(b"\xef\xbb\xbf") { 3 } else { 0 };
+    let start = if bytes.starts_with(b"\xef\xbb\xbf") {
+        3
+    } else {
+        0
+    };
     let mut skipped = false;
     for at in start..bytes.len() {
         match bytes[at] {
@@ -64,4 +68,14 @@ fn after_marker(bytes: &[u8], at: usize) -> usize {
         Some(rest) if rest.starts_with(b"---") => at.saturating_add(3),
         _ => at,
     }
+}
+
+/// The byte at which the line of another one begins.
+pub(crate) fn line_start(bytes: &[u8], at: usize) -> usize {
+    for before in (0..at.min(bytes.len())).rev() {
+        if matches!(bytes[before], b'\n' | b'\r') {
+            return before + 1;
+        }
+    }
+    0
 }

@@ -67,11 +67,7 @@ fn weave_tree(tree: &Tree, weaver: &mut Weaver<'_>) -> Result<(), AllocError>
 
 /// Writes the elements of a sequence, each after `- `, at `indent`; the first without its spaces.
 #[cycle(lines)]
-fn weave_elements(
-    items: &[Tree],
-    indent: u64,
-    weaver: &mut Weaver<'_>,
-) -> Result<(), AllocError>
+fn weave_elements(items: &[Tree], indent: u64, weaver: &mut Weaver<'_>) -> Result<(), AllocError>
     requires room { indent + 2 * elements_depth (elements_of items.now) < 2 ^ 64 }
     ensures { OnOk result (WovenElements 0 (elements_of items.now) indent weaver.old weaver.new) }
 {

@@ -45,9 +45,11 @@ impl Sink for Weaver<'_> {
 
     ghost takes_none = { λ s. (encoded_none (string_bytes s.text), refl, refl) };
 
-    ghost takes_both = { λ a b c xs ys first second.
-        (encoded_both (string_bytes a.text) (string_bytes b.text) (string_bytes c.text) xs ys first.0 second.0,
-        second.1 ∙ first.1, second.2 ∙ first.2) };
+    ghost takes_both = { λ a b c xs ys first second. (
+      encoded_both (string_bytes a.text) (string_bytes b.text) (string_bytes c.text) xs ys first.0 second.0,
+      second.1 ∙ first.1,
+      second.2 ∙ first.2,
+    ) };
 
     fn put_text(&mut self, text: &str) -> Result<(), AllocError> {
         self.text.put_text(text)

@@ -19,7 +19,7 @@ placed-requires c =
     let bytes = c.args.bytes.now in
     let reads = c.in_ok-events.ensures.reads in
     let all = subst (AreFound bytes) (sym c.deref-2.ensures.value)
-      (found bytes _ c.in_ok-found.found.items reads.text.utf8 reads.reads c.in_ok-found.ensures c.comments_on_lines.ensures) in
+    (found bytes _ c.in_ok-found.found.items reads.text.utf8 reads.reads c.in_ok-found.ensures c.comments_on_lines.ensures) in
     all.are
 
 pub woven-requires-clause-lines : goal.woven-requires-clause-lines
@@ -27,7 +27,7 @@ woven-requires-clause-lines c =
     let bytes = c.args.bytes.now in
     let reads = c.in_ok-events.ensures.reads in
     let all = subst (AreFound bytes) (sym c.deref-2.ensures.value)
-      (found bytes _ c.in_ok-found.found.items reads.text.utf8 reads.reads c.in_ok-found.ensures c.comments_on_lines.ensures) in
+    (found bytes _ c.in_ok-found.found.items reads.text.utf8 reads.reads c.in_ok-found.ensures c.comments_on_lines.ensures) in
     ap (list_all (list_all nb)) (ap texts_of c.deref-4.ensures.value ∙ c.in_ok-comments.ensures) ∙ found_lines bytes c.deref-2.result.now all
 
 pub returns-clause-tree : goal.returns-clause-tree
@@ -45,7 +45,7 @@ returns-clause-comments c =
     let bytes = c.args.bytes.now in
     let reads = c.in_ok-events.ensures.reads in
     let all = subst (AreFound bytes) (sym c.deref-2.ensures.value)
-      (found bytes _ c.in_ok-found.found.items reads.text.utf8 reads.reads c.in_ok-found.ensures c.comments_on_lines.ensures) in
+    (found bytes _ c.in_ok-found.found.items reads.text.utf8 reads.reads c.in_ok-found.ensures c.comments_on_lines.ensures) in
     let limits = limits_of c.args.limits.now in
     let read = subst (λ t. IsRead bytes limits (tree_of t)) (sym c.tree.ensures.same) c.in_ok-config.ensures.given in
     let text = string_bytes c.in_ok-woven.field-0 in
@@ -61,7 +61,7 @@ returns-clause-bare c =
     let bytes = c.args.bytes.now in
     let reads = c.in_ok-events.ensures.reads in
     let all = subst (AreFound bytes) (sym c.deref-2.ensures.value)
-      (found bytes _ c.in_ok-found.found.items reads.text.utf8 reads.reads c.in_ok-found.ensures c.comments_on_lines.ensures) in
+    (found bytes _ c.in_ok-found.found.items reads.text.utf8 reads.reads c.in_ok-found.ensures c.comments_on_lines.ensures) in
     let limits = limits_of c.args.limits.now in
     let read = subst (λ t. IsRead bytes limits (tree_of t)) (sym c.tree.ensures.same) c.in_ok-config.ensures.given in
     let text = string_bytes c.in_ok-woven.field-0 in

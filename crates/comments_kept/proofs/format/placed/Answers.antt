@@ -20,7 +20,7 @@ loop-number-preserved c =
     let more = drop_more found l.number (record { start = 0; end = 0 }) c.loop-number-test.true in (
       (subst (AreTexts bytes) more l.invariant.0).3,
       ap (λ ps. texts_of ps ++ texts_at bytes (drop (l.number + 1) found)) c.in_ok-push.ensures.items
-          ∙ texts_more l.comments.items _ (texts_at bytes (drop (l.number + 1) found)) 
+          ∙ texts_more l.comments.items _ (texts_at bytes (drop (l.number + 1) found))
           ∙ ap (λ bs. texts_of l.comments.items ++ chars bs ∷ texts_at bytes (drop (l.number + 1) found)) c.text_of-text.ensures
           ∙ ap (λ cs. texts_of l.comments.items ++ texts_at bytes cs) (sym more) ∙ l.invariant.1,
     )

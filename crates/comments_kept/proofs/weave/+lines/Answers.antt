@@ -23,7 +23,7 @@ weave_elements-loop-item-preserved t c =
     let deep = ap (λ ts. elements_depth (elements_of ts)) here in
     let rest = elements_of (drop (l.item-index + 1) items) in
     let dash = subst (λ cs. Wrote c.put_spaces.new.self cs c.put_text.new.self) (chars-literal (codes "- ") refl)
-      c.in_ok-put_text.ensures in (
+    c.in_ok-put_text.ensures in (
       omega (arith, deep, l.invariant.0),
       λ end others. l.invariant.1 end
           (subst (λ ts. WovenElements l.lead (elements_of ts) i l.weaver end) (sym here)
@@ -51,7 +51,7 @@ weave_members-loop-key-preserved t c =
     let deep = ap (λ ms. members_depth (members_of ms)) here in
     let rest = members_of (drop (l.key-index + 1) pairs) in
     let name = subst (λ bytes. WovenKey (chars bytes) i c.put_spaces.new.self c.weave_key.new.weaver) c.deref.ensures
-      c.in_ok-weave_key.ensures in (
+    c.in_ok-weave_key.ensures in (
       omega (arith, deep, l.invariant.0),
       λ end others. l.invariant.1 end
           (subst (λ ms. WovenMembers l.lead (members_of ms) i l.weaver end) (sym here)
@@ -194,7 +194,7 @@ weave_value-returns-then-is_empty-2 t c =
     let none : length pairs.items ≡ 0 = omega (arith, empty, pairs.ok) in
     let seen = ap tree_of c.in-Map.is ∙ tree_of-Map pairs in
     let mark = subst (λ cs. Wrote a cs c.put_text-then-is_empty-2.new.self) (chars-literal (codes " {}") refl)
-      c.in_ok-put_text-in-Map.ensures in
+    c.in_ok-put_text-in-Map.ensures in
     on_ok_weaker c.end_line-then-is_empty-2.result
     (λ w. subst (λ tree. WovenValue tree i a b) (sym seen)
     (value_no_pairs i pairs.items a b none (line (codes " {}") a c.put_text-then-is_empty-2.new.self b mark w)))

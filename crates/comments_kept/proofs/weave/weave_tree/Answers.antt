@@ -73,4 +73,3 @@ returns-else-is_empty-2 c =
     (top_pairs a b pairs.items some
     (subst (λ ms. WovenMembers 0 (members_of ms) 0 a b) c.deref-in-Map.ensures.value w)))
     c.weave_members.ensures
-

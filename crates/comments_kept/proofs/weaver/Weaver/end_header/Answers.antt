@@ -17,7 +17,7 @@ returns-then-next-behind c =
       more = signed.2;
     } in
     let more = began_more w c.put_text.new.self c.put_text-then-next-behind.new.self (codes " #") (chars x.text.now)
-      began c.in_ok-put_text-2.ensures in
+    began c.in_ok-put_text-2.ensures in
     on_ok_weaker c.put_char.result
     (λ feed. end_behind w c.put_char.new.self x found.3.0 found.1
     (began_more w c.put_text-then-next-behind.new.self c.put_char.new.self (codes " #" ++ chars x.text.now) (codes "\n") more feed))

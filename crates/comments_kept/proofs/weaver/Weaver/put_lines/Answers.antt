@@ -16,7 +16,7 @@ loop-next-preserved c =
     let two = began_more w c.put_spaces.new.self c.put_char.new.self (spaces n) (codes "#") one c.in_ok-put_char.ensures in
     let three = began_more w c.put_char.new.self c.put_text.new.self (spaces n ++ codes "#") (chars x.text.now) two c.in_ok-put_text.ensures in
     let four = began_more w c.put_text.new.self c.put_char-in-Some.new.self (spaces n ++ codes "#" ++ chars x.text.now) (codes "\n")
-      three c.in_ok-put_char-2.ensures in (
+    three c.in_ok-put_char-2.ensures in (
       four.same ∙ c.loop-next.invariant.0,
       λ end others. c.loop-next.invariant.1 end
           (one_line c.args.most n w c.put_char-in-Some.new.self end x found.3.0 found.1 (omega (arith, c.min.ensures)) four others),
