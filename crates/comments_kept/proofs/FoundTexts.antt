@@ -1,13 +1,13 @@
 -- The comments that were found, as texts.
-use Rattle.std.proofs.Common.{◌≡◌, ◌<◌, ◌≤◌, refl, sym, ◌∙◌, ap, ap₂, subst, arith, ⊎_elim, length, get_or}
-use Rattle.std.specs.Prelude.{ℕ, ◌+◌, ◌⊎◌, Bool, true, List, [], ◌∷◌, ◌++◌, encode_utf8_all, map, slice_index}
+use Rattle.std.proofs.Common.{◌≡◌, ◌≤◌, refl, sym, ◌∙◌, ap, ap₂, arith, ⊎_elim, get_or}
+use Rattle.std.specs.Prelude.{ℕ, ◌+◌, ◌⊎◌, true, List, [], ◌∷◌, ◌++◌, encode_utf8_all, map, slice_index}
 use Rattle.std.specs.List.{list_all}
-use Rattle.std.specs.Str.{IsUtf8, chars}
+use Rattle.std.specs.Str.{chars}
 use Rattle.std.proofs.Math.Utf8.{scalar, scalars}
-use Rattle.std.proofs.lemmas.Bool.{and_parts, and_from, or_cases, cases_lt, eqb-true}
+use Rattle.std.proofs.lemmas.Bool.{and_parts, and_from, cases_lt}
 use Rattle.std.proofs.lemmas.Bool.Decides.{nat_tests}
 use Rattle.std.proofs.lemmas.Str.{chars-encodes}
-use Rattle.yaml_chars.specs.Classes.{nb, printable}
+use Rattle.yaml_chars.specs.Classes.{nb}
 use Rattle.yaml_grammar.specs.Events.{Event}
 use Rattle.yaml_comments.specs.declared.find.Comment.{Comment}
 use Rattle.yaml_comments.specs.Comments.{AreComments, IsNext, comment_at}
@@ -20,11 +20,6 @@ use Rattle.comments_kept.specs.Weaving.{texts_of}
 pub texts_more : (ps : List Placed) (p : Placed) (ts : List (List ℕ)) → texts_of (ps ++ p ∷ []) ++ ts ≡ texts_of ps ++ chars p.text.now ∷ ts
 texts_more [] p ts = refl
 texts_more (q ∷ ps) p ts = ap (λ us. chars q.text.now ∷ us) (texts_more ps p ts)
-
--- all texts
-pub texts_whole : (ps : List Placed) → texts_of ps ++ [] ≡ texts_of ps
-texts_whole [] = refl
-texts_whole (p ∷ ps) = ap (λ us. chars p.text.now ∷ us) (texts_whole ps)
 
 -- ---- what may be in a comment is a character
 
@@ -50,12 +45,14 @@ longer bytes es from c next = ⊎_elim (λ less. omega (arith, less)) (λ more. 
     same : c.end ≤ c.start → ⊥
     same e =
         let here : c.end ≡ c.start = omega (arith, e, next.ends.after) in
-        let break : (slice_index bytes c.end ≡ 10) ⊎ (slice_index bytes c.end ≡ 13) = next.ends.ends (omega (arith, here, next.comment.within)) in
+        let break : (slice_index bytes c.end ≡ 10) ⊎ (slice_index bytes c.end ≡ 13) =
+        next.ends.ends (omega (arith, here, next.comment.within)) in
         let mark = ap (slice_index bytes) here ∙ next.comment.mark in
         ⊎_elim (λ lf. omega (arith, lf, mark)) (λ cr. omega (arith, cr, mark)) break
 
 -- comments on lines are texts
-pub are_texts : (bytes : List ℕ) (es : List Event) (from : ℕ) (cs : List Comment) (ts : List (List ℕ)) → AreComments bytes es from (places_of cs)
+pub are_texts : (bytes : List ℕ) (es : List Event) (from : ℕ) (cs : List Comment) (ts : List (List ℕ))
+    → AreComments bytes es from (places_of cs)
     → map (comment_at bytes) (places_of cs) ≡ map encode_utf8_all ts → list_all (list_all nb) ts ≡ true → AreTexts bytes cs
 are_texts bytes es from [] ts are e fit = tt
 are_texts bytes es from (c ∷ cs) [] are e fit = absurd (cc)

@@ -1,5 +1,5 @@
 -- The text that was written gives the same tree and has the same comments.
-use Rattle.std.proofs.Common.{◌≡◌, ◌≤◌, refl, sym, ◌∙◌, ap, ap₂, subst, arith, length}
+use Rattle.std.proofs.Common.{◌≡◌, ◌≤◌, refl, sym, ◌∙◌, ap, subst, arith, length}
 use Rattle.std.specs.Prelude.{ℕ, true, List, [], ◌∷◌, encode_utf8_all, map}
 use Rattle.std.specs.List.{list_all}
 use Rattle.std.specs.Str.{IsUtf8, chars}
@@ -17,12 +17,13 @@ use Rattle.yaml_grammar.specs.Events.{Event}
 use Rattle.yaml_comments.specs.declared.find.Comment.{Comment}
 use Rattle.yaml_comments.specs.Found.{places_of}
 use Rattle.yaml_comments.specs.Comments.{HasComments, AreComments, comment_at}
-use Rattle.yaml_comments.specs.CommentLaws.{CommentedComments, CommentsOnce, CommentsOnLines, AreOnLines, comments_of}
+use Rattle.yaml_comments.specs.CommentLaws.{CommentedComments, CommentsOnce, CommentsOnLines, AreOnLines}
 use Rattle.comments_kept.specs.Keeping.{with_bytes, GivesSameTree, HasSameComments, IsStyledIfBare, AreTexts, texts_at}
 use Rattle.comments_kept.specs.Weaving.{IsWoven}
 use Rattle.comments_kept.proofs.FoundTexts.{are_texts, same_texts}
 
-module _ (bytes text : List ℕ) (limits : Limits) (t : Tree) (cs : List (List ℕ)) (w : IsWoven t cs text) (read : IsRead bytes limits t) where
+module _ (bytes text : List ℕ) (limits : Limits) (t : Tree) (cs : List (List ℕ)) (w : IsWoven t cs text)
+    (read : IsRead bytes limits t) where
   -- the same tree
   pub same_tree : CommentedReads → IsUtf8 text → GivesSameTree bytes limits text
   same_tree law utf8 =

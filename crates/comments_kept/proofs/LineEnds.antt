@@ -1,8 +1,8 @@
 -- Ends of lines, and lines of comments.
-use Rattle.std.proofs.Common.{◌≡◌, ◌≤◌, ◌<◌, refl, sym, ◌∙◌, ap, ap₂, subst, append_assoc, append-nil, get_or, length, arith}
-use Rattle.std.specs.Prelude.{ℕ, ◌+◌, Bool, true, false, nat_le, List, [], ◌∷◌, ◌++◌, Option, Some, None, codes, encode_utf8_all}
-use Rattle.std.specs.Prelude.{string_bytes, flat_map, drop}
-use Rattle.std.specs.List.{AllByRecursion, list_all}
+use Rattle.std.proofs.Common.{◌≡◌, ◌≤◌, ◌<◌, refl, sym, ◌∙◌, ap, ap₂, append_assoc, get_or, length}
+use Rattle.std.specs.Prelude.{ℕ, ◌+◌, true, List, [], ◌∷◌, ◌++◌, Option, Some, None, codes, encode_utf8_all}
+use Rattle.std.specs.Prelude.{string_bytes, drop}
+use Rattle.std.specs.List.{list_all}
 use Rattle.std.specs.Str.{chars}
 use Rattle.std.proofs.lemmas.List.Folds.{list_all-append}
 use Rattle.std.proofs.lemmas.Bool.{and_parts, and_from, le-leb}
@@ -13,11 +13,11 @@ use Rattle.yaml_grammar.specs.Texts.{spaces}
 use Rattle.yaml_commented.specs.Trails.{Extra, comment_line, Trail, IsBare, behind_comments, extras_comments, end_text, extras_text}
 use Rattle.yaml_commented.specs.Trails.{extra_text, trail_comments, trail_text}
 use Rattle.yaml_commented.specs.Commented.{next_trail, later_trails}
-use Rattle.yaml_commented.specs.TrailsFit.{behind_fits, extra_fits, trail_fits}
+use Rattle.yaml_commented.specs.TrailsFit.{behind_fits, trail_fits}
 use Rattle.comments_kept.specs.declared.weaver.Placed.{Placed}
 use Rattle.comments_kept.specs.declared.weaver.Weaver.{Weaver}
-use Rattle.comments_kept.specs.Weaving.{texts_of, left, AreTrails, Woven, Wrote, WroteEnd, WroteLines, WovenEnd}
-use Rattle.comments_kept.proofs.Weaving.{first_none, last_none, wrote_both}
+use Rattle.comments_kept.specs.Weaving.{texts_of, left, Woven, Wrote, WroteEnd, WroteLines, WovenEnd}
+use Rattle.comments_kept.proofs.Weaving.{first_none, last_none}
 
 -- the first comment that is left
 next_left : (w : Weaver) (x : Placed) → w.taken < length w.comments.now → x ≡ get_or w.comments.now w.taken x
@@ -88,7 +88,8 @@ one_line most n w b end x within is low began others =
     record {
       lines = here ∷ others.lines;
       spells = encoded_both (string_bytes w.text) (string_bytes b.text) (string_bytes end.text) (extra_text here) (extras_text others.lines)
-          (began.spells ∙ ap (λ cs. string_bytes w.text ++ encode_utf8_all (cs ++ codes "\n")) (append_assoc (spaces n) (codes "#") comment))
+          (began.spells ∙ ap (λ cs. string_bytes w.text ++ encode_utf8_all (cs ++ codes "\n"))
+          (append_assoc (spaces n) (codes "#") comment))
           others.spells;
       taken = began_left w b (spaces n ++ codes "#" ++ comment ++ codes "\n") x within is began ∙ ap (λ ts. comment ∷ ts) others.taken;
       fit = λ fit. let parts = and_parts _ _ fit in and_from _ _ parts.0 (others.fit parts.1);

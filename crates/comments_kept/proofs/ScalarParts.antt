@@ -1,11 +1,8 @@
 -- Scalars and keys, written with comments.
-use Rattle.std.proofs.Common.{◌≡◌, refl, sym, ◌∙◌, ap, ap₂, subst, append_assoc}
-use Rattle.std.specs.Prelude.{ℕ, zero, suc, ◌+◌, Bool, true, false, not, ◌&&◌, ◌||◌, if◌then◌else◌, List, [], ◌∷◌, ◌++◌, codes}
-use Rattle.std.specs.Prelude.{string_bytes, encode_utf8_all, flat_map}
-use Rattle.std.specs.List.{AllByRecursion, list_all}
-use Rattle.std.proofs.lemmas.List.Folds.{list_all-append}
-use Rattle.std.proofs.lemmas.Bool.{and_parts, and_from, or_right, false≢true}
-use Rattle.yaml_chars.specs.Classes.{nb}
+use Rattle.std.proofs.Common.{◌≡◌, refl, sym, ◌∙◌, ap}
+use Rattle.std.specs.Prelude.{ℕ, zero, suc, ◌+◌, Bool, true, false, not, ◌||◌, if◌then◌else◌, List, ◌++◌, codes}
+use Rattle.std.specs.Prelude.{string_bytes, encode_utf8_all}
+use Rattle.std.proofs.lemmas.Bool.{and_from, or_right, false≢true}
 use Rattle.yaml_writer.specs.Encoded.{encoded_both}
 use Rattle.yaml_writer.specs.ScalarStyles.{literal_style, value_style}
 use Rattle.yaml_writer.specs.declared.scalar_style.ScalarStyle.{ScalarStyle}
@@ -13,11 +10,11 @@ use Rattle.yaml_writer.specs.declared.scalar_style.ScalarStyle.TheVariants.{Plai
 use Rattle.yaml_grammar.specs.Texts.{spaces}
 use Rattle.yaml_grammar.specs.Style.{plain_in_style, literal_in_style, in_double_quotes, literal_mark, feeds_at_end, literal_lines}
 use Rattle.yaml_grammar.specs.Style.{key_text, long_key}
-use Rattle.yaml_commented.specs.Trails.{Trail, trail_text, end_text, extras_text, IsBare, behind_comments, extras_comments}
-use Rattle.yaml_commented.specs.Commented.{next_trail, later_trails, after_key, scalar_with, key_with}
-use Rattle.yaml_commented.specs.TrailsFit.{trail_fits, scalar_trail_fits, key_trail_fits, literal_trail_fits, starts_filled, starts_low}
+use Rattle.yaml_commented.specs.Trails.{Trail, trail_text, end_text, extras_text}
+use Rattle.yaml_commented.specs.Commented.{next_trail, later_trails, scalar_with}
+use Rattle.yaml_commented.specs.TrailsFit.{trail_fits, scalar_trail_fits, literal_trail_fits, starts_filled, starts_low}
 use Rattle.comments_kept.specs.declared.weaver.Weaver.{Weaver}
-use Rattle.comments_kept.specs.Weaving.{left, AreTrails, Woven, Wrote, WroteEnd, WroteLines, WovenEnd, WovenLine, WovenScalar, WovenKey}
+use Rattle.comments_kept.specs.Weaving.{Woven, Wrote, WroteEnd, WroteLines, WovenEnd, WovenLine, WovenScalar, WovenKey}
 use Rattle.comments_kept.proofs.Weaving.{both, said, plain, line, wrote_both}
 use Rattle.comments_kept.proofs.LineEnds.{kept, trail_woven, written, written_taken, written_fits, written_bare}
 

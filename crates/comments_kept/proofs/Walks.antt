@@ -1,5 +1,5 @@
 -- The parts of a tree, written with comments.
-use Rattle.std.proofs.Common.{◌≡◌, refl, sym, ap, arith}
+use Rattle.std.proofs.Common.{◌≡◌, refl, ap, arith}
 use Rattle.std.specs.Prelude.{ℕ, ◌+◌, true, List, [], ◌∷◌, ◌++◌, codes, length}
 use Rattle.yaml_data.specs.Seen.{Pair, elements_of, members_of}
 use Rattle.yaml_data.specs.declared.tree.Tree as declared
@@ -14,7 +14,7 @@ use Rattle.yaml_commented.specs.TrailsFit.{ElementsFit, MembersFit, TreeFits}
 use Rattle.comments_kept.specs.declared.weaver.Weaver.{Weaver}
 use Rattle.comments_kept.specs.Weaving.{Woven, Wrote, WovenEnd, WovenLine, WovenScalar, WovenKey, WovenElement}
 use Rattle.comments_kept.specs.Weaving.{WovenValue, WovenElements, WovenMembers, WovenTop, elements_led, members_led}
-use Rattle.comments_kept.proofs.Weaving.{both, said, plain, nothing, line}
+use Rattle.comments_kept.proofs.Weaving.{both, said, plain, nothing}
 
 -- ---- elements
 

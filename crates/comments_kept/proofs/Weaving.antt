@@ -1,25 +1,18 @@
 -- Steps of the writing, one after another.
-use Rattle.std.proofs.Common.{◌≡◌, refl, sym, ◌∙◌, ap, ap₂, subst, append_assoc, append-nil}
-use Rattle.std.specs.Prelude.{ℕ, ◌+◌, Bool, true, false, List, [], ◌∷◌, ◌++◌, codes, encode_utf8_all, string_bytes, flat_map, drop, ◌&&◌}
-use Rattle.std.specs.List.{AllByRecursion, list_all}
+use Rattle.std.proofs.Common.{◌≡◌, refl, sym, ◌∙◌, ap, ap₂, subst, append_assoc}
+use Rattle.std.specs.Prelude.{ℕ, true, List, [], ◌∷◌, ◌++◌, encode_utf8_all, string_bytes, flat_map, drop}
+use Rattle.std.specs.List.{list_all}
 use Rattle.std.proofs.lemmas.List.Folds.{list_all-append}
 use Rattle.std.proofs.lemmas.Bool.{and_parts}
-use Rattle.std.proofs.lemmas.Str.{encodes-append}
 use Rattle.yaml_writer.specs.Encoded.{encoded_both, encoded_none}
 use Rattle.yaml_chars.specs.Classes.{nb}
-use Rattle.yaml_grammar.specs.Texts.{spaces}
-use Rattle.yaml_grammar.specs.Trees.{Tree, text, sequence, mapping, Elements, no_element, element, Members, no_member, member}
-use Rattle.yaml_commented.specs.Trails.{Trail, IsBare, trail_comments, trail_text}
-use Rattle.yaml_commented.specs.Commented.{next_trail, later_trails, after_key, after_tree, after_value, after_elements}
-use Rattle.yaml_commented.specs.Commented.{after_members, scalar_with, key_with, element_with, value_with, elements_with}
-use Rattle.yaml_commented.specs.Commented.{members_with, tree_with}
-use Rattle.yaml_commented.specs.TrailsFit.{trail_fits, scalar_trail_fits, key_trail_fits, ElementFits, ValueFits}
-use Rattle.yaml_commented.specs.TrailsFit.{ElementsFit, MembersFit, TreeFits}
+use Rattle.yaml_commented.specs.Trails.{Trail, trail_comments, trail_text}
+use Rattle.yaml_commented.specs.Commented.{next_trail, later_trails}
+use Rattle.yaml_commented.specs.TrailsFit.{trail_fits}
 use Rattle.std.proofs.Common.{Bor}
 use Rattle.comments_kept.specs.declared.weaver.Placed.{Placed}
 use Rattle.comments_kept.specs.declared.weaver.Weaver.{Weaver}
-use Rattle.comments_kept.specs.Weaving.{texts_of, left, AreTrails, Woven, Wrote, WovenEnd, WovenLine, WovenScalar, WovenKey, WovenElement}
-use Rattle.comments_kept.specs.Weaving.{WovenValue, WovenElements, WovenMembers, WovenTop, elements_led, members_led}
+use Rattle.comments_kept.specs.Weaving.{texts_of, left, AreTrails, Woven, Wrote, WovenEnd, WovenLine}
 
 -- nothing is put before nothing
 pub first_none : (xs ys : List (List ℕ)) → xs ++ ys ≡ [] → xs ≡ []

@@ -1,6 +1,6 @@
 -- The whole text of a tree, written with comments.
-use Rattle.std.proofs.Common.{◌≡◌, refl, sym, ◌∙◌, ap, append_assoc, append-nil}
-use Rattle.std.specs.Prelude.{true, List, [], ◌∷◌, ◌++◌, string_bytes, encode_utf8_all, ℕ}
+use Rattle.std.proofs.Common.{◌≡◌, sym, ◌∙◌, ap, append-nil}
+use Rattle.std.specs.Prelude.{true, [], ◌++◌, string_bytes, encode_utf8_all, ℕ}
 use Rattle.std.specs.List.{list_all}
 use Rattle.std.proofs.lemmas.List.Folds.{list_all-append}
 use Rattle.std.proofs.lemmas.Bool.{and_parts}

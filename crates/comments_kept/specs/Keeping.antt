@@ -1,5 +1,5 @@
 -- A text that is formatted with its comments.
-use Rattle.std.specs.Prelude.{◌≡◌, ℕ, ◌+◌, ◌≤◌, List, [], ◌∷◌, length, encode_utf8_all, slice_range}
+use Rattle.std.specs.Prelude.{◌≡◌, ℕ, ◌+◌, ◌≤◌, List, [], ◌∷◌, length, encode_utf8_all}
 use Rattle.std.specs.Str.{IsUtf8, chars}
 use Rattle.yaml_grammar.specs.Reads.{Limits}
 use Rattle.yaml_grammar.specs.Style.{style_text}

@@ -1,16 +1,13 @@
-use Rattle.std.proofs.Common.{◌≡◌, refl, sym, ◌∙◌, ap, subst, List, ℕ, map, encode_utf8_all, string_bytes}
+use Rattle.std.proofs.Common.{sym, ◌∙◌, ap, subst, map, encode_utf8_all, string_bytes}
 use Rattle.std.specs.List.{list_all}
 use Rattle.std.proofs.lemmas.Str.{IsUtf8-string_bytes}
 use Rattle.yaml_chars.specs.Classes.{nb}
 use Rattle.yaml_config.specs.Kept.{limits_of}
 use Rattle.yaml_data.specs.Seen.{tree_of}
-use Rattle.yaml_events.specs.Meant.{events_of}
-use Rattle.yaml_comments.specs.Comments.{HasComments, AreComments, comment_at}
-use Rattle.yaml_comments.specs.CommentLaws.{AreOnLines}
+use Rattle.yaml_comments.specs.Comments.{comment_at}
 use Rattle.yaml_comments.specs.Found.{places_of}
 use Rattle.yaml_tree.specs.Reading.{IsRead}
 use Rattle.comments_kept.specs.Weaving.{texts_of}
-use Rattle.comments_kept.proofs.FoundTexts.{are_texts, same_texts}
 use Rattle.comments_kept.proofs.Keeping.{AreFound, found, found_lines, found_written, same_tree, same_comments, styled_if_bare}
 use Rattle.comments_kept.proofs.format.format_keeping.Goals as goal
 
@@ -28,7 +25,8 @@ woven-requires-clause-lines c =
     let reads = c.in_ok-events.ensures.reads in
     let all = subst (AreFound bytes) (sym c.deref-2.ensures.value)
     (found bytes _ c.in_ok-found.found.items reads.text.utf8 reads.reads c.in_ok-found.ensures c.comments_on_lines.ensures) in
-    ap (list_all (list_all nb)) (ap texts_of c.deref-4.ensures.value ∙ c.in_ok-comments.ensures) ∙ found_lines bytes c.deref-2.result.now all
+    ap (list_all (list_all nb)) (ap texts_of c.deref-4.ensures.value ∙ c.in_ok-comments.ensures)
+    ∙ found_lines bytes c.deref-2.result.now all
 
 pub returns-clause-tree : goal.returns-clause-tree
 returns-clause-tree c =

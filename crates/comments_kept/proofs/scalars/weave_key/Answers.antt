@@ -1,4 +1,4 @@
-use Rattle.std.proofs.Common.{sym, ◌∙◌}
+use Rattle.std.proofs.Common.{sym}
 use Rattle.std.specs.Str.{chars}
 use Rattle.yaml_writer.proofs.Prelude.{on_ok_weaker}
 use Rattle.comments_kept.proofs.ScalarParts.{key_woven}

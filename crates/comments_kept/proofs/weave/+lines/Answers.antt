@@ -1,9 +1,8 @@
-use Rattle.std.proofs.Common.{◌≡◌, ◌+◌, ◌*◌, ◌<◌, drop, length, codes, subst, refl, sym, ap, ◌∙◌, arith}
+use Rattle.std.proofs.Common.{◌≡◌, ◌+◌, drop, length, codes, subst, refl, sym, ap, ◌∙◌, arith}
 use Rattle.std.specs.Str.{chars}
-use Rattle.yaml_writer.proofs.Prelude.{eqb-true, eqb-false, drop_all, on_ok_weaker, depth, elements_depth, members_depth, chars-literal}
+use Rattle.yaml_writer.proofs.Prelude.{eqb-true, eqb-false, drop_all, on_ok_weaker, elements_depth, members_depth, chars-literal}
 use Rattle.yaml_writer.proofs.Prelude.{drop_item, tree_of-Text, tree_of-Seq, tree_of-Map, tree_of, elements_of, members_of}
 use Rattle.yaml_data.specs.TextBytes.{text_bytes}
-use Rattle.yaml_grammar.specs.Trees as grammar
 use Rattle.comments_kept.specs.Weaving.{Wrote, WovenElement, WovenElements, WovenMembers, WovenValue, WovenKey, WovenScalar}
 use Rattle.comments_kept.proofs.Weaving.{line}
 use Rattle.comments_kept.proofs.Walks.{element_taken, no_elements, member_taken, no_members, element_text, element_no_items}
@@ -119,7 +118,8 @@ weave_element-returns-then-is_empty-2 t c =
     let empty = eqb-true _ _ (sym c.if-is_empty-2.ensures) in
     let none : length pairs.items ≡ 0 = omega (arith, empty, pairs.ok) in
     let seen = ap tree_of c.in-Map.is ∙ tree_of-Map pairs in
-    let mark = subst (λ cs. Wrote a cs c.put_text-then-is_empty-2.new.self) (chars-literal (codes "{}") refl) c.in_ok-put_text-in-Map.ensures in
+    let mark = subst (λ cs. Wrote a cs c.put_text-then-is_empty-2.new.self) (chars-literal (codes "{}") refl)
+    c.in_ok-put_text-in-Map.ensures in
     on_ok_weaker c.end_line-then-is_empty-2.result
     (λ w. subst (λ tree. WovenElement tree i a b) (sym seen)
     (element_no_pairs i a b pairs.items none (line (codes "{}") a c.put_text-then-is_empty-2.new.self b mark w)))
@@ -151,7 +151,8 @@ weave_value-returns-in_ok-put_char-in-Text t c =
     let seen = ap tree_of c.in-Text.is ∙ tree_of-Text c.in-Text.text in
     on_ok_weaker c.weave_scalar.result
     (λ w. subst (λ tree. WovenValue tree i a d) (sym seen)
-    (value_text i (chars (text_bytes c.in-Text.text)) a b d c.in_ok-put_char-in-Text.ensures (subst (λ bytes. WovenScalar (chars bytes) i b d) c.deref.ensures w)))
+    (value_text i (chars (text_bytes c.in-Text.text)) a b d c.in_ok-put_char-in-Text.ensures
+    (subst (λ bytes. WovenScalar (chars bytes) i b d) c.deref.ensures w)))
     c.weave_scalar.ensures
 
 pub weave_value-returns-then-is_empty : goal.weave_value-returns-then-is_empty
@@ -180,7 +181,8 @@ weave_value-returns-in_ok-put_spaces-in-Seq t c =
     let seen = ap tree_of c.in-Seq.is ∙ tree_of-Seq items in
     on_ok_weaker c.weave_elements.result
     (λ w. subst (λ tree. WovenValue tree i a d) (sym seen)
-    (value_items i items.items a c.end_line-in-Seq.new.self c.put_spaces.new.self d some c.in_ok-end_line-in-Seq.ensures c.in_ok-put_spaces-in-Seq.ensures
+    (value_items i items.items a c.end_line-in-Seq.new.self c.put_spaces.new.self d some
+    c.in_ok-end_line-in-Seq.ensures c.in_ok-put_spaces-in-Seq.ensures
     (subst (λ ts. WovenElements 0 (elements_of ts) (i + 2) c.put_spaces.new.self d) c.deref-in-Seq.ensures.value w)))
     c.weave_elements.ensures
 
@@ -211,6 +213,7 @@ weave_value-returns-in_ok-put_spaces-in-Map t c =
     let seen = ap tree_of c.in-Map.is ∙ tree_of-Map pairs in
     on_ok_weaker c.weave_members.result
     (λ w. subst (λ tree. WovenValue tree i a d) (sym seen)
-    (value_pairs i pairs.items a c.end_line-in-Map.new.self c.put_spaces-in-Map.new.self d some c.in_ok-end_line-in-Map.ensures c.in_ok-put_spaces-in-Map.ensures
+    (value_pairs i pairs.items a c.end_line-in-Map.new.self c.put_spaces-in-Map.new.self d some
+    c.in_ok-end_line-in-Map.ensures c.in_ok-put_spaces-in-Map.ensures
     (subst (λ ms. WovenMembers 0 (members_of ms) (i + 2) c.put_spaces-in-Map.new.self d) c.deref-in-Map.ensures.value w)))
     c.weave_members.ensures

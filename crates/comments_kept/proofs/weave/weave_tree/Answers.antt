@@ -54,7 +54,8 @@ returns-then-is_empty-2 c =
     let empty = eqb-true _ _ (sym c.if-is_empty-2.ensures) in
     let none : length pairs.items ≡ 0 = omega (arith, empty, pairs.ok) in
     let seen = ap tree_of c.in-Map.is ∙ tree_of-Map pairs in
-    let mark = subst (λ cs. Wrote a cs c.put_text-then-is_empty-2.new.self) (chars-literal (codes "{}") refl) c.in_ok-put_text-in-Map.ensures in
+    let mark = subst (λ cs. Wrote a cs c.put_text-then-is_empty-2.new.self) (chars-literal (codes "{}") refl)
+    c.in_ok-put_text-in-Map.ensures in
     on_ok_weaker c.end_line-then-is_empty-2.result
     (λ w. subst (λ tree. WovenTop tree a b) (sym seen)
     (top_no_pairs a b pairs.items none (line (codes "{}") a c.put_text-then-is_empty-2.new.self b mark w)))

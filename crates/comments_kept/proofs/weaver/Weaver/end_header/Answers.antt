@@ -1,4 +1,4 @@
-use Rattle.std.proofs.Common.{codes, refl, ap, sym, ◌∙◌, ◌++◌, encode_utf8_all, string_bytes}
+use Rattle.std.proofs.Common.{codes, refl, ap, ◌∙◌, ◌++◌, encode_utf8_all, string_bytes}
 use Rattle.std.specs.Str.{chars}
 use Rattle.yaml_writer.proofs.Prelude.{on_ok_weaker, chars-literal}
 use Rattle.comments_kept.proofs.LineEnds.{Began, began_more, end_behind, end_alone}

@@ -1,8 +1,7 @@
-use Rattle.std.proofs.Common.{codes, refl, ap, sym, ◌∙◌, ◌++◌, encode_utf8_all, string_bytes, arith}
+use Rattle.std.proofs.Common.{codes, ◌∙◌, ◌++◌, arith}
 use Rattle.std.specs.Str.{chars}
-use Rattle.yaml_writer.proofs.Prelude.{on_ok_weaker}
 use Rattle.yaml_grammar.specs.Texts.{spaces}
-use Rattle.comments_kept.proofs.LineEnds.{Began, began_more, one_line, no_lines}
+use Rattle.comments_kept.proofs.LineEnds.{Began, began_more, one_line}
 use Rattle.comments_kept.proofs.weaver.Weaver.put_lines.Goals as goal
 
 pub loop-next-preserved : goal.loop-next-preserved
@@ -14,7 +13,8 @@ loop-next-preserved c =
     let spaced = c.in_ok-put_spaces.ensures in
     let one : Began w c.put_spaces.new.self (spaces n) = record { spells = spaced.0; same = spaced.1; more = spaced.2 } in
     let two = began_more w c.put_spaces.new.self c.put_char.new.self (spaces n) (codes "#") one c.in_ok-put_char.ensures in
-    let three = began_more w c.put_char.new.self c.put_text.new.self (spaces n ++ codes "#") (chars x.text.now) two c.in_ok-put_text.ensures in
+    let three = began_more w c.put_char.new.self c.put_text.new.self (spaces n ++ codes "#") (chars x.text.now) two
+    c.in_ok-put_text.ensures in
     let four = began_more w c.put_text.new.self c.put_char-in-Some.new.self (spaces n ++ codes "#" ++ chars x.text.now) (codes "\n")
     three c.in_ok-put_char-2.ensures in (
       four.same ∙ c.loop-next.invariant.0,
