@@ -9,7 +9,7 @@
 //! return and a tab; a `TREE` and a `VALUE` are texts of YAML without escapes.
 //!
 //! - `emit;TREE`: the length of the tree's text in the one style, and the text. `format;TEXT` answers the same, and
-//!   builds no tree.
+//!   builds no tree; `keep;TEXT` keeps the comments, and its text has the escapes and the runs of `probe_words`.
 //! - `read;DEPTH;TEXT`: the length of the tree's text, and the tree's depth, if it is at most so deep.
 //! - `check;TEXT`: where the text departs from the one style, as rules with their lines.
 //! - `value;TEXT` and `key;TEXT`: the style of a text as a value or as a key.

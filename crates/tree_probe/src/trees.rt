@@ -1,7 +1,8 @@
 // Orders on trees.
 use crate::edits::{at_path, delete_len_at, delete_path, set_len_at, set_path};
 use crate::texts::{config_of, meant, measured};
-use probe_words::{no_order, shown};
+use comments_kept::format_keeping;
+use probe_words::{no_order, shown, text_of, wrong_escape};
 use std::alloc::{AllocError, Global};
 use tree_path::Path;
 use yaml_emit::style_text;
@@ -29,6 +30,7 @@ fn answer_to_one(
     match call {
         "emit" => emitted(alloc, text),
         "format" => formatted(alloc, text),
+        "keep" => formatted_keeping(alloc, text),
         "check" => findings_of(alloc, text),
         "value" => style_of(alloc, text, Role::Value),
         "key" => style_of(alloc, text, Role::Key),
@@ -89,6 +91,17 @@ fn formatted(alloc: Global, text: &str) -> Result<String, AllocError> {
     measured_or_not(
         alloc,
         format_one(alloc, text.as_bytes(), &Limits::CONFIGURATION),
+    )
+}
+
+/// The length of a text that is formatted with its comments, and the text.
+fn formatted_keeping(alloc: Global, text: &str) -> Result<String, AllocError> {
+    let Some(text) = text_of(alloc, text)? else {
+        return wrong_escape(alloc);
+    };
+    measured_or_not(
+        alloc,
+        format_keeping(alloc, text.as_bytes(), &Limits::CONFIGURATION),
     )
 }
 

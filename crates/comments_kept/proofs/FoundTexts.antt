@@ -1,0 +1,78 @@
+-- The comments that were found, as texts.
+use Rattle.std.proofs.Common.{◌≡◌, ◌≤◌, refl, sym, ◌∙◌, ap, ap₂, arith, ⊎_elim, get_or}
+use Rattle.std.specs.Prelude.{ℕ, ◌+◌, ◌⊎◌, true, List, [], ◌∷◌, ◌++◌, encode_utf8_all, map, slice_index}
+use Rattle.std.specs.List.{list_all}
+use Rattle.std.specs.Str.{chars}
+use Rattle.std.proofs.Math.Utf8.{scalar, scalars}
+use Rattle.std.proofs.lemmas.Bool.{and_parts, and_from, cases_lt}
+use Rattle.std.proofs.lemmas.Bool.Decides.{nat_tests}
+use Rattle.std.proofs.lemmas.Str.{chars-encodes}
+use Rattle.yaml_chars.specs.Classes.{nb}
+use Rattle.yaml_grammar.specs.Events.{Event}
+use Rattle.yaml_comments.specs.declared.find.Comment.{Comment}
+use Rattle.yaml_comments.specs.Comments.{AreComments, IsNext, comment_at}
+use Rattle.yaml_comments.specs.Found.{place_of, places_of}
+use Rattle.comments_kept.specs.declared.weaver.Placed.{Placed}
+use Rattle.comments_kept.specs.Keeping.{AreTexts, texts_at}
+use Rattle.comments_kept.specs.Weaving.{texts_of}
+
+-- one more text
+pub texts_more : (ps : List Placed) (p : Placed) (ts : List (List ℕ)) → texts_of (ps ++ p ∷ []) ++ ts ≡ texts_of ps ++ chars p.text.now ∷ ts
+texts_more [] p ts = refl
+texts_more (q ∷ ps) p ts = ap (λ us. chars q.text.now ∷ us) (texts_more ps p ts)
+
+-- ---- what may be in a comment is a character
+
+-- it is a scalar value
+nb_scalar : (c : ℕ) → nb c ≡ true → scalar c ≡ true
+nb_scalar c e = grind (arith, nat_tests)
+
+-- so are those of a comment
+pub nb_scalars : (cs : List ℕ) → list_all nb cs ≡ true → scalars cs ≡ true
+nb_scalars [] e = refl
+nb_scalars (c ∷ cs) e = let p = and_parts (nb c) (list_all nb cs) e in and_from _ _ (nb_scalar c p.0) (nb_scalars cs p.1)
+
+-- ---- the texts of comments
+
+abbrev rest_of : List (List ℕ) → List (List ℕ)
+rest_of [] = []
+rest_of (t ∷ ts) = ts
+
+-- a comment goes behind its `#`
+longer : (bytes : List ℕ) (es : List Event) (from : ℕ) (c : Comment) → IsNext bytes es from (place_of c) → c.start + 1 ≤ c.end
+longer bytes es from c next = ⊎_elim (λ less. omega (arith, less)) (λ more. absurd (same more)) (cases_lt c.start c.end)
+  where
+    same : c.end ≤ c.start → ⊥
+    same e =
+        let here : c.end ≡ c.start = omega (arith, e, next.ends.after) in
+        let break : (slice_index bytes c.end ≡ 10) ⊎ (slice_index bytes c.end ≡ 13) =
+        next.ends.ends (omega (arith, here, next.comment.within)) in
+        let mark = ap (slice_index bytes) here ∙ next.comment.mark in
+        ⊎_elim (λ lf. omega (arith, lf, mark)) (λ cr. omega (arith, cr, mark)) break
+
+-- comments on lines are texts
+pub are_texts : (bytes : List ℕ) (es : List Event) (from : ℕ) (cs : List Comment) (ts : List (List ℕ))
+    → AreComments bytes es from (places_of cs)
+    → map (comment_at bytes) (places_of cs) ≡ map encode_utf8_all ts → list_all (list_all nb) ts ≡ true → AreTexts bytes cs
+are_texts bytes es from [] ts are e fit = tt
+are_texts bytes es from (c ∷ cs) [] are e fit = absurd (cc)
+are_texts bytes es from (c ∷ cs) (t ∷ ts) are e fit =
+    let p = and_parts (list_all nb t) (list_all (list_all nb) ts) fit in
+    let first : comment_at bytes (place_of c) ≡ encode_utf8_all t = ap (λ (l : List (List ℕ)). get_or l 0 []) e in (
+      longer bytes es from c are.0,
+      are.0.ends.within,
+      (t, (nb_scalars t p.0, sym first)),
+      are_texts bytes es c.end cs ts are.1 (ap rest_of e) p.1,
+    )
+
+-- they are these
+pub same_texts : (bytes : List ℕ) (cs : List Comment) (ts : List (List ℕ))
+    → map (comment_at bytes) (places_of cs) ≡ map encode_utf8_all ts → list_all (list_all nb) ts ≡ true → texts_at bytes cs ≡ ts
+same_texts bytes [] [] e fit = refl
+same_texts bytes [] (t ∷ ts) e fit = cc
+same_texts bytes (c ∷ cs) [] e fit = cc
+same_texts bytes (c ∷ cs) (t ∷ ts) e fit =
+    let p = and_parts (list_all nb t) (list_all (list_all nb) ts) fit in
+    ap₂ (λ x xs. x ∷ xs)
+    (ap (λ (l : List (List ℕ)). chars (get_or l 0 [])) e ∙ chars-encodes t (nb_scalars t p.0))
+    (same_texts bytes cs ts (ap rest_of e) p.1)

@@ -1,0 +1,101 @@
+-- Steps of the writing, one after another.
+use Rattle.std.proofs.Common.{◌≡◌, refl, sym, ◌∙◌, ap, ap₂, subst, append_assoc}
+use Rattle.std.specs.Prelude.{ℕ, true, List, [], ◌∷◌, ◌++◌, encode_utf8_all, string_bytes, flat_map, drop}
+use Rattle.std.specs.List.{list_all}
+use Rattle.std.proofs.lemmas.List.Folds.{list_all-append}
+use Rattle.std.proofs.lemmas.Bool.{and_parts}
+use Rattle.yaml_writer.specs.Encoded.{encoded_both, encoded_none}
+use Rattle.yaml_chars.specs.Classes.{nb}
+use Rattle.yaml_commented.specs.Trails.{Trail, trail_comments, trail_text}
+use Rattle.yaml_commented.specs.Commented.{next_trail, later_trails}
+use Rattle.yaml_commented.specs.TrailsFit.{trail_fits}
+use Rattle.std.proofs.Common.{Bor}
+use Rattle.comments_kept.specs.declared.weaver.Placed.{Placed}
+use Rattle.comments_kept.specs.declared.weaver.Weaver.{Weaver}
+use Rattle.comments_kept.specs.Weaving.{texts_of, left, AreTrails, Woven, Wrote, WovenEnd, WovenLine}
+
+-- nothing is put before nothing
+pub first_none : (xs ys : List (List ℕ)) → xs ++ ys ≡ [] → xs ≡ []
+first_none [] ys e = refl
+first_none (x ∷ xs) ys e = cc
+
+-- nothing comes behind nothing
+pub last_none : (xs ys : List (List ℕ)) → xs ++ ys ≡ [] → ys ≡ []
+last_none [] ys e = e
+last_none (x ∷ xs) ys e = cc
+
+-- a text without trails
+pub plain : (cs : List ℕ) (a b : Weaver) → Wrote a cs b
+    → Woven (λ ws. cs) (λ ws. ws) (λ ws. Unit {0}) a b
+plain cs a b w = record {
+  used = [];
+  taken = ap₂ (λ (cs : Bor (List Placed)) (n : ℕ). texts_of (drop n cs.now)) (sym w.1) (sym w.2);
+  trails = λ fit us. record {
+    trails = us;
+    spells = w.0;
+    leaves = refl;
+    meets = tt;
+    comments = refl;
+    bare = λ none bare. bare;
+  };
+}
+
+module _ (P Q : List Trail → List ℕ) (f h : List Trail → List Trail) (F H : List Trail → Type 0) where
+  -- one part and then another
+  pub both : (a b c : Weaver) → Woven P f F a b → Woven Q h H b c
+      → Woven (λ ws. P ws ++ Q (f ws)) (λ ws. h (f ws)) (λ ws. F ws × H (f ws)) a c
+  both a b c x y = record {
+    used = x.used ++ y.used;
+    taken = x.taken ∙ ap (λ ts. x.used ++ ts) y.taken ∙ sym (append_assoc x.used y.used (left c));
+    trails = λ fit us.
+        let parts = and_parts (list_all (list_all nb) x.used) (list_all (list_all nb) y.used)
+        (sym (list_all-append (list_all nb) x.used y.used) ∙ fit) in
+        let later : AreTrails Q h H (string_bytes b.text) (string_bytes c.text) y.used us = y.trails parts.1 us in
+        let here : AreTrails P f F (string_bytes a.text) (string_bytes b.text) x.used later.trails = x.trails parts.0 later.trails in
+        record {
+          trails = here.trails;
+          spells = encoded_both (string_bytes a.text) (string_bytes b.text) (string_bytes c.text) (P here.trails) (Q (f here.trails))
+              here.spells (later.spells ∙ ap (λ ws. string_bytes b.text ++ encode_utf8_all (Q ws)) (sym here.leaves));
+          leaves = ap h here.leaves ∙ later.leaves;
+          meets = (here.meets, subst H (sym here.leaves) later.meets);
+          comments = here.comments ∙ ap (λ ts. x.used ++ ts) later.comments
+              ∙ sym (append_assoc x.used y.used (flat_map trail_comments us));
+          bare = λ none bare. here.bare (first_none x.used y.used none) (later.bare (last_none x.used y.used none) bare);
+        };
+  }
+
+  -- the same part, said otherwise
+  pub said : (a b : Weaver) → ((ws : List Trail) → P ws ≡ Q ws) → ((ws : List Trail) → f ws ≡ h ws)
+      → ((ws : List Trail) → F ws → H ws) → Woven P f F a b → Woven Q h H a b
+  said a b texts lefts meets x = record {
+    used = x.used;
+    taken = x.taken;
+    trails = λ fit us.
+        let it : AreTrails P f F (string_bytes a.text) (string_bytes b.text) x.used us = x.trails fit us in
+        record {
+          trails = it.trails;
+          spells = it.spells ∙ ap (λ cs. string_bytes a.text ++ encode_utf8_all cs) (texts it.trails);
+          leaves = sym (lefts it.trails) ∙ it.leaves;
+          meets = meets it.trails it.meets;
+          comments = it.comments;
+          bare = it.bare;
+        };
+  }
+
+-- a text, and the end of its line
+pub line : (cs : List ℕ) (a b c : Weaver) → Wrote a cs b → WovenEnd b c → WovenLine cs a c
+line cs a b c w e =
+    said (λ ws. cs ++ trail_text (next_trail ws)) (λ ws. cs ++ trail_text (next_trail ws)) later_trails later_trails
+    (λ ws. Unit {0} × (trail_fits (next_trail ws) ≡ true)) (λ ws. trail_fits (next_trail ws) ≡ true) a c
+    (λ ws. refl) (λ ws. refl) (λ ws h. h.1)
+    (both (λ ws. cs) (λ ws. trail_text (next_trail ws)) (λ ws. ws) later_trails (λ ws. Unit {0})
+    (λ ws. trail_fits (next_trail ws) ≡ true) a b c (plain cs a b w) e)
+
+-- nothing is written
+pub nothing : (a : Weaver) → Woven (λ ws. []) (λ ws. ws) (λ ws. Unit {0}) a a
+nothing a = plain [] a a (encoded_none (string_bytes a.text), refl, refl)
+
+-- one text after another
+pub wrote_both : (a b c : Weaver) (xs ys : List ℕ) → Wrote a xs b → Wrote b ys c → Wrote a (xs ++ ys) c
+wrote_both a b c xs ys x y =
+    (encoded_both (string_bytes a.text) (string_bytes b.text) (string_bytes c.text) xs ys x.0 y.0, y.1 ∙ x.1, y.2 ∙ x.2)

@@ -1,0 +1,41 @@
+use Rattle.std.proofs.Common.{codes, refl, sym, ◌∙◌}
+use Rattle.std.specs.Str.{chars}
+use Rattle.yaml_writer.proofs.Prelude.{on_ok_weaker, chars-literal}
+use Rattle.comments_kept.proofs.ScalarParts.{is_plain, is_double, is_strip, is_clip, is_keep, plain_woven, double_woven}
+use Rattle.comments_kept.proofs.scalars.weave_scalar.Goals as goal
+
+pub weave_literal-requires-clause-style : goal.weave_literal-requires-clause-style
+weave_literal-requires-clause-style c = let p = is_strip (chars c.args.text.now) (sym c.in-LiteralStrip.ensures) in (p.0, p.1)
+
+pub weave_literal-requires-clause-header : goal.weave_literal-requires-clause-header
+weave_literal-requires-clause-header c =
+    chars-literal (codes "|-") refl ∙ (is_strip (chars c.args.text.now) (sym c.in-LiteralStrip.ensures)).2
+
+pub weave_literal-requires-in-LiteralClip-clause-style : goal.weave_literal-requires-in-LiteralClip-clause-style
+weave_literal-requires-in-LiteralClip-clause-style c = let p = is_clip (chars c.args.text.now) (sym c.in-LiteralClip.ensures) in (p.0, p.1)
+
+pub weave_literal-requires-in-LiteralClip-clause-header : goal.weave_literal-requires-in-LiteralClip-clause-header
+weave_literal-requires-in-LiteralClip-clause-header c =
+    chars-literal (codes "|") refl ∙ (is_clip (chars c.args.text.now) (sym c.in-LiteralClip.ensures)).2
+
+pub weave_literal-requires-in-LiteralKeep-clause-style : goal.weave_literal-requires-in-LiteralKeep-clause-style
+weave_literal-requires-in-LiteralKeep-clause-style c = let p = is_keep (chars c.args.text.now) (sym c.in-LiteralKeep.ensures) in (p.0, p.1)
+
+pub weave_literal-requires-in-LiteralKeep-clause-header : goal.weave_literal-requires-in-LiteralKeep-clause-header
+weave_literal-requires-in-LiteralKeep-clause-header c =
+    chars-literal (codes "|+") refl ∙ (is_keep (chars c.args.text.now) (sym c.in-LiteralKeep.ensures)).2
+
+pub returns-in_ok-put_text-in-Plain : goal.returns-in_ok-put_text-in-Plain
+returns-in_ok-put_text-in-Plain c =
+    let value = chars c.args.text.now in
+    on_ok_weaker c.end_line.result
+    (plain_woven value c.args.indent c.args.weaver.now c.put_text.new.self c.end_line.new.self (is_plain value (sym c.in-Plain.ensures))
+    c.in_ok-put_text-in-Plain.ensures) c.end_line.ensures
+
+pub returns-in_ok-write_quoted-in-Double : goal.returns-in_ok-write_quoted-in-Double
+returns-in_ok-write_quoted-in-Double c =
+    let value = chars c.args.text.now in
+    let p = is_double value (sym c.in-Double.ensures) in
+    on_ok_weaker c.end_line-in-Double.result
+    (double_woven value c.args.indent c.args.weaver.now c.write_quoted.new.sink c.end_line-in-Double.new.self p.0 p.1
+    c.in_ok-write_quoted-in-Double.ensures) c.end_line-in-Double.ensures
