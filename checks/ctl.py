@@ -47,7 +47,7 @@ from concurrent.futures import ThreadPoolExecutor
 from typing import Any, NamedTuple
 
 from lib.ctl_rows import NODE_ROWS, ROWS, Row
-from lib.ctl_table import Table, table_of_ctl, table_of_program
+from lib.ctl_table import Table, common_of_ctl, table_of_ctl, table_of_program
 from lib.keys import SHELLS, press_keys, put_stand_in
 from lib.store_runs import PROGRAM, TOP, Failures, need_program, read_file, write_file
 from lib.waiting import accepts, until
@@ -308,7 +308,9 @@ def try_table(_top: str, failures: Failures) -> None:
     mine, theirs = set(of_ctl) - OF_CTL_ALONE, set(of_program) - OF_PROGRAM_ALONE
     failures.expect("the words", sorted(mine), sorted(theirs))
     for word in sorted(mine & theirs):
-        failures.expect(f"the options of {word}", of_ctl[word].options, of_program[word].options)
+        common, options = common_of_ctl(word), of_program[word].options
+        wanted = {name: value for name, value in options.items() if name not in common}
+        failures.expect(f"the options of {word}", of_ctl[word].options, wanted)
         failures.expect(f"the arguments of {word}", of_ctl[word].arguments, of_program[word].arguments)
 
 

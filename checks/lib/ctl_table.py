@@ -53,6 +53,11 @@ def table_of_program(program: str) -> Table:
     return {word: shape_in(help_of(program, "help", word) if word != "help" else "") for word in words}
 
 
+def common_of_ctl(word: str) -> set[str]:
+    """The options of a word of confstorectl that most of its words have."""
+    return {option.name for option in WORDS[word].common}
+
+
 def table_of_ctl() -> Table:
     """The words of confstorectl, without the options that confstore has of no word."""
     return {
