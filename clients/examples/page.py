@@ -71,10 +71,10 @@ def shown(tree: Tree, hidden: Hidden) -> Tree:
 def shown_edit(edit: Edit, hidden: Hidden) -> Edit:
     """An edit with the mark in the place of what is hidden. One below a hidden place puts the mark there."""
     place = ""
-    for step in edit.path.split("/")[1:]:
+    for written, step in zip(edit.path.split("/")[1:], steps_of(edit.path)):
         if [] in hidden:
             return Edit("set" if place else "import", edit.name, place, MARK)
-        place, hidden = f"{place}/{step}", below(*steps_of(f"/{step}"), hidden)
+        place, hidden = f"{place}/{written}", below(step, hidden)
     return edit if edit.tree is None else Edit(edit.kind, edit.name, edit.path, shown(edit.tree, hidden))
 
 
