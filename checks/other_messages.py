@@ -2,10 +2,10 @@
 """Compares what is said of 71 refused texts with what yamllint, PyYAML and libyaml say of them.
 
 `lib/refused_texts.py` has the texts. A message has two merits: it names a line where the text is wrong or where that
-began, and it says what is wrong by one of some words; both are known by hand. What only confstore refuses, as an anchor,
-has to have both merits, and its own word. Of any other text no reader may have more of them than confstore.
+began, and it says what is wrong by one of some words; both are known by hand. What only confstore refuses, as an
+anchor, has to have both merits, and its own word. Of any other text no reader may have more of them than confstore.
 
-Run it from the repository's root after the program is built; it needs PyYAML, and takes some seconds. yamllint and
+Run it from the repository's root after the program is built; it needs PyYAML, and takes ten seconds. yamllint and
 libyaml are left out where they are missing:
 
     ./prove && python3 checks/other_messages.py [--table]

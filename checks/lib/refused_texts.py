@@ -1,5 +1,5 @@
-"""Texts that the program refuses, each with what a person who looks at it would be told: the lines of which one has to be
-named, and the words of which one has to be said. Both are found by hand, from the text and from YAML 1.2.2."""
+"""Texts that the program refuses, each with what a person who looks at it would be told: the lines of which one has to
+be named, and the words of which one has to be said. Both are found by hand, from the text and from YAML 1.2.2."""
 
 from __future__ import annotations
 
@@ -7,8 +7,8 @@ from typing import NamedTuple
 
 
 class Refused(NamedTuple):
-    """A text, the lines where it is wrong or where what is wrong began, and words that say what is wrong. `ours` is what
-    only this program has to say: the others take such a text, or know nothing of its profile."""
+    """A text, the lines where it is wrong or where what is wrong began, and words that say what is wrong. `ours` is
+    what only this program has to say: the others take such a text, or know nothing of its profile."""
 
     name: str
     text: bytes

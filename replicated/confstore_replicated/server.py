@@ -233,7 +233,7 @@ class Server:
             self._ear.close()
 
     def end(self) -> None:
-        """Has `serve` end, from any thread or from a handler of a signal: so this takes no lock, and waits for nothing."""
+        """Has `serve` end, from any thread or from a handler of a signal: it takes no lock, and waits for nothing."""
         self._is_ended = True
         try:
             self._bell.send(b".", socket.MSG_DONTWAIT)
