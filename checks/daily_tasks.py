@@ -225,6 +225,23 @@ def typical_texts(user: User) -> None:
             assert found == wanted, f"{typical.name}: {pointer} is {found!r}, and not {wanted!r}"
 
 
+def missing_parents(user: User) -> None:
+    user.does("confstorectl set s web /tls/server/cert /etc/cert.pem --parents")
+    user.does("confstorectl set s new /a/b c --parents")
+    assert user.value("/tls") == {"server": {"cert": "/etc/cert.pem"}} and user.value("", "new") == {"a": {"b": "c"}}
+
+
+def into_a_list(user: User) -> None:
+    user.does("confstorectl set s web /hosts/1 between --insert")
+    assert user.value("/hosts") == ["a", "between", "b"]
+
+
+def dry_run(user: User) -> None:
+    shown = user.does("confstorectl set s web /port 81 --dry-run")
+    assert '\n-port: "80"\n+port: "81"\n' in shown and user.value("/port") == "80"
+    user.is_refused("confstorectl set s web /none/x 81 --dry-run", "NoSuchPlace")
+
+
 def through_a_server(user: User) -> None:
     """The same words while a server holds the store."""
     server = os.path.join(TOP, "clients", "serve.py")
@@ -258,6 +275,9 @@ TASKS = [
     Task("render a file, and reload", "`confstorectl render .. -- COMMAND`", render),
     Task("variables for sh", "`confstorectl render`, `| sh`", environment),
     Task("validate before a change", "`confstorectl --check COMMAND`", validate),
+    Task("a dry run", "`confstorectl .. --dry-run`", dry_run),
+    Task("a new key below a missing parent", "`confstorectl set --parents`", missing_parents),
+    Task("put into the middle of a list", "`confstorectl set --insert`", into_a_list),
     Task("a command for each change", "`confstorectl watch .. -- COMMAND`", notify),
     Task("a folder of 163 files", "`confstorectl import --dir`", folder_of_files),
     Task("edit in $EDITOR", "`confstorectl edit`", editor),
@@ -267,12 +287,9 @@ TASKS = [
 
 # What no word does yet, each with a word of confstore, or an option of one, that would.
 LEFT = {
-    "a new key below a missing parent": ("set", "--parents"),
-    "put into the middle of a list": ("set", "--insert"),
     "undo": ("undo", ""),
     "who, when, why": ("set", "--about"),
     "what changed between two numbers": ("diff", ""),
-    "a dry run": ("set", "--dry-run"),
 }
 
 

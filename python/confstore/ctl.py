@@ -21,8 +21,8 @@ from .ctl_faults import DEVICE, NOTHING_THERE, OF_TEXTS, REFUSED, WRONG_WORDS, F
 from .ctl_places import NO_SERVER, Place, place_of
 from .ctl_program import Source, is_without_store, program_if_any, run_shown, styled
 from .ctl_streams import ClosedPipe, hold_closed, is_error_terminal, read_text, write, write_error
-from .ctl_words import AT, BATCH, CHECK, EDIT, EXISTS, EXPLAIN, FED, FOREIGN, FROM_FILE, HIDE, IMPORT, LOOKING_BACK
-from .ctl_words import MOVING, OF_PROGRAM, READING, RENDER, RUN, SET, WATCH, YAML_VALUE, Option
+from .ctl_words import AT, BATCH, EDIT, EXISTS, EXPLAIN, FED, FOREIGN, FROM_FILE, HIDE, IMPORT, LOOKING_BACK
+from .ctl_words import MOVING, OF_PROGRAM, PLANNED, READING, RENDER, RUN, SET, SHAPED, WATCH, YAML_VALUE, Option
 
 TYPE_CHECKING = False  # `typing` takes as long to import as all of this
 if TYPE_CHECKING:
@@ -231,11 +231,12 @@ def composed_of(asked: Asked) -> Callable[[Asked], int] | None:
         from .ctl_import import import_foreign
 
         return import_foreign
-    return check_and_do if asked.has(CHECK) else None
+    return plan_and_do if any(asked.has(option) for option in (*PLANNED, *SHAPED)) else None
 
 
-def check_and_do(asked: Asked) -> int:
-    """Does a word whose change a command looks at before. The status. Raises a `Fault`."""
+def plan_and_do(asked: Asked) -> int:
+    """Does a word whose change depends on what is there, or that somebody looks at before. The status. Raises a
+    `Fault`."""
     from .ctl_changes import conditions_of
     from .ctl_check import change
 
