@@ -13,7 +13,8 @@ import signal
 if __name__ == "__main__":
     signal.signal(signal.SIGINT, signal.SIG_DFL)  # it ends this program as it ends confstore, without a trace
 
-import sys  # noqa: E402
+import os  # noqa: E402
+import sys
 import time
 
 from .ctl_asked import Asked, Help, Version, asked_of, wrong
@@ -282,8 +283,20 @@ def _help(asked: Help | Version) -> str:
     return help_of(asked.word) if asked.word else help_of_all()
 
 
+def be_in_utf8() -> None:
+    """Begins again in Python's UTF-8 mode where words are taken for another encoding, as in the locale C if Python is
+    told to keep to it. They are UTF-8, as those of confstore."""
+    words = getattr(sys, "orig_argv", [])  # from Python 3.10 on
+    if words and sys.getfilesystemencoding() != "utf-8" and "utf8" not in sys._xoptions:
+        try:
+            os.execv(sys.executable, [sys.executable, "-X", "utf8", *words[1:]])
+        except OSError:
+            pass  # words that are no UTF-8 so are refused
+
+
 def main() -> int:
     """The program. The status."""
+    be_in_utf8()
     signal.signal(signal.SIGINT, signal.SIG_DFL)
     signal.signal(signal.SIGCHLD, signal.SIG_DFL)  # else the system would not say how the program confstore ended
     hold_closed()
