@@ -68,7 +68,7 @@ class WordsOfTheProgram(StoreTest):
                     input=b"a: b\n", capture_output=True, check=False, env={**os.environ, **more}, timeout=PATIENCE,
                 )  # fmt: skip
                 self.assertEqual((done.returncode, done.stdout.decode(), done.stderr), (0, wanted, b""), word)
-            bad = [sys.executable, "-m", "confstore.ctl", "set", folder.encode(), "web", "/a", b"\xe9"]
+            bad = [*map(os.fsencode, (sys.executable, "-m", "confstore.ctl", "set", folder, "web", "/a")), b"\xe9"]
             done = subprocess.run(bad, capture_output=True, check=False, env={**os.environ, **more}, timeout=PATIENCE)
             self.assertEqual((done.returncode, b"are not UTF-8" in done.stderr), (2, True))
 
