@@ -35,7 +35,7 @@ from typing import Any, NamedTuple
 from unittest import mock
 
 from lib.store_runs import PROGRAM, TOP, Failures, need_program
-from lib.tasks import Options, module, stores
+from lib.tasks import Options, edit, module, stores
 
 os.environ["CONFSTORE"] = PROGRAM
 
@@ -166,13 +166,6 @@ def puts_two(value: str) -> Operation:
 
     edits = [edit(path="/hosts/-", value=value), edit(path="/tls", state="absent")]
     return task_of(f"puts {value} once and takes tls out", model, edits=edits)
-
-
-def edit(**options: Any) -> dict[str, Any]:
-    """An edit of a task, as Ansible gives it to the module."""
-    if module is None:
-        return options
-    return {**{name: option.get("default") for name, option in module.EDIT_OPTIONS.items()}, **options}
 
 
 # ---- Calls of the package and words of confstorectl

@@ -6,13 +6,13 @@ _confstorectl_words='import set delete copy rename edit batch checkpoint export 
 
 _confstorectl_options() {
     case $1 in
-    import) echo '--init --explain --if-value --if-absent --if-count --check --from --document --split --dir --socket --wait --help' ;;
-    set) echo '--yaml --file --whole --explain --if-value --if-absent --if-count --check --socket --wait --help' ;;
-    delete) echo '--whole --if-value --if-absent --if-count --check --socket --wait --help' ;;
-    copy) echo '--if-value --if-absent --if-count --check --socket --wait --help' ;;
-    rename) echo '--if-value --if-absent --if-count --check --socket --wait --help' ;;
+    import) echo '--init --explain --if-value --if-absent --if-count --check --dry-run --from --document --split --dir --socket --wait --help' ;;
+    set) echo '--yaml --file --whole --explain --parents --insert --if-value --if-absent --if-count --check --dry-run --socket --wait --help' ;;
+    delete) echo '--whole --if-value --if-absent --if-count --check --dry-run --socket --wait --help' ;;
+    copy) echo '--if-value --if-absent --if-count --check --dry-run --socket --wait --help' ;;
+    rename) echo '--if-value --if-absent --if-count --check --dry-run --socket --wait --help' ;;
     edit) echo '--check --socket --wait --help' ;;
-    batch) echo '--explain --check --socket --wait --help' ;;
+    batch) echo '--explain --check --dry-run --socket --wait --help' ;;
     export) echo '--json --plain --socket --wait --help' ;;
     names) echo '--json --at --socket --wait --help' ;;
     keys) echo '--at --socket --wait --help' ;;

@@ -101,6 +101,8 @@ complete -c confstorectl -n '__confstorectl_is import' -l if-count -x \
     -d 'Changes the store only if it has accepted N commands'
 complete -c confstorectl -n '__confstorectl_is import' -l check -x \
     -d 'Makes the change only if COMMAND, of a shell, takes the text that comes of it'
+complete -c confstorectl -n '__confstorectl_is import' -l dry-run \
+    -d 'Writes what would change, as `diff -u` does, and changes nothing'
 complete -c confstorectl -n '__confstorectl_is import' -l from -x \
     -d 'Reads a text of another format, as yaml, toml, ini, env, properties or json5'
 complete -c confstorectl -n '__confstorectl_is import' -l document -x \
@@ -117,6 +119,10 @@ complete -c confstorectl -n '__confstorectl_is set' -l whole \
     -d 'Allows the pointer "", which stands for the whole configuration'
 complete -c confstorectl -n '__confstorectl_is set' -l explain \
     -d 'Shows the line at fault of a refused text, and says what to do'
+complete -c confstorectl -n '__confstorectl_is set' -l parents \
+    -d 'Makes what is missing above the pointer, too, and the configuration'
+complete -c confstorectl -n '__confstorectl_is set' -l insert \
+    -d 'Puts the value before the element of a list at the pointer, and replaces none'
 complete -c confstorectl -n '__confstorectl_is set' -l if-value -x \
     -d 'Changes the store only if this text is at the place that is changed'
 complete -c confstorectl -n '__confstorectl_is set' -l if-absent \
@@ -125,6 +131,8 @@ complete -c confstorectl -n '__confstorectl_is set' -l if-count -x \
     -d 'Changes the store only if it has accepted N commands'
 complete -c confstorectl -n '__confstorectl_is set' -l check -x \
     -d 'Makes the change only if COMMAND, of a shell, takes the text that comes of it'
+complete -c confstorectl -n '__confstorectl_is set' -l dry-run \
+    -d 'Writes what would change, as `diff -u` does, and changes nothing'
 complete -c confstorectl -n '__confstorectl_is delete' -l whole \
     -d 'Allows the pointer "", which stands for the whole configuration'
 complete -c confstorectl -n '__confstorectl_is delete' -l if-value -x \
@@ -135,6 +143,8 @@ complete -c confstorectl -n '__confstorectl_is delete' -l if-count -x \
     -d 'Changes the store only if it has accepted N commands'
 complete -c confstorectl -n '__confstorectl_is delete' -l check -x \
     -d 'Makes the change only if COMMAND, of a shell, takes the text that comes of it'
+complete -c confstorectl -n '__confstorectl_is delete' -l dry-run \
+    -d 'Writes what would change, as `diff -u` does, and changes nothing'
 complete -c confstorectl -n '__confstorectl_is copy' -l if-value -x \
     -d 'Changes the store only if this text is at the place that is changed'
 complete -c confstorectl -n '__confstorectl_is copy' -l if-absent \
@@ -143,6 +153,8 @@ complete -c confstorectl -n '__confstorectl_is copy' -l if-count -x \
     -d 'Changes the store only if it has accepted N commands'
 complete -c confstorectl -n '__confstorectl_is copy' -l check -x \
     -d 'Makes the change only if COMMAND, of a shell, takes the text that comes of it'
+complete -c confstorectl -n '__confstorectl_is copy' -l dry-run \
+    -d 'Writes what would change, as `diff -u` does, and changes nothing'
 complete -c confstorectl -n '__confstorectl_is rename' -l if-value -x \
     -d 'Changes the store only if this text is at the place that is changed'
 complete -c confstorectl -n '__confstorectl_is rename' -l if-absent \
@@ -151,12 +163,16 @@ complete -c confstorectl -n '__confstorectl_is rename' -l if-count -x \
     -d 'Changes the store only if it has accepted N commands'
 complete -c confstorectl -n '__confstorectl_is rename' -l check -x \
     -d 'Makes the change only if COMMAND, of a shell, takes the text that comes of it'
+complete -c confstorectl -n '__confstorectl_is rename' -l dry-run \
+    -d 'Writes what would change, as `diff -u` does, and changes nothing'
 complete -c confstorectl -n '__confstorectl_is edit' -l check -x \
     -d 'Makes the change only if COMMAND, of a shell, takes the text that comes of it'
 complete -c confstorectl -n '__confstorectl_is batch' -l explain \
     -d 'Shows the line at fault of a refused text, and says what to do'
 complete -c confstorectl -n '__confstorectl_is batch' -l check -x \
     -d 'Makes the change only if COMMAND, of a shell, takes the text that comes of it'
+complete -c confstorectl -n '__confstorectl_is batch' -l dry-run \
+    -d 'Writes what would change, as `diff -u` does, and changes nothing'
 complete -c confstorectl -n '__confstorectl_is export' -l json \
     -d 'Writes a JSON text on one line; each text is a string'
 complete -c confstorectl -n '__confstorectl_is export' -l plain \

@@ -3,7 +3,7 @@
 from __future__ import annotations
 
 import time
-from typing import Callable, List, Optional
+from typing import Callable, List, Optional, Sequence
 
 from .commands import get_of
 from .conditions import Condition, Test, at_place, move_of, under
@@ -32,7 +32,7 @@ def move(asked: Asked, ask: Ask) -> None:
     again."""
     source, conditions, deadline = asked.arguments["NAME"], conditions_of(asked), time.monotonic() + PATIENCE
     while True:
-        if conditions and not _hold(conditions, ask):
+        if conditions and not hold(conditions, ask):
             raise Fault("Unmet")
         tree = ask(get_of(source, "")).tree()
         command = move_of(asked.word.name, source, asked.arguments["TO"], tree)
@@ -44,7 +44,7 @@ def move(asked: Asked, ask: Ask) -> None:
                 raise
 
 
-def _hold(conditions: List[Condition], ask: Ask) -> bool:
+def hold(conditions: Sequence[Condition], ask: Ask) -> bool:
     """Whether conditions hold. It asks for an empty batch, which is refused after they were looked at."""
     try:
         ask(under(conditions, {"batch": []}))

@@ -66,6 +66,9 @@ DOCUMENT = Option("--document", "Of a YAML text with several documents takes num
 SPLIT = Option("--split", "Imports each document of a YAML text; {n} in NAME stands for its number")
 DIR = Option("--dir", "Imports each file of the folder DIR; {file} in NAME stands for its name", "DIR")
 CHECK = Option("--check", "Makes the change only if COMMAND, of a shell, takes the text that comes of it", "COMMAND")
+DRY_RUN = Option("--dry-run", "Writes what would change, as `diff -u` does, and changes nothing")
+PARENTS = Option("--parents", "Makes what is missing above the pointer, too, and the configuration")
+INSERT = Option("--insert", "Puts the value before the element of a list at the pointer, and replaces none")
 IF_VALUE = Option("--if-value", "Changes the store only if this text is at the place that is changed", "TEXT")
 IF_ABSENT = Option("--if-absent", "Changes the store only if nothing is at the place that is changed")
 IF_COUNT = Option("--if-count", "Changes the store only if it has accepted N commands", "N")
@@ -91,8 +94,10 @@ PLAIN = Option("--plain", "Writes texts as 80, true and null without quotes, for
 # Those of each word that changes what is at one place.
 CONDITIONS = (IF_VALUE, IF_ABSENT, IF_COUNT)
 
-# Those of each word that changes a configuration, which confstore does not have.
+# Those of the words that change a configuration, which confstore does not have; and those of `set`.
 CHECKED = (CHECK,)
+PLANNED = (CHECK, DRY_RUN)
+SHAPED = (PARENTS, INSERT)
 
 # Those of `import` for texts of other formats, which confstore does not have.
 FOREIGN = (FORMAT, DOCUMENT, SPLIT, DIR)
@@ -121,7 +126,7 @@ WATCHED_NAME = Argument("NAME", "The configuration; all of them if it is left ou
 IMPORT = Word(
     "import",
     "Reads a YAML text, and puts its tree under a name",
-    (INIT, EXPLAIN, *CONDITIONS, *CHECKED, *FOREIGN),
+    (INIT, EXPLAIN, *CONDITIONS, *PLANNED, *FOREIGN),
     (FOLDER, NAME, FILE),
     (
         "A configuration that has the name is replaced. Nothing is printed where it is done. Comments and quotes are"
@@ -151,7 +156,7 @@ IMPORT = Word(
 SET = Word(
     "set",
     "Sets the value at a JSON Pointer of a configuration",
-    (YAML_VALUE, FROM_FILE, WHOLE, EXPLAIN, *CONDITIONS, *CHECKED),
+    (YAML_VALUE, FROM_FILE, WHOLE, EXPLAIN, *SHAPED, *CONDITIONS, *PLANNED),
     (FOLDER, NAME, POINTER, VALUE),
     (
         "VALUE is the text itself. With `--yaml` it is read as a YAML text, so that a list or a mapping can be set;"
@@ -160,11 +165,17 @@ SET = Word(
         " configuration."
         " The step `-` stands for the place behind the last element of a list. Nothing is printed where it is done.",
         "If a condition does not hold, nothing changes (Unmet).",
+        "With `--parents` the mappings that are missing above the pointer are made, lists where a step is `-`, and the"
+        " configuration if none has the name. With `--insert` the value gets the place of an element of a list, and"
+        " those from there on move by one; the list is set anew. Both are tried again where somebody changes the"
+        " configuration meanwhile.",
     ),
     (
         "confstorectl set store web /port 80",
         "confstorectl set store web /tags '[a, b]' --yaml",
         "confstorectl set store web /tags/- c",
+        "confstorectl set store web /tags/0 first --insert",
+        "confstorectl set store web /tls/cert /etc/cert.pem --parents",
         "confstorectl set store web /port 81 --if-value 80",
         "confstorectl set store web /key --file key.pem",
     ),
@@ -172,7 +183,7 @@ SET = Word(
 DELETE = Word(
     "delete",
     "Removes a configuration, or what is at a JSON Pointer of it",
-    (WHOLE, *CONDITIONS, *CHECKED),
+    (WHOLE, *CONDITIONS, *PLANNED),
     (FOLDER, NAME, WHOLE_POINTER),
     (
         "Nothing is printed where it is done. Without POINTER the whole configuration is removed; the pointer \"\""
@@ -187,7 +198,7 @@ DELETE = Word(
 COPY = Word(
     "copy",
     "Puts a copy of a configuration under another name",
-    (*CONDITIONS, *CHECKED),
+    (*CONDITIONS, *PLANNED),
     (FOLDER, NAME, TO),
     (
         "A configuration that has the name TO is replaced, unless `--if-absent` is given. All of it is done or nothing,"
@@ -202,7 +213,7 @@ COPY = Word(
 RENAME = Word(
     "rename",
     "Gives a configuration another name",
-    (*CONDITIONS, *CHECKED),
+    (*CONDITIONS, *PLANNED),
     (FOLDER, NAME, TO),
     (
         "A configuration that has the name TO is replaced, unless `--if-absent` is given; it keeps the place of TO"
@@ -236,7 +247,7 @@ EDIT = Word(
 BATCH = Word(
     "batch",
     "Makes all edits of a list, or none of them",
-    (EXPLAIN, *CHECKED),
+    (EXPLAIN, *PLANNED),
     (FOLDER, FILE),
     (
         "The text is a YAML list. Each edit is a mapping with the keys `import` and `text`, or `import` and `tree`; or"
