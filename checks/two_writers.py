@@ -256,7 +256,7 @@ def set_to_seven(state: State) -> "State | None":
 def operations() -> list[Operation]:
     of_others = [
         pops(), sets_default("x"), sets_default("y"), adds(),
-        word(lambda state: {**state, "mail": state["web"]} if "web" in state else None, "copy", "web", "mail"),
+        word(lambda state: {**state, "mail": state["web"]} if "web" in state else None, "copy", "web", "mail", "--replace"),
         word(lambda state: moved(state, "mail", "web"), "rename", "mail", "web"),
         word(lambda state: moved(state, "web", "mail"), "rename", "web", "mail"),
         word(appended, "set", "web", "/hosts/-", "c"), word(without_first, "delete", "web", "/hosts/0"),
@@ -393,7 +393,7 @@ def try_without_end(held: Store, path: str, failures: Failures) -> None:
 
     def copies() -> None:
         with mock.patch("confstore.ctl_changes.PATIENCE", SHORT):
-            status = ctl.perform_words(["--socket", path, "copy", "S", "web", "to"])
+            status = ctl.perform_words(["--socket", path, "copy", "S", "web", "to", "--replace"])
         failures.expect("without end: the word", status, 1)
 
     disturb()

@@ -10,7 +10,8 @@ _confstore_options() {
     import) echo "--init --explain $conditions --wait --help" ;;
     set) echo "--yaml --file --whole --explain $conditions --wait --help" ;;
     delete) echo "--whole $conditions --wait --help" ;;
-    copy | rename) echo "$conditions --wait --help" ;;
+    copy) echo "--replace $conditions --wait --help" ;;
+    rename) echo "$conditions --wait --help" ;;
     export) echo '--json --plain --wait --help' ;;
     names) echo '--json --at --help' ;;
     get) echo '--raw --no-newline --json --plain --default --at --help' ;;

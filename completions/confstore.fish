@@ -64,6 +64,7 @@ complete -c confstore -n "__confstore_at 0 $stores" -a '(__fish_complete_directo
 complete -c confstore -n "__confstore_at 1 $named" -a '(__confstore_names)'
 complete -c confstore -n '__confstore_at 1 salvage backup' -a '(__fish_complete_directories)'
 complete -c confstore -n '__confstore_at 2 copy rename' -a '(__confstore_names)'
+complete -c confstore -n '__fish_seen_subcommand_from copy' -l replace -d 'Replace a configuration of that name'
 complete -c confstore -n '__confstore_at 2 import' -F
 complete -c confstore -n '__fish_seen_subcommand_from run' -l group -d 'Sync once for all commands at hand'
 complete -c confstore -n '__fish_seen_subcommand_from run' -l checkpoint-after -x -d 'Make checkpoints meanwhile'

@@ -9,7 +9,7 @@ _confstorectl_options() {
     import) echo '--init --explain --if-value --if-absent --if-count --check --from --document --split --dir --socket --wait --help' ;;
     set) echo '--yaml --file --whole --explain --if-value --if-absent --if-count --check --socket --wait --help' ;;
     delete) echo '--whole --if-value --if-absent --if-count --check --socket --wait --help' ;;
-    copy) echo '--if-value --if-absent --if-count --check --socket --wait --help' ;;
+    copy) echo '--replace --if-value --if-absent --if-count --check --socket --wait --help' ;;
     rename) echo '--if-value --if-absent --if-count --check --socket --wait --help' ;;
     edit) echo '--check --socket --wait --help' ;;
     batch) echo '--explain --check --socket --wait --help' ;;

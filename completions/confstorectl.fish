@@ -135,6 +135,8 @@ complete -c confstorectl -n '__confstorectl_is delete' -l if-count -x \
     -d 'Changes the store only if it has accepted N commands'
 complete -c confstorectl -n '__confstorectl_is delete' -l check -x \
     -d 'Makes the change only if COMMAND, of a shell, takes the text that comes of it'
+complete -c confstorectl -n '__confstorectl_is copy' -l replace \
+    -d 'Replaces a configuration that has the name TO'
 complete -c confstorectl -n '__confstorectl_is copy' -l if-value -x \
     -d 'Changes the store only if this text is at the place that is changed'
 complete -c confstorectl -n '__confstorectl_is copy' -l if-absent \

@@ -88,6 +88,7 @@ WORDS = [
     Word("import S mail -", store=STORE + IMPORT, input=b"a: b\n", file="-"),
     Word("import S mail - --if-absent", store=STORE + IMPORT, input=b"a:   b\n", file="-"),
     Word("copy S web mail", store=STORE + COPY),
+    Word("copy S web mail --replace", store=STORE + COPY),
     Word("rename S web mail", store=STORE + RENAME),
     Word("checkpoint S", store=BASE),
     Word("run S", b'---\nok: "2"\n...\n', store=STORE + SET, input=b"---\nset: web\npath: /port\nvalue: 81\n...\n"),

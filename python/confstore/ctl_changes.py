@@ -10,7 +10,7 @@ from .conditions import Condition, Test, at_place, move_of, under
 from .ctl_asked import Asked
 from .ctl_faults import Fault
 from .ctl_sockets import PATIENCE, Command, Reply
-from .ctl_words import IF_ABSENT, IF_COUNT, IF_VALUE
+from .ctl_words import COPY, IF_ABSENT, IF_COUNT, IF_VALUE, REPLACE
 from .mapping import MISSING
 
 # Asks a command. Raises the `Fault` of one that is refused.
@@ -18,13 +18,15 @@ Ask = Callable[[Command], Reply]
 
 
 def conditions_of(asked: Asked) -> List[Condition]:
-    """What has to hold for a word to change the store, at the place that it changes."""
-    if not any(asked.has(option) for option in (IF_VALUE, IF_ABSENT, IF_COUNT)):
+    """What has to hold for a word to change the store, at the place that it changes. A copy replaces nothing, unless the
+    words say so."""
+    absent = asked.has(IF_ABSENT) or (asked.word is COPY and not asked.has(REPLACE) and not asked.has(IF_VALUE))
+    if not absent and not any(asked.has(option) for option in (IF_VALUE, IF_COUNT)):
         return []
     name = asked.arguments.get("TO", asked.arguments["NAME"])
     value = asked.options.get(IF_VALUE.name, MISSING)
     count: Optional[int] = int(asked.options[IF_COUNT.name]) if asked.has(IF_COUNT) else None
-    return at_place(name, asked.argument("POINTER"), value, asked.has(IF_ABSENT), count)
+    return at_place(name, asked.argument("POINTER"), value, absent, count)
 
 
 def move(asked: Asked, ask: Ask) -> None:

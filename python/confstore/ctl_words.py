@@ -88,6 +88,9 @@ JSON = Option("--json", "Writes a JSON text on one line; each text is a string")
 JSON_NAMES = Option("--json", "Writes a JSON array on one line")
 PLAIN = Option("--plain", "Writes texts as 80, true and null without quotes, for readers with types")
 
+# That of `copy` alone.
+REPLACE = Option("--replace", "Replaces a configuration that has the name TO")
+
 # Those of each word that changes what is at one place.
 CONDITIONS = (IF_VALUE, IF_ABSENT, IF_COUNT)
 
@@ -187,16 +190,16 @@ DELETE = Word(
 COPY = Word(
     "copy",
     "Puts a copy of a configuration under another name",
-    (*CONDITIONS, *CHECKED),
+    (REPLACE, *CONDITIONS, *CHECKED),
     (FOLDER, NAME, TO),
     (
-        "A configuration that has the name TO is replaced, unless `--if-absent` is given. All of it is done or nothing,"
-        " in one command. Nothing is printed where it is done. If a condition does not hold, nothing changes (Unmet);"
-        " `--if-value` and `--if-absent` look at TO.",
+        "A configuration that has the name TO is replaced only with `--replace`, or where `--if-value` holds of it; else"
+        " nothing changes (Unmet). All of it is done or nothing, in one command. Nothing is printed where it is done. If"
+        " a condition does not hold, nothing changes (Unmet); `--if-value` looks at TO.",
     ),
     (
         "confstorectl copy store web web-old",
-        "confstorectl copy store web web-old --if-absent",
+        "confstorectl copy store web web-old --replace",
     ),
 )
 RENAME = Word(

@@ -2,4 +2,3 @@ pub mod Images
 pub mod Log
 pub mod Moments
 pub mod Stops
-pub mod Worn

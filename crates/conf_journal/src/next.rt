@@ -1,7 +1,7 @@
 // The procedures that replace `store.yaml` by a new file.
-ghost use Rattle.std.specs.Prelude.{◌≡◌, ◌⊎◌, [], ◌∷◌, Option, IsSome, OnOk, Some, None, false};
+ghost use Rattle.std.specs.Prelude.{◌≡◌, ◌⊎◌, [], ◌∷◌, Option, IsSome, OnOk, Some, None};
 ghost use Rattle.conf_journal.specs.Prelude.{File, CreateNext, Append, Sync, RenameNext, RemoveNext, SyncFolder, after};
-ghost use Rattle.conf_journal.specs.Prelude.{bytes_under, several_waited, IsImage, image_now, folder_after, LeavesOnly};
+ghost use Rattle.conf_journal.specs.Prelude.{bytes_under, IsImage, image_now, folder_after, LeavesOnly};
 ghost use Rattle.conf_journal.specs.Fails.{FailsAsCalls};
 ghost use Rattle.conf_journal.specs.Store.{IsSynced, LeavesOldStore, LeavesStoreOrStaged, ReadsAs, file_with_bytes};
 ghost use Rattle.conf_journal.specs.Held.{HoldsStaged, HoldsStore};
@@ -23,8 +23,7 @@ pub fn begin_next<D: Disk>(disk: &mut D) -> Result<(), DiskFault>
 
     ensures reads { D.model.honest →
         OnOk result
-        (ReadsAs (D.model.folder disk.new) (bytes_under (D.model.folder disk.old) Name.Store) (Some [])
-        (several_waited (D.model.folder disk.old))) }
+        (ReadsAs (D.model.folder disk.new) (bytes_under (D.model.folder disk.old) Name.Store) (Some [])) }
     // Whatever it returns, `store.yaml` is read as before.
     ensures left_alone { D.model.honest →
         bytes_under (D.model.folder disk.new) Name.Store ≡ bytes_under (D.model.folder disk.old) Name.Store }
@@ -54,8 +53,7 @@ pub fn append_next<D: Disk>(disk: &mut D, bytes: &[u8]) -> Result<(), DiskFault>
     ensures reads { D.model.honest →
         OnOk result
         (ReadsAs (D.model.folder disk.new) (bytes_under (D.model.folder disk.old) Name.Store)
-        (file_with_bytes (bytes_under (D.model.folder disk.old) Name.Next) bytes.now)
-        (several_waited (D.model.folder disk.old))) }
+        (file_with_bytes (bytes_under (D.model.folder disk.old) Name.Next) bytes.now)) }
     // Whatever it returns, `store.yaml` is read as before.
     ensures left_alone { D.model.honest →
         bytes_under (D.model.folder disk.new) Name.Store ≡ bytes_under (D.model.folder disk.old) Name.Store }
@@ -111,7 +109,7 @@ pub fn stage_next<D: Disk>(disk: &mut D, bytes: &[u8]) -> Result<(), DiskFault>
     ensures reads { D.model.honest →
         OnOk result
         (ReadsAs (D.model.folder disk.new) (bytes_under (D.model.folder disk.old) Name.Store)
-        (Some bytes.now) (several_waited (D.model.folder disk.old))) }
+        (Some bytes.now)) }
     ensures synced { D.model.honest → OnOk result (IsSynced (D.model.folder disk.new) Name.Next) }
     // Whatever it returns, `store.yaml` is read as before.
     ensures left_alone { D.model.honest →
@@ -127,7 +125,7 @@ pub fn stage_next<D: Disk>(disk: &mut D, bytes: &[u8]) -> Result<(), DiskFault>
 }
 
 /// Replaces `store.yaml` by `next.yaml`, which has to be there and synced whole: after `Ok`, every crash leaves it
-/// there. The new file has no note of several appends.
+/// there.
 ///
 /// # Errors
 /// `Device`: `store.yaml` is the old file or the new one.
@@ -142,8 +140,7 @@ pub fn swap_next<D: Disk>(disk: &mut D) -> Result<(), DiskFault>
     ensures fails { FailsAsCalls D.model disk.old result disk.new }
 
     ensures reads { D.model.honest →
-        OnOk result
-        (ReadsAs (D.model.folder disk.new) (bytes_under (D.model.folder disk.old) Name.Next) None false) }
+        OnOk result (ReadsAs (D.model.folder disk.new) (bytes_under (D.model.folder disk.old) Name.Next) None) }
     // A crash leaves an old store, or the whole staged file.
     ensures store { D.model.honest →
         LeavesStoreOrStaged D.model disk.old disk.new }
@@ -172,8 +169,7 @@ pub fn finish_next<D: Disk>(disk: &mut D) -> Result<(), DiskFault>
     ensures fails { FailsAsCalls D.model disk.old result disk.new }
 
     ensures reads { D.model.honest →
-        OnOk result
-        (ReadsAs (D.model.folder disk.new) (bytes_under (D.model.folder disk.old) Name.Next) None false) }
+        OnOk result (ReadsAs (D.model.folder disk.new) (bytes_under (D.model.folder disk.old) Name.Next) None) }
     // A crash leaves an old store, or the whole staged file.
     ensures store { D.model.honest →
         LeavesStoreOrStaged D.model disk.old disk.new }

@@ -39,7 +39,8 @@ pub enum Invocation<'w> {
         pointer: &'w str,
         conditions: Conditions<'w>,
     },
-    /// Puts a copy of the configuration under `name` under the name `to`, in place of one that is there.
+    /// Puts a copy of the configuration under `name` under the name `to`, in place of one that is there. Unless the
+    /// words say so, a condition wants none there.
     Copy {
         folder: &'w str,
         name: &'w str,

@@ -1,4 +1,3 @@
 pub mod Memory
 pub mod Replay
 pub mod Fused
-pub mod Marks

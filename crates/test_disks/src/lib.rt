@@ -4,7 +4,6 @@
 
 mod folder;
 mod fused;
-mod marks;
 mod memory;
 
 pub use fused::{Fuse, FusedDisk};
