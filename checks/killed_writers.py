@@ -11,12 +11,15 @@ or the session that holds the store. What is gone is started again. There are th
 - **nodes**: each has a node of a replicated store (`replicated/`), and sends what has no answer again by its id, to the
   other node too.
 
-A writer appends texts to one list, puts and deletes configurations of its own, and adds one to a number under the
-condition that nobody came between. It notes each change before it is sent, and what it was told. After each round:
+A writer appends texts to one list, puts and deletes configurations of its own, does both in one batch, adds one to a
+number under the condition that nobody came between, and claims names that the other one claims too, under the condition
+that nobody has them. It notes each change before it is sent, and what it was told. After each round:
 
 - the list is what it was, with one text more for each change that was acknowledged, none twice, none that was refused,
   none that nobody sent, and of each change without an answer none or one;
 - a configuration that was put is there with its text, and none is gone that no writer has deleted;
+- of a batch both changes are made, or none;
+- a name that was claimed has the text of the one that was told so, or of one without an answer, and keeps it;
 - the number has grown by the changes that were acknowledged, and at most by one for each without an answer.
 
 At the end of the first two kinds each record of the store is a change that was sent, no change has two, and each that
@@ -66,21 +69,32 @@ STOPPED = 0.05
 
 SIGNALS = (signal.SIGKILL, signal.SIGKILL, signal.SIGTERM, signal.SIGINT, signal.SIGHUP, signal.SIGSTOP)
 
+# The kinds of changes that append to the list, and that put a configuration of the writer's own; and what no name ends
+# with.
+APPENDING, PUTTING = ("append", "pair"), ("put", "pair")
+NO_NAME = "/"
+
 # What a store holds at first.
 START: Tree = {"hosts": [], "n": "0"}
 
 
 class State(NamedTuple):
-    """What a store holds: the list, the number, and the writers' own configurations."""
+    """What a store holds: the list, the number, the writers' own configurations, which names are claimed, and the texts
+    of those that are looked at."""
 
     texts: list[str]
     number: int
     own: dict[str, str]
+    claimed: frozenset[str]
+    claims: dict[str, str]
 
 
-def state_of(read: Callable[[str], Any], names: Sequence[str]) -> State:
-    web = read("web")
-    return State(web["hosts"], int(web["n"]), {name: read(name) for name in names if name.startswith("own-")})
+def state_of(read: Callable[[str], Any], names: Sequence[str], looked_at: str) -> State:
+    """The state, with the texts of the claimed names that end so."""
+    web, claimed = read("web"), frozenset(name for name in names if name.startswith("claim-"))
+    own = {name: read(name) for name in names if name.startswith("own-")}
+    claims = {name: read(name) for name in claimed if name.endswith(looked_at)}
+    return State(web["hosts"], int(web["n"]), own, claimed, claims)
 
 
 def notes_in(path: str) -> dict[Change, Told]:
@@ -104,15 +118,22 @@ class Judge:
     def expect(self, what: str, found: object, wanted: object) -> None:
         self.failures.expect(f"{self.about}: {what}", found, wanted)
 
-    def texts_of(self, kind: str, *words: str) -> set[str]:
-        """The texts of the changes of a kind of which the writers were told one of these words."""
-        return {change.text for change, told in self.told.items() if change.kind == kind and told.word in words}
+    def texts_of(self, kinds: Sequence[str], *words: str) -> set[str]:
+        """The texts of the changes of some kinds of which the writers were told one of these words."""
+        return {change.text for change, told in self.told.items() if change.kind in kinds and told.word in words}
 
     def judge(self) -> None:
         self.judge_list()
         self.judge_number()
-        for name in sorted({*self.before.own, *self.after.own, *self.texts_of("put", "done", "unknown")}):
+        for name in sorted({*self.before.own, *self.after.own, *self.texts_of(PUTTING, "done", "unknown")}):
             self.judge_own(name)
+        for text in sorted(self.texts_of(["pair"], "done", "unknown", "refused")):
+            self.expect(f"both of {text}, or none", text in self.after.own, text in self.after.texts)
+        self.expect("claims that are gone", self.before.claimed - self.after.claimed, set())
+        names = {change.name for change in self.told if change.kind == "claim"}
+        self.expect("claims of nobody", self.after.claimed - self.before.claimed - names, set())
+        for name in sorted(names):
+            self.judge_claim(name)
         self.expect("told that nothing changes", [c for c, told in self.told.items() if told.word == "unchanged"], [])
 
     def judge_list(self) -> None:
@@ -120,16 +141,17 @@ class Judge:
         new = self.after.texts[count:]
         self.expect("the list goes on", self.after.texts[:count], self.before.texts)
         self.expect("twice in the list", [text for text, times in Counter(new).items() if times > 1], [])
-        self.expect("lost in the list", self.texts_of("append", "done") - set(new), set())
-        self.expect("in the list", set(new) - self.texts_of("append", "done", "unknown"), set())
+        self.expect("lost in the list", self.texts_of(APPENDING, "done") - set(new), set())
+        self.expect("in the list", set(new) - self.texts_of(APPENDING, "done", "unknown"), set())
 
     def judge_number(self) -> None:
-        done, unknown = (len(self.texts_of("add", word)) for word in ("done", "unknown"))
+        done, unknown = (len(self.texts_of(["add"], word)) for word in ("done", "unknown"))
         grown = self.after.number - self.before.number
         self.expect(f"the number grows by {grown}, of {done} and {unknown}", done <= grown <= done + unknown, True)
 
     def judge_own(self, name: str) -> None:
-        put = "done" if name in self.before.own else self.told.get(Change("put", name), Told("none")).word
+        words = [self.told[change].word for kind in PUTTING if (change := Change(kind, name)) in self.told]
+        put = "done" if name in self.before.own else "".join(words) or "none"
         taken = self.told.get(Change("delete", name), Told("none")).word
         must_be = put == "done" and taken in ("none", "refused")
         may_be = put in ("done", "unknown") and taken != "done"
@@ -137,14 +159,28 @@ class Judge:
         self.expect(f"{name}, put: {put}, deleted: {taken}", is_there, must_be or (is_there and may_be))
         self.expect(f"{name}: its text", self.after.own.get(name, name), name)
 
+    def judge_claim(self, name: str) -> None:
+        told = {change.text: word.word for change, word in self.told.items() if change.name == name != change.text}
+        found = self.after.claims.get(name)
+        done = [text for text, word in told.items() if word == "done"]
+        self.expect(f"{name}: has a text", found is not None, bool(done) or found is not None)
+        self.expect(f"{name}, of {told}", [found] if done else [], done)
+        self.expect(f"{name}: {found} of {told}", told.get(found or "", "unknown") in ("done", "unknown"), True)
+        self.expect(f"{name}: is somebody's", found is None or found in told, True)
+        if "refused" in told.values():
+            self.expect(f"{name}: was there, as one was told", found is not None, True)
+
 
 def change_of(record: Record) -> Change:
     """The change that a record is."""
-    (edit,) = record.edits
+    edit = record.edits[0]
     if edit.path == "/hosts/-":
-        return Change("append", str(edit.tree))
+        is_pair = len(record.edits) == 2 and record.edits[1].name == record.edits[1].tree == edit.tree
+        return Change("pair" if is_pair else "append", str(edit.tree))
     if edit.path == "/n":
         return Change("add", str(edit.tree))
+    if edit.name.startswith("claim-"):
+        return Change("claim", str(edit.tree))
     return Change("delete" if edit.kind == "delete" else "put", edit.name)
 
 
@@ -209,9 +245,9 @@ class Folder:
         except (OSError, ValueError):
             return False
 
-    def state(self) -> State:
+    def state(self, looked_at: str) -> State:
         reader = Reader(self.folder)
-        return state_of(lambda name: reader.get(name), reader.names())
+        return state_of(lambda name: reader.get(name), reader.names(), looked_at)
 
     def finish(self, told: Mapping[Change, Told], failures: Failures) -> None:
         """Looks at the whole store, and ends what was started."""
@@ -291,12 +327,13 @@ class Nodes:
         self.mend()
         return NODES.opened(self.places()[0])(change)
 
-    def state(self) -> State:
-        return self.state_at(self.nodes[0])
+    def state(self, looked_at: str) -> State:
+        return self.state_at(self.nodes[0], looked_at)
 
-    def state_at(self, node: Node) -> State:
+    def state_at(self, node: Node, looked_at: str) -> State:
         names = self.said(node, {"names": "", "fresh": "yes"})["names"]
-        return state_of(lambda name: self.said(node, {"get": name, "path": "", "fresh": "yes"})["value"], names)
+        read = lambda name: self.said(node, {"get": name, "path": "", "fresh": "yes"})["value"]  # noqa: E731
+        return state_of(read, names, looked_at)
 
     def said(self, node: Node, request: Request) -> Request:
         """What a node answers, once it has started again."""
@@ -314,7 +351,7 @@ class Nodes:
         return answer
 
     def finish(self, told: Mapping[Change, Told], failures: Failures) -> None:
-        one, two = (self.state_at(node) for node in self.nodes)
+        one, two = (self.state_at(node, "") for node in self.nodes)
         failures.expect("both nodes hold the same", two, one)
 
 
@@ -334,7 +371,7 @@ class Rounds:
         os.mkdir(top)
         number = 0
         try:
-            state = self.ground.state()
+            state = self.ground.state(NO_NAME)
             for number in range(count):
                 state = self.round(top, number, state)
             self.ground.finish(self.told, self.failures)
@@ -355,7 +392,7 @@ class Rounds:
             self.wait_for(writer)
         told = {change: word for path in notes for change, word in notes_in(path).items()}
         self.ground.settle(told, writers)
-        after = self.ground.state()
+        after = self.ground.state(f"-{number}")
         Judge(f"{self.ground.name}, round {number}", before, after, told, self.failures).judge()
         self.told.update(told)
         return after
@@ -369,8 +406,10 @@ class Rounds:
             kind = self.chance.choice(way.kinds)
             if kind == "delete" and own:
                 changes.append(Change(kind, own.pop()))
-            elif kind == "put":
+            elif kind in PUTTING:
                 changes.append(Change(kind, f"own-{number}-{mark}"))
+            elif kind == "claim":
+                changes.append(Change(kind, f"claim-{number}-{mark}"))
             elif kind != "delete":
                 changes.append(Change(kind, f"t{number}-{mark}"))
         return changes

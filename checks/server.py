@@ -539,6 +539,13 @@ class Ends(ServerTest):
             self.assertEqual(server.errors(), "")
             self.assertEqual([name for name in os.listdir(self.top) if "socket" in name], [])
 
+    def test_signals_until_the_end(self) -> None:
+        """However late one more signal comes, it changes no status, and leaves no trace."""
+        for number in (signal.SIGTERM, signal.SIGINT, signal.SIGHUP) * 3:
+            server = self.serve()
+            self.assertEqual((server.end_by_many(number), server.errors()), (0, ""))
+            self.assertFalse(os.path.exists(self.path))
+
     def test_a_server_that_is_killed(self) -> None:
         server = self.serve()
         client = self.client()

@@ -35,7 +35,7 @@ from typing import Any, NamedTuple
 from unittest import mock
 
 from lib.store_runs import PROGRAM, TOP, Failures, need_program
-from lib.tasks import Options, module, stores
+from lib.tasks import Options, edit, module, stores
 
 os.environ["CONFSTORE"] = PROGRAM
 
@@ -168,13 +168,6 @@ def puts_two(value: str) -> Operation:
     return task_of(f"puts {value} once and takes tls out", model, edits=edits)
 
 
-def edit(**options: Any) -> dict[str, Any]:
-    """An edit of a task, as Ansible gives it to the module."""
-    if module is None:
-        return options
-    return {**{name: option.get("default") for name, option in module.EDIT_OPTIONS.items()}, **options}
-
-
 # ---- Calls of the package and words of confstorectl
 
 
@@ -256,7 +249,7 @@ def set_to_seven(state: State) -> "State | None":
 def operations() -> list[Operation]:
     of_others = [
         pops(), sets_default("x"), sets_default("y"), adds(),
-        word(lambda state: {**state, "mail": state["web"]} if "web" in state else None, "copy", "web", "mail"),
+        word(lambda state: {**state, "mail": state["web"]} if "web" in state else None, "copy", "web", "mail", "--replace"),
         word(lambda state: moved(state, "mail", "web"), "rename", "mail", "web"),
         word(lambda state: moved(state, "web", "mail"), "rename", "web", "mail"),
         word(appended, "set", "web", "/hosts/-", "c"), word(without_first, "delete", "web", "/hosts/0"),
@@ -393,7 +386,7 @@ def try_without_end(held: Store, path: str, failures: Failures) -> None:
 
     def copies() -> None:
         with mock.patch("confstore.ctl_changes.PATIENCE", SHORT):
-            status = ctl.perform_words(["--socket", path, "copy", "S", "web", "to"])
+            status = ctl.perform_words(["--socket", path, "copy", "S", "web", "to", "--replace"])
         failures.expect("without end: the word", status, 1)
 
     disturb()

@@ -51,7 +51,7 @@ LOCKING: list[Sequence[str]] = [
     SET,
     ("import", "FOLDER", "mail"),
     ("delete", "FOLDER", "web"),
-    ("copy", "FOLDER", "web", "mail"),
+    ("copy", "FOLDER", "web", "mail", "--replace"),
     ("rename", "FOLDER", "web", "mail"),
     ("checkpoint", "FOLDER"),
     ("run", "FOLDER"),

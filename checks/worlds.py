@@ -160,6 +160,10 @@ class World:
         words, state = [kind, folder, name, to], self.folders.get(folder)
         if state is None or name not in state.configs:
             return self.refused(words, folder)
+        if kind == "copy" and self.chance.random() < 0.7:
+            words.append("--replace")
+        elif kind == "copy" and to in state.configs:
+            return self.refused(words, folder)
         put: Document = {"import": to, "text": json.dumps(as_json(state.configs[name]))}
         taken: Document = {"delete": name, "path": ""}
         return self.changed(words, folder, [put] if kind == "copy" else [taken, put])

@@ -418,6 +418,7 @@ class Signals:
 
     def __init__(self) -> None:
         self.came = False
+        self.caught: list[int] = []
         self.ear, self.bell = socket.socketpair()
         self.ear.setblocking(False)
         self.bell.setblocking(False)
@@ -425,6 +426,7 @@ class Signals:
         for number in (signal.SIGTERM, signal.SIGINT, signal.SIGHUP):
             if number != signal.SIGHUP or signal.getsignal(number) is not signal.SIG_IGN:
                 signal.signal(number, self.stop)
+                self.caught.append(number)
         signal.signal(signal.SIGCHLD, signal.SIG_DFL)  # where the parent ignores it, no status of a session is kept
 
     def stop(self, _number: int, _frame: Optional[FrameType]) -> None:
@@ -434,6 +436,10 @@ class Signals:
         self.ear.recv(SIGNALS_HEARD)
 
     def close(self) -> None:
+        """All is done, and the status is known. A signal that comes now must not change it, as it would once Python lets
+        signals end this program again."""
+        for number in self.caught:
+            signal.signal(number, signal.SIG_IGN)
         signal.set_wakeup_fd(-1)
         self.ear.close()
         self.bell.close()

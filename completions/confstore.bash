@@ -10,14 +10,15 @@ _confstore_options() {
     import) echo "--init --explain $conditions --wait --help" ;;
     set) echo "--yaml --file --whole --explain $conditions --wait --help" ;;
     delete) echo "--whole $conditions --wait --help" ;;
-    copy | rename) echo "$conditions --wait --help" ;;
+    copy) echo "--replace $conditions --wait --help" ;;
+    rename) echo "$conditions --wait --help" ;;
     export) echo '--json --plain --wait --help' ;;
     names) echo '--json --at --help' ;;
     get) echo '--raw --no-newline --json --plain --default --at --help' ;;
     keys | exists) echo '--at --help' ;;
     log) echo '--values --hide --yaml --at --help' ;;
-    format) echo '-i --in-place --drop-comments --check --explain --help' ;;
-    check) echo '--explain --help' ;;
+    format) echo '-i --in-place --keep-comments --drop-comments --check --explain --help' ;;
+    check) echo '--keep-comments --explain --help' ;;
     *) echo '--help' ;;
     esac
 }

@@ -64,6 +64,7 @@ complete -c confstore -n "__confstore_at 0 $stores" -a '(__fish_complete_directo
 complete -c confstore -n "__confstore_at 1 $named" -a '(__confstore_names)'
 complete -c confstore -n '__confstore_at 1 salvage backup' -a '(__fish_complete_directories)'
 complete -c confstore -n '__confstore_at 2 copy rename' -a '(__confstore_names)'
+complete -c confstore -n '__fish_seen_subcommand_from copy' -l replace -d 'Replace a configuration of that name'
 complete -c confstore -n '__confstore_at 2 import' -F
 complete -c confstore -n '__fish_seen_subcommand_from run' -l group -d 'Sync once for all commands at hand'
 complete -c confstore -n '__fish_seen_subcommand_from run' -l checkpoint-after -x -d 'Make checkpoints meanwhile'
@@ -87,5 +88,6 @@ complete -c confstore -n '__fish_seen_subcommand_from log' -l hide -x -d 'Hide t
 complete -c confstore -n '__fish_seen_subcommand_from log' -l yaml -d 'Write the records as they stand'
 complete -c confstore -n '__fish_seen_subcommand_from format check' -F
 complete -c confstore -n '__fish_seen_subcommand_from format' -s i -l in-place -d 'Replace each file that would change'
+complete -c confstore -n '__fish_seen_subcommand_from format check' -l keep-comments -d 'Keep the comments of each text'
 complete -c confstore -n '__fish_seen_subcommand_from format' -l drop-comments -d 'Replace files with comments too'
 complete -c confstore -n '__fish_seen_subcommand_from format' -l check -d 'Name each file that would change'

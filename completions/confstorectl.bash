@@ -6,13 +6,13 @@ _confstorectl_words='import set delete copy rename edit batch checkpoint export 
 
 _confstorectl_options() {
     case $1 in
-    import) echo '--init --explain --if-value --if-absent --if-count --check --from --document --split --dir --socket --wait --help' ;;
-    set) echo '--yaml --file --whole --explain --if-value --if-absent --if-count --check --socket --wait --help' ;;
-    delete) echo '--whole --if-value --if-absent --if-count --check --socket --wait --help' ;;
-    copy) echo '--if-value --if-absent --if-count --check --socket --wait --help' ;;
-    rename) echo '--if-value --if-absent --if-count --check --socket --wait --help' ;;
+    import) echo '--init --explain --if-value --if-absent --if-count --check --dry-run --from --document --split --dir --socket --wait --help' ;;
+    set) echo '--yaml --file --whole --explain --parents --insert --if-value --if-absent --if-count --check --dry-run --socket --wait --help' ;;
+    delete) echo '--whole --if-value --if-absent --if-count --check --dry-run --socket --wait --help' ;;
+    copy) echo '--replace --if-value --if-absent --if-count --check --dry-run --socket --wait --help' ;;
+    rename) echo '--if-value --if-absent --if-count --check --dry-run --socket --wait --help' ;;
     edit) echo '--check --socket --wait --help' ;;
-    batch) echo '--explain --check --socket --wait --help' ;;
+    batch) echo '--explain --check --dry-run --socket --wait --help' ;;
     export) echo '--json --plain --socket --wait --help' ;;
     names) echo '--json --at --socket --wait --help' ;;
     keys) echo '--at --socket --wait --help' ;;
@@ -24,8 +24,8 @@ _confstorectl_options() {
     run) echo '--group --checkpoint-after --wait --help' ;;
     backup) echo '--wait --help' ;;
     salvage) echo '--wait --help' ;;
-    format) echo '--in-place --drop-comments --check --explain --help' ;;
-    check) echo '--explain --help' ;;
+    format) echo '--in-place --drop-comments --keep-comments --check --explain --help' ;;
+    check) echo '--keep-comments --explain --help' ;;
     *) echo '--socket --wait --help' ;;
     esac
 }

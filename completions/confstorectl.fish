@@ -101,6 +101,8 @@ complete -c confstorectl -n '__confstorectl_is import' -l if-count -x \
     -d 'Changes the store only if it has accepted N commands'
 complete -c confstorectl -n '__confstorectl_is import' -l check -x \
     -d 'Makes the change only if COMMAND, of a shell, takes the text that comes of it'
+complete -c confstorectl -n '__confstorectl_is import' -l dry-run \
+    -d 'Writes what would change, as `diff -u` does, and changes nothing'
 complete -c confstorectl -n '__confstorectl_is import' -l from -x \
     -d 'Reads a text of another format, as yaml, toml, ini, env, properties or json5'
 complete -c confstorectl -n '__confstorectl_is import' -l document -x \
@@ -117,6 +119,10 @@ complete -c confstorectl -n '__confstorectl_is set' -l whole \
     -d 'Allows the pointer "", which stands for the whole configuration'
 complete -c confstorectl -n '__confstorectl_is set' -l explain \
     -d 'Shows the line at fault of a refused text, and says what to do'
+complete -c confstorectl -n '__confstorectl_is set' -l parents \
+    -d 'Makes what is missing above the pointer, too, and the configuration'
+complete -c confstorectl -n '__confstorectl_is set' -l insert \
+    -d 'Puts the value before the element of a list at the pointer, and replaces none'
 complete -c confstorectl -n '__confstorectl_is set' -l if-value -x \
     -d 'Changes the store only if this text is at the place that is changed'
 complete -c confstorectl -n '__confstorectl_is set' -l if-absent \
@@ -125,6 +131,8 @@ complete -c confstorectl -n '__confstorectl_is set' -l if-count -x \
     -d 'Changes the store only if it has accepted N commands'
 complete -c confstorectl -n '__confstorectl_is set' -l check -x \
     -d 'Makes the change only if COMMAND, of a shell, takes the text that comes of it'
+complete -c confstorectl -n '__confstorectl_is set' -l dry-run \
+    -d 'Writes what would change, as `diff -u` does, and changes nothing'
 complete -c confstorectl -n '__confstorectl_is delete' -l whole \
     -d 'Allows the pointer "", which stands for the whole configuration'
 complete -c confstorectl -n '__confstorectl_is delete' -l if-value -x \
@@ -135,6 +143,10 @@ complete -c confstorectl -n '__confstorectl_is delete' -l if-count -x \
     -d 'Changes the store only if it has accepted N commands'
 complete -c confstorectl -n '__confstorectl_is delete' -l check -x \
     -d 'Makes the change only if COMMAND, of a shell, takes the text that comes of it'
+complete -c confstorectl -n '__confstorectl_is delete' -l dry-run \
+    -d 'Writes what would change, as `diff -u` does, and changes nothing'
+complete -c confstorectl -n '__confstorectl_is copy' -l replace \
+    -d 'Replaces a configuration that has the name TO'
 complete -c confstorectl -n '__confstorectl_is copy' -l if-value -x \
     -d 'Changes the store only if this text is at the place that is changed'
 complete -c confstorectl -n '__confstorectl_is copy' -l if-absent \
@@ -143,6 +155,8 @@ complete -c confstorectl -n '__confstorectl_is copy' -l if-count -x \
     -d 'Changes the store only if it has accepted N commands'
 complete -c confstorectl -n '__confstorectl_is copy' -l check -x \
     -d 'Makes the change only if COMMAND, of a shell, takes the text that comes of it'
+complete -c confstorectl -n '__confstorectl_is copy' -l dry-run \
+    -d 'Writes what would change, as `diff -u` does, and changes nothing'
 complete -c confstorectl -n '__confstorectl_is rename' -l if-value -x \
     -d 'Changes the store only if this text is at the place that is changed'
 complete -c confstorectl -n '__confstorectl_is rename' -l if-absent \
@@ -151,12 +165,16 @@ complete -c confstorectl -n '__confstorectl_is rename' -l if-count -x \
     -d 'Changes the store only if it has accepted N commands'
 complete -c confstorectl -n '__confstorectl_is rename' -l check -x \
     -d 'Makes the change only if COMMAND, of a shell, takes the text that comes of it'
+complete -c confstorectl -n '__confstorectl_is rename' -l dry-run \
+    -d 'Writes what would change, as `diff -u` does, and changes nothing'
 complete -c confstorectl -n '__confstorectl_is edit' -l check -x \
     -d 'Makes the change only if COMMAND, of a shell, takes the text that comes of it'
 complete -c confstorectl -n '__confstorectl_is batch' -l explain \
     -d 'Shows the line at fault of a refused text, and says what to do'
 complete -c confstorectl -n '__confstorectl_is batch' -l check -x \
     -d 'Makes the change only if COMMAND, of a shell, takes the text that comes of it'
+complete -c confstorectl -n '__confstorectl_is batch' -l dry-run \
+    -d 'Writes what would change, as `diff -u` does, and changes nothing'
 complete -c confstorectl -n '__confstorectl_is export' -l json \
     -d 'Writes a JSON text on one line; each text is a string'
 complete -c confstorectl -n '__confstorectl_is export' -l plain \
@@ -204,10 +222,14 @@ complete -c confstorectl -n '__confstorectl_is format' -l in-place \
     -d 'Replaces each FILE that would change by its text in the one style; also `-i`'
 complete -c confstorectl -n '__confstorectl_is format' -l drop-comments \
     -d 'Replaces a FILE with comments too, which are lost'
+complete -c confstorectl -n '__confstorectl_is format' -l keep-comments \
+    -d 'Keeps the comments of each text; of `check`, wants them so'
 complete -c confstorectl -n '__confstorectl_is format' -l check \
     -d 'Changes nothing, and names each FILE that would change'
 complete -c confstorectl -n '__confstorectl_is format' -l explain \
     -d 'Shows the line at fault of a refused text, and says what to do'
+complete -c confstorectl -n '__confstorectl_is check' -l keep-comments \
+    -d 'Keeps the comments of each text; of `check`, wants them so'
 complete -c confstorectl -n '__confstorectl_is check' -l explain \
     -d 'Shows the line at fault of a refused text, and says what to do'
 complete -c confstorectl -n '__confstorectl_at 0 import set delete copy rename edit batch checkpoint export names keys get exists render log verify watch init run backup salvage' \

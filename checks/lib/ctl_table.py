@@ -12,7 +12,7 @@ from lib.store_runs import TOP
 
 sys.path.insert(0, os.path.join(TOP, "python"))
 
-from confstore.ctl_words import CHECKED, FOREIGN, WORDS  # noqa: E402
+from confstore.ctl_words import FOREIGN, PLANNED, SHAPED, WORDS  # noqa: E402
 
 # A row of the help of a word: an argument, or an option, and a row of the words in the help of all.
 ARGUMENT = re.compile(r"(?m)^  (<|\[)([A-Z]+)[>\]](?:\.\.\.)?  +\S")
@@ -21,8 +21,8 @@ LISTED = re.compile(r"(?m)^  ([a-z]+)  +\S")
 
 
 class Shape(NamedTuple):
-    """How a word is written: its arguments, each with whether it may be left out, and its options, each with the name of
-    its value, or nothing."""
+    """How a word is written: its arguments, each with whether it may be left out, and its options, each with the name
+    of its value, or nothing."""
 
     arguments: list[tuple[str, bool]]
     options: dict[str, str]
@@ -63,7 +63,7 @@ def table_of_ctl() -> Table:
     return {
         word.name: Shape(
             [(argument.name, argument.is_optional) for argument in word.arguments],
-            {option.name: option.value for option in word.options if option not in (*FOREIGN, *CHECKED)},
+            {option.name: option.value for option in word.options if option not in (*FOREIGN, *PLANNED, *SHAPED)},
         )
         for word in WORDS.values()
     }

@@ -129,6 +129,16 @@ class Replacements(StoreTest):
         self.try_it(replace, "another folder is there", "--renew-after", "300")
         self.assertEqual(os.listdir(self.folder), [])
 
+    def test_signals_until_the_end(self) -> None:
+        """Whoever tells it to end meanwhile is told that the store was replaced, too."""
+        for number in (signal.SIGTERM, signal.SIGINT, signal.SIGHUP):
+            server = self.serve()
+            self.exchange()
+            self.await_that(lambda: not os.path.exists(self.path), "no more clients are taken")
+            self.assertEqual(server.end_by_many(number), REPLACED, server.errors())
+            os.rename(self.folder, self.other)
+            os.rename(self.moved, self.folder)
+
     def test_a_folder_that_is_gone(self) -> None:
         self.try_it(lambda: os.rename(self.folder, self.moved), "its folder is not there any more")
         self.assertFalse(os.path.exists(self.folder))

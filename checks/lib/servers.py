@@ -135,6 +135,14 @@ class Running:
         self.process.send_signal(number)
         return self.wait()
 
+    def end_by_many(self, number: int) -> int:
+        """Sends a signal again and again until the server has ended."""
+        limit = time.monotonic() + PATIENCE
+        while self.process.poll() is None and time.monotonic() < limit:
+            self.process.send_signal(number)
+            time.sleep(0.0005)
+        return self.wait()
+
     def kilobytes(self, name: str) -> int:
         """A figure of the server's memory."""
         with open(f"/proc/{self.process.pid}/status", encoding="ascii") as status:

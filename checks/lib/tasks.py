@@ -25,6 +25,13 @@ def imported(name: str) -> Any:
 module, stores = imported("modules.confstore"), imported("module_utils.stores")
 
 
+def edit(**options: Any) -> dict[str, Any]:
+    """An edit of a task, as Ansible gives it to the module."""
+    if module is None:
+        return options
+    return {**{name: option.get("default") for name, option in module.EDIT_OPTIONS.items()}, **options}
+
+
 class Options:
     """A module of Ansible, as far as a task looks at it."""
 

@@ -57,7 +57,9 @@ class Word:
         return {**FILES, **self.made, "S/store.yaml": self.store}
 
 
-FILES = {"S/store.yaml": STORE, "FILE": b"port:   80\nhost: [a]\n", "VALUE": b"81"}
+FILES = {
+    "S/store.yaml": STORE, "FILE": b"port:   80\nhost: [a]\n", "VALUE": b"81", "NOTES": b"# all\na:   b # one\n",
+}  # fmt: skip
 
 WORDS = [
     Word("get S web", TEXT),
@@ -88,6 +90,7 @@ WORDS = [
     Word("import S mail -", store=STORE + IMPORT, input=b"a: b\n", file="-"),
     Word("import S mail - --if-absent", store=STORE + IMPORT, input=b"a:   b\n", file="-"),
     Word("copy S web mail", store=STORE + COPY),
+    Word("copy S web mail --replace", store=STORE + COPY),
     Word("rename S web mail", store=STORE + RENAME),
     Word("checkpoint S", store=BASE),
     Word("run S", b'---\nok: "2"\n...\n', store=STORE + SET, input=b"---\nset: web\npath: /port\nvalue: 81\n...\n"),
@@ -96,6 +99,14 @@ WORDS = [
     Word("backup S NEW", made={"NEW/store.yaml": STORE}),
     Word("format -i FILE", made={"FILE": b'port: "80"\nhost:\n  - a\n'}, file="FILE"),
     Word("check FILE", b"FILE:1: S4 the text first differs from the one style here\n", status=1, file="FILE"),
+    Word("format --keep-comments NOTES", b"# all\na: b # one\n", file="NOTES"),
+    Word("format --check --keep-comments NOTES", b"NOTES\n", status=1, file="NOTES"),
+    Word("format -i --keep-comments NOTES", made={"NOTES": b"# all\na: b # one\n"}, file="NOTES"),
+    Word(
+        "check --keep-comments NOTES", b"NOTES:2: S4 the text first differs from the one style here\n", status=1,
+        file="NOTES",
+    ),  # fmt: skip
+    Word("import S mail - --explain", store=STORE + IMPORT, input=b"a:   b\n", file="-"),
 ]
 
 

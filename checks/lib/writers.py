@@ -15,12 +15,12 @@ from collections.abc import Callable, Iterator, Sequence
 from typing import Any, NamedTuple
 
 from .store_runs import PROGRAM, TOP
-from .tasks import Options, module, stores
+from .tasks import Options, edit, module, stores
 
 sys.path.insert(0, os.path.join(TOP, "replicated"))
 os.environ["CONFSTORE"] = PROGRAM
 
-from confstore import ConfstoreError, Locked, Refused, Store, Tree, ctl  # noqa: E402
+from confstore import ConfstoreError, Locked, Reader, Refused, Store, Tree, ctl  # noqa: E402
 from confstore_replicated import Client  # noqa: E402
 
 # How many seconds a store that another writer holds is waited for, and for how many a call may take.
@@ -29,6 +29,10 @@ PAUSE = 0.002
 
 # How many seconds pass between what a writer reads and the change that depends on it.
 BETWEEN = 0.01
+
+# The condition that the number is still the one that was read, and the change to another one.
+TEST = "if:\n- test: web\n  path: /n\n  value: '{}'\n"
+ADD = "set: web\npath: /n\nvalue: '{}'"
 
 
 class Place(NamedTuple):
@@ -40,10 +44,17 @@ class Place(NamedTuple):
 
 
 class Change(NamedTuple):
-    """What is changed: `append` a text, `put` or `delete` a configuration whose text is its name, or `add` one."""
+    """What is changed: `append` a text, `put` or `delete` a configuration whose text is its name, `pair` both `append`
+    it and `put` it in one batch, `add` one to the number, or `claim` a name that another writer may claim, too: the
+    first one puts its text there."""
 
     kind: str
     text: str
+
+    @property
+    def name(self) -> str:
+        """The configuration that is put or deleted. The writers that claim a name have texts with other ends."""
+        return self.text.rpartition("-")[0] if self.kind == "claim" else self.text
 
 
 class Told(NamedTuple):
@@ -101,7 +112,8 @@ def made(store: Store, change: Change) -> Told:
     """What is said of a change that a store is to make."""
     calls: dict[str, Callable[[], int]] = {
         "append": lambda: store.set("web", "/hosts/-", change.text), "put": lambda: store.put(change.text, change.text),
-        "delete": lambda: store.delete(change.text),
+        "delete": lambda: store.delete(change.text), "pair": lambda: paired(store, change.text),
+        "claim": lambda: store.put(change.name, change.text, if_absent=True),
         "add": lambda: store.update("web", "/n", next_number),
     }  # fmt: skip
     try:
@@ -110,21 +122,52 @@ def made(store: Store, change: Change) -> Told:
         return Told("refused")
 
 
+def paired(store: Store, text: str) -> int:
+    with store.batch() as batch:
+        batch.set("web", "/hosts/-", text)
+        batch.put(text, text)
+    assert batch.count is not None
+    return batch.count
+
+
+def number_at(place: Place) -> str:
+    """The number, which others may change meanwhile."""
+    if not place.socket:
+        return str(Reader(place.folder).get("web", "/n"))
+    with Store.connect(place.socket, timeout=PATIENCE) as store:
+        return str(store.get("web", "/n"))
+
+
+def added(place: Place, add: Callable[[str, str], Told]) -> Told:
+    """What is said of a change of the number to the next one, which is tried again while others come between."""
+    deadline = time.monotonic() + PATIENCE
+    while time.monotonic() < deadline:
+        number = number_at(place)
+        if (told := add(number, next_number(number))).word != "refused":
+            return told
+    return Told("refused")
+
+
 def by_words(place: Place) -> Writing:
     """By words of confstorectl."""
     where = ["--socket", place.socket] if place.socket else []
 
-    def write(change: Change) -> Told:
-        with tempfile.NamedTemporaryFile("w") as text:
-            text.write(change.text)
-            text.flush()
-            words = {
-                "append": ["set", "S", "web", "/hosts/-", change.text], "put": ["import", "S", change.text, text.name],
-                "delete": ["delete", "S", change.text],
-            }[change.kind]  # fmt: skip
-            words[1] = place.folder or "S"
-            status = ctl.perform_words([*where, "--wait", str(PATIENCE), *words])
+    def done(word: str, *more: str) -> Told:
+        status = ctl.perform_words([*where, "--wait", str(PATIENCE), word, place.folder or "S", *more])
         return {0: Told("done"), 1: Told("refused")}.get(status, UNKNOWN)
+
+    def write(change: Change) -> Told:
+        if change.kind == "add":
+            return added(place, lambda number, more: done("set", "web", "/n", more, "--if-value", number))
+        pair = f"[{{set: web, path: /hosts/-, value: {change.text}}}, {{import: {change.text}, tree: {change.text}}}]"
+        with tempfile.NamedTemporaryFile("w") as text:
+            text.write(pair if change.kind == "pair" else change.text)
+            text.flush()
+            return done(*{
+                "append": ["set", "web", "/hosts/-", change.text], "put": ["import", change.text, text.name],
+                "delete": ["delete", change.text], "pair": ["batch", text.name],
+                "claim": ["import", change.name, text.name, "--if-absent"],
+            }[change.kind])  # fmt: skip
 
     return write
 
@@ -134,11 +177,15 @@ def by_tasks(place: Place) -> Writing:
     where = {"socket": place.socket} if place.socket else {"folder": place.folder}
 
     def write(change: Change) -> Told:
-        options = {
+        all_options: dict[str, dict[str, Any]] = {
             "append": {"name": "web", "path": "/hosts/-", "value": change.text},
             "put": {"name": change.text, "value": change.text},
             "delete": {"name": change.text, "state": "absent"},
-        }[change.kind]
+            "pair": {"edits": [edit(name="web", path="/hosts/-", value=change.text),
+                               edit(name=change.text, value=change.text)]},
+            "claim": {"name": change.name, "value": change.text, "if_absent": True},
+        }  # fmt: skip
+        options = all_options[change.kind]
         try:
             result = module.result_of_run(Options(wait=float(PATIENCE), **where, **options))
         except stores.Fault as fault:
@@ -171,18 +218,25 @@ def by_library(path: str) -> Callable[[Place], Writing]:
             raise OSError("the library can't connect")
 
         def write(change: Change) -> Told:
-            command = {
-                "append": f"set: web\npath: /hosts/-\nvalue: {change.text}\n...\n",
-                "put": f"import: {change.text}\ntext: {change.text}\n...\n",
-                "delete": f'delete: {change.text}\npath: ""\n...\n',
-            }[change.kind].encode()
-            answer = Bytes()
+            if change.kind == "add":
+                return added(place, lambda number, more: said(f"{TEST.format(number)}{ADD.format(more)}"))
+            return said({
+                "append": f"set: web\npath: /hosts/-\nvalue: {change.text}",
+                "put": f"import: {change.text}\ntext: {change.text}",
+                "delete": f'delete: {change.text}\npath: ""',
+                "pair": f"batch:\n- set: web\n  path: /hosts/-\n  value: {change.text}\n"
+                f"- import: {change.text}\n  tree: {change.text}",
+                "claim": f"if:\n- absent: {change.name}\nimport: {change.name}\ntext: {change.text}",
+            }[change.kind])
+
+        def said(lines: str) -> Told:
+            command, answer = f"{lines}\n...\n".encode(), Bytes()
             if calls.confstore_ask(store, command, ctypes.c_size_t(len(command)), ctypes.byref(answer)) != 0:
                 return UNKNOWN
-            said = ctypes.string_at(answer.data, answer.length).decode()
-            if said.startswith('---\nok: "'):
-                return Told("done", int(said.split('"')[1]))
-            return Told("refused") if said.startswith("---\nrefused: ") else UNKNOWN
+            text = ctypes.string_at(answer.data, answer.length).decode()
+            if text.startswith('---\nok: "'):
+                return Told("done", int(text.split('"')[1]))
+            return Told("refused") if text.startswith("---\nrefused: ") else UNKNOWN
 
         return write
 
@@ -193,12 +247,15 @@ def by_nodes(place: Place) -> Writing:
     """By nodes of a replicated store: a change that has no answer is sent again, to the other one too."""
 
     def write(change: Change) -> Told:
-        request: dict[str, Any] = {
+        requests: dict[str, dict[str, Any]] = {
             "append": {"set": "web", "path": "/hosts/-", "value": change.text},
             "put": {"import": change.text, "text": change.text},
             "delete": {"delete": change.text, "path": ""},
-        }[change.kind]
-        request["id"] = f"{change.kind}-{change.text}"
+            "pair": {"batch": [{"set": "web", "path": "/hosts/-", "value": change.text},
+                               {"import": change.text, "tree": change.text}]},
+            "claim": {"if": [{"absent": change.name}], "import": change.name, "text": change.text},
+        }  # fmt: skip
+        request = {**requests[change.kind], "id": f"{change.kind}-{change.text}"}
         deadline = time.monotonic() + PATIENCE
         for path in again_and_again(place.nodes, deadline):
             with contextlib.suppress(OSError), contextlib.closing(Client(path, PATIENCE)) as client:
@@ -218,15 +275,16 @@ def again_and_again(paths: Sequence[str], deadline: float) -> Iterator[str]:
             time.sleep(PAUSE)
 
 
-PACKAGE = Way(("append", "put", "delete", "add", "add", "add"), by_package)
-WORDS = Way(("append", "put", "delete"), by_words)
-TASKS = Way(("append", "put", "delete"), by_tasks)
-NODES = Way(("append", "put", "delete"), by_nodes)
+KINDS = ("append", "put", "delete", "pair", "claim", "claim")
+PACKAGE = Way((*KINDS, "add", "add"), by_package)
+WORDS = Way((*KINDS, "add"), by_words)
+TASKS = Way(KINDS, by_tasks)
+NODES = Way(KINDS, by_nodes)
 
 
 def library_way(folder: str) -> Way:
     """By the C library, which is built in a folder."""
-    return Way(("append", "put", "delete"), by_library(library(folder)))
+    return Way((*KINDS, "add"), by_library(library(folder)))
 
 
 def note(file: int, *words: object) -> None:

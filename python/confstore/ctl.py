@@ -13,7 +13,8 @@ import signal
 if __name__ == "__main__":
     signal.signal(signal.SIGINT, signal.SIG_DFL)  # it ends this program as it ends confstore, without a trace
 
-import sys  # noqa: E402
+import os  # noqa: E402
+import sys
 import time
 
 from .ctl_asked import Asked, Help, Version, asked_of, wrong
@@ -21,8 +22,8 @@ from .ctl_faults import DEVICE, NOTHING_THERE, OF_TEXTS, REFUSED, WRONG_WORDS, F
 from .ctl_places import NO_SERVER, Place, place_of
 from .ctl_program import Source, is_without_store, program_if_any, run_shown, styled
 from .ctl_streams import ClosedPipe, hold_closed, is_error_terminal, read_text, write, write_error
-from .ctl_words import AT, BATCH, CHECK, EDIT, EXISTS, EXPLAIN, FED, FOREIGN, FROM_FILE, HIDE, IMPORT, LOOKING_BACK
-from .ctl_words import MOVING, OF_PROGRAM, READING, RENDER, RUN, SET, WATCH, YAML_VALUE, Option
+from .ctl_words import AT, BATCH, EDIT, EXISTS, EXPLAIN, FED, FOREIGN, FROM_FILE, HIDE, IMPORT, LOOKING_BACK
+from .ctl_words import MOVING, OF_PROGRAM, PLANNED, READING, RENDER, RUN, SET, SHAPED, WATCH, YAML_VALUE, Option
 
 TYPE_CHECKING = False  # `typing` takes as long to import as all of this
 if TYPE_CHECKING:
@@ -231,11 +232,12 @@ def composed_of(asked: Asked) -> Callable[[Asked], int] | None:
         from .ctl_import import import_foreign
 
         return import_foreign
-    return check_and_do if asked.has(CHECK) else None
+    return plan_and_do if any(asked.has(option) for option in (*PLANNED, *SHAPED)) else None
 
 
-def check_and_do(asked: Asked) -> int:
-    """Does a word whose change a command looks at before. The status. Raises a `Fault`."""
+def plan_and_do(asked: Asked) -> int:
+    """Does a word whose change depends on what is there, or that somebody looks at before. The status. Raises a
+    `Fault`."""
     from .ctl_changes import conditions_of
     from .ctl_check import change
 
@@ -281,8 +283,20 @@ def _help(asked: Help | Version) -> str:
     return help_of(asked.word) if asked.word else help_of_all()
 
 
+def be_in_utf8() -> None:
+    """Begins again in Python's UTF-8 mode where words are taken for another encoding, as in the locale C if Python is
+    told to keep to it. They are UTF-8, as those of confstore."""
+    words = getattr(sys, "orig_argv", [])  # from Python 3.10 on
+    if words and sys.getfilesystemencoding() != "utf-8" and "utf8" not in sys._xoptions:
+        try:
+            os.execv(sys.executable, [sys.executable, "-X", "utf8", *words[1:]])
+        except OSError:
+            pass  # words that are no UTF-8 so are refused
+
+
 def main() -> int:
     """The program. The status."""
+    be_in_utf8()
     signal.signal(signal.SIGINT, signal.SIG_DFL)
     signal.signal(signal.SIGCHLD, signal.SIG_DFL)  # else the system would not say how the program confstore ended
     hold_closed()

@@ -3,9 +3,9 @@
 from __future__ import annotations
 
 from .ctl_faults import Fault, shown
-from .ctl_words import COMMON, FROM_FILE, HELP, HIDE, IF_ABSENT, IF_VALUE, IN_PLACE, JSON, NO_NEWLINE, OTHER_NAMES
-from .ctl_words import PLAIN, RAW, RENDER, SET, SETTLE, SOCKET, VALUES, VERSION, WAIT, WHOLE, WORDS, YAML_RECORDS
-from .ctl_words import YAML_VALUE, Option, Word
+from .ctl_words import COMMON, FROM_FILE, HELP, HIDE, IF_ABSENT, IF_VALUE, IN_PLACE, INSERT, JSON, NO_NEWLINE
+from .ctl_words import OTHER_NAMES, PARENTS, PLAIN, RAW, RENDER, SET, SETTLE, SOCKET, VALUES, VERSION, WAIT, WHOLE
+from .ctl_words import WORDS, YAML_RECORDS, YAML_VALUE, Option, Word
 
 TYPE_CHECKING = False
 if TYPE_CHECKING:
@@ -33,6 +33,7 @@ _EXCLUDING = (
     (RAW, PLAIN),
     (JSON, PLAIN),
     (VALUES, YAML_RECORDS),
+    (PARENTS, INSERT),
 )
 
 

@@ -3,14 +3,14 @@
 from __future__ import annotations
 
 import time
-from typing import Callable, List, Optional
+from typing import Callable, List, Optional, Sequence
 
 from .commands import get_of
 from .conditions import Condition, Test, at_place, move_of, under
 from .ctl_asked import Asked
 from .ctl_faults import Fault
 from .ctl_sockets import PATIENCE, Command, Reply
-from .ctl_words import IF_ABSENT, IF_COUNT, IF_VALUE
+from .ctl_words import COPY, IF_ABSENT, IF_COUNT, IF_VALUE, REPLACE
 from .mapping import MISSING
 
 # Asks a command. Raises the `Fault` of one that is refused.
@@ -18,13 +18,15 @@ Ask = Callable[[Command], Reply]
 
 
 def conditions_of(asked: Asked) -> List[Condition]:
-    """What has to hold for a word to change the store, at the place that it changes."""
-    if not any(asked.has(option) for option in (IF_VALUE, IF_ABSENT, IF_COUNT)):
+    """What has to hold for a word to change the store, at the place that it changes. A copy replaces nothing, unless the
+    words say so."""
+    absent = asked.has(IF_ABSENT) or (asked.word is COPY and not asked.has(REPLACE) and not asked.has(IF_VALUE))
+    if not absent and not any(asked.has(option) for option in (IF_VALUE, IF_COUNT)):
         return []
     name = asked.arguments.get("TO", asked.arguments["NAME"])
     value = asked.options.get(IF_VALUE.name, MISSING)
     count: Optional[int] = int(asked.options[IF_COUNT.name]) if asked.has(IF_COUNT) else None
-    return at_place(name, asked.argument("POINTER"), value, asked.has(IF_ABSENT), count)
+    return at_place(name, asked.argument("POINTER"), value, absent, count)
 
 
 def move(asked: Asked, ask: Ask) -> None:
@@ -32,7 +34,7 @@ def move(asked: Asked, ask: Ask) -> None:
     again."""
     source, conditions, deadline = asked.arguments["NAME"], conditions_of(asked), time.monotonic() + PATIENCE
     while True:
-        if conditions and not _hold(conditions, ask):
+        if conditions and not hold(conditions, ask):
             raise Fault("Unmet")
         tree = ask(get_of(source, "")).tree()
         command = move_of(asked.word.name, source, asked.arguments["TO"], tree)
@@ -44,7 +46,7 @@ def move(asked: Asked, ask: Ask) -> None:
                 raise
 
 
-def _hold(conditions: List[Condition], ask: Ask) -> bool:
+def hold(conditions: Sequence[Condition], ask: Ask) -> bool:
     """Whether conditions hold. It asks for an empty batch, which is refused after they were looked at."""
     try:
         ask(under(conditions, {"batch": []}))

@@ -1,23 +1,27 @@
-"""`--check` of confstorectl: a command judges the configurations that a change would give, before it is made."""
+"""Changes of confstorectl that depend on what is there, or that are looked at before: by the command of `--check`,
+which judges the configurations that a change would give, and by whoever reads what `--dry-run` writes."""
 
 from __future__ import annotations
 
+import difflib
 import os
 import subprocess
 import tempfile
 import time
-from typing import Callable, Dict, List, NamedTuple, Optional, Sequence
+from typing import Callable, Dict, Iterator, List, NamedTuple, Optional, Sequence
 
 from .commands import is_name, put_of
 from .conditions import Absent, Condition, Test, move_of, under
 from .ctl_asked import Asked
+from .ctl_changes import hold
 from .ctl_exchange import Exchange
 from .ctl_faults import Fault, TextFault, shown
 from .ctl_program import program, run
 from .ctl_sockets import PATIENCE, Command, SessionReply, answer_of
-from .ctl_words import CHECK, MOVING
+from .ctl_streams import write
+from .ctl_words import CHECK, DRY_RUN, MOVING, PLANNED, SHAPED
 from .pieces import Cutter
-from .style import Tree, document
+from .style import Tree, document, to_text
 
 REFUSED = "CheckFailed"
 
@@ -57,15 +61,23 @@ def judge(asked: Asked, name: str, text: bytes) -> None:
 
 
 def change(asked: Asked, command: Command, conditions: Sequence[Condition]) -> int:
-    """Makes a change once the command of `--check` has taken all configurations that it gives. The status. Where one of
-    these was changed meanwhile it begins again. Raises a `Fault`."""
-    program()  # it says what the change would give
+    """Makes a change once the command of `--check` has taken all configurations that it gives, or shows it. The status.
+    Where one of these was changed meanwhile it begins again. Raises a `Fault`."""
+    is_looked_at = any(asked.has(option) for option in PLANNED)
+    if is_looked_at:
+        program()  # it says what the change would give
     exchange, deadline = Exchange(asked), time.monotonic() + PATIENCE
     plan = _plan_of(asked, command)
     while True:
         planned = plan(exchange)
-        for name, text in _outcome_of(planned).items():
+        texts = _outcome_of(planned) if is_looked_at else {}
+        for name, text in texts.items() if asked.has(CHECK) else ():
             judge(asked, name, text)
+        if asked.has(DRY_RUN):
+            if conditions and not hold(conditions, exchange.ask):
+                raise Fault("Unmet")
+            write("".join(_differences(planned.trees, texts)).encode())
+            return 0
         try:
             exchange.ask(under([*conditions, *planned.guards], planned.command))
             return 0
@@ -75,8 +87,26 @@ def change(asked: Asked, command: Command, conditions: Sequence[Condition]) -> i
                 raise
 
 
+def _differences(before: Dict[str, Optional[Tree]], after: Dict[str, bytes]) -> Iterator[str]:
+    """The lines that differ of each configuration that a change gives or removes."""
+    for name, tree in before.items():
+        old = to_text(tree) if tree is not None else ""
+        new = after[name].decode() if name in after else ""
+        files = name if tree is not None else "/dev/null", name if name in after else "/dev/null"
+        yield from difflib.unified_diff(old.splitlines(keepends=True), new.splitlines(keepends=True), *files)
+
+
 def _plan_of(asked: Asked, command: Command) -> Callable[[Exchange], _Planned]:
     """What makes the change for what is there."""
+    if any(asked.has(option) for option in SHAPED):
+        from .ctl_placing import placed
+
+        def plan_of_place(exchange: Exchange) -> _Planned:
+            name = asked.arguments["NAME"]
+            tree = exchange.tree(name)
+            return _Planned(placed(asked, command["value"], tree), {name: tree})
+
+        return plan_of_place
     if asked.word not in MOVING:
         return lambda exchange: _Planned(command, {name: exchange.tree(name) for name in _names_of(command)})
     source, target = asked.arguments["NAME"], asked.arguments["TO"]

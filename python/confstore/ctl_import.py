@@ -18,7 +18,7 @@ from .ctl_faults import Fault, TextFault, hint_of, shown, unread
 from .ctl_program import Source, styled
 from .ctl_sockets import Command
 from .ctl_streams import MOST_INPUT, read_text, write_error
-from .ctl_words import CHECK, DIR, DOCUMENT, EXPLAIN, FORMAT, IF_ABSENT, IF_COUNT, IF_VALUE, IMPORT, SPLIT
+from .ctl_words import DIR, DOCUMENT, EXPLAIN, FORMAT, IF_ABSENT, IF_COUNT, IF_VALUE, IMPORT, PLANNED, SPLIT
 from .faults import ConfstoreError
 from .foreign import Document, Notes, Unread
 from .style import Tree, to_text
@@ -74,7 +74,7 @@ def import_foreign(asked: Asked) -> int:
     has_many = asked.has(SPLIT) or asked.has(DIR)
     command: Command = {"batch": edits} if has_many else import_of(*found[0])
     conditions = _conditions_of(asked, found) if has_many else conditions_of(asked)
-    if asked.has(CHECK):
+    if any(asked.has(option) for option in PLANNED):
         return change(asked, command, conditions)
     Exchange(asked).ask(under(conditions, command))
     return 0

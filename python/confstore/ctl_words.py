@@ -66,6 +66,9 @@ DOCUMENT = Option("--document", "Of a YAML text with several documents takes num
 SPLIT = Option("--split", "Imports each document of a YAML text; {n} in NAME stands for its number")
 DIR = Option("--dir", "Imports each file of the folder DIR; {file} in NAME stands for its name", "DIR")
 CHECK = Option("--check", "Makes the change only if COMMAND, of a shell, takes the text that comes of it", "COMMAND")
+DRY_RUN = Option("--dry-run", "Writes what would change, as `diff -u` does, and changes nothing")
+PARENTS = Option("--parents", "Makes what is missing above the pointer, too, and the configuration")
+INSERT = Option("--insert", "Puts the value before the element of a list at the pointer, and replaces none")
 IF_VALUE = Option("--if-value", "Changes the store only if this text is at the place that is changed", "TEXT")
 IF_ABSENT = Option("--if-absent", "Changes the store only if nothing is at the place that is changed")
 IF_COUNT = Option("--if-count", "Changes the store only if it has accepted N commands", "N")
@@ -88,11 +91,16 @@ JSON = Option("--json", "Writes a JSON text on one line; each text is a string")
 JSON_NAMES = Option("--json", "Writes a JSON array on one line")
 PLAIN = Option("--plain", "Writes texts as 80, true and null without quotes, for readers with types")
 
+# That of `copy` alone.
+REPLACE = Option("--replace", "Replaces a configuration that has the name TO")
+
 # Those of each word that changes what is at one place.
 CONDITIONS = (IF_VALUE, IF_ABSENT, IF_COUNT)
 
-# Those of each word that changes a configuration, which confstore does not have.
+# Those of the words that change a configuration, which confstore does not have; and those of `set`.
 CHECKED = (CHECK,)
+PLANNED = (CHECK, DRY_RUN)
+SHAPED = (PARENTS, INSERT)
 
 # Those of `import` for texts of other formats, which confstore does not have.
 FOREIGN = (FORMAT, DOCUMENT, SPLIT, DIR)
@@ -104,6 +112,7 @@ CHECKPOINT_AFTER = Option(
 )
 IN_PLACE = Option("--in-place", "Replaces each FILE that would change by its text in the one style; also `-i`")
 DROP_COMMENTS = Option("--drop-comments", "Replaces a FILE with comments too, which are lost")
+KEEP_COMMENTS = Option("--keep-comments", "Keeps the comments of each text; of `check`, wants them so")
 CHECK_ONLY = Option("--check", "Changes nothing, and names each FILE that would change")
 
 FOLDER = Argument("FOLDER", "The store's folder")
@@ -121,7 +130,7 @@ WATCHED_NAME = Argument("NAME", "The configuration; all of them if it is left ou
 IMPORT = Word(
     "import",
     "Reads a YAML text, and puts its tree under a name",
-    (INIT, EXPLAIN, *CONDITIONS, *CHECKED, *FOREIGN),
+    (INIT, EXPLAIN, *CONDITIONS, *PLANNED, *FOREIGN),
     (FOLDER, NAME, FILE),
     (
         "A configuration that has the name is replaced. Nothing is printed where it is done. Comments and quotes are"
@@ -151,7 +160,7 @@ IMPORT = Word(
 SET = Word(
     "set",
     "Sets the value at a JSON Pointer of a configuration",
-    (YAML_VALUE, FROM_FILE, WHOLE, EXPLAIN, *CONDITIONS, *CHECKED),
+    (YAML_VALUE, FROM_FILE, WHOLE, EXPLAIN, *SHAPED, *CONDITIONS, *PLANNED),
     (FOLDER, NAME, POINTER, VALUE),
     (
         "VALUE is the text itself. With `--yaml` it is read as a YAML text, so that a list or a mapping can be set;"
@@ -160,11 +169,17 @@ SET = Word(
         " configuration."
         " The step `-` stands for the place behind the last element of a list. Nothing is printed where it is done.",
         "If a condition does not hold, nothing changes (Unmet).",
+        "With `--parents` the mappings that are missing above the pointer are made, lists where a step is `-`, and the"
+        " configuration if none has the name. With `--insert` the value gets the place of an element of a list, and"
+        " those from there on move by one; the list is set anew. Both are tried again where somebody changes the"
+        " configuration meanwhile.",
     ),
     (
         "confstorectl set store web /port 80",
         "confstorectl set store web /tags '[a, b]' --yaml",
         "confstorectl set store web /tags/- c",
+        "confstorectl set store web /tags/0 first --insert",
+        "confstorectl set store web /tls/cert /etc/cert.pem --parents",
         "confstorectl set store web /port 81 --if-value 80",
         "confstorectl set store web /key --file key.pem",
     ),
@@ -172,7 +187,7 @@ SET = Word(
 DELETE = Word(
     "delete",
     "Removes a configuration, or what is at a JSON Pointer of it",
-    (WHOLE, *CONDITIONS, *CHECKED),
+    (WHOLE, *CONDITIONS, *PLANNED),
     (FOLDER, NAME, WHOLE_POINTER),
     (
         "Nothing is printed where it is done. Without POINTER the whole configuration is removed; the pointer \"\""
@@ -187,22 +202,22 @@ DELETE = Word(
 COPY = Word(
     "copy",
     "Puts a copy of a configuration under another name",
-    (*CONDITIONS, *CHECKED),
+    (REPLACE, *CONDITIONS, *PLANNED),
     (FOLDER, NAME, TO),
     (
-        "A configuration that has the name TO is replaced, unless `--if-absent` is given. All of it is done or nothing,"
-        " in one command. Nothing is printed where it is done. If a condition does not hold, nothing changes (Unmet);"
-        " `--if-value` and `--if-absent` look at TO.",
+        "A configuration that has the name TO is replaced only with `--replace`, or where `--if-value` holds of it; else"
+        " nothing changes (Unmet). All of it is done or nothing, in one command. Nothing is printed where it is done. If"
+        " a condition does not hold, nothing changes (Unmet); `--if-value` looks at TO.",
     ),
     (
         "confstorectl copy store web web-old",
-        "confstorectl copy store web web-old --if-absent",
+        "confstorectl copy store web web-old --replace",
     ),
 )
 RENAME = Word(
     "rename",
     "Gives a configuration another name",
-    (*CONDITIONS, *CHECKED),
+    (*CONDITIONS, *PLANNED),
     (FOLDER, NAME, TO),
     (
         "A configuration that has the name TO is replaced, unless `--if-absent` is given; it keeps the place of TO"
@@ -236,7 +251,7 @@ EDIT = Word(
 BATCH = Word(
     "batch",
     "Makes all edits of a list, or none of them",
-    (EXPLAIN, *CHECKED),
+    (EXPLAIN, *PLANNED),
     (FOLDER, FILE),
     (
         "The text is a YAML list. Each edit is a mapping with the keys `import` and `text`, or `import` and `tree`; or"
@@ -462,11 +477,11 @@ SALVAGE = Word(
 FORMAT_TEXT = Word(
     "format",
     "Writes the tree of a YAML text in the one style",
-    (IN_PLACE, DROP_COMMENTS, CHECK_ONLY, EXPLAIN),
+    (IN_PLACE, DROP_COMMENTS, KEEP_COMMENTS, CHECK_ONLY, EXPLAIN),
     (FILES,),
     (
         "It needs no store. One FILE, or standard input, is written to standard output. More of them need `--in-place`"
-        " or `--check`. With `--check` the status is 1 where a FILE would change.",
+        " or `--check`. With `--check` the status is 1 where a FILE would change. Comments stay with `--keep-comments`.",
     ),
     (
         "confstorectl format < web.yaml",
@@ -477,7 +492,7 @@ FORMAT_TEXT = Word(
 CHECK_TEXT = Word(
     "check",
     "Writes where YAML texts depart from the one style",
-    (EXPLAIN,),
+    (KEEP_COMMENTS, EXPLAIN),
     (FILES,),
     ("It needs no store. Each finding is one line, and the status is 1 then. confstore(1) has the rules.",),
     ("confstorectl check web.yaml",),

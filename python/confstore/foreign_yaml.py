@@ -24,8 +24,6 @@ LARGEST = 4_194_304
 DEEPEST = 150
 
 _CORE = "tag:yaml.org,2002:"
-_TEMPLATE = "; a template has to be rendered first"
-
 
 # A line and a column, from 1.
 Place = Tuple[int, int]
@@ -45,6 +43,11 @@ class _Open:
         return {**self.merged, **self.tree} if self.merged and isinstance(self.tree, dict) else self.tree
 
 
+def _hint(text: str) -> str:
+    """What to do with a text that is refused, if it looks like a template."""
+    return "; a template has to be rendered first" if "{{" in text or "{%" in text else ""
+
+
 def _place(event: Any) -> Place:
     return event.start_mark.line + 1, event.start_mark.column + 1
 
@@ -52,8 +55,9 @@ def _place(event: Any) -> Place:
 class _Reader:
     """Makes the documents of a stream of events."""
 
-    def __init__(self) -> None:
+    def __init__(self, hint: str) -> None:
         self.documents: List[Document] = []
+        self._hint = hint
         self._begin()
 
     def _begin(self) -> None:
@@ -150,7 +154,7 @@ class _Reader:
 
     def _key(self, place: Place, around: Dict[str, Tree], key: Tree) -> str:
         if not isinstance(key, str):
-            raise Unread("KeyNotText", "a key is a list or a mapping", *place)
+            raise Unread("KeyNotText", "a key is a list or a mapping" + self._hint, *place)
         if key in around:
             raise Unread("KeyTwice", f'"{key}" is there already', *place)
         return key
@@ -158,14 +162,14 @@ class _Reader:
 
 def read_yaml(text: str) -> List[Document]:
     """The documents of a YAML text. Raises `Unread`."""
-    reader = _Reader()
+    hint = _hint(text)
+    reader = _Reader(hint)
     try:
         for event in _parse(text, Loader=_LOADER):
             reader.take(event)
     except yaml.MarkedYAMLError as error:
         mark, detail = error.problem_mark or error.context_mark, error.problem or error.context or "no YAML"
-        more = _TEMPLATE if "{{" in text or "{%" in text else ""
-        raise Unread("Syntax", detail + more, *((mark.line + 1, mark.column + 1) if mark else ())) from None
+        raise Unread("Syntax", detail + hint, *((mark.line + 1, mark.column + 1) if mark else ())) from None
     except yaml.reader.ReaderError as error:
         line = text.count("\n", 0, error.position) + 1
         raise Unread("Syntax", f"YAML has no character U+{ord(str(error.character)):04X}", line, 1) from None

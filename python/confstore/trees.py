@@ -11,7 +11,6 @@ from .style import Tree
 from .written import DEEPEST
 
 _LOADER: Any = getattr(yaml, "CBaseLoader", yaml.BaseLoader)
-_parse: Any = yaml.parse
 
 # What is raised where a text has no trees, or not as many as are expected.
 NO_TREES = (yaml.YAMLError, ValueError, BadAnswer)
@@ -66,9 +65,13 @@ def _check_plain(event: Any) -> None:
 
 def trees_of(text: Union[str, bytes]) -> List[Tree]:
     """The trees of a stream of documents in the one style. Raises `BadAnswer`, or what PyYAML raises, for others."""
-    builder = _Builder()
-    for event in _parse(text, Loader=_LOADER):
-        builder.take(event)
+    builder, loader = _Builder(), _LOADER(text)
+    try:
+        # Not by `yaml.parse`, which is a generator: what a signal's handler raises while one is closed would be lost.
+        while loader.check_event():
+            builder.take(loader.get_event())
+    finally:
+        loader.dispose()
     return builder.trees
 
 

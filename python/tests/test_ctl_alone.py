@@ -8,6 +8,7 @@ import signal
 import subprocess
 import sys
 import time
+import unittest
 from typing import Callable
 
 from confstore import Reader, Store
@@ -53,6 +54,23 @@ class WordsOfTheProgram(StoreTest):
         status, output, line = self.ctl("run", self.folder, "--checkpoint-after", "5")
         self.assertEqual((status, output), (2, ""))
         self.assertRegex(line, "^confstorectl: WrongWords: .*--group.*: confstorectl run ")
+
+    @unittest.skipUnless(hasattr(sys, "orig_argv"), "Python 3.9 doesn't say how it was started")
+    def test_words_in_another_locale(self) -> None:
+        """Words are UTF-8 in each locale, also where Python is told to take them for something else."""
+        ascii_words = {"LC_ALL": "C", "PYTHONUTF8": "0", "PYTHONCOERCECLOCALE": "0", "PYTHONPATH": python_path()}
+        self.assertEqual(self.ctl("init", folder := os.path.join(self.top, "\u00e9"))[0], 0)
+        rows = ("import {} web", ""), ("set {} web /\u00e4 \u20ac", ""), ("get {} web /\u00e4 --raw", "\u20ac\n")
+        for more in (ascii_words, {"LC_ALL": "C.UTF-8", "PYTHONPATH": python_path()}):
+            for word, wanted in rows:
+                done = subprocess.run(
+                    [sys.executable, "-m", "confstore.ctl", *(part.encode() for part in word.format(folder).split())],
+                    input=b"a: b\n", capture_output=True, check=False, env={**os.environ, **more}, timeout=PATIENCE,
+                )  # fmt: skip
+                self.assertEqual((done.returncode, done.stdout.decode(), done.stderr), (0, wanted, b""), word)
+            bad = [*map(os.fsencode, (sys.executable, "-m", "confstore.ctl", "set", folder, "web", "/a")), b"\xe9"]
+            done = subprocess.run(bad, capture_output=True, check=False, env={**os.environ, **more}, timeout=PATIENCE)
+            self.assertEqual((done.returncode, b"are not UTF-8" in done.stderr), (2, True))
 
     def test_beside_a_server(self) -> None:
         """A server holds the store: `run` is refused after it has waited, and `backup` is done."""

@@ -71,11 +71,12 @@ class Changes(AnswerTest):
         put: dict[str, Any] = {"import": "old", "text": 'port: "80"\n'}
         commands: dict[str, dict[str, Any]] = {"copy": put, "rename": {"batch": [{"delete": "web", "path": ""}, put]}}
         for word, command in commands.items():
+            words = (word, "S", "web", "old", *(["--replace"] if word == "copy" else []))
             self.answered(VALUE, OK)
-            self.assertEqual(self.perform(word, "S", "web", "old"), (0, b"", ""))
+            self.assertEqual(self.perform(*words), (0, b"", ""))
             self.assertEqual(self.asked(), [{"get": "web", "path": ""}, {"if": [still], **command}])
             self.answered(VALUE, UNMET, VALUE, OK)
-            self.assertEqual(self.perform(word, "S", "web", "old"), (0, b"", ""))
+            self.assertEqual(self.perform(*words), (0, b"", ""))
             self.assertEqual(len(self.heard), 4)
             wanted = [{"absent": "old"}, {"count": "4"}]
             self.answered(EMPTY, VALUE, OK)
@@ -85,9 +86,14 @@ class Changes(AnswerTest):
             self.answered(EMPTY, VALUE, UNMET, UNMET)
             self.assertEqual(self.fault(word, "S", "web", "old", "--if-absent"), (1, "Unmet"))
             self.answered(b"---\nrefused: NoConfig\n...\n")
-            self.assertEqual(self.fault(word, "S", "web", "old"), (1, "NoConfig"))
+            self.assertEqual(self.fault(*words), (1, "NoConfig"))
             self.answered(VALUE, b"---\nrefused: BadName\n...\n")
-            self.assertEqual(self.fault(word, "S", "web", "9"), (1, "BadName"))
+            self.assertEqual(self.fault(*words), (1, "BadName"))
+        self.answered(EMPTY, VALUE, OK)
+        self.assertEqual(self.perform("copy", "S", "web", "old"), (0, b"", ""))
+        self.assertEqual(self.asked()[2], {"if": [{"absent": "old"}, still], **commands["copy"]})
+        self.answered(UNMET)
+        self.assertEqual(self.fault("copy", "S", "web", "old"), (1, "Unmet"))
 
     def test_a_node_that_knows_no_conditions(self) -> None:
         self.answered(b'{"refused": "BadCommand"}\n')

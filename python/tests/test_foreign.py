@@ -102,9 +102,13 @@ class Yaml(ForeignTest):
                 (laughs, ("LargeInStyle", 7, 17)),
             ),
         )  # fmt: skip
+        for text in ("{{- if .Values.a }}\na: b\n", "a: {{ .Values.a }}\n", "{% for a in b %}\nc: d\n", "{{ a }}: b\n"):
+            with self.subTest(text), self.assertRaises(Unread) as caught:
+                read_yaml(text)
+            self.assertIn("a template has to be rendered first", caught.exception.detail)
         with self.assertRaises(Unread) as caught:
-            read_yaml("{{- if .Values.a }}\na: b\n")
-        self.assertIn("a template has to be rendered first", caught.exception.detail)
+            read_yaml("? [a]\n: b\n")
+        self.assertNotIn("template", caught.exception.detail)
 
     def test_depth_ends_nothing(self) -> None:
         for text in ("[" * 100_000, "- " * 50_000, "{a: " * 50_000):

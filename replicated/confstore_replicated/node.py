@@ -33,7 +33,6 @@ import argparse
 import os
 import signal
 import sys
-import threading
 import time
 import uuid
 from contextlib import ExitStack, contextmanager
@@ -56,6 +55,7 @@ PATIENCE = 30.0
 
 # How many seconds the follower may take to end.
 ENDING = 10.0
+END_SIGNALS = (signal.SIGTERM, signal.SIGINT)
 
 # The longest `id`.
 LONGEST_ID = 200
@@ -351,26 +351,29 @@ def main() -> int:
         return _run(_parser().parse_args(), ends)
     finally:
         ends.close()
+        for number in END_SIGNALS:  # all is done, and no signal may change the status any more
+            signal.signal(number, signal.SIG_IGN)
 
 
 def _run(words: argparse.Namespace, ends: ExitStack) -> int:
     server: Optional[Server] = None
-    is_told_to_end = threading.Event()
+    is_told_to_end = False
 
     def end(*_: object) -> None:
-        is_told_to_end.set()
+        nonlocal is_told_to_end
+        is_told_to_end = True
         if server is not None:
-            threading.Thread(target=server.end, daemon=True).start()
+            server.end()
 
-    signal.signal(signal.SIGTERM, end)
-    signal.signal(signal.SIGINT, end)
+    for number in END_SIGNALS:
+        signal.signal(number, end)
     try:
         node = _node_of(words, ends)
         server = Server(words.socket, words.folder, node.answer, node.counts)
     except (OSError, Fault, ValueError, NotReplicated) as fault:
         print(f"node: {fault}", file=sys.stderr)
         return 1
-    if is_told_to_end.is_set():
+    if is_told_to_end:
         server.end()
     node.follower.start()
     print("ready", flush=True)

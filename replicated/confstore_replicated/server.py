@@ -216,13 +216,13 @@ class Server:
             raise
         self._clients: Set[_Client] = set()
         self._lock = threading.Lock()
-        self._is_ended = threading.Event()
+        self._is_ended = False
         self._bell, self._ear = socket.socketpair()
 
     def serve(self) -> None:
         """Serves until `end` is called."""
         try:
-            while not self._is_ended.is_set():
+            while not self._is_ended:
                 ready, _, _ = select.select([self._listener.socket, self._ear], [], [])
                 if self._listener.socket in ready and self._has_place():
                     self._accept()
@@ -233,11 +233,16 @@ class Server:
             self._ear.close()
 
     def end(self) -> None:
-        self._is_ended.set()
+        """Has `serve` end, from any thread or from a handler of a signal: it takes no lock, and waits for nothing."""
+        self._is_ended = True
         try:
-            self._bell.send(b".")
-        except OSError:  # it has ended
+            self._bell.send(b".", socket.MSG_DONTWAIT)
+        except OSError:  # it has ended, or was told to by many
             pass
+
+    def _pause(self, seconds: float) -> None:
+        """Waits for so long, or until this server is told to end."""
+        select.select([self._ear], [], [], seconds)
 
     def _has_place(self) -> bool:
         """Whether one more client may be served. If not, cuts off the one that asked nothing for the longest time, if
@@ -250,7 +255,7 @@ class Server:
         waited: List[_Client] = [client for since, client in sorted(idle, key=lambda pair: pair[0]) if since < late]
         if waited:
             waited[0].cut_off()
-        self._is_ended.wait(TURN / 20 if waited else TURN)
+        self._pause(TURN / 20 if waited else TURN)
         return False
 
     def _accept(self) -> None:
@@ -259,7 +264,7 @@ class Server:
         except BlockingIOError:
             return
         except OSError:  # as where there are no more descriptors
-            self._is_ended.wait(TURN)
+            self._pause(TURN)
             return
         if not may_write(peer_of(connection), self._folder):  # its access was taken away since the start
             connection.close()

@@ -422,6 +422,20 @@ class Process(NodeTest):
         self.assertEqual(process.wait(30), 0)
         self.assertEqual((os.path.exists(self.where), os.path.exists(self.path)), (False, False))
 
+    def test_signals_until_the_end(self) -> None:
+        """However late one more signal comes, it changes no status, and leaves no trace."""
+        for number in (signal.SIGTERM, signal.SIGINT) * 2:
+            process = self.start(self.where)
+            until(self.is_healthy)
+            until(lambda: os.path.exists(self.path))
+            limit = time.monotonic() + 30
+            while process.poll() is None and time.monotonic() < limit:
+                process.send_signal(number)
+                time.sleep(0.0005)
+            assert process.stderr
+            self.assertEqual((process.wait(30), process.stderr.read()), (0, ""))
+            self.assertEqual((os.path.exists(self.where), os.path.exists(self.path)), (False, False))
+
     def test_addresses_that_are_none(self) -> None:
         for where in ("0.0.0.0:9000", "127.0.0.1:0", "127.0.0.1:65536", "name"):
             process = self.start(where)

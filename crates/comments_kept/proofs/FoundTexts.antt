@@ -12,14 +12,8 @@ use Rattle.yaml_grammar.specs.Events.{Event}
 use Rattle.yaml_comments.specs.declared.find.Comment.{Comment}
 use Rattle.yaml_comments.specs.Comments.{AreComments, IsNext, comment_at}
 use Rattle.yaml_comments.specs.Found.{place_of, places_of}
-use Rattle.comments_kept.specs.declared.weaver.Placed.{Placed}
-use Rattle.comments_kept.specs.Keeping.{AreTexts, texts_at}
-use Rattle.comments_kept.specs.Weaving.{texts_of}
-
--- one more text
-pub texts_more : (ps : List Placed) (p : Placed) (ts : List (List ℕ)) → texts_of (ps ++ p ∷ []) ++ ts ≡ texts_of ps ++ chars p.text.now ∷ ts
-texts_more [] p ts = refl
-texts_more (q ∷ ps) p ts = ap (λ us. chars q.text.now ∷ us) (texts_more ps p ts)
+use Rattle.comments_kept.specs.Keeping.{AreTexts, texts_at, without_white}
+use Rattle.comments_kept.proofs.BlankEnds.{trimmed_lines}
 
 -- ---- what may be in a comment is a character
 
@@ -65,14 +59,26 @@ are_texts bytes es from (c ∷ cs) (t ∷ ts) are e fit =
       are_texts bytes es c.end cs ts are.1 (ap rest_of e) p.1,
     )
 
--- they are these
-pub same_texts : (bytes : List ℕ) (cs : List Comment) (ts : List (List ℕ))
-    → map (comment_at bytes) (places_of cs) ≡ map encode_utf8_all ts → list_all (list_all nb) ts ≡ true → texts_at bytes cs ≡ ts
-same_texts bytes [] [] e fit = refl
-same_texts bytes [] (t ∷ ts) e fit = cc
-same_texts bytes (c ∷ cs) [] e fit = cc
-same_texts bytes (c ∷ cs) (t ∷ ts) e fit =
+-- they are on lines
+pub lines_at : (bytes : List ℕ) (cs : List Comment) (ts : List (List ℕ))
+    → map (comment_at bytes) (places_of cs) ≡ map encode_utf8_all ts → list_all (list_all nb) ts ≡ true
+    → list_all (list_all nb) (texts_at bytes cs) ≡ true
+lines_at bytes [] ts e fit = refl
+lines_at bytes (c ∷ cs) [] e fit = absurd (cc)
+lines_at bytes (c ∷ cs) (t ∷ ts) e fit =
     let p = and_parts (list_all nb t) (list_all (list_all nb) ts) fit in
-    ap₂ (λ x xs. x ∷ xs)
-    (ap (λ (l : List (List ℕ)). chars (get_or l 0 [])) e ∙ chars-encodes t (nb_scalars t p.0))
-    (same_texts bytes cs ts (ap rest_of e) p.1)
+    let here : chars (comment_at bytes (place_of c)) ≡ t =
+    ap (λ (l : List (List ℕ)). chars (get_or l 0 [])) e ∙ chars-encodes t (nb_scalars t p.0) in
+    and_from _ _ (trimmed_lines (chars (comment_at bytes (place_of c))) (ap (list_all nb) here ∙ p.0))
+    (lines_at bytes cs ts (ap rest_of e) p.1)
+
+-- they are written by what is behind their `#`
+pub written_at : (bytes : List ℕ) (cs : List Comment)
+    → map without_white (map (comment_at bytes) (places_of cs)) ≡ map encode_utf8_all (texts_at bytes cs)
+written_at bytes [] = refl
+written_at bytes (c ∷ cs) = ap (λ ts. without_white (comment_at bytes (place_of c)) ∷ ts) (written_at bytes cs)
+
+-- without places there are no comments
+pub none_found : (bytes : List ℕ) (cs : List Comment) → map (comment_at bytes) (places_of cs) ≡ [] → cs ≡ []
+none_found bytes [] e = refl
+none_found bytes (c ∷ cs) e = cc

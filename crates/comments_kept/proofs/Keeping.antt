@@ -18,11 +18,13 @@ use Rattle.yaml_comments.specs.declared.find.Comment.{Comment}
 use Rattle.yaml_comments.specs.Found.{places_of}
 use Rattle.yaml_comments.specs.Comments.{HasComments, AreComments, comment_at}
 use Rattle.yaml_comments.specs.CommentLaws.{CommentedComments, CommentsOnce, CommentsOnLines, AreOnLines}
+use Rattle.comments_kept.specs.declared.weaver.Placed.{Placed}
 use Rattle.comments_kept.specs.Keeping.{with_bytes, GivesSameTree, HasSameComments, IsStyledIfBare, AreTexts, texts_at}
-use Rattle.comments_kept.specs.Weaving.{IsWoven}
-use Rattle.comments_kept.proofs.FoundTexts.{are_texts, same_texts}
+use Rattle.comments_kept.specs.Keeping.{HasNoBlankLine, without_white}
+use Rattle.comments_kept.specs.Weaving.{IsWoven, texts_of}
+use Rattle.comments_kept.proofs.FoundTexts.{are_texts, lines_at}
 
-module _ (bytes text : List ℕ) (limits : Limits) (t : Tree) (cs : List (List ℕ)) (w : IsWoven t cs text)
+module _ (bytes text : List ℕ) (limits : Limits) (t : Tree) (kept : List Placed) (w : IsWoven t kept text)
     (read : IsRead bytes limits t) where
   -- the same tree
   pub same_tree : CommentedReads → IsUtf8 text → GivesSameTree bytes limits text
@@ -45,35 +47,30 @@ module _ (bytes text : List ℕ) (limits : Limits) (t : Tree) (cs : List (List �
       }
 
   -- the same comments
-  pub same_comments : CommentedComments → (found : List (List ℕ)) → found ≡ map encode_utf8_all cs → HasComments bytes found
-      → HasSameComments bytes text
+  pub same_comments : CommentedComments → (found : List (List ℕ)) → map without_white found ≡ map encode_utf8_all (texts_of kept)
+      → HasComments bytes found → HasSameComments bytes text
   same_comments law found are has = record {
     comments = found;
     has = has;
-    again = subst (λ bs. HasComments bs found) (sym w.spells)
+    again = subst (λ bs. HasComments bs (map without_white found)) (sym w.spells)
         (subst (HasComments (encode_utf8_all (commented_text w.lead t w.trails))) (ap (map encode_utf8_all) w.has ∙ sym are)
         (law w.lead t w.trails read.gives.good.texts w.fits));
   }
 
-  -- without comments it is in the one style
+  -- without comments and blank lines it is in the one style
   pub styled_if_bare : BareIsStyle → CommentsOnce → ((bs : List ℕ) (ls : Limits) (u v : Tree) → IsRead bs ls u → IsRead bs ls v → u ≡ v)
-      → (found : List (List ℕ)) → found ≡ map encode_utf8_all cs → HasComments bytes found → IsStyledIfBare bytes limits text
-  styled_if_bare law once one found are has = λ u none reads.
-      let bare = w.bare (nothing cs (sym are ∙ once bytes found [] has none)) in
+      → (found : List (List ℕ)) → HasComments bytes found → (HasNoBlankLine bytes → found ≡ [] → kept ≡ [])
+      → IsStyledIfBare bytes limits text
+  styled_if_bare law once one found has nothing = λ u lines none reads.
+      let bare = w.bare (nothing lines (once bytes found [] has none)) in
       w.spells ∙ ap encode_utf8_all (ap (λ lead. commented_text lead t w.trails) bare.0 ∙ law t w.trails bare.1
       ∙ ap style_text (one bytes limits t u read reads))
-    where
-      nothing : (ts : List (List ℕ)) → map encode_utf8_all ts ≡ [] → ts ≡ []
-      nothing [] e = refl
-      nothing (x ∷ xs) e = cc
 
 -- ---- the comments that were found
 
 -- these are the comments of the bytes, each on one line
 pub record AreFound (bytes : List ℕ) (cs : List Comment) : Type 0 where
-  pub texts : List (List ℕ)
-  pub written : map (comment_at bytes) (places_of cs) ≡ map encode_utf8_all texts
-  pub lines : list_all (list_all nb) texts ≡ true
+  pub lines : list_all (list_all nb) (texts_at bytes cs) ≡ true
   pub has : HasComments bytes (map (comment_at bytes) (places_of cs))
   pub are : AreTexts bytes cs
 
@@ -85,18 +82,7 @@ found bytes es cs utf8 reads are law =
     record { events = es; reads = reads; places = places_of cs; are = are; written = refl } in
     let on : AreOnLines (map (comment_at bytes) (places_of cs)) = law bytes (map (comment_at bytes) (places_of cs)) utf8 has in
     record {
-      texts = on.texts;
-      written = on.written;
-      lines = on.lines;
+      lines = lines_at bytes cs on.texts on.written on.lines;
       has = has;
       are = are_texts bytes es 0 cs on.texts are on.written on.lines;
     }
-
--- their texts are on lines
-pub found_lines : (bytes : List ℕ) (cs : List Comment) → AreFound bytes cs → list_all (list_all nb) (texts_at bytes cs) ≡ true
-found_lines bytes cs f = ap (list_all (list_all nb)) (same_texts bytes cs f.texts f.written f.lines) ∙ f.lines
-
--- they are written by their texts
-pub found_written : (bytes : List ℕ) (cs : List Comment) → AreFound bytes cs
-    → map (comment_at bytes) (places_of cs) ≡ map encode_utf8_all (texts_at bytes cs)
-found_written bytes cs f = f.written ∙ ap (map encode_utf8_all) (sym (same_texts bytes cs f.texts f.written f.lines))

@@ -1,7 +1,9 @@
-pub mod Weaving
+mod BlankEnds
+mod Planning
+pub mod FoundTexts
+pub mod Keeping
 pub mod LineEnds
 pub mod ScalarParts
 pub mod Walks
+pub mod Weaving
 pub mod Wholes
-pub mod FoundTexts
-pub mod Keeping

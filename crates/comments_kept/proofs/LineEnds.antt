@@ -1,102 +1,190 @@
--- Ends of lines, and lines of comments.
-use Rattle.std.proofs.Common.{◌≡◌, ◌≤◌, ◌<◌, refl, sym, ◌∙◌, ap, ap₂, append_assoc, get_or, length}
+-- Ends of lines, and lines of their own.
+use Rattle.std.proofs.Common.{◌≡◌, ◌≤◌, ◌<◌, refl, sym, ◌∙◌, ap, ap₂, subst, append_assoc, get_or, length, arith}
+use Rattle.std.proofs.Common.{⊎_elim, inl, inr, Bor}
 use Rattle.std.specs.Prelude.{ℕ, ◌+◌, true, List, [], ◌∷◌, ◌++◌, Option, Some, None, codes, encode_utf8_all}
-use Rattle.std.specs.Prelude.{string_bytes, drop}
+use Rattle.std.specs.Prelude.{string_bytes, drop, flat_map}
 use Rattle.std.specs.List.{list_all}
 use Rattle.std.specs.Str.{chars}
-use Rattle.std.proofs.lemmas.List.Folds.{list_all-append}
 use Rattle.std.proofs.lemmas.Bool.{and_parts, and_from, le-leb}
 use Rattle.yaml_writer.specs.Encoded.{encoded_both, encoded_none}
 use Rattle.yaml_chars.specs.Classes.{nb}
 use Rattle.yaml_data.proofs.ListLemmas.{drop_item}
+use Rattle.yaml_writer.proofs.Prelude.{drop_all}
 use Rattle.yaml_grammar.specs.Texts.{spaces}
-use Rattle.yaml_commented.specs.Trails.{Extra, comment_line, Trail, IsBare, behind_comments, extras_comments, end_text, extras_text}
+use Rattle.yaml_commented.specs.Trails.{Extra, comment_line, Trail, IsBare, behind_comments, extra_comments, end_text, extras_text}
 use Rattle.yaml_commented.specs.Trails.{extra_text, trail_comments, trail_text}
 use Rattle.yaml_commented.specs.Commented.{next_trail, later_trails}
-use Rattle.yaml_commented.specs.TrailsFit.{behind_fits, trail_fits}
+use Rattle.yaml_commented.specs.TrailsFit.{behind_fits, extra_fits, starts_low, starts_filled, trail_fits}
+use Rattle.comments_kept.specs.declared.weaver.Kept.{Kept}
+use Rattle.comments_kept.specs.declared.weaver.Kept.TheVariants.{EmptyLine, Comment}
 use Rattle.comments_kept.specs.declared.weaver.Placed.{Placed}
 use Rattle.comments_kept.specs.declared.weaver.Weaver.{Weaver}
-use Rattle.comments_kept.specs.Weaving.{texts_of, left, Woven, Wrote, WroteEnd, WroteLines, WovenEnd}
-use Rattle.comments_kept.proofs.Weaving.{first_none, last_none}
-
--- the first comment that is left
-next_left : (w : Weaver) (x : Placed) → w.taken < length w.comments.now → x ≡ get_or w.comments.now w.taken x
-    → left w ≡ chars x.text.now ∷ texts_of (drop (w.taken + 1) w.comments.now)
-next_left w x within is = ap texts_of (drop_item w.comments.now w.taken x within is)
+use Rattle.comments_kept.specs.Weaving.{kept_texts, texts_of, left, extra_of, IsComment, StartsFilled, Woven, Wrote, WroteEnd}
+use Rattle.comments_kept.specs.Weaving.{WroteLines, WroteFilledLines, HasSkipped, WovenEnd}
+use Rattle.comments_kept.proofs.Weaving.{first_none, last_none, texts-append, both_on_lines, wrote_both}
 
 -- nothing is left out between two weavers
-pub kept : (a b : Weaver) → b.comments ≡ a.comments → b.taken ≡ a.taken → left a ≡ left b
-kept a b same taken = ap₂ (λ cs n. texts_of (drop n cs.now)) (sym same) (sym taken)
+pub kept : (a b : Weaver) → b.kept ≡ a.kept → b.taken ≡ a.taken → left a ≡ left b
+kept a b same taken = ap₂ (λ (ps : Bor (List Placed)) (n : ℕ). drop n ps.now) (sym same) (sym taken)
 
--- a comment was taken, and what was written before that
+-- the first of what was left was taken, and this was written
 pub record Began (w b : Weaver) (cs : List ℕ) : Type 0 where
   pub spells : string_bytes b.text ≡ string_bytes w.text ++ encode_utf8_all cs
-  pub same : b.comments ≡ w.comments
+  pub same : b.kept ≡ w.kept
   pub more : b.taken ≡ w.taken + 1
 
--- it is written as begun, with more behind it
-pub began_more : (w b c : Weaver) (xs ys : List ℕ) → Began w b xs → Wrote b ys c → Began w c (xs ++ ys)
-began_more w b c xs ys x y = record {
-  spells = encoded_both (string_bytes w.text) (string_bytes b.text) (string_bytes c.text) xs ys x.spells y.0;
-  same = y.1 ∙ x.same;
-  more = y.2 ∙ x.more;
-}
-
--- the comment that was taken is the first one that was left
-began_left : (w b : Weaver) (cs : List ℕ) (x : Placed) → w.taken < length w.comments.now → x ≡ get_or w.comments.now w.taken x
-    → Began w b cs → left w ≡ chars x.text.now ∷ left b
-began_left w b cs x within is began =
-    next_left w x within is
-    ∙ ap (λ ts. chars x.text.now ∷ ts) (ap₂ (λ ps n. texts_of (drop n ps.now)) (sym began.same) (sym began.more))
+-- what was taken is the first of what was left
+pub first_left : (w b : Weaver) (x : Placed) → w.taken < length w.kept.now → x ≡ get_or w.kept.now w.taken x
+    → b.kept ≡ w.kept → b.taken ≡ w.taken + 1 → left w ≡ x ∷ left b
+first_left w b x within is same more =
+    drop_item w.kept.now w.taken x within is
+    ∙ ap (λ ps. x ∷ ps) (ap₂ (λ (ps : Bor (List Placed)) (n : ℕ). drop n ps.now) (sym same) (sym more))
 
 -- ---- the end of a line
 
 -- with no comment behind it
-pub end_alone : (w b : Weaver) → string_bytes b.text ≡ string_bytes w.text ++ encode_utf8_all (codes "\n") → b.comments ≡ w.comments
+pub end_alone : (w b : Weaver) → string_bytes b.text ≡ string_bytes w.text ++ encode_utf8_all (codes "\n") → b.kept ≡ w.kept
     → b.taken ≡ w.taken → WroteEnd w b
-end_alone w b spells same taken = record { behind = None; spells = spells; taken = kept w b same taken }
-
--- with one
-pub end_behind : (w b : Weaver) (x : Placed) → w.taken < length w.comments.now → x ≡ get_or w.comments.now w.taken x
-    → Began w b (codes " #" ++ chars x.text.now ++ codes "\n") → WroteEnd w b
-end_behind w b x within is began = record {
-  behind = Some (chars x.text.now);
-  spells = began.spells;
-  taken = began_left w b (codes " #" ++ chars x.text.now ++ codes "\n") x within is began;
+end_alone w b spells same taken = record {
+  behind = None;
+  used = [];
+  spells = spells;
+  taken = kept w b same taken;
+  texts = refl;
+  none = λ none. refl;
 }
 
--- ---- lines of comments
+-- with one
+pub end_behind : (w b : Weaver) (x : Placed) (text : Bor (List ℕ)) → x.kept ≡ Comment text → w.taken < length w.kept.now
+    → x ≡ get_or w.kept.now w.taken x → Began w b (end_text (Some (chars text.now))) → WroteEnd w b
+end_behind w b x text comment within is began = record {
+  behind = Some (chars text.now);
+  used = x ∷ [];
+  spells = began.spells;
+  taken = first_left w b x within is began.same began.more;
+  texts = ap (λ k. kept_texts k ++ []) comment;
+  none = λ none. cc;
+}
+
+-- ---- lines of their own
 
 -- none
 pub no_lines : (most : ℕ) (w : Weaver) → WroteLines most w w
 no_lines most w = record {
   lines = [];
+  used = [];
   spells = encoded_none (string_bytes w.text);
   taken = refl;
+  texts = refl;
   fit = λ fit. refl;
   low = refl;
-  filled = refl;
+  filled = λ starts. refl;
   none = λ none. refl;
 }
 
+-- a comment after spaces
+pub comment_wrote : (n : ℕ) (comment : List ℕ) (a b c d e : Weaver) → Wrote a (spaces n) b → Wrote b (codes "#") c → Wrote c comment d
+    → Wrote d (codes "\n") e → Wrote a (extra_text (comment_line n comment)) e
+comment_wrote n comment a b c d e indent mark text feed =
+    let all : Wrote a (spaces n ++ codes "#" ++ comment ++ codes "\n") e =
+    wrote_both a d e (spaces n ++ codes "#" ++ comment) (codes "\n")
+    (wrote_both a c d (spaces n ++ codes "#") comment (wrote_both a b c (spaces n) (codes "#") indent mark) text) feed in (
+      all.0 ∙ ap (λ cs. string_bytes a.text ++ encode_utf8_all (cs ++ codes "\n")) (append_assoc (spaces n) (codes "#") comment),
+      all.1,
+      all.2,
+    )
+
+-- a line has the comment that is kept
+line_texts : (k : Kept) (n : ℕ) → kept_texts k ≡ extra_comments (extra_of k n)
+line_texts EmptyLine n = refl
+line_texts (Comment text) n = refl
+
+-- it fits, before others that do
+line_fits : (k : Kept) (n : ℕ) (ts : List (List ℕ)) → list_all (list_all nb) (kept_texts k ++ ts) ≡ true
+    → (extra_fits (extra_of k n) ≡ true) × (list_all (list_all nb) ts ≡ true)
+line_fits EmptyLine n ts fit = (refl, fit)
+line_fits (Comment text) n ts fit = and_parts (list_all nb (chars text.now)) (list_all (list_all nb) ts) fit
+
+-- it is low, before others that are
+line_low : (k : Kept) (n most : ℕ) (lines : List Extra) → n ≤ most → starts_low most lines ≡ true
+    → starts_low most (extra_of k n ∷ lines) ≡ true
+line_low EmptyLine n most lines low others = others
+line_low (Comment text) n most lines low others = le-leb n most low
+
+-- a comment is no empty line
+line_filled : (k : Kept) (n : ℕ) (lines : List Extra) → IsComment k → starts_filled (extra_of k n ∷ lines) ≡ true
+line_filled EmptyLine n lines is = absurd is
+line_filled (Comment text) n lines is = refl
+
 -- one more before others
-pub one_line : (most n : ℕ) (w b end : Weaver) (x : Placed) → w.taken < length w.comments.now → x ≡ get_or w.comments.now w.taken x
-    → n ≤ most → Began w b (spaces n ++ codes "#" ++ chars x.text.now ++ codes "\n") → WroteLines most b end → WroteLines most w end
-one_line most n w b end x within is low began others =
-    let comment : List ℕ = chars x.text.now in
-    let here : Extra = comment_line n comment in
+pub one_line : (most n : ℕ) (w b end : Weaver) (x : Placed) → w.taken < length w.kept.now → x ≡ get_or w.kept.now w.taken x
+    → x.place ≤ w.place → n ≤ most → Began w b (extra_text (extra_of x.kept n)) → WroteLines most b end → WroteLines most w end
+one_line most n w b end x within is here low began others =
+    let line : Extra = extra_of x.kept n in
+    let first : left w ≡ x ∷ left b = first_left w b x within is began.same began.more in
     record {
-      lines = here ∷ others.lines;
-      spells = encoded_both (string_bytes w.text) (string_bytes b.text) (string_bytes end.text) (extra_text here) (extras_text others.lines)
-          (began.spells ∙ ap (λ cs. string_bytes w.text ++ encode_utf8_all (cs ++ codes "\n"))
-          (append_assoc (spaces n) (codes "#") comment))
-          others.spells;
-      taken = began_left w b (spaces n ++ codes "#" ++ comment ++ codes "\n") x within is began ∙ ap (λ ts. comment ∷ ts) others.taken;
-      fit = λ fit. let parts = and_parts _ _ fit in and_from _ _ parts.0 (others.fit parts.1);
-      low = le-leb n most low;
-      filled = refl;
+      lines = line ∷ others.lines;
+      used = x ∷ others.used;
+      spells = encoded_both (string_bytes w.text) (string_bytes b.text) (string_bytes end.text) (extra_text line)
+          (extras_text others.lines) began.spells others.spells;
+      taken = first ∙ ap (λ ps. x ∷ ps) others.taken;
+      texts = ap₂ (λ ts us. ts ++ us) (line_texts x.kept n) others.texts;
+      fit = λ fit.
+          let parts = line_fits x.kept n (texts_of others.used) fit in
+          and_from _ _ parts.0 (others.fit parts.1);
+      low = line_low x.kept n most others.lines low others.low;
+      filled = λ starts. line_filled x.kept n others.lines
+          (⊎_elim (λ later. absurd (omega (arith, later, here))) (λ comment. comment) (subst (StartsFilled w.place) first starts));
       none = λ none. cc;
     }
+
+-- empty lines that were left out come before lines of which the first is no empty one
+pub skipped_lines : (most : ℕ) (a b c : Weaver) → HasSkipped a b → WroteLines most b c → WroteFilledLines most a c
+skipped_lines most a b c s l = record {
+  wrote = record {
+    lines = l.lines;
+    used = s.used ++ l.used;
+    spells = l.spells ∙ ap (λ bs. bs ++ encode_utf8_all (extras_text l.lines)) s.same;
+    taken = s.taken ∙ ap (λ ps. s.used ++ ps) l.taken ∙ sym (append_assoc s.used l.used (left c));
+    texts = texts-append s.used l.used ∙ ap (λ ts. ts ++ texts_of l.used) s.texts ∙ l.texts;
+    fit = λ fit. l.fit (both_on_lines s.used l.used fit).1;
+    low = l.low;
+    filled = λ starts. l.filled s.filled;
+    none = λ none. l.none (last_none s.used l.used none);
+  };
+  filled = l.filled s.filled;
+}
+
+-- no empty line is left out
+pub none_skipped : (w : Weaver) → StartsFilled w.place (left w) → HasSkipped w w
+none_skipped w filled = record { used = []; taken = refl; texts = refl; same = refl; filled = filled }
+
+-- what comes first is behind the place
+pub starts_later : (w : Weaver) (x : Placed) → w.taken < length w.kept.now → x ≡ get_or w.kept.now w.taken x → w.place < x.place
+    → StartsFilled w.place (left w)
+starts_later w x within is later = subst (StartsFilled w.place) (sym (drop_item w.kept.now w.taken x within is)) (inl later)
+
+-- what comes first is a comment
+pub starts_comment : (w : Weaver) (x : Placed) (text : Bor (List ℕ)) → x.kept ≡ Comment text → w.taken < length w.kept.now
+    → x ≡ get_or w.kept.now w.taken x → StartsFilled w.place (left w)
+starts_comment w x text comment within is =
+    subst (StartsFilled w.place) (sym (drop_item w.kept.now w.taken x within is)) (inr (subst IsComment (sym comment) tt))
+
+-- nothing comes
+pub starts_nothing : (w : Weaver) → length w.kept.now ≤ w.taken → StartsFilled w.place (left w)
+starts_nothing w all = subst (StartsFilled w.place) (sym (drop_all w.taken w.kept.now all)) tt
+
+-- one more before others
+pub one_skipped : (w b end : Weaver) (x : Placed) → x.kept ≡ EmptyLine → w.taken < length w.kept.now
+    → x ≡ get_or w.kept.now w.taken x → string_bytes b.text ≡ string_bytes w.text → b.kept ≡ w.kept → b.taken ≡ w.taken + 1
+    → HasSkipped b end → HasSkipped w end
+one_skipped w b end x empty within is text same more others = record {
+  used = x ∷ others.used;
+  taken = first_left w b x within is same more ∙ ap (λ ps. x ∷ ps) others.taken;
+  texts = ap (λ k. kept_texts k ++ texts_of others.used) empty ∙ others.texts;
+  same = others.same ∙ text;
+  filled = others.filled;
+}
 
 -- ---- both
 
@@ -105,25 +193,20 @@ behind_fit : (b : Option (List ℕ)) → list_all (list_all nb) (behind_comments
 behind_fit None e = refl
 behind_fit (Some comment) e = (and_parts _ _ e).0
 
--- no comment is behind it
-behind_none : (b : Option (List ℕ)) → behind_comments b ≡ [] → b ≡ None
-behind_none None e = refl
-behind_none (Some comment) e = cc
-
 -- one trail, of which something was written
 pub trail_woven : (P : Trail → List ℕ) (F : Trail → Type 0) (a b : Weaver) (w : Trail)
-    → string_bytes b.text ≡ string_bytes a.text ++ encode_utf8_all (P w) → left a ≡ trail_comments w ++ left b
-    → (list_all (list_all nb) (trail_comments w) ≡ true → F w) → (trail_comments w ≡ [] → IsBare w)
+    → (used : List Placed) → string_bytes b.text ≡ string_bytes a.text ++ encode_utf8_all (P w) → left a ≡ used ++ left b
+    → trail_comments w ≡ texts_of used → (list_all (list_all nb) (texts_of used) ≡ true → F w) → (used ≡ [] → IsBare w)
     → Woven (λ ws. P (next_trail ws)) later_trails (λ ws. F (next_trail ws)) a b
-trail_woven P F a b w spells taken meets bare = record {
-  used = trail_comments w;
+trail_woven P F a b w used spells taken texts meets bare = record {
+  used = used;
   taken = taken;
   trails = λ fit us. record {
     trails = w ∷ us;
     spells = spells;
     leaves = refl;
     meets = meets fit;
-    comments = refl;
+    comments = ap (λ ts. ts ++ flat_map trail_comments us) texts;
     bare = λ none others. (bare none, others);
   };
 }
@@ -133,27 +216,35 @@ module _ (most : ℕ) (a b c d : Weaver) (e : WroteEnd a b) (l : WroteLines most
   abbrev pub written : Trail
   written = record { behind = e.behind; lines = l.lines }
 
-  -- its comments were taken
-  pub written_taken : b.comments ≡ c.comments → b.taken ≡ c.taken → left a ≡ trail_comments written ++ left d
-  written_taken same taken = e.taken ∙ ap (λ ts. behind_comments e.behind ++ ts) (kept b c (sym same) (sym taken) ∙ l.taken)
-      ∙ sym (append_assoc (behind_comments e.behind) (extras_comments l.lines) (left d))
+  -- what it keeps
+  abbrev pub written_used : List Placed
+  written_used = e.used ++ l.used
+
+  -- that was taken
+  pub written_taken : b.kept ≡ c.kept → b.taken ≡ c.taken → left a ≡ written_used ++ left d
+  written_taken same taken = e.taken ∙ ap (λ ps. e.used ++ ps) (kept b c (sym same) (sym taken) ∙ l.taken)
+      ∙ sym (append_assoc e.used l.used (left d))
+
+  -- it has these comments
+  pub written_texts : trail_comments written ≡ texts_of written_used
+  written_texts = ap₂ (λ xs ys. xs ++ ys) (sym e.texts) (sym l.texts) ∙ sym (texts-append e.used l.used)
 
   -- it fits
-  pub written_fits : list_all (list_all nb) (trail_comments written) ≡ true → trail_fits written ≡ true
+  pub written_fits : list_all (list_all nb) (texts_of written_used) ≡ true → trail_fits written ≡ true
   written_fits fit =
-      let parts = and_parts (list_all (list_all nb) (behind_comments e.behind)) (list_all (list_all nb) (extras_comments l.lines))
-      (sym (list_all-append (list_all nb) (behind_comments e.behind) (extras_comments l.lines)) ∙ fit) in
-      and_from _ _ (behind_fit e.behind parts.0) (l.fit parts.1)
+      let parts = both_on_lines e.used l.used fit in
+      and_from _ _ (behind_fit e.behind (ap (list_all (list_all nb)) (sym e.texts) ∙ parts.0)) (l.fit parts.1)
 
-  -- without comments it is bare
-  pub written_bare : trail_comments written ≡ [] → IsBare written
+  -- if it keeps nothing, it is bare
+  pub written_bare : written_used ≡ [] → IsBare written
   written_bare none = ap₂ (λ b ls. record { behind = b; lines = ls })
-      (behind_none e.behind (first_none (behind_comments e.behind) (extras_comments l.lines) none))
-      (l.none (last_none (behind_comments e.behind) (extras_comments l.lines) none))
+      (e.none (first_none e.used l.used none)) (l.none (last_none e.used l.used none))
 
--- the end of a line, and the lines of comments below it
+-- the end of a line, and the lines below it
 pub line_ended : (most : ℕ) (a b c : Weaver) → WroteEnd a b → WroteLines most b c → WovenEnd a c
 line_ended most a b c e l = trail_woven trail_text (λ w. trail_fits w ≡ true) a c (written most a b b c e l)
+    (written_used most a b b c e l)
     (encoded_both (string_bytes a.text) (string_bytes b.text) (string_bytes c.text) (end_text e.behind) (extras_text l.lines)
     e.spells l.spells)
-    (written_taken most a b b c e l refl refl) (written_fits most a b b c e l) (written_bare most a b b c e l)
+    (written_taken most a b b c e l refl refl) (written_texts most a b b c e l) (written_fits most a b b c e l)
+    (written_bare most a b b c e l)

@@ -1,8 +1,8 @@
 -- Scalars and keys, written with comments.
 use Rattle.std.proofs.Common.{◌≡◌, refl, sym, ◌∙◌, ap}
-use Rattle.std.specs.Prelude.{ℕ, zero, suc, ◌+◌, Bool, true, false, not, ◌||◌, if◌then◌else◌, List, ◌++◌, codes}
+use Rattle.std.specs.Prelude.{ℕ, zero, suc, ◌+◌, Bool, true, false, not, ◌||◌, nat_le, if◌then◌else◌, List, ◌++◌, codes}
 use Rattle.std.specs.Prelude.{string_bytes, encode_utf8_all}
-use Rattle.std.proofs.lemmas.Bool.{and_from, or_right, false≢true}
+use Rattle.std.proofs.lemmas.Bool.{and_from, or_left, or_right, false≢true}
 use Rattle.yaml_writer.specs.Encoded.{encoded_both}
 use Rattle.yaml_writer.specs.ScalarStyles.{literal_style, value_style}
 use Rattle.yaml_writer.specs.declared.scalar_style.ScalarStyle.{ScalarStyle}
@@ -14,9 +14,11 @@ use Rattle.yaml_commented.specs.Trails.{Trail, trail_text, end_text, extras_text
 use Rattle.yaml_commented.specs.Commented.{next_trail, later_trails, scalar_with}
 use Rattle.yaml_commented.specs.TrailsFit.{trail_fits, scalar_trail_fits, literal_trail_fits, starts_filled, starts_low}
 use Rattle.comments_kept.specs.declared.weaver.Weaver.{Weaver}
-use Rattle.comments_kept.specs.Weaving.{Woven, Wrote, WroteEnd, WroteLines, WovenEnd, WovenLine, WovenScalar, WovenKey}
+use Rattle.comments_kept.specs.Weaving.{Woven, Wrote, WroteEnd, WroteLines, WroteFilledLines, WroteLiteral, WovenEnd}
+use Rattle.comments_kept.specs.Weaving.{WovenLine, WovenScalar, WovenKey}
 use Rattle.comments_kept.proofs.Weaving.{both, said, plain, line, wrote_both}
-use Rattle.comments_kept.proofs.LineEnds.{kept, trail_woven, written, written_taken, written_fits, written_bare}
+use Rattle.comments_kept.proofs.LineEnds.{kept, trail_woven, written, written_used, written_taken, written_texts}
+use Rattle.comments_kept.proofs.LineEnds.{written_fits, written_bare}
 
 -- ---- what a style says of a text
 
@@ -37,17 +39,19 @@ double_by false true (suc zero) e = cc
 double_by false true (suc (suc n)) e = cc
 double_by false false n e = (refl, refl)
 
-strip_by : (p l : Bool) (n : ℕ) → by_tests p l n ≡ LiteralStrip → (p ≡ false) × (l ≡ true) × (codes "|-" ≡ literal_mark n)
+strip_by : (p l : Bool) (n : ℕ) → by_tests p l n ≡ LiteralStrip
+    → (p ≡ false) × (l ≡ true) × (codes "|-" ≡ literal_mark n) × (nat_le n 1 ≡ true)
 strip_by true l n e = cc
-strip_by false true zero e = (refl, refl, refl)
+strip_by false true zero e = (refl, refl, refl, refl)
 strip_by false true (suc zero) e = cc
 strip_by false true (suc (suc n)) e = cc
 strip_by false false n e = cc
 
-clip_by : (p l : Bool) (n : ℕ) → by_tests p l n ≡ LiteralClip → (p ≡ false) × (l ≡ true) × (codes "|" ≡ literal_mark n)
+clip_by : (p l : Bool) (n : ℕ) → by_tests p l n ≡ LiteralClip
+    → (p ≡ false) × (l ≡ true) × (codes "|" ≡ literal_mark n) × (nat_le n 1 ≡ true)
 clip_by true l n e = cc
 clip_by false true zero e = cc
-clip_by false true (suc zero) e = (refl, refl, refl)
+clip_by false true (suc zero) e = (refl, refl, refl, refl)
 clip_by false true (suc (suc n)) e = cc
 clip_by false false n e = cc
 
@@ -70,10 +74,12 @@ module _ (value : List ℕ) where
   -- literals
   pub is_strip : value_style value ≡ LiteralStrip
       → (plain_in_style value ≡ false) × (literal_in_style value ≡ true) × (codes "|-" ≡ literal_mark (feeds_at_end value))
+      × (nat_le (feeds_at_end value) 1 ≡ true)
   is_strip e = strip_by (plain_in_style value) (literal_in_style value) (feeds_at_end value) e
 
   pub is_clip : value_style value ≡ LiteralClip
       → (plain_in_style value ≡ false) × (literal_in_style value ≡ true) × (codes "|" ≡ literal_mark (feeds_at_end value))
+      × (nat_le (feeds_at_end value) 1 ≡ true)
   is_clip e = clip_by (plain_in_style value) (literal_in_style value) (feeds_at_end value) e
 
   pub is_keep : value_style value ≡ LiteralKeep
@@ -138,20 +144,24 @@ module _ (value : List ℕ) (i : ℕ) (a b c : Weaver) where
       (one_double (plain_in_style value) (literal_in_style value) f) (line (in_double_quotes value) a b c w end)
 
 -- what is in the conditions of a literal
-literal_meets : (i : ℕ) (value : List ℕ) (w : Trail) → trail_fits w ≡ true → starts_low i w.lines ≡ true → starts_filled w.lines ≡ true
-    → scalar_trail_fits i value w ≡ true
-literal_meets i value w fits low filled =
-    and_from _ _ fits (or_right _ _ (and_from _ _ (or_right _ _ filled) low))
+literal_meets : (i : ℕ) (value : List ℕ) (w : Trail) → trail_fits w ≡ true → starts_low i w.lines ≡ true
+    → nat_le (feeds_at_end value) 1 || starts_filled w.lines ≡ true → scalar_trail_fits i value w ≡ true
+literal_meets i value w fits low filled = and_from _ _ fits (or_right _ _ (and_from _ _ filled low))
 
--- a literal, with the lines of comments behind it
-pub literal_woven : (value : List ℕ) (i : ℕ) (a b c d e : Weaver) → plain_in_style value ≡ false → literal_in_style value ≡ true
-    → Wrote a (literal_mark (feeds_at_end value)) b → WroteEnd b c → Wrote c (literal_lines (i + 2) true value) d → WroteLines i d e
+-- a literal, with the lines behind it
+literal_woven : (value : List ℕ) (i : ℕ) (a d e : Weaver) → plain_in_style value ≡ false → literal_in_style value ≡ true
+    → WroteLiteral value i a d → (lines : WroteLines i d e) → nat_le (feeds_at_end value) 1 || starts_filled lines.lines ≡ true
     → WovenScalar value i a e
-literal_woven value i a b c d e unplain lit header end body lines =
+literal_woven value i a d e unplain lit literal lines filled =
+    let b : Weaver = literal.b in
+    let c : Weaver = literal.c in
+    let end : WroteEnd b c = literal.ended in
+    let body : Wrote c (literal_lines (i + 2) true value) d = literal.body in
+    let header : Wrote a (literal_mark (feeds_at_end value)) b = literal.header in
     let w : Trail = written i b c d e end lines in
     let mark : List ℕ = literal_mark (feeds_at_end value) in
     let all : List ℕ = literal_lines (i + 2) true value in
-    trail_woven (scalar_with (i + 2) value) (λ w. scalar_trail_fits i value w ≡ true) a e w
+    trail_woven (scalar_with (i + 2) value) (λ w. scalar_trail_fits i value w ≡ true) a e w (written_used i b c d e end lines)
     (encoded_both (string_bytes a.text) (string_bytes d.text) (string_bytes e.text) (mark ++ end_text w.behind ++ all) (extras_text w.lines)
     (encoded_both (string_bytes a.text) (string_bytes c.text) (string_bytes d.text) (mark ++ end_text w.behind) all
     (encoded_both (string_bytes a.text) (string_bytes b.text) (string_bytes c.text) mark (end_text w.behind) header.0 end.spells)
@@ -160,8 +170,19 @@ literal_woven value i a b c d e unplain lit header end body lines =
     (text_literal (plain_in_style value) (literal_in_style value) (value ++ trail_text w)
     (mark ++ end_text w.behind ++ all ++ extras_text w.lines) (in_double_quotes value ++ trail_text w) unplain lit))
     (kept a b header.1 header.2 ∙ written_taken i b c d e end lines (sym body.1) (sym body.2))
-    (λ fit. literal_meets i value w (written_fits i b c d e end lines fit) lines.low lines.filled)
+    (written_texts i b c d e end lines)
+    (λ fit. literal_meets i value w (written_fits i b c d e end lines fit) lines.low filled)
     (written_bare i b c d e end lines)
+
+module _ (value : List ℕ) (i : ℕ) (a d e : Weaver) (unplain : plain_in_style value ≡ false) (lit : literal_in_style value ≡ true)
+    (literal : WroteLiteral value i a d) where
+  -- one that keeps at most one line feed at its end
+  pub short_literal : nat_le (feeds_at_end value) 1 ≡ true → WroteLines i d e → WovenScalar value i a e
+  short_literal short lines = literal_woven value i a d e unplain lit literal lines (or_left _ _ short)
+
+  -- any, with no empty line directly behind it
+  pub filled_literal : WroteFilledLines i d e → WovenScalar value i a e
+  filled_literal lines = literal_woven value i a d e unplain lit literal lines.wrote (or_right _ _ lines.filled)
 
 -- ---- keys
 

@@ -12,24 +12,36 @@ use Rattle.yaml_commented.specs.TrailsFit.{trail_fits}
 use Rattle.std.proofs.Common.{Bor}
 use Rattle.comments_kept.specs.declared.weaver.Placed.{Placed}
 use Rattle.comments_kept.specs.declared.weaver.Weaver.{Weaver}
-use Rattle.comments_kept.specs.Weaving.{texts_of, left, AreTrails, Woven, Wrote, WovenEnd, WovenLine}
+use Rattle.comments_kept.specs.Weaving.{kept_texts, texts_of, left, AreTrails, Woven, Wrote, WovenEnd, WovenLine}
 
 -- nothing is put before nothing
-pub first_none : (xs ys : List (List ℕ)) → xs ++ ys ≡ [] → xs ≡ []
+pub first_none : {A : Type 0} → (xs ys : List A) → xs ++ ys ≡ [] → xs ≡ []
 first_none [] ys e = refl
 first_none (x ∷ xs) ys e = cc
 
 -- nothing comes behind nothing
-pub last_none : (xs ys : List (List ℕ)) → xs ++ ys ≡ [] → ys ≡ []
+pub last_none : {A : Type 0} → (xs ys : List A) → xs ++ ys ≡ [] → ys ≡ []
 last_none [] ys e = e
 last_none (x ∷ xs) ys e = cc
+
+-- the comments of more
+pub texts-append : (xs ys : List Placed) → texts_of (xs ++ ys) ≡ texts_of xs ++ texts_of ys
+texts-append [] ys = refl
+texts-append (x ∷ xs) ys =
+    ap (λ ts. kept_texts x.kept ++ ts) (texts-append xs ys) ∙ sym (append_assoc (kept_texts x.kept) (texts_of xs) (texts_of ys))
+
+-- those of both parts are on lines
+pub both_on_lines : (xs ys : List Placed) → list_all (list_all nb) (texts_of (xs ++ ys)) ≡ true
+    → (list_all (list_all nb) (texts_of xs) ≡ true) × (list_all (list_all nb) (texts_of ys) ≡ true)
+both_on_lines xs ys fit = and_parts (list_all (list_all nb) (texts_of xs)) (list_all (list_all nb) (texts_of ys))
+    (sym (list_all-append (list_all nb) (texts_of xs) (texts_of ys)) ∙ ap (list_all (list_all nb)) (sym (texts-append xs ys)) ∙ fit)
 
 -- a text without trails
 pub plain : (cs : List ℕ) (a b : Weaver) → Wrote a cs b
     → Woven (λ ws. cs) (λ ws. ws) (λ ws. Unit {0}) a b
 plain cs a b w = record {
   used = [];
-  taken = ap₂ (λ (cs : Bor (List Placed)) (n : ℕ). texts_of (drop n cs.now)) (sym w.1) (sym w.2);
+  taken = ap₂ (λ (ps : Bor (List Placed)) (n : ℕ). drop n ps.now) (sym w.1) (sym w.2);
   trails = λ fit us. record {
     trails = us;
     spells = w.0;
@@ -46,10 +58,9 @@ module _ (P Q : List Trail → List ℕ) (f h : List Trail → List Trail) (F H 
       → Woven (λ ws. P ws ++ Q (f ws)) (λ ws. h (f ws)) (λ ws. F ws × H (f ws)) a c
   both a b c x y = record {
     used = x.used ++ y.used;
-    taken = x.taken ∙ ap (λ ts. x.used ++ ts) y.taken ∙ sym (append_assoc x.used y.used (left c));
+    taken = x.taken ∙ ap (λ ps. x.used ++ ps) y.taken ∙ sym (append_assoc x.used y.used (left c));
     trails = λ fit us.
-        let parts = and_parts (list_all (list_all nb) x.used) (list_all (list_all nb) y.used)
-        (sym (list_all-append (list_all nb) x.used y.used) ∙ fit) in
+        let parts = both_on_lines x.used y.used fit in
         let later : AreTrails Q h H (string_bytes b.text) (string_bytes c.text) y.used us = y.trails parts.1 us in
         let here : AreTrails P f F (string_bytes a.text) (string_bytes b.text) x.used later.trails = x.trails parts.0 later.trails in
         record {
@@ -58,8 +69,9 @@ module _ (P Q : List Trail → List ℕ) (f h : List Trail → List Trail) (F H 
               here.spells (later.spells ∙ ap (λ ws. string_bytes b.text ++ encode_utf8_all (Q ws)) (sym here.leaves));
           leaves = ap h here.leaves ∙ later.leaves;
           meets = (here.meets, subst H (sym here.leaves) later.meets);
-          comments = here.comments ∙ ap (λ ts. x.used ++ ts) later.comments
-              ∙ sym (append_assoc x.used y.used (flat_map trail_comments us));
+          comments = here.comments ∙ ap (λ ts. texts_of x.used ++ ts) later.comments
+              ∙ sym (append_assoc (texts_of x.used) (texts_of y.used) (flat_map trail_comments us))
+              ∙ ap (λ ts. ts ++ flat_map trail_comments us) (sym (texts-append x.used y.used));
           bare = λ none bare. here.bare (first_none x.used y.used none) (later.bare (last_none x.used y.used none) bare);
         };
   }

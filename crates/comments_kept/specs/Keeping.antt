@@ -1,5 +1,5 @@
 -- A text that is formatted with its comments.
-use Rattle.std.specs.Prelude.{◌≡◌, ℕ, ◌+◌, ◌≤◌, List, [], ◌∷◌, length, encode_utf8_all}
+use Rattle.std.specs.Prelude.{◌≡◌, ℕ, ◌+◌, ◌≤◌, List, [], ◌∷◌, length, map, encode_utf8_all}
 use Rattle.std.specs.Str.{IsUtf8, chars}
 use Rattle.yaml_grammar.specs.Reads.{Limits}
 use Rattle.yaml_grammar.specs.Style.{style_text}
@@ -11,6 +11,7 @@ use Rattle.yaml_commented.specs.TrailsFit.{Fits}
 use Rattle.yaml_comments.specs.declared.find.Comment.{Comment}
 use Rattle.yaml_comments.specs.Comments.{HasComments, comment_at}
 use Rattle.yaml_comments.specs.Found.{place_of}
+use Rattle.comments_kept.specs.Blanks.{HasBlankLine, trimmed}
 
 -- the limits with another one of the length of the text
 abbrev pub with_bytes : Limits → ℕ → Limits
@@ -22,14 +23,18 @@ pub record GivesSameTree (bytes : List ℕ) (limits : Limits) (text : List ℕ) 
   pub reads : IsRead bytes limits tree
   pub again : IsRead text (with_bytes limits (length text)) tree
 
--- The text has the comments of the bytes, in order.
+-- a comment, in bytes, without spaces and TABs at its end
+abbrev pub without_white : List ℕ → List ℕ
+without_white comment = encode_utf8_all (trimmed (chars comment))
+
+-- The text has the comments of the bytes, in order, each without whitespace at its end.
 pub record HasSameComments (bytes text : List ℕ) : Type 0 where
   pub comments : List (List ℕ)
   pub has : HasComments bytes comments
-  pub again : HasComments text comments
+  pub again : HasComments text (map without_white comments)
 
--- The bytes give a tree, and the text is that tree's in the one style with comments: bare of them it is the tree's text
--- in the one style.
+-- The bytes give a tree, and the text is that tree's in the one style with comments and empty lines: bare of them it is
+-- the tree's text in the one style.
 pub record IsStyledWithComments (bytes : List ℕ) (limits : Limits) (text : List ℕ) : Type 0 where
   pub tree : Tree
   pub reads : IsRead bytes limits tree
@@ -38,10 +43,14 @@ pub record IsStyledWithComments (bytes : List ℕ) (limits : Limits) (text : Lis
   pub fits : Fits lead tree trails
   pub spells : text ≡ encode_utf8_all (commented_text lead tree trails)
 
--- Bytes without comments give a tree whose text in the one style this is.
+-- no line of the bytes is blank
+abbrev pub HasNoBlankLine : List ℕ → Type 0
+HasNoBlankLine bytes = HasBlankLine bytes → ⊥
+
+-- Bytes without comments and blank lines give a tree whose text in the one style this is.
 abbrev pub IsStyledIfBare : List ℕ → Limits → List ℕ → Type 0
 IsStyledIfBare bytes limits text =
-    (t : Tree) → HasComments bytes [] → IsRead bytes limits t → text ≡ encode_utf8_all (style_text t)
+    (t : Tree) → HasNoBlankLine bytes → HasComments bytes [] → IsRead bytes limits t → text ≡ encode_utf8_all (style_text t)
 
 -- ---- comments that were found
 
@@ -51,7 +60,7 @@ AreTexts bytes [] = Unit {0}
 AreTexts bytes (c ∷ cs) =
     (c.start + 1 ≤ c.end) × (c.end ≤ length bytes) × IsUtf8 (comment_at bytes (place_of c)) × AreTexts bytes cs
 
--- their texts
+-- their texts, without whitespace at their ends
 abbrev pub texts_at : List ℕ → List Comment → List (List ℕ)
 texts_at bytes [] = []
-texts_at bytes (c ∷ cs) = chars (comment_at bytes (place_of c)) ∷ texts_at bytes cs
+texts_at bytes (c ∷ cs) = trimmed (chars (comment_at bytes (place_of c))) ∷ texts_at bytes cs

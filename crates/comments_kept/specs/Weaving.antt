@@ -1,70 +1,124 @@
--- A tree's text that is woven with comments: what a step of the writing adds, and which comments it takes.
-use Rattle.std.specs.Prelude.{◌≡◌, true, ℕ, ◌+◌, List, [], ◌∷◌, ◌++◌, Option, codes, encode_utf8_all, string_bytes, flat_map, drop}
+-- A tree's text that is woven with comments and empty lines: what a step of the writing adds, and what it takes.
+use Rattle.std.specs.Prelude.{◌≡◌, ◌⊎◌, ◌<◌, true, ℕ, ◌+◌, List, [], ◌∷◌, ◌++◌, Option, None, codes, encode_utf8_all, string_bytes}
+use Rattle.std.specs.Prelude.{flat_map, drop}
 use Rattle.std.specs.List.{AllByRecursion, list_all}
 use Rattle.std.specs.Str.{chars}
 use Rattle.yaml_chars.specs.Classes.{nb}
+use Rattle.yaml_grammar.specs.Style.{literal_mark, feeds_at_end, literal_lines}
 use Rattle.yaml_grammar.specs.Texts.{spaces}
 use Rattle.yaml_grammar.specs.Trees.{Tree, Elements, no_element, element, Members, no_member, member}
-use Rattle.yaml_commented.specs.Trails.{Extra, Trail, IsBare, trail_comments, trail_text, extras_text, extras_comments}
-use Rattle.yaml_commented.specs.Trails.{behind_comments, end_text}
+use Rattle.yaml_commented.specs.Trails.{Extra, empty_line, comment_line, Trail, IsBare, trail_comments, trail_text, extra_text}
+use Rattle.yaml_commented.specs.Trails.{extras_text, extras_comments, behind_comments, end_text}
 use Rattle.yaml_commented.specs.Commented.{next_trail, later_trails, after_key, after_tree, after_value, after_elements}
 use Rattle.yaml_commented.specs.Commented.{after_members, scalar_with, key_with, element_with, value_with, elements_with}
 use Rattle.yaml_commented.specs.Commented.{members_with, tree_with, commented_text}
 use Rattle.yaml_commented.specs.TrailsFit.{trail_fits, scalar_trail_fits, key_trail_fits, ElementFits, ValueFits}
 use Rattle.yaml_commented.specs.TrailsFit.{ElementsFit, MembersFit, TreeFits, Fits, starts_low, starts_filled, extra_fits}
 use Rattle.yaml_comments.specs.CommentLaws.{comments_of}
+use Rattle.comments_kept.specs.declared.weaver.Kept.{Kept}
+use Rattle.comments_kept.specs.declared.weaver.Kept.TheVariants.{EmptyLine, Comment}
 use Rattle.comments_kept.specs.declared.weaver.Placed.{Placed}
 use Rattle.comments_kept.specs.declared.weaver.Weaver.{Weaver}
 
--- the texts of comments, behind their `#`
+-- the comment of what is kept, by what is behind its `#`
+abbrev pub kept_texts : Kept → List (List ℕ)
+kept_texts EmptyLine = []
+kept_texts (Comment text) = chars text.now ∷ []
+
+-- the comments of what is kept, in order
 abbrev pub texts_of : List Placed → List (List ℕ)
 texts_of [] = []
-texts_of (p ∷ ps) = chars p.text.now ∷ texts_of ps
+texts_of (p ∷ ps) = kept_texts p.kept ++ texts_of ps
 
--- those that a weaver still has to write
-abbrev pub left : Weaver → List (List ℕ)
-left w = texts_of (drop w.taken w.comments.now)
+-- what a weaver still has to write
+abbrev pub left : Weaver → List Placed
+left w = drop w.taken w.kept.now
 
 -- In what follows, `written` says what trails spell, `after` which of them are left, and `Meets` what they have to meet.
 
--- trails of which this text was written; `used` are their comments, and `us` are the trails that come after
+-- trails of which this text was written; `used` is what they keep, and `us` are the trails that come after
 pub record AreTrails (written : List Trail → List ℕ) (after : List Trail → List Trail) (Meets : List Trail → Type 0)
-    (before now : List ℕ) (used : List (List ℕ)) (us : List Trail) : Type 0 where
+    (before now : List ℕ) (used : List Placed) (us : List Trail) : Type 0 where
   pub trails : List Trail
   pub spells : now ≡ before ++ encode_utf8_all (written trails)
   pub leaves : after trails ≡ us
   pub meets : Meets trails
-  pub comments : flat_map trail_comments trails ≡ used ++ flat_map trail_comments us
+  pub comments : flat_map trail_comments trails ≡ texts_of used ++ flat_map trail_comments us
   pub bare : used ≡ [] → AllByRecursion IsBare us → AllByRecursion IsBare trails
 
--- The second weaver is the first one after it wrote a text with trails. It took the comments that these have.
+-- The second weaver is the first one after it wrote a text with trails. It took what these keep.
 pub record Woven (written : List Trail → List ℕ) (after : List Trail → List Trail) (Meets : List Trail → Type 0)
     (a b : Weaver) : Type 0 where
-  pub used : List (List ℕ)
+  pub used : List Placed
   pub taken : left a ≡ used ++ left b
-  pub trails : list_all (list_all nb) used ≡ true → (us : List Trail)
+  pub trails : list_all (list_all nb) (texts_of used) ≡ true → (us : List Trail)
       → AreTrails written after Meets (string_bytes a.text) (string_bytes b.text) used us
 
--- it wrote this text, which has no trail, and took no comment
+-- it wrote this text, which has no trail, and took nothing
 abbrev pub Wrote : Weaver → List ℕ → Weaver → Type 0
 Wrote a cs b =
-    (string_bytes b.text ≡ string_bytes a.text ++ encode_utf8_all cs) × (b.comments ≡ a.comments) × (b.taken ≡ a.taken)
+    (string_bytes b.text ≡ string_bytes a.text ++ encode_utf8_all cs) × (b.kept ≡ a.kept) × (b.taken ≡ a.taken)
 
 -- it ended a line, with the comment that may be behind it
 pub record WroteEnd (a b : Weaver) : Type 0 where
   pub behind : Option (List ℕ)
+  pub used : List Placed
   pub spells : string_bytes b.text ≡ string_bytes a.text ++ encode_utf8_all (end_text behind)
-  pub taken : left a ≡ behind_comments behind ++ left b
+  pub taken : left a ≡ used ++ left b
+  pub texts : texts_of used ≡ behind_comments behind
+  pub none : used ≡ [] → behind ≡ None
 
--- it wrote lines of comments, none of which is after more than `most` spaces
+-- what is kept, as a line of its own after n spaces
+abbrev pub extra_of : Kept → ℕ → Extra
+extra_of EmptyLine n = empty_line
+extra_of (Comment text) n = comment_line n (chars text.now)
+
+-- it wrote that line, and took nothing
+abbrev pub WroteExtra : Kept → ℕ → Weaver → Weaver → Type 0
+WroteExtra kept n a b = Wrote a (extra_text (extra_of kept n)) b
+
+-- this is a comment
+abbrev pub IsComment : Kept → Type 0
+IsComment EmptyLine = ⊥
+IsComment (Comment text) = Unit {0}
+
+-- what comes first is behind this place, or a comment
+abbrev pub StartsFilled : ℕ → List Placed → Type 0
+StartsFilled place [] = Unit {0}
+StartsFilled place (p ∷ ps) = (place < p.place) ⊎ IsComment p.kept
+
+-- it wrote lines of its own, the first comment after at most `most` spaces
 pub record WroteLines (most : ℕ) (a b : Weaver) : Type 0 where
   pub lines : List Extra
+  pub used : List Placed
   pub spells : string_bytes b.text ≡ string_bytes a.text ++ encode_utf8_all (extras_text lines)
-  pub taken : left a ≡ extras_comments lines ++ left b
-  pub fit : list_all (list_all nb) (extras_comments lines) ≡ true → list_all extra_fits lines ≡ true
+  pub taken : left a ≡ used ++ left b
+  pub texts : texts_of used ≡ extras_comments lines
+  pub fit : list_all (list_all nb) (texts_of used) ≡ true → list_all extra_fits lines ≡ true
   pub low : starts_low most lines ≡ true
-  pub filled : starts_filled lines ≡ true
-  pub none : extras_comments lines ≡ [] → lines ≡ []
+  pub filled : StartsFilled a.place (left a) → starts_filled lines ≡ true
+  pub none : used ≡ [] → lines ≡ []
+
+-- such lines, of which the first is no empty one
+pub record WroteFilledLines (most : ℕ) (a b : Weaver) : Type 0 where
+  pub wrote : WroteLines most a b
+  pub filled : starts_filled wrote.lines ≡ true
+
+-- it took empty lines, and wrote nothing
+pub record HasSkipped (a b : Weaver) : Type 0 where
+  pub used : List Placed
+  pub taken : left a ≡ used ++ left b
+  pub texts : texts_of used ≡ []
+  pub same : string_bytes b.text ≡ string_bytes a.text
+  pub filled : StartsFilled b.place (left b)
+
+-- it wrote a literal in a collection at the indentation i, through its last line
+pub record WroteLiteral (value : List ℕ) (i : ℕ) (a d : Weaver) : Type 0 where
+  pub b : Weaver
+  pub c : Weaver
+  pub header : Wrote a (literal_mark (feeds_at_end value)) b
+  pub ended : WroteEnd b c
+  pub body : Wrote c (literal_lines (i + 2) true value) d
 
 -- ---- the parts of a tree
 
@@ -120,11 +174,11 @@ WovenMembers lead ms i = Woven (members_led lead ms i) (after_members ms) (Membe
 
 -- ---- the whole
 
--- the text of a tree with exactly these comments, in order; without comments it has no line of its own
-pub record IsWoven (t : Tree) (comments : List (List ℕ)) (text : List ℕ) : Type 0 where
+-- the text of a tree with exactly the comments of what is kept, in order; if nothing is, it has no line of its own
+pub record IsWoven (t : Tree) (kept : List Placed) (text : List ℕ) : Type 0 where
   pub lead : List Extra
   pub trails : List Trail
   pub fits : Fits lead t trails
   pub spells : text ≡ encode_utf8_all (commented_text lead t trails)
-  pub has : comments_of lead trails ≡ comments
-  pub bare : comments ≡ [] → (lead ≡ []) × AllByRecursion IsBare trails
+  pub has : comments_of lead trails ≡ texts_of kept
+  pub bare : kept ≡ [] → (lead ≡ []) × AllByRecursion IsBare trails

@@ -1,13 +1,15 @@
 // The lines of a tree in the one style, and where each ends in the text that the tree was read from.
 use crate::long_key::is_long_key;
-use crate::signs::{after_header, after_sign, line_start, next_sign, start_of_content};
+use crate::signs::{after_header, after_sign, colon_at, line_start, next_sign, start_of_content};
 use std::alloc::{AllocError, Global};
 use yaml_events::{EventRef, Events, Span, Style};
 
 /// A line of a tree in the one style, without a literal's body.
 #[derive(Clone, Copy)]
 pub(crate) struct Row {
-    /// The byte behind its last token in the text.
+    /// The byte at which its first token begins in the text.
+    pub(crate) start: usize,
+    /// The byte behind its last token.
     pub(crate) end: usize,
     /// How many spaces are before it.
     pub(crate) indent: u64,
@@ -46,6 +48,8 @@ struct Open {
     /// The innermost block collection that holds it.
     outer: Option<usize>,
     indent: u64,
+    /// The byte at which it begins.
+    start: usize,
     /// How many values and keys it has so far.
     children: u64,
     /// The byte behind the `:` before it, if it is a value.
@@ -67,6 +71,14 @@ enum Role {
     Value,
 }
 
+/// A line that has begun.
+#[derive(Clone, Copy)]
+struct Begun {
+    indent: u64,
+    /// The byte at which its first token begins.
+    start: usize,
+}
+
 /// The lines of the tree of a text, while its events come.
 #[derive(Drop)]
 struct Rows {
@@ -75,8 +87,7 @@ struct Rows {
     open: Vec<Open>,
     /// The byte behind the last token.
     at: usize,
-    /// The indentation of the line that has begun.
-    line: Option<u64>,
+    line: Option<Begun>,
 }
 
 /// The lines of the one document of a text. `events` are those of the text.
@@ -123,18 +134,27 @@ impl Rows {
         }
     }
 
-    /// Begins the line if none has begun.
-    fn begin_line(&mut self) {
+    /// Begins a line at a byte of the text if none has begun.
+    fn begin_line(&mut self, start: usize) {
         if self.line.is_none() {
-            self.line = Some(self.indent());
+            let indent = self.indent();
+            self.line = Some(Begun { indent, start });
         }
     }
 
     /// Ends the line at a byte of the text, in a block collection.
     fn end_line(&mut self, end: usize, level: Option<usize>) -> Result<(), AllocError> {
-        let indent = self.line.unwrap_or(0);
+        let Begun { indent, start } = self.line.unwrap_or(Begun {
+            indent: 0,
+            start: end,
+        });
         self.line = None;
-        self.rows.push(Row { end, indent, level })?;
+        self.rows.push(Row {
+            start,
+            end,
+            indent,
+            level,
+        })?;
         Ok(())
     }
 
@@ -157,20 +177,17 @@ impl Rows {
                 self.end_line(end, outer)?;
             }
         }
-        match kind {
-            Kind::Seq => {
-                if !flow {
-                    self.at = after_sign(bytes, self.at, b'-');
-                }
-                self.begin_line();
-                Ok(Role::Element)
-            }
-            Kind::Map if children % 2 == 0 => {
-                self.begin_line();
-                Ok(Role::Key)
-            }
-            Kind::Map => Ok(Role::Value),
+        if kind == Kind::Map && children % 2 == 1 {
+            return Ok(Role::Value);
         }
+        self.begin_line(next_sign(bytes, self.at));
+        if kind == Kind::Map {
+            return Ok(Role::Key);
+        }
+        if !flow {
+            self.at = after_sign(bytes, self.at, b'-');
+        }
+        Ok(Role::Element)
     }
 
     /// Opens a collection.
@@ -211,6 +228,7 @@ impl Rows {
             level,
             outer,
             indent,
+            start: sign,
             children: 0,
             colon,
         })?;
@@ -234,6 +252,7 @@ impl Rows {
             self.at = after_sign(bytes, self.at, bracket);
         }
         if open.children == 0 {
+            self.begin_line(open.start);
             return self.end_line(self.at, self.level());
         }
         Ok(())
@@ -254,11 +273,12 @@ impl Rows {
         };
         self.at = self.at.max(span.end);
         if role != Role::Key {
+            self.begin_line(span.start);
             return self.end_line(end, self.level());
         }
         if is_long_key(value) {
             self.end_line(end, self.level())?;
-            self.begin_line();
+            self.begin_line(colon_at(bytes, self.at));
         }
         Ok(())
     }

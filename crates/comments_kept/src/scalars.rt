@@ -1,9 +1,8 @@
 // Keys and scalars, written in the one style with comments.
-ghost use Rattle.std.specs.Prelude.{◌≡◌, ◌+◌, ◌<◌, ◌^◌, true, false, OnOk};
+ghost use Rattle.std.specs.Prelude.{◌≡◌, ◌+◌, ◌<◌, ◌^◌, true, OnOk};
 ghost use Rattle.std.specs.Str.{chars};
 ghost use Rattle.yaml_grammar.specs.Style.{long_key, literal_mark, feeds_at_end};
-ghost use Rattle.yaml_grammar.specs.Style.{plain_in_style, literal_in_style};
-ghost use Rattle.comments_kept.specs.Weaving.{WovenKey, WovenScalar};
+ghost use Rattle.comments_kept.specs.Weaving.{WovenKey, WovenScalar, WroteLiteral};
 
 use crate::literal::write_literal_lines;
 use crate::long_key::{is_long_key, write_key_text};
@@ -29,14 +28,22 @@ pub(crate) fn weave_scalar(
             write_quoted(text, weaver)?;
             weaver.end_line()
         }
-        ScalarStyle::LiteralStrip => weave_literal("|-", text, indent, weaver),
-        ScalarStyle::LiteralClip => weave_literal("|", text, indent, weaver),
-        ScalarStyle::LiteralKeep => weave_literal("|+", text, indent, weaver),
+        ScalarStyle::LiteralStrip => {
+            weave_literal("|-", text, indent, weaver)?;
+            weaver.put_lines(indent)
+        }
+        ScalarStyle::LiteralClip => {
+            weave_literal("|", text, indent, weaver)?;
+            weaver.put_lines(indent)
+        }
+        ScalarStyle::LiteralKeep => {
+            weave_literal("|+", text, indent, weaver)?;
+            weaver.put_filled_lines(indent)
+        }
     }
 }
 
-/// Writes a literal: its header, and its lines after two spaces more than `indent`. A comment below it is after at most
-/// `indent` spaces.
+/// Writes a literal: its header with the comment that is behind it, and its lines after two spaces more than `indent`.
 fn weave_literal(
     header: &str,
     text: &str,
@@ -44,15 +51,12 @@ fn weave_literal(
     weaver: &mut Weaver<'_>,
 ) -> Result<(), AllocError>
     requires room { indent + 2 < 2 ^ 64 }
-    requires style { (plain_in_style (chars text.now) ≡ false)
-        × (literal_in_style (chars text.now) ≡ true) }
     requires header { chars header.now ≡ literal_mark (feeds_at_end (chars text.now)) }
-    ensures { OnOk result (WovenScalar (chars text.now) indent weaver.old weaver.new) }
+    ensures { OnOk result (WroteLiteral (chars text.now) indent weaver.old weaver.new) }
 {
     weaver.put_text(header)?;
     weaver.end_header()?;
-    write_literal_lines(text, indent + 2, weaver)?;
-    weaver.put_lines(indent)
+    write_literal_lines(text, indent + 2, weaver)
 }
 
 /// Writes a key in a mapping at `indent` through its `:`, with the comments behind a long key and below.

@@ -32,6 +32,15 @@ pub(crate) fn after_sign(bytes: &[u8], from: usize, sign: u8) -> usize {
     bytes.len()
 }
 
+/// The `:` that is the next sign, or the same byte if another one is.
+pub(crate) fn colon_at(bytes: &[u8], from: usize) -> usize {
+    let sign = next_sign(bytes, from);
+    match bytes.get(sign) {
+        Some(b':') => sign,
+        _ => from,
+    }
+}
+
 /// The byte behind the header of a block scalar that begins at another one (YAML 1.2.2, 8.1.1).
 pub(crate) fn after_header(bytes: &[u8], from: usize) -> usize {
     for at in from..bytes.len() {

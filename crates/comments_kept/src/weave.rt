@@ -14,28 +14,28 @@ use std::alloc::{AllocError, Global};
 use yaml_data::{Text, Tree};
 use yaml_writer::Sink;
 
-/// The text of a tree in the one style with comments at their places. Those whose place is at most `first` come before
-/// the tree. It is `None` if a comment is left over.
+/// The text of a tree in the one style with what is kept at its places. What has a place up to `first` comes before the
+/// tree, with no empty line at the start. It is `None` if something is left over.
 pub(crate) fn weave(
     alloc: Global,
     tree: &Tree,
-    comments: &[Placed<'_>],
+    kept: &[Placed<'_>],
     first: u64,
 ) -> Result<Option<String>, AllocError>
     requires deep { depth (tree_of tree.now) ≤ own_limits.depth }
-    requires lines { list_all (list_all nb) (texts_of comments.now) ≡ true }
+    requires lines { list_all (list_all nb) (texts_of kept.now) ≡ true }
     ensures { IfOk result (λ woven. IfSome woven (λ text.
-        IsWoven (tree_of tree.now) (texts_of comments.now) (string_bytes text))) }
+        IsWoven (tree_of tree.now) kept.now (string_bytes text))) }
 {
     let mut weaver = Weaver {
         text: String::new(alloc),
-        comments,
+        kept,
         taken: 0,
         place: first,
     };
-    weaver.put_lines(u64::MAX)?;
+    weaver.put_filled_lines(u64::MAX)?;
     weave_tree(tree, &mut weaver)?;
-    if weaver.taken < weaver.comments.len() {
+    if weaver.taken < weaver.kept.len() {
         return Ok(None);
     }
     Ok(Some(weaver.text))

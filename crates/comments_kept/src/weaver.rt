@@ -1,37 +1,47 @@
-// A text that grows, with the comments that still have to be written.
-ghost use Rattle.std.specs.Prelude.{◌≡◌, OnOk};
-ghost use Rattle.comments_kept.specs.Weaving.{WovenEnd, WroteEnd, WroteLines};
+// A text that grows, with what still has to be written between the lines of a tree.
+ghost use Rattle.std.specs.Prelude.{◌≡◌, OnOk, Some};
+ghost use Rattle.comments_kept.specs.Weaving.{HasSkipped, WovenEnd, WroteEnd, WroteFilledLines, WroteLines};
+ghost use Rattle.comments_kept.specs.Weaving.{Wrote, WroteExtra};
+ghost use Rattle.std.specs.Str.{chars};
+ghost use Rattle.yaml_commented.specs.Trails.{comment_line, end_text, extra_text};
 
 use std::alloc::AllocError;
 use yaml_writer::Sink;
 
-/// A comment, and where it is written.
+/// What is kept of a text besides its tree.
+#[derive(Clone, Copy)]
+pub(crate) enum Kept<'a> {
+    EmptyLine,
+    /// A comment, by what stands behind its `#`.
+    Comment(&'a str),
+}
+
+/// What is kept, and where it is written.
 ///
 /// Places are counted from 0: before the first line of the tree, behind it, before the second, and so on. A place with
 /// an odd number is behind a line, and one with an even number is on lines of their own.
 #[derive(Clone, Copy)]
 pub(crate) struct Placed<'a> {
-    /// What stands behind the `#`.
-    pub(crate) text: &'a str,
+    pub(crate) kept: Kept<'a>,
     pub(crate) place: u64,
-    /// How many spaces come before it on a line of its own.
+    /// How many spaces come before a comment on a line of its own.
     pub(crate) indent: u64,
 }
 
-/// A tree's text that is written with comments.
+/// A tree's text that is written with comments and empty lines.
 #[derive(Drop)]
 pub(crate) struct Weaver<'a> {
     /// What is written.
     pub(crate) text: String,
-    /// The comments of the text, in order.
-    pub(crate) comments: &'a [Placed<'a>],
-    /// How many of them are written.
+    /// What is kept, in order.
+    pub(crate) kept: &'a [Placed<'a>],
+    /// How much of that is written, or was left out.
     pub(crate) taken: usize,
     /// The place before the line that is written next.
     pub(crate) place: u64,
 }
 
-/// Appends what is written to the text; no comment is taken. It fails only if memory runs out.
+/// Appends what is written to the text; nothing of what is kept is taken. It fails only if memory runs out.
 impl Sink for Weaver<'_> {
     ghost use Rattle.std.specs.Prelude.{refl};
     ghost use Rattle.std.specs.Prelude.{string_bytes};
@@ -65,7 +75,7 @@ impl Sink for Weaver<'_> {
 }
 
 impl Weaver<'_> {
-    /// Ends a line that is no literal's header, with the comments that are behind it and below.
+    /// Ends a line that is no literal's header, with the comment that is behind it and the lines below.
     pub(crate) fn end_line(&mut self) -> Result<(), AllocError>
         ensures { OnOk result (WovenEnd self.old self.new) }
     {
@@ -79,31 +89,80 @@ impl Weaver<'_> {
     {
         let behind = self.place.saturating_add(1);
         self.place = self.place.saturating_add(2);
-        if let Some(next) = self.comments.get(self.taken) {
+        if let Some(next) = self.kept.get(self.taken) {
             if next.place == behind {
-                self.taken += 1;
-                self.put_text(" #")?;
-                self.put_text(next.text)?;
-                return self.put_char('\n');
+                if let Kept::Comment(text) = next.kept {
+                    self.taken += 1;
+                    return self.put_behind(text);
+                }
             }
         }
         self.put_char('\n')
     }
 
-    /// Writes the comments that are on lines of their own here, each after at most `most` spaces.
+    /// Writes a comment behind what is on the line, and ends the line.
+    fn put_behind(&mut self, text: &str) -> Result<(), AllocError>
+        ensures { OnOk result (Wrote self.old (end_text (Some (chars text.now))) self.new) }
+    {
+        self.put_text(" #")?;
+        self.put_text(text)?;
+        self.put_char('\n')
+    }
+
+    /// Writes what is on lines of its own here, each comment after at most `most` spaces.
     pub(crate) fn put_lines(&mut self, most: u64) -> Result<(), AllocError>
         ensures { OnOk result (WroteLines most self.old self.new) }
     {
-        while let Some(next) = self.comments.get(self.taken) {
+        while let Some(next) = self.kept.get(self.taken) {
             if next.place > self.place {
                 return Ok(());
             }
             self.taken += 1;
-            self.put_spaces(next.indent.min(most))?;
-            self.put_char('#')?;
-            self.put_text(next.text)?;
-            self.put_char('\n')?;
+            self.put_extra(next.kept, next.indent.min(most))?;
         }
         Ok(())
+    }
+
+    /// The same without empty lines before the first comment.
+    pub(crate) fn put_filled_lines(&mut self, most: u64) -> Result<(), AllocError>
+        ensures { OnOk result (WroteFilledLines most self.old self.new) }
+    {
+        self.skip_empty_lines();
+        self.put_lines(most)
+    }
+
+    /// Takes the empty lines that are next here, and does not write them.
+    fn skip_empty_lines(&mut self)
+        ensures { HasSkipped self.old self.new }
+    {
+        while let Some(next) = self.kept.get(self.taken) {
+            if next.place > self.place {
+                return;
+            }
+            match next.kept {
+                Kept::Comment(_) => return,
+                Kept::EmptyLine => self.taken += 1,
+            }
+        }
+    }
+
+    /// Writes an empty line, or a comment after so many spaces on a line of its own.
+    fn put_extra(&mut self, kept: Kept<'_>, indent: u64) -> Result<(), AllocError>
+        ensures { OnOk result (WroteExtra kept.entry indent self.old self.new) }
+    {
+        match kept {
+            Kept::EmptyLine => self.put_char('\n'),
+            Kept::Comment(text) => self.put_comment(text, indent),
+        }
+    }
+
+    /// Writes a comment after so many spaces on a line of its own.
+    fn put_comment(&mut self, text: &str, indent: u64) -> Result<(), AllocError>
+        ensures { OnOk result (Wrote self.old (extra_text (comment_line indent (chars text.now))) self.new) }
+    {
+        self.put_spaces(indent)?;
+        self.put_char('#')?;
+        self.put_text(text)?;
+        self.put_char('\n')
     }
 }

@@ -6,8 +6,12 @@ use crate::arguments::{
     Argument, EXPLAIN_ARGUMENT, FILE, FOLDER, FOLDER_ARGUMENT, Form, NAME, NAME_ARGUMENT, POINTER,
     POINTER_ARGUMENT, Relation, WHOLE, YAML, reporting_of,
 };
-use crate::conditions::{IF_ABSENT_ARGUMENT, IF_COUNT_ARGUMENT, IF_VALUE_ARGUMENT, conditions_of};
-use crate::invocation::{Grouping, Invocation, MissingStore, STANDARD_INPUT, Value};
+use crate::conditions::{
+    IF_ABSENT, IF_ABSENT_ARGUMENT, IF_COUNT_ARGUMENT, IF_VALUE_ARGUMENT, conditions_of,
+};
+use crate::invocation::{
+    Conditions, Grouping, Invocation, MissingStore, STANDARD_INPUT, Value, Wanted,
+};
 use crate::listing::Listing;
 use crate::refusal::refused;
 use crate::unparsed::Unparsed;
@@ -238,6 +242,12 @@ pub(crate) fn delete_invocation<'w>(words: &ArgMatches<'w>) -> Option<Invocation
 pub(crate) const COPY: Listing = Listing {
     about: "Puts a copy of a configuration under another name",
     arguments: &[
+        Argument {
+            name: REPLACE,
+            help: "Replaces a configuration that has the name TO",
+            form: Form::Flag,
+            relation: Relation::Excludes(&[IF_ABSENT]),
+        },
         IF_VALUE_ARGUMENT,
         IF_ABSENT_ARGUMENT,
         IF_COUNT_ARGUMENT,
@@ -247,14 +257,17 @@ pub(crate) const COPY: Listing = Listing {
         TO_ARGUMENT,
     ],
     help: "\
-A configuration that has the name TO is replaced, unless --if-absent is given. All of it is done or
-nothing, in one command. Nothing is printed where it is done. If a condition does not hold, nothing
-changes (Unmet); --if-value and --if-absent look at TO.
+A configuration that has the name TO is replaced only with --replace, or where --if-value holds of it;
+else nothing changes (Unmet). All of it is done or nothing, in one command. Nothing is printed where it
+is done. If a condition does not hold, nothing changes (Unmet); --if-value looks at TO.
 
 Examples:
   confstore copy store web web-old
-  confstore copy store web web-old --if-absent",
+  confstore copy store web web-old --replace",
 };
+
+/// The word of `copy` that has a configuration replaced. It excludes [`IF_ABSENT`].
+const REPLACE: &str = "replace";
 
 /// The argument of `copy` and `rename` that is the other name.
 const TO: &str = "TO";
@@ -273,8 +286,20 @@ pub(crate) fn copy_invocation<'w>(words: &ArgMatches<'w>) -> Option<Invocation<'
         folder: words.get_str(FOLDER)?,
         name: words.get_str(NAME)?,
         to: words.get_str(TO)?,
-        conditions: conditions_of(words),
+        conditions: copy_conditions(words),
     })
+}
+
+/// The conditions that the words of `copy` give: unless they say otherwise, nothing has the other name.
+fn copy_conditions<'w>(words: &ArgMatches<'w>) -> Conditions<'w> {
+    let conditions = conditions_of(words);
+    match conditions.place {
+        Wanted::Anything if !words.get_flag(REPLACE) => Conditions {
+            place: Wanted::Nothing,
+            ..conditions
+        },
+        _ => conditions,
+    }
 }
 
 pub(crate) const RENAME: Listing = Listing {

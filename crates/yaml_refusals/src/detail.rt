@@ -15,7 +15,7 @@ pub enum Detail {
     /// first one that is deeper.
     Depth { limit: u64 },
     /// Of [`ReadFault::Documents`](yaml_events::ReadFault::Documents): how many documents the text has. The place is
-    /// that of the second one.
+    /// that of the second one, or where the text begins if it has none.
     Documents { count: u64 },
     /// Of [`ReadFault::KeyTwice`](yaml_events::ReadFault::KeyTwice): the key, and where it is first. The place is that
     /// of the second one.

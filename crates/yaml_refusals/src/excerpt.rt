@@ -15,7 +15,8 @@ const SHOWN_AFTER: usize = 40;
 ///     | ^
 /// ```
 ///
-/// Of a long line the part around the place is shown. A TAB is shown as a space, and another control character as `?`.
+/// Of a long line the part around the place is shown. A TAB is shown as `^I`, and another character that a terminal
+/// wouldn't show, or that turns a text's direction, by its number, as `\u{1b}`.
 #[derive(Clone, Copy)]
 pub struct Excerpt<'t> {
     text: &'t str,
@@ -41,38 +42,96 @@ fn valid_part(bytes: &[u8], len: usize) -> &str {
 }
 
 /// A character as it is shown in an excerpt.
-fn shown(character: char) -> char {
-    match character {
-        '\t' => ' ',
-        _ if character.is_control() => '?',
-        _ => character,
+#[derive(Clone, Copy)]
+enum Shown {
+    AsItIs(char),
+    Tab,
+    ByNumber(char),
+}
+
+impl Shown {
+    fn of(character: char) -> Shown {
+        match character {
+            '\t' => Shown::Tab,
+            '\0'..='\x1f'
+            | '\x7f'..='\u{9f}'
+            | '\u{61c}'
+            | '\u{200b}'..='\u{200f}'
+            | '\u{2028}'..='\u{202e}'
+            | '\u{2060}'..='\u{2069}'
+            | '\u{feff}' => Shown::ByNumber(character),
+            _ => Shown::AsItIs(character),
+        }
+    }
+
+    /// How many characters it has.
+    fn width(self) -> usize {
+        match self {
+            Shown::AsItIs(_) => 1,
+            Shown::Tab => 2,
+            Shown::ByNumber('\0'..='\x0f') => 5,
+            Shown::ByNumber('\x10'..='\u{ff}') => 6,
+            Shown::ByNumber('\u{100}'..='\u{fff}') => 7,
+            Shown::ByNumber(_) => 8,
+        }
+    }
+}
+
+impl fmt::Display for Shown {
+    fn fmt<W: fmt::Write>(&self, f: &mut fmt::Formatter<W>) -> fmt::Result {
+        match self {
+            Shown::AsItIs(character) => f.write_char(*character),
+            Shown::Tab => f.write_str("^I"),
+            Shown::ByNumber(character) => {
+                let number = u32::from(*character);
+                write!(f, "\\u{{{number:x}}}")
+            }
+        }
     }
 }
 
 impl fmt::Display for Excerpt<'_> {
     fn fmt<W: fmt::Write>(&self, f: &mut fmt::Formatter<W>) -> fmt::Result {
         let number = self.place.line;
-        let line = Line::numbered(self.text, number);
-        let column = usize::try_from(self.place.column).unwrap_or(usize::MAX);
-        let before = column.saturating_sub(1).min(SHOWN_BEFORE);
-        let left_out = column.saturating_sub(1).saturating_sub(before);
+        let line = Line::numbered(self.text, number).text;
+        let column = usize::try_from(self.place.column.saturating_sub(1)).unwrap_or(usize::MAX);
+        let before = column.min(SHOWN_BEFORE);
         write!(f, "{number} | ")?;
-        for character in line.text.chars().skip(left_out).take(before + SHOWN_AFTER) {
-            f.write_char(shown(character))?;
-        }
+        let width = write_part(f, line, column.saturating_sub(before), before)?;
+        let _ = write_part(f, line, column, SHOWN_AFTER)?;
         f.write_str("\n")?;
-        for _ in 0..digits(number) {
-            f.write_str(" ")?;
-        }
+        write_spaces(f, digits(number))?;
         f.write_str(" | ")?;
-        for _ in 0..before {
-            f.write_str(" ")?;
-        }
+        write_spaces(f, width)?;
         f.write_str("^")
     }
 }
 
+/// Writes some characters of a line, as they are shown. Returns how many characters that are.
+fn write_part<W: fmt::Write>(
+    f: &mut fmt::Formatter<W>,
+    line: &str,
+    from: usize,
+    count: usize,
+) -> Result<usize, fmt::Error> {
+    let mut width = 0usize;
+    for character in line.chars().skip(from).take(count) {
+        let shown = Shown::of(character);
+        write!(f, "{shown}")?;
+        width = width.saturating_add(shown.width());
+    }
+    Ok(width)
+}
+
+fn write_spaces<W: fmt::Write>(f: &mut fmt::Formatter<W>, count: usize) -> fmt::Result {
+    for _ in 0..count {
+        f.write_str(" ")?;
+    }
+    Ok(())
+}
+
 /// How many decimal digits a number has.
-fn digits(number: u64) -> u32 {
-    number.checked_ilog10().unwrap_or(0).saturating_add(1)
+fn digits(number: u64) -> usize {
+    let digits = number.checked_ilog10().unwrap_or(0).saturating_add(1);
+    usize::try_from(digits).unwrap_or(usize::MAX)
 }

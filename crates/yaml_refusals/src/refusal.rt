@@ -1,5 +1,5 @@
 // Why a text is refused, where, and what is known of it.
-ghost use Rattle.std.specs.Prelude.{◌≡◌, IfOk, Some, length};
+ghost use Rattle.std.specs.Prelude.{◌≡◌, IfOk, MatchOption, Some, length};
 
 use crate::detail::Detail;
 use crate::hint::Hint;
@@ -38,6 +38,8 @@ impl Refusal {
         ensures fault { IfOk result (λ refusal. refusal.fault ≡ fault) }
         ensures size { fault ≡ ReadFault.TooLong → IfOk result (λ refusal.
             refusal.detail ≡ Detail.Bytes (length bytes.now) limits.now.bytes) }
+        ensures nothing { fault ≡ ReadFault.Documents 0 → IfOk result (λ refusal.
+            MatchOption refusal.place ⊥ (λ place. (place.line ≡ 1) × (place.column ≡ 1))) }
     {
         match fault {
             ReadFault::TooLong => Ok(Refusal::sized(fault, bytes.len() as u64, limits.bytes)),
@@ -50,6 +52,7 @@ impl Refusal {
             ReadFault::Syntax { line, column, why } => {
                 Ok(Refusal::malformed(bytes, fault, Place { line, column }, why))
             }
+            ReadFault::Documents { count: 0 } => Ok(Refusal::of_nothing()),
             fault => Refusal::of_nodes(alloc, bytes, limits, fault),
         }
     }
@@ -77,6 +80,18 @@ impl Refusal {
             fault,
             place: None,
             detail: Detail::Bytes { found, limit },
+        }
+    }
+
+    /// The refusal of a text that has no document. Its place is where the text begins.
+    fn of_nothing() -> Refusal
+        ensures fault { result.fault ≡ ReadFault.Documents 0 }
+        ensures place { MatchOption result.place ⊥ (λ place. (place.line ≡ 1) × (place.column ≡ 1)) }
+    {
+        Refusal {
+            fault: ReadFault::Documents { count: 0 },
+            place: Some(Place { line: 1, column: 1 }),
+            detail: Detail::Documents { count: 0 },
         }
     }
 
@@ -174,12 +189,10 @@ fn valid(bytes: &[u8], len: usize) -> Option<&str> {
     str::from_utf8(bytes.get(..len)?).ok()
 }
 
-/// A template, if the key at a byte, from 0, is in double braces.
+/// A template, if the key at a byte, from 0, is in braces of one.
 fn detail_of_key(text: &str, at: Option<usize>) -> Detail {
     let at = at.unwrap_or(text.len());
-    let before = text.get(..at).unwrap_or_default();
-    let after = text.get(at..).unwrap_or_default();
-    if before.ends_with('{') && after.starts_with('{') {
+    if Spot::new(text, place_at(text, at)).is_in_template() {
         return Detail::Hint(Hint::Template);
     }
     Detail::None

@@ -13,6 +13,9 @@ pub(crate) struct Spot<'t> {
     after: &'t str,
 }
 
+/// How many characters a key on its line has at most before its `:` (YAML 1.2.2, 7.4.2 and 8.2.2).
+const LONGEST_KEY: usize = 1024;
+
 /// The least number of characters that a line is indented by.
 fn indentation(line: &str) -> usize {
     line.bytes().take_while(|byte| *byte == b' ').count()
@@ -29,6 +32,39 @@ fn begins_with_sign(text: &str, sign: char) -> bool {
         Some(rest) => rest.is_empty() || rest.starts_with([' ', '\t']),
         None => false,
     }
+}
+
+/// Whether a template in braces, as `{{ name }}` or `{% if name %}`, begins in a line outside of quotes.
+fn has_template(line: &str) -> bool {
+    match line.find("{{").or(line.find("{%")) {
+        Some(at) => !has_open_quote(line.get(..at).unwrap_or_default()),
+        None => false,
+    }
+}
+
+/// Whether a quote begins in a line and doesn't end there.
+fn has_open_quote(line: &str) -> bool {
+    let is_quote = |byte: &u8| matches!(*byte, b'"' | b'\'');
+    line.bytes().filter(is_quote).count() % 2 == 1
+}
+
+/// The byte of a line, from 0, at which the `:` of the key stands that begins there, if the line has one.
+fn colon_of_key(line: &str) -> Option<usize> {
+    if line.starts_with('"') {
+        return line.find("\":").map(|quote| quote.saturating_add(1));
+    }
+    if line.starts_with('\'') {
+        return line.find("':").map(|quote| quote.saturating_add(1));
+    }
+    match line.find(": ") {
+        Some(colon) => Some(colon),
+        None => line.strip_suffix(':').map(|key| key.len()),
+    }
+}
+
+/// The last character of a line that is no blank.
+fn last_sign(line: &str) -> Option<char> {
+    line.trim_end_matches([' ', '\t']).chars().next_back()
 }
 
 impl<'t> Spot<'t> {
@@ -54,10 +90,7 @@ impl<'t> Spot<'t> {
 
     /// The last character before the place that is no blank.
     pub(crate) fn previous_sign(&self) -> Option<char> {
-        self.before
-            .trim_end_matches([' ', '\t'])
-            .chars()
-            .next_back()
+        last_sign(self.before)
     }
 
     /// Whether only blanks are before the place.
@@ -70,9 +103,19 @@ impl<'t> Spot<'t> {
         self.before.trim_start_matches(' ').starts_with('\t')
     }
 
-    /// Whether a `: ` is before the place.
+    /// Whether the place is in front of the spaces that the line begins with.
+    pub(crate) fn is_before_indentation(&self) -> bool {
+        self.before.is_empty() && self.after.starts_with(' ')
+    }
+
+    /// Whether a `:` and a blank are before the place.
     pub(crate) fn has_key_before(&self) -> bool {
-        self.before.contains(": ")
+        self.before.contains(": ") || self.before.contains(":\t")
+    }
+
+    /// Whether the text from the place on begins with a `:`, and a blank or the end of the line after it.
+    pub(crate) fn is_colon(&self) -> bool {
+        begins_with_sign(self.after, ':')
     }
 
     /// Whether a `:` is on the line from the place on.
@@ -87,7 +130,44 @@ impl<'t> Spot<'t> {
 
     /// Whether the key before the place is `<<`.
     pub(crate) fn is_merge_key(&self) -> bool {
-        unindented(self.before).starts_with("<<:")
+        match unindented(self.before).strip_prefix("<<") {
+            Some(rest) => unindented(rest).starts_with(':'),
+            None => false,
+        }
+    }
+
+    /// Whether a letter, a digit or what else begins a name is behind the sign at the place: a second `!`, or a `<`.
+    pub(crate) fn is_name_behind_sign(&self) -> bool {
+        let mut characters = self.after.chars();
+        let _ = characters.next();
+        match characters.next() {
+            Some(character) => character.is_alphanumeric() || matches!(character, '_' | '!' | '<'),
+            None => false,
+        }
+    }
+
+    /// Whether the word at the place and the next one both begin with a sign.
+    pub(crate) fn is_sign_twice(&self, sign: char) -> bool {
+        let Some((word, rest)) = self.after.split_once(' ') else {
+            return false;
+        };
+        word.starts_with(sign) && unindented(rest).starts_with(sign)
+    }
+
+    /// Whether a key begins at the place whose `:` is too far on.
+    pub(crate) fn is_long_key(&self) -> bool {
+        match colon_of_key(self.after) {
+            Some(colon) => {
+                let key = self.after.get(..colon).unwrap_or_default();
+                key.chars().count() > LONGEST_KEY
+            }
+            None => false,
+        }
+    }
+
+    /// Whether a quote begins at the place and doesn't end on the line.
+    pub(crate) fn is_open_quote(&self) -> bool {
+        self.after.starts_with(['"', '\'']) && has_open_quote(self.after)
     }
 
     /// Whether the quote at the place is in front of a `''` on its line.
@@ -108,9 +188,20 @@ impl<'t> Spot<'t> {
         self.previous_sign() == Some(',')
     }
 
-    /// Whether a template in double braces is before the place.
-    pub(crate) fn is_after_template(&self) -> bool {
-        self.before.contains("{{") && self.before.contains("}}")
+    /// Whether a bracket or a comma is before the place, with blanks at most between them.
+    pub(crate) fn is_in_brackets(&self) -> bool {
+        let previous = match self.begins_line() {
+            true => last_sign(self.above),
+            false => self.previous_sign(),
+        };
+        matches!(previous, Some('[' | '{' | ','))
+    }
+
+    /// Whether a template in braces begins on the line, at the place or before it.
+    pub(crate) fn is_in_template(&self) -> bool {
+        let begins_here = self.after.starts_with("{{") || self.after.starts_with("{%");
+        let began_before = self.before.ends_with('{') && self.after.starts_with(['{', '%', '#']);
+        begins_here || began_before || has_template(self.before)
     }
 
     /// Whether the line begins with an entry of a list.
@@ -121,6 +212,12 @@ impl<'t> Spot<'t> {
     /// Whether the line above begins with an entry of a list.
     pub(crate) fn above_is_entry(&self) -> bool {
         begins_with_sign(unindented(self.above), '-')
+    }
+
+    /// Whether the line above begins with a template in braces.
+    pub(crate) fn above_is_template(&self) -> bool {
+        let line = unindented(self.above);
+        line.starts_with("{{") || line.starts_with("{%")
     }
 
     /// Whether a comment ends the line above.

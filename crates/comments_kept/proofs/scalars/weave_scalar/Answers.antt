@@ -2,28 +2,45 @@ use Rattle.std.proofs.Common.{codes, refl, sym, ◌∙◌}
 use Rattle.std.specs.Str.{chars}
 use Rattle.yaml_writer.proofs.Prelude.{on_ok_weaker, chars-literal}
 use Rattle.comments_kept.proofs.ScalarParts.{is_plain, is_double, is_strip, is_clip, is_keep, plain_woven, double_woven}
+use Rattle.comments_kept.proofs.ScalarParts.{short_literal, filled_literal}
 use Rattle.comments_kept.proofs.scalars.weave_scalar.Goals as goal
-
-pub weave_literal-requires-clause-style : goal.weave_literal-requires-clause-style
-weave_literal-requires-clause-style c = let p = is_strip (chars c.args.text.now) (sym c.in-LiteralStrip.ensures) in (p.0, p.1)
 
 pub weave_literal-requires-clause-header : goal.weave_literal-requires-clause-header
 weave_literal-requires-clause-header c =
     chars-literal (codes "|-") refl ∙ (is_strip (chars c.args.text.now) (sym c.in-LiteralStrip.ensures)).2
 
-pub weave_literal-requires-in-LiteralClip-clause-style : goal.weave_literal-requires-in-LiteralClip-clause-style
-weave_literal-requires-in-LiteralClip-clause-style c = let p = is_clip (chars c.args.text.now) (sym c.in-LiteralClip.ensures) in (p.0, p.1)
-
 pub weave_literal-requires-in-LiteralClip-clause-header : goal.weave_literal-requires-in-LiteralClip-clause-header
 weave_literal-requires-in-LiteralClip-clause-header c =
     chars-literal (codes "|") refl ∙ (is_clip (chars c.args.text.now) (sym c.in-LiteralClip.ensures)).2
 
-pub weave_literal-requires-in-LiteralKeep-clause-style : goal.weave_literal-requires-in-LiteralKeep-clause-style
-weave_literal-requires-in-LiteralKeep-clause-style c = let p = is_keep (chars c.args.text.now) (sym c.in-LiteralKeep.ensures) in (p.0, p.1)
-
 pub weave_literal-requires-in-LiteralKeep-clause-header : goal.weave_literal-requires-in-LiteralKeep-clause-header
 weave_literal-requires-in-LiteralKeep-clause-header c =
     chars-literal (codes "|+") refl ∙ (is_keep (chars c.args.text.now) (sym c.in-LiteralKeep.ensures)).2
+
+pub returns-in_ok-weave_literal-in-LiteralStrip : goal.returns-in_ok-weave_literal-in-LiteralStrip
+returns-in_ok-weave_literal-in-LiteralStrip c =
+    let value = chars c.args.text.now in
+    let p = is_strip value (sym c.in-LiteralStrip.ensures) in
+    on_ok_weaker c.put_lines.result
+    (short_literal value c.args.indent c.args.weaver.now c.weave_literal.new.weaver c.put_lines.new.self p.0 p.1
+    c.in_ok-weave_literal-in-LiteralStrip.ensures p.3) c.put_lines.ensures
+
+pub returns-in_ok-weave_literal-in-LiteralClip : goal.returns-in_ok-weave_literal-in-LiteralClip
+returns-in_ok-weave_literal-in-LiteralClip c =
+    let value = chars c.args.text.now in
+    let p = is_clip value (sym c.in-LiteralClip.ensures) in
+    on_ok_weaker c.put_lines-in-LiteralClip.result
+    (short_literal value c.args.indent c.args.weaver.now c.weave_literal-in-LiteralClip.new.weaver
+    c.put_lines-in-LiteralClip.new.self p.0 p.1 c.in_ok-weave_literal-in-LiteralClip.ensures p.3)
+    c.put_lines-in-LiteralClip.ensures
+
+pub returns-in_ok-weave_literal-in-LiteralKeep : goal.returns-in_ok-weave_literal-in-LiteralKeep
+returns-in_ok-weave_literal-in-LiteralKeep c =
+    let value = chars c.args.text.now in
+    let p = is_keep value (sym c.in-LiteralKeep.ensures) in
+    on_ok_weaker c.put_filled_lines.result
+    (filled_literal value c.args.indent c.args.weaver.now c.weave_literal-in-LiteralKeep.new.weaver c.put_filled_lines.new.self
+    p.0 p.1 c.in_ok-weave_literal-in-LiteralKeep.ensures) c.put_filled_lines.ensures
 
 pub returns-in_ok-put_text-in-Plain : goal.returns-in_ok-put_text-in-Plain
 returns-in_ok-put_text-in-Plain c =

@@ -1,7 +1,7 @@
-use Rattle.std.proofs.Common.{codes, ◌∙◌, ◌++◌, arith}
-use Rattle.std.specs.Str.{chars}
-use Rattle.yaml_grammar.specs.Texts.{spaces}
-use Rattle.comments_kept.proofs.LineEnds.{Began, began_more, one_line}
+use Rattle.std.proofs.Common.{◌∙◌, arith}
+use Rattle.yaml_commented.specs.Trails.{extra_text}
+use Rattle.comments_kept.specs.Weaving.{extra_of}
+use Rattle.comments_kept.proofs.LineEnds.{Began, no_lines, one_line}
 use Rattle.comments_kept.proofs.weaver.Weaver.put_lines.Goals as goal
 
 pub loop-next-preserved : goal.loop-next-preserved
@@ -9,15 +9,17 @@ loop-next-preserved c =
     let w = c.loop-next.self in
     let x = c.in-Some.next.now in
     let n = c.min.result in
+    let b = c.put_extra.new.self in
     let found = c.in-Some.ensures.lookup in
-    let spaced = c.in_ok-put_spaces.ensures in
-    let one : Began w c.put_spaces.new.self (spaces n) = record { spells = spaced.0; same = spaced.1; more = spaced.2 } in
-    let two = began_more w c.put_spaces.new.self c.put_char.new.self (spaces n) (codes "#") one c.in_ok-put_char.ensures in
-    let three = began_more w c.put_char.new.self c.put_text.new.self (spaces n ++ codes "#") (chars x.text.now) two
-    c.in_ok-put_text.ensures in
-    let four = began_more w c.put_text.new.self c.put_char-in-Some.new.self (spaces n ++ codes "#" ++ chars x.text.now) (codes "\n")
-    three c.in_ok-put_char-2.ensures in (
-      four.same ∙ c.loop-next.invariant.0,
+    let wrote = c.in_ok-put_extra.ensures in
+    let began : Began w b (extra_text (extra_of x.kept n)) = record { spells = wrote.0; same = wrote.1; more = wrote.2 } in (
+      began.same ∙ c.loop-next.invariant.0,
       λ end others. c.loop-next.invariant.1 end
-          (one_line c.args.most n w c.put_char-in-Some.new.self end x found.3.0 found.1 (omega (arith, c.min.ensures)) four others),
+          (one_line c.args.most n w b end x found.3.0 found.1 (omega arith) (omega (arith, c.min.ensures)) began others),
     )
+
+pub returns-then-next-self : goal.returns-then-next-self
+returns-then-next-self c = c.loop-next.invariant.1 c.loop-next.self (no_lines c.args.most c.loop-next.self)
+
+pub returns : goal.returns
+returns c = c.loop-next.invariant.1 c.loop-next.self (no_lines c.args.most c.loop-next.self)

@@ -1,0 +1,11 @@
+-- What comes after the empty lines so far comes after all of them.
+use Rattle.std.proofs.Common.{◌-◌, ◌≡◌, length}
+use Rattle.comments_kept.specs.Weaving.{HasSkipped}
+use Rattle.comments_kept.proofs.weaver.Weaver.skip_empty_lines.Given as goal
+
+abbrev pub invariant-loop-next : goal.invariant-loop-next
+invariant-loop-next l =
+    (l.self.kept ≡ l.initial.self.kept) × ((end : _) → HasSkipped l.self end → HasSkipped l.initial.self end)
+
+abbrev pub decreases-loop-next : goal.decreases-loop-next
+decreases-loop-next l = length l.initial.self.kept.now - l.self.taken
