@@ -11,31 +11,31 @@ use Rattle.conf_disk.specs.Image.{Image, IsImage, IsMade, IsApartFrom, IsStage, 
 use Rattle.conf_disk.specs.Log.{folder_after, folder_within, folder_at, IsLeftSince}
 
 -- when all steps are done, the folder is the one after them
-pub folder_at-length : (steps : List Step) (part : ℕ)
-    → folder_at steps (length steps) part ≡ folder_after steps empty_folder
-folder_at-length steps part =
-    ap (λ (step : Option Step). folder_within step part (folder_after (take (length steps) steps) empty_folder))
+pub folder_at-length : (start : Folder) (steps : List Step) (part : ℕ)
+    → folder_at start steps (length steps) part ≡ folder_after steps start
+folder_at-length start steps part =
+    ap (λ (step : Option Step). folder_within step part (folder_after (take (length steps) steps) start))
     (slice_get_past steps (length steps) (omega arith))
-    ∙ ap (λ (done : List Step). folder_after done empty_folder) (take_all (length steps) steps (omega arith))
+    ∙ ap (λ (done : List Step). folder_after done start) (take_all (length steps) steps (omega arith))
 
 -- an image of the folder now is left at some moment since t
-pub left_now : (steps : List Step) (t : ℕ) (image : Image) → t ≤ length steps
-    → IsImage (folder_after steps empty_folder) image → IsLeftSince steps t image
-left_now steps t image le is = record {
+pub left_now : (start : Folder) (steps : List Step) (t : ℕ) (image : Image) → t ≤ length steps
+    → IsImage (folder_after steps start) image → IsLeftSince start steps t image
+left_now start steps t image le is = record {
   done = length steps;
   part = 0;
   since = le;
   until = omega arith;
-  is = subst (λ (folder : Folder). IsImage folder image) (sym (folder_at-length steps 0)) is;
+  is = subst (λ (folder : Folder). IsImage folder image) (sym (folder_at-length start steps 0)) is;
 }
 
 -- since now, only images of the folder now are left
-pub left_only_now : (steps : List Step) (image : Image) → IsLeftSince steps (length steps) image
-    → IsImage (folder_after steps empty_folder) image
-left_only_now steps image left =
+pub left_only_now : (start : Folder) (steps : List Step) (image : Image) → IsLeftSince start steps (length steps) image
+    → IsImage (folder_after steps start) image
+left_only_now start steps image left =
     let all : left.done ≡ length steps = omega (arith, left.since, left.until) in
-    let here = subst (λ (done : ℕ). IsImage (folder_at steps done left.part) image) all left.is in
-    subst (λ (folder : Folder). IsImage folder image) (folder_at-length steps left.part) here
+    let here = subst (λ (done : ℕ). IsImage (folder_at start steps done left.part) image) all left.is in
+    subst (λ (folder : Folder). IsImage folder image) (folder_at-length start steps left.part) here
 
 -- more files
 IsMade-more : (m n : ℕ) (place : Option ℕ) → m ≤ n → IsMade m place → IsMade n place
@@ -125,13 +125,11 @@ after-whole SyncFolder folder whole =
     All-push (IsStage (length folder.files) folder.now.next) [] folder.now
     (All-nil (IsStage (length folder.files) folder.now.next)) (now_staged folder whole)
 
-steps-whole : (steps : List Step) (folder : Folder) → IsWhole folder → IsWhole (folder_after steps folder)
-steps-whole [] folder whole = whole
-steps-whole (step ∷ steps) folder whole = steps-whole steps (after step folder) (after-whole step folder whole)
+-- so do any steps
+pub folder_after-whole : (steps : List Step) (folder : Folder) → IsWhole folder → IsWhole (folder_after steps folder)
+folder_after-whole [] folder whole = whole
+folder_after-whole (step ∷ steps) folder whole = folder_after-whole steps (after step folder) (after-whole step folder whole)
 
--- the folder after any steps is whole
-pub folder_after-whole : (steps : List Step) → IsWhole (folder_after steps empty_folder)
-folder_after-whole steps =
-    steps-whole steps empty_folder
-    (All-push (IsStage 0 None) [] empty_folder.now (All-nil (IsStage 0 None))
-    (record { store = tt; next = tt; apart = tt }))
+-- the empty folder is whole
+pub empty_folder-whole : IsWhole empty_folder
+empty_folder-whole = All-push (IsStage 0 None) [] empty_folder.now (All-nil (IsStage 0 None)) (record { store = tt; next = tt; apart = tt })
