@@ -1,5 +1,5 @@
 // The trait: what a call returns, what it changes in the folder, and what a crash during it may leave.
-ghost use Rattle.std.specs.Prelude.{◌≡◌, ◌≢◌, ◌≤◌, ℕ, None, IsSome, IfOk, Result, Err};
+ghost use Rattle.std.specs.Prelude.{◌≡◌, ◌≢◌, ◌≤◌, ℕ, false, None, IsSome, IfOk, Result, Err};
 ghost use Rattle.conf_disk.specs.Folder.{Folder, Step, CreateNext, Append, Sync, RenameNext, RemoveNext, SyncFolder, under, several_waited, Performs, Reads};
 ghost use Rattle.conf_disk.specs.Image.{Image, IsImage, IsWhole};
 ghost use Rattle.conf_disk.specs.Models.{DiskModel};
@@ -81,7 +81,7 @@ pub trait Disk {
 
     /// Whether several appends to the file under `Store` may have waited for one sync, in this run or in one before it.
     fn several_waited(&self) -> bool
-        ensures { model.honest → result ≡ several_waited (model.folder self.now) };
+        ensures { model.honest → result ≡ false → several_waited (model.folder self.now) ≡ false };
 
     /// The bytes under a name, if they are at most `max`. A read changes nothing, whatever it returns.
     ///

@@ -1,6 +1,5 @@
 // The disk of a real folder: how it is opened, and what its failures are.
-ghost use Rattle.std.specs.Prelude.{◌≡◌, ◌≢◌, ◌<◌, ◌+◌, Err, OnOk, IfErr};
-ghost use Rattle.conf_disk.specs.Moments.{CountsFailures};
+ghost use Rattle.std.specs.Prelude.{◌≡◌, ◌≢◌, IfErr};
 
 use crate::files::{Paths, STORE, look_at_files, open_folder, subject_of};
 use crate::host::{HostSystem, Presence};
@@ -8,10 +7,9 @@ use crate::lock::{find_unlocked, lock_store};
 use crate::{FolderError, FolderFault};
 use conf_disk::{Content, Disk, DiskFault, Name};
 use conf_files::{Cause, OpenFolder, Subject};
-use conf_protocol::{Refusal, Run};
+use conf_protocol::{Refusal, SystemDisk};
 use std::alloc::Global;
 use std::fs::{File, Metadata};
-use std::io::ErrorKind;
 use std::rt::Files;
 
 /// The disk of a real folder: `store.yaml` and `next.yaml` in it. It holds a lock on `store.lock`, one on the folder,
@@ -30,10 +28,7 @@ use std::rt::Files;
 /// each call but `read` and `failures` fails, and changes nothing.
 #[derive(Drop)]
 pub struct FolderDisk<'r, R: Files<File = File>> {
-    run: Run<HostSystem<'r, R>>,
-    failures: u64,
-    /// Why the call that failed last did.
-    refusal: Option<Refusal>,
+    disk: SystemDisk<HostSystem<'r, R>>,
 }
 
 /// Why a call failed, by the file or folder that it was.
@@ -123,7 +118,9 @@ impl<'r, R: Files<File = File>> FolderDisk<'r, R> {
         find_unlocked(&folder)?;
         look_at_files(rt, &paths)?;
         let system = HostSystem::new(rt, folder, paths, None, Presence::Unknown, None);
-        Ok(FolderDisk::over(Run::for_reading(system)))
+        Ok(FolderDisk {
+            disk: SystemDisk::for_reading(system),
+        })
     }
 
     /// The disk of an open folder, once it has the locks.
@@ -139,25 +136,16 @@ impl<'r, R: Files<File = File>> FolderDisk<'r, R> {
     {
         let lock = lock_store(rt, &folder, paths.lock.as_str(), like.as_ref())?;
         let system = HostSystem::new(rt, folder, paths, Some(lock), presence, like);
-        match Run::open(system) {
-            Ok(run) => Ok(FolderDisk::over(run)),
+        match SystemDisk::open(system) {
+            Ok(disk) => Ok(FolderDisk { disk }),
             Err(refusal) => Err(FolderError::from(cause_of(refusal))),
-        }
-    }
-
-    /// The disk of a run, on which no call has failed.
-    fn over(run: Run<HostSystem<'r, R>>) -> Self {
-        FolderDisk {
-            run,
-            failures: 0,
-            refusal: None,
         }
     }
 
     /// Why the call that failed last did, if any did.
     pub fn cause(&self) -> Option<Cause> {
-        let refusal = self.refusal?;
-        match self.run.system().find_in_place() {
+        let refusal = self.disk.cause()?;
+        match self.disk.system().find_in_place() {
             Ok(()) => Some(cause_of(refusal)),
             Err(error) => Some(Subject::Given.cause(error)),
         }
@@ -167,46 +155,9 @@ impl<'r, R: Files<File = File>> FolderDisk<'r, R> {
     /// in `store.lock`; where the system refuses that, the next run puts a copy in its place once more. If there is no
     /// `store.yaml`, a `store.lock` and a `next.yaml` that this run made are removed.
     pub fn release(self) {
-        let FolderDisk { run, .. } = self;
-        let system = run.release();
+        let FolderDisk { disk } = self;
+        let system = disk.release();
         system.finish();
-    }
-
-    /// Returns if a failure can still be counted.
-    ///
-    /// # Errors
-    /// `Device` if as many were counted as can be.
-    fn may_fail(&self) -> Result<(), DiskFault>
-        ensures counted { OnOk result (self.now.failures < u64.MAX) }
-        ensures spent { IfErr result (λ fault. (fault ≡ DiskFault.Device) × (self.now.failures ≡ u64.MAX)) }
-    {
-        if self.failures == u64::MAX {
-            return Err(DiskFault::Device);
-        }
-        Ok(())
-    }
-
-    /// Counts a failure if a call failed, keeps its cause, and returns it as `Device`.
-    fn count(&mut self, done: Result<(), Refusal>) -> Result<(), DiskFault>
-        requires { self.old.failures < u64.MAX }
-        ensures failures { CountsFailures self.old.failures self.new.failures result }
-        ensures fault { result ≢ Err DiskFault.OutOfMemory }
-    {
-        match done {
-            Ok(()) => Ok(()),
-            Err(refusal) => Err(self.fail(refusal)),
-        }
-    }
-
-    /// Counts a failure, and keeps its cause.
-    fn fail(&mut self, refusal: Refusal) -> DiskFault
-        requires { self.old.failures < u64.MAX }
-        ensures failures { self.new.failures ≡ self.old.failures + 1 }
-        ensures fault { result ≡ DiskFault.Device }
-    {
-        self.failures += 1;
-        self.refusal = Some(refusal);
-        DiskFault::Device
     }
 }
 
@@ -219,7 +170,7 @@ impl<'r, R: Files<File = File>> Disk for FolderDisk<'r, R> {
       folder = λ disk. empty_folder;
       moment = λ disk. 0;
       left = λ disk t image. ⊥;
-      failure_count = λ disk. disk.failures;
+      failure_count = λ disk. disk.disk.failures;
     } };
 
     ghost counts_now = { λ disk t image honest le is. honest };
@@ -229,63 +180,38 @@ impl<'r, R: Files<File = File>> Disk for FolderDisk<'r, R> {
     ghost whole = { λ disk honest. absurd honest };
 
     fn failures(&self) -> u64 {
-        self.failures
+        self.disk.failures()
     }
 
     fn several_waited(&self) -> bool {
-        self.run.several_waited()
+        self.disk.several_waited()
     }
 
     fn read(&mut self, alloc: Global, name: Name, max: u64) -> Result<Content, DiskFault> {
-        self.may_fail()?;
-        match self.run.read(alloc, name, max) {
-            Ok(content) => Ok(content),
-            Err(refusal) if refusal.error.kind() == ErrorKind::OutOfMemory => {
-                Err(DiskFault::OutOfMemory)
-            }
-            Err(refusal) => Err(self.fail(refusal)),
-        }
+        self.disk.read(alloc, name, max)
     }
 
     fn create_next(&mut self) -> Result<(), DiskFault> {
-        self.may_fail()?;
-        let done = self.run.create_next();
-        self.count(done)
+        self.disk.create_next()
     }
 
     fn append(&mut self, name: Name, bytes: &[u8]) -> Result<(), DiskFault> {
-        self.may_fail()?;
-        let done = match name {
-            Name::Store => self.run.append_store(bytes),
-            Name::Next => self.run.append_next(bytes),
-        };
-        self.count(done)
+        self.disk.append(name, bytes)
     }
 
     fn sync(&mut self, name: Name) -> Result<(), DiskFault> {
-        self.may_fail()?;
-        let done = match name {
-            Name::Store => self.run.sync_store(),
-            Name::Next => self.run.sync_next(),
-        };
-        self.count(done)
+        self.disk.sync(name)
     }
 
     fn rename_next(&mut self) -> Result<(), DiskFault> {
-        self.may_fail()?;
-        let done = self.run.rename_next();
-        self.count(done)
+        self.disk.rename_next()
     }
 
     fn remove_next(&mut self) -> Result<(), DiskFault> {
-        self.may_fail()?;
-        let done = self.run.remove_next();
-        self.count(done)
+        self.disk.remove_next()
     }
 
     fn sync_folder(&mut self) -> Result<(), DiskFault> {
-        self.may_fail()?;
-        let done = self.run.sync_folder();
-        self.count(done)
+        self.disk.sync_folder()
     }
 }

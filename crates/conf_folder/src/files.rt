@@ -1,7 +1,7 @@
 // The files of a folder: their names and paths, and what a disk does with one of them.
 ghost use Rattle.std.specs.Prelude.{◌≡◌, ◌⊎◌, IfErr};
 
-use crate::{FolderError, FolderFault};
+use crate::FolderError;
 use conf_files::{OWNER_ALONE, OpenFolder, Subject, look, take_after};
 use conf_protocol::Place;
 use conf_system::FileName;

@@ -1,0 +1,5 @@
+pub mod Frames
+pub mod Moving
+pub mod Writes
+pub mod Known
+pub mod Appends
