@@ -9,7 +9,7 @@ use Rattle.conf_system.specs.declared.system.FileName.{FileName}
 use Rattle.conf_system.specs.declared.system.FileName.TheVariants.{Store, Next, Copy}
 use Rattle.conf_system.specs.Machine.{Version, Held, Machine, empty_held, version_bytes, version_at, with_now, with_file}
 use Rattle.conf_system.specs.Machine.{with_version, with_pending, synced, failed_sync, Call, Write, Sync}
-use Rattle.conf_system.specs.Machine.{SyncFolder, after, failing}
+use Rattle.conf_system.specs.Machine.{SyncFolder, after, failing, apart}
 use Rattle.conf_system.specs.Crash.{IsLeftAt, CrashLeaves, image_now}
 use Rattle.conf_system.proofs.Torn.{TearsInto, TearsInto-appended_first, TearsInto-synced, TearsInto-failed, LeftInto-now}
 use Rattle.conf_system.proofs.Torn.{set-into, IsTorn-whole}
@@ -31,7 +31,7 @@ with_file-into m (Some id) image less more into left = record {
   stage = left.stage;
   among = left.among;
   store = IsLeftAt-into (set m.files id old) (set m.files id new) left.stage.store image.store each left.store;
-  next = IsLeftAt-into (set m.files id old) (set m.files id new) left.stage.next image.next each left.next;
+  next = IsLeftAt-into (set m.files id old) (set m.files id new) (apart left.stage.store left.stage.next) image.next each left.next;
 }
   where
     old : Held
@@ -95,5 +95,5 @@ reading-left m = record {
   stage = m.now;
   among = Contains-append_right m.earlier (m.now ∷ []) m.now (0, omega arith, refl);
   store = IsLeftAt-now m.files m.now.store;
-  next = IsLeftAt-now m.files m.now.next;
+  next = IsLeftAt-now m.files (apart m.now.store m.now.next);
 }

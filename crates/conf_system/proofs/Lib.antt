@@ -1,5 +1,5 @@
 pub mod Torn
 pub mod Images
 pub mod Stops
-pub mod Sound
 pub mod Steps
+pub mod Sound

@@ -1,13 +1,14 @@
 -- What a crash leaves where nothing is pending.
 use Rattle.std.specs.Prelude.{option_map}
-use Rattle.std.proofs.Common.{◌≡◌, ◌↔◌, ℕ, zero, suc, List, [], ◌∷◌, ◌++◌, get_or, Option, Some, None, Contains, Bool}
+use Rattle.std.proofs.Common.{◌≡◌, ◌↔◌, ℕ, zero, suc, List, [], ◌∷◌, ◌++◌, get_or, Option, Some, None, Contains}
 use Rattle.std.proofs.Common.{refl, sym, ◌∙◌, ap, subst, arith}
 use Rattle.std.proofs.lemmas.List.{append-nil}
 use Rattle.std.proofs.lemmas.List.Elements.{All-contains, Contains-append_right}
 use Rattle.conf_disk.specs.Folder.{Stage}
 use Rattle.conf_disk.specs.Image.{Image}
 use Rattle.conf_system.specs.declared.system.FileName.TheVariants.{Store}
-use Rattle.conf_system.specs.Machine.{Version, Held, Machine, empty_held, version_bytes, version_at, stages, bytes_under}
+use Rattle.conf_system.specs.declared.system.Note.{Note}
+use Rattle.conf_system.specs.Machine.{Version, Held, Machine, empty_held, version_bytes, version_at, stages, bytes_under, apart}
 use Rattle.conf_system.specs.Crash.{IsWorn, IsTorn, IsLeftOf, IsLeftAt, CrashLeaves, IsOnDevice, image_now, files_machine, machine_of}
 use Rattle.conf_system.proofs.Torn.{IsWorn-none, the_only}
 use Rattle.conf_system.proofs.Images.{reading-left}
@@ -45,29 +46,29 @@ device-left m id image on left =
     has : (stage : Stage) → Contains (stages m) stage → stage.store ≡ Some id
     has stage among = All-contains (λ s. s.store ≡ Some id) (stages m) stage on.stages among
 
-files-whole : (store next : Option (List ℕ)) (copy : Option Version) (noted : Bool) (id : ℕ)
-    → IsWhole (get_or (files_machine store next copy noted).files id empty_held)
-files-whole None None copy noted id = record { alone = refl; whole = refl }
-files-whole (Some s) None copy noted zero = record { alone = refl; whole = refl }
-files-whole (Some s) None copy noted (suc id) = record { alone = refl; whole = refl }
-files-whole None (Some n) copy noted zero = record { alone = refl; whole = refl }
-files-whole None (Some n) copy noted (suc id) = record { alone = refl; whole = refl }
-files-whole (Some s) (Some n) copy noted zero = record { alone = refl; whole = refl }
-files-whole (Some s) (Some n) copy noted (suc zero) = record { alone = refl; whole = refl }
-files-whole (Some s) (Some n) copy noted (suc (suc id)) = record { alone = refl; whole = refl }
+files-whole : (store next : Option (List ℕ)) (copy : Option Version) (note : Note) (id : ℕ)
+    → IsWhole (get_or (files_machine store next copy note).files id empty_held)
+files-whole None None copy note id = record { alone = refl; whole = refl }
+files-whole (Some s) None copy note zero = record { alone = refl; whole = refl }
+files-whole (Some s) None copy note (suc id) = record { alone = refl; whole = refl }
+files-whole None (Some n) copy note zero = record { alone = refl; whole = refl }
+files-whole None (Some n) copy note (suc id) = record { alone = refl; whole = refl }
+files-whole (Some s) (Some n) copy note zero = record { alone = refl; whole = refl }
+files-whole (Some s) (Some n) copy note (suc zero) = record { alone = refl; whole = refl }
+files-whole (Some s) (Some n) copy note (suc (suc id)) = record { alone = refl; whole = refl }
 
-files-settled : (store next : Option (List ℕ)) (copy : Option Version) (noted : Bool) → (files_machine store next copy noted).earlier ≡ []
-files-settled None None copy noted = refl
-files-settled (Some s) None copy noted = refl
-files-settled None (Some n) copy noted = refl
-files-settled (Some s) (Some n) copy noted = refl
+files-settled : (store next : Option (List ℕ)) (copy : Option Version) (note : Note) → (files_machine store next copy note).earlier ≡ []
+files-settled None None copy note = refl
+files-settled (Some s) None copy note = refl
+files-settled None (Some n) copy note = refl
+files-settled (Some s) (Some n) copy note = refl
 
-files-read : (store next : Option (List ℕ)) (copy : Option Version) (noted : Bool)
-    → image_now (files_machine store next copy noted) ≡ record { store = store; next = next }
-files-read None None copy noted = refl
-files-read (Some s) None copy noted = λ i. record { store = Some (append-nil s i); next = None }
-files-read None (Some n) copy noted = λ i. record { store = None; next = Some (append-nil n i) }
-files-read (Some s) (Some n) copy noted = λ i. record { store = Some (append-nil s i); next = Some (append-nil n i) }
+files-read : (store next : Option (List ℕ)) (copy : Option Version) (note : Note)
+    → image_now (files_machine store next copy note) ≡ record { store = store; next = next }
+files-read None None copy note = refl
+files-read (Some s) None copy note = λ i. record { store = Some (append-nil s i); next = None }
+files-read None (Some n) copy note = λ i. record { store = None; next = Some (append-nil n i) }
+files-read (Some s) (Some n) copy note = λ i. record { store = Some (append-nil s i); next = Some (append-nil n i) }
 
 -- where the names are settled, and each file is whole, a crash leaves what reads see
 settled-left : (m : Machine) (image : Image) → m.earlier ≡ [] → ((id : ℕ) → IsWhole (get_or m.files id empty_held))
@@ -77,20 +78,20 @@ settled-left m image settled whole left =
     the_only left.stage m.now (subst (λ (earlier : List Stage). Contains (earlier ++ m.now ∷ []) left.stage) settled left.among) in
     let store = place-left m.files m.now.store image.store (λ id is. whole id)
     (subst (λ (stage : Stage). IsLeftAt m.files stage.store image.store) same left.store) in
-    let next = place-left m.files m.now.next image.next (λ id is. whole id)
-    (subst (λ (stage : Stage). IsLeftAt m.files stage.next image.next) same left.next) in
+    let next = place-left m.files (apart m.now.store m.now.next) image.next (λ id is. whole id)
+    (subst (λ (stage : Stage). IsLeftAt m.files (apart stage.store stage.next) image.next) same left.next) in
     λ i. record { store = store i; next = next i }
 
-pub image-stays : (image later : Image) (copy : Option Version) (noted : Bool)
-    → CrashLeaves (machine_of image copy noted) later ↔ (later ≡ image)
-image-stays image later copy noted = (
-  λ left. settled-left m later (files-settled image.store image.next copy noted) (files-whole image.store image.next copy noted) left
+pub image-stays : (image later : Image) (copy : Option Version) (note : Note)
+    → CrashLeaves (machine_of image copy note) later ↔ (later ≡ image)
+image-stays image later copy note = (
+  λ left. settled-left m later (files-settled image.store image.next copy note) (files-whole image.store image.next copy note) left
       ∙ reads,
   λ same. subst (λ (i : Image). CrashLeaves m i) (reads ∙ sym same) (reading-left m),
 )
   where
     m : Machine
-    m = machine_of image copy noted
+    m = machine_of image copy note
 
-    reads : image_now (machine_of image copy noted) ≡ image
-    reads = files-read image.store image.next copy noted
+    reads : image_now (machine_of image copy note) ≡ image
+    reads = files-read image.store image.next copy note

@@ -1,5 +1,5 @@
 -- What is left of one file, and of a file whose name may lead to several.
-use Rattle.std.proofs.Common.{◌≡◌, ⊎_elim, inl, inr, ℕ, zero, suc, ◌+◌, ◌≤◌, List, [], ◌∷◌, ◌++◌, length, get_or, set, take, drop}
+use Rattle.std.proofs.Common.{◌≡◌, ⊎_elim, inl, inr, ℕ, zero, suc, ◌+◌, ◌<◌, ◌≤◌, List, [], ◌∷◌, ◌++◌, length, get_or, set, take, drop}
 use Rattle.std.proofs.Common.{replicate, Contains, Bool, true, false, refl, ◌∙◌, ap, subst, arith, append_assoc}
 use Rattle.std.proofs.Common.{take-append-drop}
 use Rattle.std.proofs.lemmas.List.{append-nil}
@@ -107,3 +107,14 @@ set-into (file ∷ files) zero zero less more into bytes left = into bytes left
 set-into (file ∷ files) zero (suc place) less more into bytes left = left
 set-into (file ∷ files) (suc id) zero less more into bytes left = left
 set-into (file ∷ files) (suc id) (suc place) less more into bytes left = set-into files id place less more into bytes left
+
+lasting : (device pending bytes : List ℕ) (failed : Bool) → 0 < length pending
+    → synced (with_pending bytes (failed_sync (record { device = device; pending = pending; failed = failed })))
+    ≡ with_pending bytes (failed_sync (record { device = device; pending = pending; failed = failed }))
+lasting device [] bytes failed some = absurd (omega (arith, some))
+lasting device (byte ∷ pending) bytes failed some = refl
+
+-- after a failed sync none says anything
+pub failed-last : (version : Version) (bytes : List ℕ) → 0 < length version.pending
+    → synced (with_pending bytes (failed_sync version)) ≡ with_pending bytes (failed_sync version)
+failed-last version bytes some = lasting version.device version.pending bytes version.failed some

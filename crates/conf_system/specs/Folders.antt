@@ -1,12 +1,12 @@
 -- The machine as a folder of conf_disk, which is what a disk over a system shows of it.
-use Rattle.std.specs.Prelude.{◌≡◌, ◌≢◌, ℕ, min, List, [], ◌∷◌, length, get_or, map, take, drop, Option, Some, None}
-use Rattle.std.specs.Prelude.{false, if◌then◌else◌, ◌==◌}
+use Rattle.std.specs.Prelude.{◌≡◌, ℕ, min, List, [], ◌∷◌, length, get_or, map, take, drop, Option, Some, None}
+use Rattle.std.specs.Prelude.{Bool, true, false, if◌then◌else◌, ◌==◌, ◌&&◌}
 use Rattle.conf_disk.specs.Folder.{File, Stage, Folder}
 use Rattle.conf_disk.specs.Folder as disk
 use Rattle.conf_disk.specs.declared.disk.Name.TheVariants as disk_name
 use Rattle.conf_system.specs.declared.system.FileName.TheVariants.{Store, Next}
 use Rattle.conf_system.specs.Machine.{Version, Held, Machine, empty_held, version_bytes, after, MayBeCalled, CreateNext, Write, Sync}
-use Rattle.conf_system.specs.Machine.{RenameNext, UnlinkNext, SyncFolder}
+use Rattle.conf_system.specs.Machine.{RenameNext, LinkNext, UnlinkNext, SyncFolder, are_linked, apart}
 use Rattle.conf_system.specs.Crash.{IsSound}
 
 -- of so many bytes the device is sure, whichever version a crash leaves
@@ -21,17 +21,34 @@ cut_at count bytes = record { synced = take count bytes; pending = drop count by
 abbrev pub file_of : Held → File
 file_of file = cut_at (sure_count (length file.now.device) file.earlier) (version_bytes file.now)
 
--- after a link both names lead to one file, which is the store alone
-abbrev pub apart : Option ℕ → Option ℕ → Option ℕ
-apart None next = next
-apart (Some store) None = None
-apart (Some store) (Some next) = if store == next then None else Some next
-
 abbrev pub stage_of : Stage → Stage
 stage_of stage = record { store = stage.store; next = apart stage.store stage.next }
 
+abbrev pub same_place : Option ℕ → Option ℕ → Bool
+same_place None None = true
+same_place None (Some id) = false
+same_place (Some id) None = false
+same_place (Some id) (Some other) = id == other
+
+abbrev pub same_stage : Stage → Stage → Bool
+same_stage one other = same_place one.next other.next && same_place one.store other.store
+
+abbrev pub first_of : List Stage → Stage → Stage
+first_of [] now = now
+first_of (stage ∷ stages) now = stage
+
+-- The stages before one. Of those that are the same to a disk, one after the other, it sees the last.
+abbrev pub stages_before : List Stage → Stage → List Stage
+stages_before [] now = []
+stages_before (stage ∷ stages) now =
+    if same_stage stage (first_of stages now) then stages_before stages now else stage ∷ stages_before stages now
+
 abbrev pub folder_of : Machine → Folder
-folder_of m = record { files = map file_of m.files; earlier = map stage_of m.earlier; now = stage_of m.now }
+folder_of m = record {
+  files = map file_of m.files;
+  earlier = stages_before (map stage_of m.earlier) (stage_of m.now);
+  now = stage_of m.now;
+}
 
 -- no sync of the file failed, and no copy took its name since the folder was synced
 pub record IsSure (file : Held) : Type 0 where
@@ -43,19 +60,35 @@ StoreWritesAreAppends = (m : Machine) (bytes : List ℕ)
     → folder_of (after (Write Store bytes) m) ≡ disk.after (disk.Append disk_name.Store bytes) (folder_of m)
 
 abbrev pub NextWritesAreAppends : Type 0
-NextWritesAreAppends = (m : Machine) (bytes : List ℕ) → m.now.store ≢ m.now.next
+NextWritesAreAppends = (m : Machine) (bytes : List ℕ) → are_linked m.now.store m.now.next ≡ false
     → folder_of (after (Write Next bytes) m) ≡ disk.after (disk.Append disk_name.Next bytes) (folder_of m)
 
 abbrev pub SyncsAreSteps : Type 0
 SyncsAreSteps = (m : Machine) → ((id : ℕ) → m.now.store ≡ Some id → IsSure (get_or m.files id empty_held))
     → folder_of (after (Sync Store) m) ≡ disk.after (disk.Sync disk_name.Store) (folder_of m)
 
+abbrev pub NextSyncsAreSteps : Type 0
+NextSyncsAreSteps = (m : Machine) → are_linked m.now.store m.now.next ≡ false
+    → ((id : ℕ) → m.now.next ≡ Some id → IsSure (get_or m.files id empty_held))
+    → folder_of (after (Sync Next) m) ≡ disk.after (disk.Sync disk_name.Next) (folder_of m)
+
 abbrev pub CreatesAreSteps : Type 0
-CreatesAreSteps = (m : Machine) → IsSound m → folder_of (after CreateNext m) ≡ disk.after disk.CreateNext (folder_of m)
+CreatesAreSteps = (m : Machine) → IsSound m → m.now.next ≡ None
+    → folder_of (after CreateNext m) ≡ disk.after disk.CreateNext (folder_of m)
 
 abbrev pub RenamesAreSteps : Type 0
 RenamesAreSteps = (m : Machine) → MayBeCalled RenameNext m
     → folder_of (after RenameNext m) ≡ disk.after disk.RenameNext (folder_of m)
+
+-- the name that is added is the renaming
+abbrev pub LinksAreSteps : Type 0
+LinksAreSteps = (m : Machine) → MayBeCalled LinkNext m
+    → folder_of (after LinkNext m) ≡ disk.after disk.RenameNext (folder_of m)
+
+-- and nothing changes when the old one goes
+abbrev pub UnlinksAreNone : Type 0
+UnlinksAreNone = (m : Machine) → are_linked m.now.store m.now.next ≡ true
+    → folder_of (after UnlinkNext m) ≡ folder_of m
 
 abbrev pub RemovesAreSteps : Type 0
 RemovesAreSteps = (m : Machine) → MayBeCalled RenameNext m

@@ -2,7 +2,11 @@
 use Rattle.std.specs.Prelude.{◌≡◌, ◌≢◌, ℕ, zero, suc, List, [], ◌∷◌, ◌++◌, length, get_or, set, map, take, Option, Some, None}
 use Rattle.std.specs.Prelude.{IsSome, option_map, Bool, true, false, if◌then◌else◌}
 use Rattle.conf_disk.specs.Folder.{Stage}
+use Rattle.std.specs.Prelude.{◌||◌, ◌==◌}
 use Rattle.conf_system.specs.declared.system.FileName.{FileName}
+use Rattle.conf_system.specs.declared.system.Linking.{Linking}
+use Rattle.conf_system.specs.declared.system.Linking.TheVariants.{Linked, Unsupported}
+use Rattle.conf_system.specs.declared.system.Note.{Note}
 use Rattle.conf_system.specs.declared.system.FileName.TheVariants.{Store, Next, Copy}
 
 -- One file of the system (an inode): the bytes that the device surely has, those after them, which may be in memory
@@ -19,13 +23,15 @@ pub record Held : Type 0 where
   pub now : Version
 
 -- Each file that was ever made; which file has each name, at each stage since the last sync of the folder but for the
--- last one, oldest first, and now; the copy of `store.yaml` that is being made; and whether `store.lock` reads `-`.
+-- last one, oldest first, and now; the copy of `store.yaml` that is being made; what `store.lock` says, and what a crash
+-- may have it say instead, since it was not synced.
 pub record Machine : Type 0 where
   pub files : List Held
   pub earlier : List Stage
   pub now : Stage
   pub copy : Option Version
-  pub noted : Bool
+  pub note : Note
+  pub notes : List Note
 
 abbrev pub empty_version : Version
 empty_version = record { device = []; pending = []; failed = false }
@@ -59,6 +65,16 @@ under m Copy = m.copy
 abbrev pub bytes_under : Machine → FileName → Option (List ℕ)
 bytes_under m name = option_map version_bytes (under m name)
 
+-- whether both names lead to one file, as after a link
+abbrev pub are_linked : Option ℕ → Option ℕ → Bool
+are_linked None next = false
+are_linked (Some store) None = false
+are_linked (Some store) (Some next) = store == next
+
+-- where the staged file is: of two names that lead to one file, `store.yaml` alone has it
+abbrev pub apart : Option ℕ → Option ℕ → Option ℕ
+apart store next = if are_linked store next then None else next
+
 -- the calls that change something
 pub data Call : Type 0 where
   CreateNext : Call
@@ -71,7 +87,8 @@ pub data Call : Type 0 where
   PlaceCopy : Call
   UnlinkCopy : Call
   SyncFolder : Call
-  WriteNote : (on_device : Bool) → Call
+  WriteNote : (note : Note) → Call
+  SyncNote : Call
 
 -- What a caller ensures before a call. Only a copy of what `store.yaml` reads as takes its name. Where both names lead to
 -- one file, as after a link, a rename of one to the other does nothing, so it isn't made.
@@ -80,14 +97,15 @@ MayBeCalled CreateNext m = m.now.next ≡ None
 MayBeCalled CreateCopy m = m.copy ≡ None
 MayBeCalled (Write name bytes) m = IsSome (under m name)
 MayBeCalled (Sync name) m = IsSome (under m name)
-MayBeCalled RenameNext m = IsSome m.now.next × (m.now.store ≢ m.now.next)
+MayBeCalled RenameNext m = IsSome m.now.next × (are_linked m.now.store m.now.next ≡ false)
 MayBeCalled LinkNext m = IsSome m.now.next × (m.now.store ≡ None)
 MayBeCalled UnlinkNext m = IsSome m.now.next
 MayBeCalled PlaceCopy m =
-    IsSome m.copy × (bytes_under m Copy ≡ bytes_under m Store) × (m.now.store ≢ m.now.next)
+    IsSome m.copy × (bytes_under m Copy ≡ bytes_under m Store) × (are_linked m.now.store m.now.next ≡ false)
 MayBeCalled UnlinkCopy m = IsSome m.copy
 MayBeCalled SyncFolder m = Unit {0}
-MayBeCalled (WriteNote on_device) m = Unit {0}
+MayBeCalled (WriteNote note) m = Unit {0}
+MayBeCalled SyncNote m = Unit {0}
 
 -- with more bytes at its end
 abbrev pub with_pending : List ℕ → Version → Version
@@ -97,9 +115,14 @@ with_pending bytes version = record version { pending = version.pending ++ bytes
 abbrev pub synced : Version → Version
 synced version = if version.failed then version else record version { device = version_bytes version; pending = [] }
 
--- after a sync that failed
+-- whether there are any of these
+abbrev pub is_any : {X : Type 0} → List X → Bool
+is_any [] = false
+is_any (x ∷ xs) = true
+
+-- after a sync that failed: if any bytes were pending, no later sync of the file says anything
 abbrev pub failed_sync : Version → Version
-failed_sync version = record version { failed = true }
+failed_sync version = record version { failed = is_any version.pending || version.failed }
 
 -- a version takes the file's name
 abbrev pub replaced : Option Version → Held → Held
@@ -141,7 +164,13 @@ after UnlinkNext m = with_stage m m.files (record { store = m.now.store; next = 
 after PlaceCopy m = with_copy (with_file m m.now.store (replaced m.copy)) None
 after UnlinkCopy m = with_copy m None
 after SyncFolder m = record m { files = map settled m.files; earlier = [] }
-after (WriteNote on_device) m = record m { noted = on_device }
+after (WriteNote note) m = record m { note = note; notes = m.notes ++ m.note ∷ [] }
+after SyncNote m = record m { notes = [] }
+
+-- after a link: where the file system has none, nothing is done
+abbrev pub after_linking : Linking → Machine → Machine
+after_linking Linked m = after LinkNext m
+after_linking Unsupported m = m
 
 -- After a call that failed. Of a write a prefix may be there. Of another call at 0 nothing is done, and from 1 on all; but
 -- of a sync nothing more is sure.

@@ -1,7 +1,8 @@
 -- A system, by what contracts see of it, and how a call of it goes.
 use Rattle.std.specs.Prelude.{◌≡◌, ◌⊎◌, ℕ, ◌≤◌, List, length, take, drop, Result, MatchResult}
 use Rattle.conf_system.specs.declared.system.FileName.{FileName}
-use Rattle.conf_system.specs.Machine.{Machine, Call, Write, after, failing}
+use Rattle.conf_system.specs.declared.system.Linking.{Linking}
+use Rattle.conf_system.specs.Machine.{Machine, Call, Write, LinkNext, after, after_linking, failing}
 
 pub record SystemModel (S : Type 0) : Type 1 where
   -- whether the system is one that the clauses speak of; no call changes it
@@ -24,6 +25,17 @@ pub record Goes {S E : Type 0} (model : SystemModel S) (call : Call)
     (old : S) (result : Result (Unit {0}) E) (new : S) : Type 0 where
   pub change : model.honest → MatchResult result (λ _. model.machine new ≡ after call (model.machine old))
       (λ _. (k : ℕ) × (model.machine new ≡ failing k call (model.machine old)))
+  pub time : model.honest → Passes model old new (λ m. m ≡ model.machine new)
+
+-- nothing was changed
+pub record Stays {S : Type 0} (model : SystemModel S) (old new : S) : Type 0 where
+  pub same : model.machine new ≡ model.machine old
+  pub time : Passes model old new (λ m. m ≡ model.machine new)
+
+-- how a link goes
+pub record Links {S E : Type 0} (model : SystemModel S) (old : S) (result : Result Linking E) (new : S) : Type 0 where
+  pub change : model.honest → MatchResult result (λ linking. model.machine new ≡ after_linking linking (model.machine old))
+      (λ _. (k : ℕ) × (model.machine new ≡ failing k LinkNext (model.machine old)))
   pub time : model.honest → Passes model old new (λ m. m ≡ model.machine new)
 
 -- so many of the bytes were written from old to new, and at each moment between so many of them or fewer

@@ -1,0 +1,5 @@
+pub mod OneMore
+pub mod Failures
+pub mod Left
+pub mod Files
+pub mod Pushes
