@@ -66,9 +66,8 @@ copy-twice : (copy : Option Version) → option_map failed_sync (option_map fail
 copy-twice None = refl
 copy-twice (Some version) = ap (λ (v : Version). Some v) (failed-twice version)
 
-twice : (name : FileName) (files : List Held) (earlier : List Stage) (store next : Option ℕ) (copy : Option Version)
-    (note : Note) (notes : List Note) → fail name (fail name (machine files earlier store next copy note notes))
-    ≡ fail name (machine files earlier store next copy note notes)
+twice : (name : FileName) (files : List Held) (earlier : List Stage) (store next : Option ℕ) (copy : Option Version) (note : Note) (notes : List Note)
+    → fail name (fail name (machine files earlier store next copy note notes)) ≡ fail name (machine files earlier store next copy note notes)
 twice Store files earlier None next copy note notes = refl
 twice Store files earlier (Some id) next copy note notes =
     ap (λ (l : List Held). machine l earlier (Some id) next copy note notes) (unsure-twice id files)

@@ -1,6 +1,5 @@
 -- What a test chooses of a crash, a crash may leave.
-use Rattle.std.proofs.Common.{◌≡◌, ◌<◌, ◌≤◌, ◌+◌, zero, suc, arith, add-one, take, refl, sym, ◌∙◌, ap, subst, inl, inr, ℕ, List, [], ◌∷◌}
-use Rattle.std.proofs.Common.{◌++◌, length, get_or, Option, Some, None}
+use Rattle.std.proofs.Common.{◌≡◌, ◌<◌, ◌≤◌, ◌+◌, zero, suc, arith, add-one, take, refl, sym, ◌∙◌, ap, subst, inl, inr, ℕ, List, [], ◌∷◌, ◌++◌, length, get_or, Option, Some, None}
 use Rattle.std.proofs.Common.{Bool, true, false, ◌&&◌}
 use Rattle.std.specs.Prelude.{slice_get, if◌then◌else◌, nat_le}
 use Rattle.std.specs.List.{Contains}
@@ -34,11 +33,7 @@ left-version file place kept None is fits =
     let no : false ≡ true = rw is at fits in cc
 left-version file place kept (Some version) is fits =
     let same : version_in file place ≡ version = get_or_from_slice_get (versions file) place version empty_version is in
-    record {
-      version = version_in file place;
-      among = rw same (found-in (versions file) place version is);
-      torn = torn-is (version_in file place) kept;
-    }
+    record { version = version_in file place; among = rw same (found-in (versions file) place version is); torn = torn-is (version_in file place) kept }
 
 left-file : (files : List Held) (id place : ℕ) (kept : List Bool) (found : Option Held) → slice_get files id ≡ found
     → has_room (pending_of (slice_get files id) place) (length kept) ≡ true
@@ -60,14 +55,10 @@ both-true true false is = cc
 both-true false b is = cc
 
 abbrev chosen : Machine → Crash → Stage → Image
-chosen m crash stage = record {
-  store = torn_at m.files stage.store crash.store;
-  next = torn_at m.files (apart stage.store stage.next) crash.next;
-}
+chosen m crash stage = record { store = torn_at m.files stage.store crash.store; next = torn_at m.files (apart stage.store stage.next) crash.next }
 
 chosen-left : (m : Machine) (crash : Crash) (stage : Stage) → Contains (stages m) stage
-    → (fits_at m.files stage.store crash.store && fits_at m.files (apart stage.store stage.next) crash.next) ≡ true
-    → CrashLeaves m (chosen m crash stage)
+    → (fits_at m.files stage.store crash.store && fits_at m.files (apart stage.store stage.next) crash.next) ≡ true → CrashLeaves m (chosen m crash stage)
 chosen-left m crash stage among fits =
     let each = both-true (fits_at m.files stage.store crash.store) (fits_at m.files (apart stage.store stage.next) crash.next) fits in
     record {

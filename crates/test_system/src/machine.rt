@@ -1,7 +1,6 @@
 // A folder as the kernel and the device hold it, as data.
 ghost use Rattle.std.specs.Prelude.{◌≡◌, true, length, map, take, Some, OnOk, IfOk, option_map, slice_get};
-ghost use Rattle.conf_system.specs.Machine.{after, failing, with_stage, with_version, with_now, replaced, settled};
-ghost use Rattle.conf_system.specs.Machine.{stages};
+ghost use Rattle.conf_system.specs.Machine.{after, failing, with_stage, with_version, with_now, replaced, settled, stages};
 ghost use Rattle.conf_system.specs.Machine.{version_bytes, version_at, bytes_under, are_linked, apart, CreateNext};
 ghost use Rattle.conf_system.specs.Machine.{PlaceCopy, WriteNote};
 ghost use Rattle.test_system.specs.Replay.{files_of, stage_of, version_of, machine_of, new_machine, entry_of, call_of};
@@ -57,8 +56,8 @@ impl StageData {
     }
 }
 
-/// All files that were ever made; the stages before the one now since the last sync of the folder, oldest first, and
-/// the one now; the copy; what `store.lock` says, and what it said since its last sync, oldest first.
+/// All files that were ever made; the stages before the one now since the last sync of the folder, oldest first, and the
+/// one now; the copy; what `store.lock` says, and what it said since its last sync, oldest first.
 #[derive(Drop)]
 pub(crate) struct MachineData {
     pub(crate) files: Vec<HeldData>,

@@ -13,9 +13,9 @@ use std::alloc::{AllocError, Global};
 use std::io;
 use std::io::ErrorKind;
 
-/// A system in memory, for tests. It keeps a list of the calls that changed something, so what it was at each moment
-/// is known. If there is no memory for keeping a call, that call fails, and does nothing. A call that looks or reads
-/// plays all the others again, so its time is linear in their number and their bytes.
+/// A system in memory, for tests. It keeps a list of the calls that changed something, so what it was at each moment is
+/// known. If there is no memory for keeping a call, that call fails, and does nothing. A call that looks or reads plays
+/// all the others again, so its time is linear in their number and their bytes.
 #[derive(Drop)]
 pub struct MemorySystem {
     pub(crate) alloc: Global,
@@ -64,8 +64,8 @@ impl MemorySystem {
         Ok(MemorySystem::of_log(alloc, log))
     }
 
-    /// The same system, with a fault that chooses a call by its number. A number below [`calls`](MemorySystem::calls)
-    /// is that of a call that was made already.
+    /// The same system, with a fault that chooses a call by its number. A number below [`calls`](MemorySystem::calls) is
+    /// that of a call that was made already.
     pub fn with_fault(self, call: usize, fault: Fault) -> Self
         ensures calls { kept_calls result ≡ kept_calls self }
         ensures fault { plan_of result ≡ record { call = call; fault = fault } }
@@ -85,8 +85,8 @@ impl MemorySystem {
         self.log.len()
     }
 
-    /// What a next run finds if the process was killed when so many calls had been made, of which none fails then. If
-    /// so many were not made, it is what the folder is now.
+    /// What a next run finds if the process was killed when so many calls had been made, of which none fails then. If so
+    /// many were not made, it is what the folder is now.
     ///
     /// # Errors
     /// If there is no memory for it.
@@ -121,8 +121,8 @@ impl MemorySystem {
         Ok(machine.note_count())
     }
 
-    /// How many bytes are pending in a version of the file under a name at a stage, or `None` if there is no such
-    /// stage, file or version. Stages and versions are counted as in a [`Crash`]. The copy has none.
+    /// How many bytes are pending in a version of the file under a name at a stage, or `None` if there is no such stage,
+    /// file or version. Stages and versions are counted as in a [`Crash`]. The copy has none.
     ///
     /// # Errors
     /// If there is no memory for looking.

@@ -1,7 +1,6 @@
 // The versions of a file, as data.
 ghost use Rattle.std.specs.Prelude.{◌≡◌, ◌≤◌, length, OnOk, IfOk, Some, option_map, slice_get, if◌then◌else◌};
-ghost use Rattle.conf_system.specs.Machine.{version_bytes, versions, empty_version, empty_held, replaced, settled};
-ghost use Rattle.conf_system.specs.Machine.{with_now};
+ghost use Rattle.conf_system.specs.Machine.{version_bytes, versions, empty_version, empty_held, replaced, settled, with_now};
 ghost use Rattle.test_system.specs.Replay.{version_of, held_of, changed_by};
 ghost use Rattle.test_system.specs.Crashes.{pending_of, torn_bytes};
 
@@ -66,8 +65,8 @@ impl VersionData {
         Ok(bytes)
     }
 
-    /// What a crash leaves of it: of the pending bytes as many as `kept` has places, each as it was if its place says
-    /// so, and else zero.
+    /// What a crash leaves of it: of the pending bytes as many as `kept` has places, each as it was if its place says so,
+    /// and else zero.
     pub(crate) fn torn(&self, alloc: Global, kept: &[bool]) -> Result<Vec<u8>, AllocError>
         requires { length kept.now ≤ length self.now.pending.items }
         ensures { IfOk result (λ bytes. bytes.items ≡ torn_bytes (version_of self.now) kept.now) }

@@ -1,0 +1,210 @@
+// A script: runs of a disk, one after the other, on one folder.
+use crate::guarded::GuardedSystem;
+use crate::promises::Promises;
+use conf_disk::{Content, Disk, Name};
+use conf_protocol::SystemDisk;
+use std::alloc::{AllocError, Global};
+use test_system::MemorySystem;
+
+/// More bytes than any file of a script has.
+const LIMIT: u64 = 1_000;
+
+/// What is left when a script has ended.
+#[derive(Drop)]
+pub(crate) struct Ended {
+    pub(crate) system: MemorySystem,
+    pub(crate) promises: Promises,
+    /// How many calls of the disk returned `Ok`.
+    pub(crate) done: usize,
+    pub(crate) is_misused: bool,
+}
+
+/// Performs the words of a script on the folder of a system, in which `store.yaml` has these bytes.
+pub(crate) fn perform(
+    alloc: Global,
+    system: MemorySystem,
+    bytes: &[u8],
+    script: &str,
+) -> Result<Option<Ended>, AllocError> {
+    let mut ended = Ended {
+        system,
+        promises: Promises::new(alloc, bytes)?,
+        done: 0,
+        is_misused: false,
+    };
+    for run in script.split(" again ") {
+        let Some(next) = perform_run(alloc, ended, run)? else {
+            return Ok(None);
+        };
+        ended = next;
+    }
+    Ok(Some(ended))
+}
+
+/// Performs one run. If the disk can't be opened, `None`.
+fn perform_run(alloc: Global, before: Ended, words: &str) -> Result<Option<Ended>, AllocError> {
+    let Ended {
+        system,
+        promises,
+        done,
+        is_misused,
+    } = before;
+    let Ok(disk) = SystemDisk::open(GuardedSystem::over(system)) else {
+        return Ok(None);
+    };
+    let mut run = Run {
+        alloc,
+        disk,
+        promises,
+        staged: Vec::new(alloc),
+        synced: 0,
+        done,
+    };
+    for word in words.split(' ') {
+        run.perform(word)?;
+    }
+    let Run {
+        disk,
+        promises,
+        done,
+        ..
+    } = run;
+    let system = disk.release();
+    let is_misused = is_misused || system.is_misused();
+    Ok(Some(Ended {
+        system: system.into_inner(),
+        promises,
+        done,
+        is_misused,
+    }))
+}
+
+/// A run, and what it knows.
+#[derive(Drop)]
+struct Run {
+    alloc: Global,
+    disk: SystemDisk<GuardedSystem>,
+    promises: Promises,
+    /// The bytes of `next.yaml`.
+    staged: Vec<u8>,
+    /// How many of them are synced.
+    synced: usize,
+    done: usize,
+}
+
+impl Run {
+    fn calls(&self) -> usize {
+        self.disk.system().calls()
+    }
+
+    fn perform(&mut self, word: &str) -> Result<(), AllocError> {
+        let (word, bytes) = word.split_once(':').unwrap_or((word, ""));
+        let bytes = bytes.as_bytes();
+        let is_done = match word {
+            "append" => self.append(bytes)?,
+            "sync" => self.sync()?,
+            "create" => self.create()?,
+            "stage" => self.stage(bytes)?,
+            "sync_next" => self.sync_next(),
+            "rename" => self.rename()?,
+            "remove" => self.remove()?,
+            "folder" => self.sync_folder()?,
+            _ => false,
+        };
+        if is_done {
+            self.done = self.done.saturating_add(1);
+        }
+        Ok(())
+    }
+
+    fn append(&mut self, bytes: &[u8]) -> Result<bool, AllocError> {
+        self.promises.may_grow(bytes)?;
+        if self.disk.append(Name::Store, bytes).is_ok() {
+            return Ok(true);
+        }
+        if let Ok(Content::Bytes(bytes)) = self.disk.read(self.alloc, Name::Store, LIMIT) {
+            self.promises.reads_as(&bytes)?;
+        }
+        Ok(false)
+    }
+
+    fn sync(&mut self) -> Result<bool, AllocError> {
+        let is_done = self.disk.sync(Name::Store).is_ok();
+        if is_done {
+            self.promises.is_synced(self.calls())?;
+        }
+        Ok(is_done)
+    }
+
+    /// What `next.yaml` has after a call of it.
+    fn look_at_next(&mut self, is_done: bool) -> Result<bool, AllocError> {
+        if !is_done {
+            self.synced = 0;
+            if let Ok(Content::Bytes(bytes)) = self.disk.read(self.alloc, Name::Next, LIMIT) {
+                self.staged = bytes;
+            }
+        }
+        Ok(is_done)
+    }
+
+    fn create(&mut self) -> Result<bool, AllocError> {
+        match self.disk.read(self.alloc, Name::Next, LIMIT) {
+            Ok(Content::Missing) => {
+                self.staged.clear();
+                self.synced = 0;
+                Ok(self.disk.create_next().is_ok())
+            }
+            _ => Ok(false),
+        }
+    }
+
+    fn stage(&mut self, bytes: &[u8]) -> Result<bool, AllocError> {
+        match self.disk.read(self.alloc, Name::Next, LIMIT) {
+            Ok(Content::Bytes(_)) => {}
+            _ => return Ok(false),
+        }
+        self.staged.extend_from_slice(bytes)?;
+        let is_done = self.disk.append(Name::Next, bytes).is_ok();
+        self.look_at_next(is_done)
+    }
+
+    fn sync_next(&mut self) -> bool {
+        let is_done = self.disk.sync(Name::Next).is_ok();
+        if is_done {
+            self.synced = self.staged.len();
+        }
+        is_done
+    }
+
+    fn rename(&mut self) -> Result<bool, AllocError> {
+        match self.disk.read(self.alloc, Name::Next, LIMIT) {
+            Ok(Content::Bytes(bytes)) => self.staged = bytes,
+            _ => return Ok(false),
+        }
+        let surely = self.synced.min(self.staged.len());
+        let calls = self.calls();
+        self.promises.may_be_renamed(calls, &self.staged, surely)?;
+        if self.disk.rename_next().is_ok() {
+            return Ok(true);
+        }
+        if let Ok(Content::Bytes(bytes)) = self.disk.read(self.alloc, Name::Store, LIMIT)
+            && bytes.as_slice() != self.staged.as_slice()
+        {
+            self.promises.is_not_renamed();
+        }
+        Ok(false)
+    }
+
+    fn remove(&mut self) -> Result<bool, AllocError> {
+        let is_done = self.disk.remove_next().is_ok();
+        self.look_at_next(is_done)
+    }
+
+    fn sync_folder(&mut self) -> Result<bool, AllocError> {
+        let is_done = self.disk.sync_folder().is_ok();
+        if is_done {
+            self.promises.is_settled(self.calls())?;
+        }
+        Ok(is_done)
+    }
+}
