@@ -1,5 +1,5 @@
 -- Texts without whitespace at their ends.
-use Rattle.std.proofs.Common.{◌≡◌, ◌≤◌, ◌<◌, refl, sym, ◌∙◌, ap, subst, arith, append_assoc, get_or, length, take, drop}
+use Rattle.std.proofs.Common.{◌≡◌, ◌<◌, refl, sym, ◌∙◌, ap, subst, arith, append_assoc, get_or, length, take, drop}
 use Rattle.std.proofs.Common.{⊎_elim}
 use Rattle.std.specs.Prelude.{ℕ, ◌+◌, ◌-◌, Bool, true, false, List, [], ◌∷◌, ◌++◌, encode_utf8_all, slice_index, slice_range, if◌then◌else◌}
 use Rattle.std.specs.List.{list_all}

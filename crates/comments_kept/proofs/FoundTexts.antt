@@ -1,6 +1,6 @@
 -- The comments that were found, as texts.
-use Rattle.std.proofs.Common.{◌≡◌, ◌≤◌, refl, sym, ◌∙◌, ap, ap₂, arith, ⊎_elim, get_or}
-use Rattle.std.specs.Prelude.{ℕ, ◌+◌, ◌⊎◌, true, List, [], ◌∷◌, ◌++◌, encode_utf8_all, map, slice_index}
+use Rattle.std.proofs.Common.{◌≡◌, ◌≤◌, refl, sym, ◌∙◌, ap, arith, ⊎_elim, get_or}
+use Rattle.std.specs.Prelude.{ℕ, ◌+◌, ◌⊎◌, true, List, [], ◌∷◌, encode_utf8_all, map, slice_index}
 use Rattle.std.specs.List.{list_all}
 use Rattle.std.specs.Str.{chars}
 use Rattle.std.proofs.Math.Utf8.{scalar, scalars}

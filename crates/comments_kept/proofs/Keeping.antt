@@ -1,6 +1,6 @@
 -- The text that was written gives the same tree and has the same comments.
 use Rattle.std.proofs.Common.{◌≡◌, ◌≤◌, refl, sym, ◌∙◌, ap, subst, arith, length}
-use Rattle.std.specs.Prelude.{ℕ, true, List, [], ◌∷◌, encode_utf8_all, map}
+use Rattle.std.specs.Prelude.{ℕ, true, List, [], encode_utf8_all, map}
 use Rattle.std.specs.List.{list_all}
 use Rattle.std.specs.Str.{IsUtf8, chars}
 use Rattle.std.proofs.lemmas.Str.{chars_from_encodes}

@@ -1,4 +1,4 @@
-use Rattle.std.proofs.Common.{ap, sym, subst, ◌∙◌, length}
+use Rattle.std.proofs.Common.{ap, subst, ◌∙◌, length}
 use Rattle.std.specs.Str.{chars}
 use Rattle.comments_kept.specs.Blanks.{IsWhiteRun}
 use Rattle.comments_kept.proofs.BlankEnds.{before_is, cut_before_white, trim_is}

@@ -1,8 +1,5 @@
-use Rattle.std.proofs.Common.{codes, ◌∙◌, ◌++◌, ap, append_assoc}
 use Rattle.std.specs.Str.{chars}
-use Rattle.yaml_grammar.specs.Texts.{spaces}
 use Rattle.yaml_writer.proofs.Prelude.{on_ok_weaker}
-use Rattle.comments_kept.specs.Weaving.{Wrote}
 use Rattle.comments_kept.proofs.LineEnds.{comment_wrote}
 use Rattle.comments_kept.proofs.weaver.Weaver.put_comment.Goals as goal
 

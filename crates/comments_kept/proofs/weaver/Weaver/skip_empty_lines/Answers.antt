@@ -1,6 +1,4 @@
-use Rattle.std.proofs.Common.{refl, inl, inr, sym, subst, ap, arith}
-use Rattle.yaml_writer.proofs.Prelude.{drop_all}
-use Rattle.comments_kept.specs.Weaving.{StartsFilled}
+use Rattle.std.proofs.Common.{refl, arith}
 use Rattle.comments_kept.proofs.LineEnds.{none_skipped, one_skipped, starts_later, starts_comment, starts_nothing}
 use Rattle.comments_kept.proofs.weaver.Weaver.skip_empty_lines.Goals as goal
 
