@@ -1,7 +1,8 @@
 -- The configuration is that of the state that the bytes mean.
-use Rattle.std.proofs.Common.{◌≡◌, ◌∙◌, ◌⊎◌, Ok, Err, inr, arith, subst}
-use Rattle.conf_tools.proofs.Prelude.{chars, Reads, bytes_under, Content, Store, store_limit, OutOfMemory, RecoversTo}
+use Rattle.std.proofs.Common.{◌≡◌, ◌∙◌, ◌⊎◌, Bool, Ok, Err, inr, arith, subst}
+use Rattle.conf_tools.proofs.Prelude.{chars, Reads, bytes_under, several_waited, Content, Store, store_limit, OutOfMemory, RecoversTo}
 use Rattle.conf_tools.specs.Reads.{tree_or}
+use Rattle.conf_store.specs.Holes.{is_several}
 use Rattle.conf_tools.proofs.ExportLemmas.{bytes-find, bytes-lack, bytes-whole, leaves-same}
 use Rattle.conf_tools.proofs.HeldLemmas.{tree_lent}
 use Rattle.conf_tools.proofs.exports.export_read.Goals as goal
@@ -9,7 +10,8 @@ use Rattle.conf_tools.proofs.exports.export_read.Goals as goal
 pub returns-in-Err-clause-refused : goal.returns-in-Err-clause-refused
 returns-in-Err-clause-refused g c =
     let d = g.D.Disk in
-    bytes-lack d.model c.args.disk c.in-Bytes.bytes (chars c.args.name.now) c.in-Err.fault
+    bytes-lack d.model c.args.disk (is_several c.noted_on-waiting.result) c.in-Bytes.bytes (chars c.args.name.now) c.in-Err.fault
+    (λ h. c.noted_on-waiting.ensures h)
     (λ h. subst (λ (content : Content). Reads (d.model.folder c.args.disk) Store store_limit content) c.in-Bytes.is (c.requires h))
     c.in-Err.ensures.refused
 
@@ -24,7 +26,8 @@ returns-in-Ok-found_text-clause-ok g c =
     let found = c.in-Ok-found_text.ensures.ok in
     record {
       state = read.0;
-      finds = bytes-find d.model c.args.disk c.in-Bytes.bytes read.0 c.in-Ok.read.1.commands c.in-Ok.read.1.dropped
+      finds = bytes-find d.model c.args.disk (is_several c.noted_on-waiting.result) c.in-Bytes.bytes read.0 c.in-Ok.read.1.commands
+          c.in-Ok.read.1.dropped (λ h. c.noted_on-waiting.ensures h)
           (λ h. subst (λ (content : Content). Reads (d.model.folder c.args.disk) Store store_limit content) c.in-Bytes.is (c.requires h))
           read.1;
       exports = record {
@@ -44,10 +47,12 @@ returns-in-Ok-found_text-clause-dropped g c h =
     let d = g.D.Disk in
     let read = c.in-Ok.ensures.ok in
     let none : c.in-Ok.read.1.dropped ≡ 0 = omega (arith, c.if-opened-gt0.false) in
-    inr (bytes-whole d.model g.E.Listener.hears c.args.errors.now (bytes_under (d.model.folder c.args.disk) Store)
+    inr (bytes-whole d.model g.E.Listener.hears c.args.errors.now (several_waited (d.model.folder c.args.disk))
+    (bytes_under (d.model.folder c.args.disk) Store)
     c.in-Bytes.bytes read.0 c.in-Ok.read.1.commands
     (subst (λ (content : Content). Reads (d.model.folder c.args.disk) Store store_limit content) c.in-Bytes.is (c.requires h))
-    (subst (λ n. RecoversTo c.in-Bytes.bytes.items read.0 c.in-Ok.read.1.commands n) none read.1))
+    (subst (λ (b : Bool). RecoversTo b c.in-Bytes.bytes.items read.0 c.in-Ok.read.1.commands 0) (c.noted_on-waiting.ensures h)
+    (subst (λ n. RecoversTo (is_several c.noted_on-waiting.result) c.in-Bytes.bytes.items read.0 c.in-Ok.read.1.commands n) none read.1)))
 
 pub returns-clause-refused : goal.returns-clause-refused
 returns-clause-refused g c =
@@ -56,7 +61,8 @@ returns-clause-refused g c =
     let fault = c.in-Err-found_text.fault in
     record {
       state = read.0;
-      finds = bytes-find d.model c.args.disk c.in-Bytes.bytes read.0 c.in-Ok.read.1.commands c.in-Ok.read.1.dropped
+      finds = bytes-find d.model c.args.disk (is_several c.noted_on-waiting.result) c.in-Bytes.bytes read.0 c.in-Ok.read.1.commands
+          c.in-Ok.read.1.dropped (λ h. c.noted_on-waiting.ensures h)
           (λ h. subst (λ (content : Content). Reads (d.model.folder c.args.disk) Store store_limit content) c.in-Bytes.is (c.requires h))
           read.1;
       why = subst (λ t. (fault ≡ OutOfMemory) ⊎ (tree_or t (chars c.args.name.now) ≡ Err fault))
