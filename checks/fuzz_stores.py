@@ -3,7 +3,8 @@
 
 Ten stores are made by sessions. Their files are changed at random: bits flipped, bytes and words changed, pieces
 swapped, doubled, taken out or exchanged with those of another store, cut anywhere, followed by zeros, and with zeros in
-up to three places. Then a checkpoint is made, and the state is read from the new base.
+up to three places. The length of `store.lock` notes whether several records may have waited for one sync. Then a
+checkpoint is made, and the state is read from the new base.
 
 - Each file is opened, or refused by `NotAStore` or `Damaged`. A refused file stays as it is. Standard error has the
   name of the refusal, or else one line if bytes are dropped, which says how many.
@@ -55,6 +56,10 @@ LOOKED_AT = 10
 VERIFIED = 100
 
 MEMORY = "/dev/shm"
+
+# The lengths of `store.lock`, and those that note that several records may have waited.
+LOCKS = (1, 2, 3, 4)
+NOTED = (3, 4)
 
 # A state: the configurations in order, the count, and how many bytes come after the last piece. Or the name of a
 # refusal.
@@ -161,10 +166,16 @@ EXACT: dict[Change, bool] = {
 }  # fmt: skip
 
 
-def outcome_of_model(content: bytes) -> Outcome:
+def write_store(folder: str, content: bytes, note: int) -> None:
+    """Writes `store.yaml`, and `store.lock` with this length."""
+    write_file(os.path.join(folder, "store.yaml"), content)
+    write_file(os.path.join(folder, "store.lock"), b"-" * note)
+
+
+def outcome_of_model(content: bytes, note: int) -> Outcome:
     """The state that the model finds, or the name of a refusal."""
     try:
-        configs, count, lost = meaning(content)
+        configs, count, lost = meaning(content, note in NOTED)
         return list(configs.items()), count, lost
     except NotAStore:
         return "NotAStore"
@@ -172,10 +183,10 @@ def outcome_of_model(content: bytes) -> Outcome:
         return "Damaged"
 
 
-def outcome_of_program(folder: str, content: bytes, failures: Failures) -> Outcome:
+def outcome_of_program(folder: str, content: bytes, note: int, failures: Failures) -> Outcome:
     """The state that the program finds, or the name of its refusal."""
     file = os.path.join(folder, "store.yaml")
-    write_file(file, content)
+    write_store(folder, content, note)
     try:
         status, output, errors = session(folder, b"checkpoint:\n...\n", timeout=HANGS)
     except subprocess.TimeoutExpired:
@@ -202,10 +213,10 @@ def dropped_in(errors: str) -> int:
     return int(found[1] or 1) if found else 0
 
 
-def opening_changes_nothing(folder: str, content: bytes, outcome: Outcome, failures: Failures) -> None:
+def opening_changes_nothing(folder: str, content: bytes, note: int, outcome: Outcome, failures: Failures) -> None:
     """A session without commands says what it drops, and leaves the file unless it drops bytes."""
     file = os.path.join(folder, "store.yaml")
-    write_file(file, content)
+    write_store(folder, content, note)
     said = f"confstore: {outcome}\n" if isinstance(outcome, str) else dropped(outcome[2])
     status = 1 if isinstance(outcome, str) else 0
     failures.expect(f"opening {content!r}", session(folder, b"", timeout=HANGS), (status, b"", said))
@@ -282,7 +293,7 @@ def verified(folder: str, content: bytes, outcome: Outcome, failures: Failures) 
     failures.expect(f"the rest of {content!r}", found.number("dropped"), len(pieces_of(content)[1]))
     failures.expect(f"salvage of {content!r}", run_word("salvage", folder, saved), (0, output, ""))
     configs, count = read_base(read_file(os.path.join(saved, "store.yaml")))
-    salvaged = outcome_of_program(saved, kept, failures)[:2] if outcome == "Damaged" else outcome[:2]
+    salvaged = outcome_of_program(saved, kept, LOCKS[0], failures)[:2] if outcome == "Damaged" else outcome[:2]
     failures.expect(f"what {content!r} is salvaged to", (list(configs.items()), count), salvaged)
     shutil.rmtree(saved)
     failures.expect(f"the folder of {content!r}", sorted(os.listdir(folder)), names)
@@ -328,6 +339,13 @@ def agreement(change: Change, content: bytes, model: Outcome, program: Outcome) 
     return "opened by libyaml's reading alone" if isinstance(program, str) else "opened by the program alone"
 
 
+def agreement_of_notes(content: bytes, note: int, model: Outcome) -> str:
+    """Whether the model opens a file for its note alone."""
+    if note in NOTED and model != outcome_of_model(content, LOCKS[0]):
+        return "opened by the note"
+    return "nothing"
+
+
 def try_files(stores: Sequence[bytes], seed: str, count: int) -> Tried:
     """Opens so many changed files. Returns what was counted, and what went wrong."""
     chance, failures = random.Random(seed), Failures()
@@ -337,16 +355,19 @@ def try_files(stores: Sequence[bytes], seed: str, count: int) -> Tried:
             store = chance.choice(stores)
             change = chance.choice(list(EXACT))
             content = change(chance, store, chance.choice(stores))
-            model = outcome_of_model(content)
-            program = outcome_of_program(folder, content, failures)
+            is_plain = change is with_flipped_bit or number % VERIFIED == 0
+            note = LOCKS[0] if is_plain else chance.choice(LOCKS)
+            model = outcome_of_model(content, note)
+            program = outcome_of_program(folder, content, note, failures)
             agreed = agreement(change, content, model, program)
-            failures.expect(f"{change.__name__}: {content!r}: {program}, {model}", agreed == "disagreed", False)
+            failures.expect(f"{change.__name__}: {note} {content!r}: {program}, {model}", agreed == "disagreed", False)
             counts["all files", program if isinstance(program, str) else "opened"] += 1
+            counts["what the note changes", agreement_of_notes(content, note, model)] += 1
             counts["the model and the program", agreed] += 1
             if change is with_flipped_bit:
-                counts["one flipped bit", difference(outcome_of_model(store), program)] += 1
+                counts["one flipped bit", difference(outcome_of_model(store, LOCKS[0]), program)] += 1
             if number % LOOKED_AT == 0:
-                opening_changes_nothing(folder, content, program, failures)
+                opening_changes_nothing(folder, content, note, program, failures)
             if number % VERIFIED == 0:
                 verified(folder, content, program, failures)
     return counts, failures
@@ -365,7 +386,7 @@ def main() -> int:
             found, others = part.result()
             counts += found
             failures.take(others)
-    for subject in ("all files", "the model and the program", "one flipped bit"):
+    for subject in ("all files", "the model and the program", "what the note changes", "one flipped bit"):
         counted = [f"{number} {word}" for (about, word), number in counts.most_common() if about == subject]
         print(f"  {subject}: {', '.join(counted)}")
     return failures.report()

@@ -2,13 +2,15 @@
 """Runs random lists of calls on stores, by orders to the built store_probe, beside a model.
 
 The calls are submits, flushes, slices, checkpoints, commands, closes and openings, over a disk in memory. One call of
-the disk may fail, or all from one on, and a crash may keep no pending byte. The model is the list of the accepted
-commands, how many of them are flushed, and how many bytes of a running checkpoint are left.
+the disk may fail, or all from one on. A crash may keep no pending byte, or all of them with zeros in one place. The
+model is the list of the accepted commands, how many of them are flushed, and how many bytes of a running checkpoint
+are left.
 
 - Each answer has to be the model's. A call of which the disk may fail may also return `Device`, and then the store
   answers `Reopen` until it is opened again, and shows the state with the command that met it.
-- Opening finds all accepted commands, if no call failed; after a crash those that are flushed; and otherwise a number
-  between. The state is the one after so many of them, and no checkpoint runs.
+- Opening finds all accepted commands, if no call failed; after a crash those that are flushed, or those before the
+  first zero, and then it drops the bytes from that record on; and otherwise a number between. The state is the one
+  after so many of them, and no checkpoint runs.
 
 Run it from the repository's root after the program is built. It takes at most a minute or so: what is not begun by then
 is left out, and the number of lists that were run is printed.
@@ -29,6 +31,7 @@ import time
 from collections import Counter
 from collections.abc import Callable, Sequence
 from concurrent.futures import ProcessPoolExecutor
+from itertools import accumulate
 
 from lib.command_line import number_given, seed_given
 from lib.lengths import SLICE, base_length, meant, record_length, styled
@@ -48,11 +51,14 @@ Tried = tuple["Counter[str]", Failures]
 NAMES = ["a", "b", "c"]
 # The lengths of texts: short ones, and such as make one slice, two, or several.
 LENGTHS = [1, 2, 3, 100, 128, 129, 1_500, 3_990, 4_044, 4_045, 5_000, 8_140, 9_948]
+# Where the zeros of a crash begin among the pending bytes, less up to 100, and how many they are.
+PLACES = [0, 0, 1, 40, 80, 150, 1_500, 4_000, 9_900]
+ZEROS = [1, 1, 8, 50, 512, 5_000]
 
 # The orders that a list draws from, and how often.
 ORDERS = {
     "submit": 12, "command": 4, "flush": 5, "begin": 6, "slice": 12, "slices": 1, "checkpoint": 1, "running": 2,
-    "reopen": 1, "names": 1, "export": 4, "open": 2, "fused": 3, "crash": 2, "file": 1,
+    "reopen": 1, "names": 1, "export": 4, "open": 2, "fused": 3, "crash": 2, "worn": 3, "file": 1,
 }  # fmt: skip
 
 
@@ -77,6 +83,9 @@ def orders_of(chance: random.Random) -> list[str]:
             orders += [f"open;{chance.choice(['stop', 'done', 'undone'])};{chance.randrange(20)}", "count"]
         elif order == "crash":
             orders += [f"image;{chance.choice([0, 0, 1, 2])}", "open", "count"]
+        elif order == "worn":
+            start = chance.choice(PLACES) + chance.randrange(100)
+            orders += [f"worn;{chance.choice([0, 0, 1])};{start};{chance.choice(ZEROS)}", "open", "count"]
         elif order == "open":
             orders += ["open", "count"]
         elif order == "file":
@@ -96,9 +105,11 @@ class Model:
 
     def __init__(self) -> None:
         self.states: list[dict[str, str]] = [{}]  # the state after so many commands
+        self.lengths = [0]  # the length of the record of the last of so many commands
         self.flushed = 0  # how many commands no crash takes away
         self.least = 0  # how many commands opening finds at least; at most it is all of them
         self.left: int | None = None  # how many bytes a running checkpoint has left
+        self.dropped: int | None = 0  # how many bytes opening drops, if that is known
         self.is_open = self.needs_reopen = self.may_fail = False
         self.has_failed = False  # whether a call failed since the last opening
 
@@ -123,7 +134,7 @@ class Model:
     def allows(self, order: str, answer: str) -> bool:
         """Whether the answer to an order is right. The model is then that of the store after it."""
         kind, *words = order.split(";")
-        if kind in ("open", "image", "file"):
+        if kind in ("open", "image", "worn", "file"):
             self.close()
             return self.answer_to(kind, words, answer)
         if not self.is_open:
@@ -141,17 +152,41 @@ class Model:
 
     def open(self, words: list[str], answer: str) -> bool:
         self.may_fail = bool(words)
-        self.is_open = re.fullmatch(r"commands \d+, dropped 0", answer) is not None
+        found = re.fullmatch(r"commands \d+, dropped (\d+)", answer)
+        self.is_open = found is not None
         self.has_failed = not self.is_open
-        return self.is_open or (self.may_fail and answer == "Device")
+        if found is None:
+            return self.may_fail and answer == "Device"
+        is_right = self.dropped in (None, int(found[1]))
+        self.dropped = 0
+        return is_right
 
     def image(self, words: list[str], answer: str) -> bool:
         """A crash that keeps no pending byte. Every stage between calls has the same store."""
         if answer == "an image":
             self.least = self.flushed
             if not self.has_failed:
-                del self.states[self.flushed + 1 :]
+                self.forget(self.flushed)
         return answer == "an image" or (answer == "no image" and words != ["0"])
+
+    def worn(self, words: list[str], answer: str) -> bool:
+        """A crash that keeps all pending bytes with zeros in one place: what is behind its record is dropped."""
+        stage, start, _ = map(int, words)
+        if answer == "an image" and self.has_failed:
+            self.least, self.dropped = self.flushed, None
+        elif answer == "an image":
+            waiting = self.lengths[self.flushed + 1 :]
+            ends = list(accumulate(waiting))
+            kept = sum(end <= start for end in ends) if start < sum(waiting) else len(waiting)
+            self.dropped = sum(waiting[kept:])
+            self.forget(self.flushed + kept)
+            self.least = self.count
+        return answer == "an image" or (answer == "no image" and stage > 0)
+
+    def forget(self, count: int) -> None:
+        """Only so many commands are left."""
+        del self.states[count + 1 :]
+        del self.lengths[count + 1 :]
 
     def file(self, _words: list[str], answer: str) -> bool:
         return answer.split()[0].isdigit() or answer == "no file"
@@ -161,7 +196,7 @@ class Model:
         if not answer.isdigit() or not self.least <= int(answer) <= self.count:
             return False
         count = int(answer)
-        del self.states[count + 1 :]
+        self.forget(count)
         self.flushed = self.least = count
         return True
 
@@ -183,8 +218,9 @@ class Model:
         after = {key: text for key, text in state.items() if kind != "delete" or key != name}
         if kind != "delete":
             after[name] = rest[-1]
+        self.lengths.append(record_length(self.count + 1, words))
         if self.left is not None:
-            self.left += record_length(self.count + 1, words)
+            self.left += self.lengths[-1]
         self.states.append(after)
         return self.fails(answer) or answer == str(self.count)
 
@@ -242,6 +278,14 @@ def measured(text: str) -> str:
     return str(len(text)) if len(text) > 1_000 else f'{len(text)} "{shown}"'
 
 
+def named(order: str, answer: str) -> str:
+    """What an answer is counted as."""
+    if answer in ("Device", "Reopen", "NoConfig", "an image"):
+        return answer
+    is_dropped = answer.startswith("commands ") and not answer.endswith(" dropped 0")
+    return "open with bytes dropped" if is_dropped else order.split(";")[0]
+
+
 def look(orders: Sequence[str], answers: Sequence[str]) -> tuple[str | None, Counter[str]]:
     """The first order of a list that is not answered as it has to be, if there is one, and what the answers were."""
     model = Model()
@@ -259,7 +303,7 @@ def look(orders: Sequence[str], answers: Sequence[str]) -> tuple[str | None, Cou
             is_right = model.allows(order, answer)
         if not is_right:
             return f"{number} {order}: {answer}, in {orders[: number + 1]}", counts
-        counts[answer if answer in ("Device", "Reopen", "NoConfig", "an image") else order.split(";")[0]] += 1
+        counts[named(order, answer)] += 1
     return None, counts
 
 

@@ -144,12 +144,14 @@ def is_record(piece: bytes) -> bool:
     )
 
 
-def may_be_left(bad: bytes, behind: Sequence[bytes]) -> bool:
-    """Whether a crash may have left a piece that is not the next record: it has a zero, and no record is behind it."""
-    return b"\0" in bad and not any(is_record(piece) for piece in behind)
+def may_be_left(bad: bytes, behind: Sequence[bytes], is_noted: bool) -> bool:
+    """Whether a crash may have left a piece that is not the next record: it has a zero, and no record is behind it, or
+    it is noted that several appends may have waited for one sync.
+    """
+    return b"\0" in bad and (is_noted or not any(is_record(piece) for piece in behind))
 
 
-def meaning(content: bytes) -> tuple[Configs, int, int]:
+def meaning(content: bytes, is_noted: bool = False) -> tuple[Configs, int, int]:
     """The configurations and the count that a store file means, and how many bytes an opening drops."""
     pieces, rest = pieces_of(content)
     try:
@@ -163,7 +165,7 @@ def meaning(content: bytes) -> tuple[Configs, int, int]:
                 raise Refused
             configs, count = perform(configs, keys[1:], values[1:]), count + 1
         except Refused as error:
-            if may_be_left(piece, pieces[at + 1 :]):
+            if may_be_left(piece, pieces[at + 1 :], is_noted):
                 return configs, count, len(b"".join(pieces[at:])) + len(rest)
             raise Damaged from error
     return configs, count, len(rest)

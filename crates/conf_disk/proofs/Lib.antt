@@ -2,3 +2,4 @@ pub mod Images
 pub mod Log
 pub mod Moments
 pub mod Stops
+pub mod Worn

@@ -1,8 +1,9 @@
 -- What a stop during a run of calls leaves.
-use Rattle.std.proofs.Common.{◌≤◌, inl, inr, ⊎_elim, ◌≡◌, ℕ, Result, subst, arith}
-use Rattle.conf_disk.specs.{Folder.Folder, Folder.Step, Folder.Performs, Image.Image, Image.IsImage, Models.DiskModel, Moments.Elapses}
+use Rattle.std.proofs.Common.{◌≤◌, ◌⊎◌, inl, inr, ⊎_elim, ◌≡◌, ℕ, Result, subst, arith}
+use Rattle.conf_disk.specs.{Folder.Folder, Folder.Step, Folder.after, Folder.Performs}
+use Rattle.conf_disk.specs.{Image.Image, Image.IsImage, Models.DiskModel, Moments.Elapses}
 use Rattle.conf_disk.specs.{Moments.LeavesOnly, declared.disk.DiskFault.DiskFault}
-use Rattle.conf_disk.proofs.Images.{grown, grown-grows, Performs-grown}
+use Rattle.conf_disk.proofs.Images.{Performs-cases}
 
 -- no call
 pub LeavesOnly-start : {D : Type 0} (model : DiskModel D) (old : D) (P : Image → Type 0)
@@ -56,11 +57,12 @@ module _ {D : Type 0} (model : DiskModel D) where
       → ((image : Image) → model.left old (model.moment old) image → IsImage (model.folder old) image)
       → Elapses (model.moment old) (model.moment new) (model.left old) (model.left new) (IsImage (model.folder new))
       → Performs step (model.folder old) (model.folder new) result
-      → LeavesOnly model old new (IsImage (grown step (model.folder old)))
+      → LeavesOnly model old new (λ image. IsImage (model.folder old) image ⊎ IsImage (after step (model.folder old)) image)
   LeavesOnly-step step old new result only time performs =
-      LeavesOnly-call model old new (IsImage (model.folder new)) (IsImage (grown step (model.folder old))) time
-      (λ image is. grown-grows step (model.folder old) image (only image is))
-      (Performs-grown step (model.folder old) (model.folder new) result performs)
+      LeavesOnly-call model old new (IsImage (model.folder new))
+      (λ image. IsImage (model.folder old) image ⊎ IsImage (after step (model.folder old)) image) time
+      (λ image is. inl (only image is))
+      (Performs-cases step (model.folder old) (model.folder new) result performs)
 
   -- a call that changes nothing
   pub LeavesOnly-same : (old new : D) → ((image : Image) → model.left old (model.moment old) image → IsImage (model.folder old) image)

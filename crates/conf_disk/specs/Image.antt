@@ -1,25 +1,30 @@
 -- What a crash may leave of a folder.
-use Rattle.std.specs.Prelude.{◌≡◌, ◌≢◌, ℕ, ◌+◌, ◌≤◌, ◌<◌, List, [], ◌∷◌, ◌++◌, length, get_or, slice_get, take}
-use Rattle.std.specs.Prelude.{replicate, Contains, All, Bool, Option, Some, None, if◌then◌else◌, ◌&&◌, ◌==◌, nat_le}
+use Rattle.std.specs.Prelude.{◌≡◌, ◌≢◌, ◌⊎◌, ℕ, ◌+◌, ◌<◌, List, [], ◌∷◌, ◌++◌, length, get_or, set, slice_get, take}
+use Rattle.std.specs.Prelude.{replicate, Contains, All, Bool, false, Option, Some, None, if◌then◌else◌, ◌&&◌, ◌||◌}
+use Rattle.std.specs.Prelude.{◌==◌, nat_le}
 use Rattle.conf_disk.specs.declared.disk.Name.TheVariants.{Store, Next}
 use Rattle.conf_disk.specs.declared.cuts.Cuts.{Cuts}
-use Rattle.conf_disk.specs.Folder.{Stage, File, empty_file, Folder, stages, bytes_under}
+use Rattle.conf_disk.specs.declared.cuts.Holes.{Holes}
+use Rattle.conf_disk.specs.Folder.{Stage, File, empty_file, Folder, stages, bytes_under, several_waited, with_notes}
 
--- the bytes of the two files after a crash
+-- the bytes of the two files after a crash, and whether it is noted that several appends to `store.yaml` may have waited
+-- for one sync
 pub record Image : Type 0 where
   pub store : Option (List ℕ)
   pub next : Option (List ℕ)
+  pub several : Bool
 
--- a file's synced bytes, then so many of its pending ones, then so many zeros
-abbrev pub torn_bytes : File → ℕ → ℕ → List ℕ
-torn_bytes file keep zeros = file.synced ++ take keep file.pending ++ replicate zeros 0
+-- Of pending bytes as many as there are or fewer are left, and each is the byte at its place or zero.
+abbrev pub IsWorn : (pending left : List ℕ) → Type 0
+IsWorn pending [] = Unit {0}
+IsWorn [] (byte ∷ left) = ⊥
+IsWorn (byte ∷ pending) (first ∷ left) = ((first ≡ byte) ⊎ (first ≡ 0)) × IsWorn pending left
 
--- the kept bytes and the zeros together are no longer than what was pending
+-- a file's synced bytes, and what is left of its pending ones
 pub record IsTorn (file : File) (bytes : List ℕ) : Type 0 where
-  pub keep : ℕ
-  pub zeros : ℕ
-  pub fits : keep + zeros ≤ length file.pending
-  pub is : bytes ≡ torn_bytes file keep zeros
+  pub left : List ℕ
+  pub worn : IsWorn file.pending left
+  pub is : bytes ≡ file.synced ++ left
 
 -- the same of a file that may be missing
 abbrev pub IsTornAt : List File → Option ℕ → Option (List ℕ) → Type 0
@@ -28,59 +33,105 @@ IsTornAt files None (Some bytes) = ⊥
 IsTornAt files (Some id) None = ⊥
 IsTornAt files (Some id) (Some bytes) = IsTorn (get_or files id empty_file) bytes
 
--- a crash leaves one of the stages, with each of its files torn
+-- A crash leaves one of the stages, with each of its files torn. It may leave the note where there was none, and it
+-- leaves the note that there was.
 pub record IsImage (folder : Folder) (image : Image) : Type 0 where
   pub stage : Stage
   pub among : Contains (stages folder) stage
   pub store : IsTornAt folder.files stage.store image.store
   pub next : IsTornAt folder.files stage.next image.next
+  pub noted : image.several ≡ false → folder.noted stage.store ≡ false
 
 -- what reads now
 abbrev pub image_now : Folder → Image
-image_now folder = record { store = bytes_under folder Store; next = bytes_under folder Next }
+image_now folder = record {
+  store = bytes_under folder Store;
+  next = bytes_under folder Next;
+  several = several_waited folder;
+}
 
 -- a file of these bytes, all synced
 abbrev pub synced_file : List ℕ → File
 synced_file bytes = record { synced = bytes; pending = [] }
 
--- a folder of these files, all synced
-abbrev pub folder_with_files : Option (List ℕ) → Option (List ℕ) → Folder
-folder_with_files None None = record { files = []; earlier = []; now = record { store = None; next = None } }
-folder_with_files (Some s) None =
-    record { files = synced_file s ∷ []; earlier = []; now = record { store = Some 0; next = None } }
-folder_with_files None (Some n) =
-    record { files = synced_file n ∷ []; earlier = []; now = record { store = None; next = Some 0 } }
-folder_with_files (Some s) (Some n) =
-    record { files = synced_file s ∷ synced_file n ∷ []; earlier = []; now = record { store = Some 0; next = Some 1 } }
+-- a folder of these files and one stage, without a note
+abbrev pub folder_with : List File → Option ℕ → Option ℕ → Folder
+folder_with files store next =
+    record { files = files; earlier = []; now = record { store = store; next = next }; noted = λ place. false }
 
--- the folder that a crash leaves: these files, one stage and nothing pending
+-- a folder of these files, all synced, without a note
+abbrev pub folder_with_files : Option (List ℕ) → Option (List ℕ) → Folder
+folder_with_files None None = folder_with [] None None
+folder_with_files (Some s) None = folder_with (synced_file s ∷ []) (Some 0) None
+folder_with_files None (Some n) = folder_with (synced_file n ∷ []) None (Some 0)
+folder_with_files (Some s) (Some n) = folder_with (synced_file s ∷ synced_file n ∷ []) (Some 0) (Some 1)
+
+-- the folder that a crash leaves: these files, one stage, nothing pending, and the note
 abbrev pub folder_of_image : Image → Folder
-folder_of_image image = folder_with_files image.store image.next
+folder_of_image image = with_notes (folder_with_files image.store image.next) (λ place. image.several)
+
+-- a later crash leaves the same bytes, and the note if there is one
+pub record IsLater (image later : Image) : Type 0 where
+  pub store : later.store ≡ image.store
+  pub next : later.next ≡ image.next
+  pub noted : later.several ≡ false → image.several ≡ false
 
 -- whether a file has room for so many kept bytes and zeros; where there is no file, both are 0
 abbrev pub fits_at : List File → Option ℕ → ℕ → ℕ → Bool
 fits_at files None keep zeros = (keep == 0) && (zeros == 0)
 fits_at files (Some id) keep zeros = nat_le (keep + zeros) (length (get_or files id empty_file).pending)
 
--- the bytes that such a cut leaves, where there is a file
-abbrev pub torn_at : List File → Option ℕ → ℕ → ℕ → Option (List ℕ)
-torn_at files None _ _ = None
-torn_at files (Some id) keep zeros = Some (torn_bytes (get_or files id empty_file) keep zeros)
+-- a file's synced bytes, then so many of its pending ones, then so many zeros
+abbrev pub torn_bytes : File → ℕ → ℕ → List ℕ
+torn_bytes file keep zeros = file.synced ++ take keep file.pending ++ replicate zeros 0
 
--- the image of a stage under these cuts, if both fit
-abbrev pub image_of_stage : List File → Option Stage → Cuts → Option Image
-image_of_stage files None cuts = None
-image_of_stage files (Some stage) cuts =
-    if fits_at files stage.store cuts.store.0 cuts.store.1 && fits_at files stage.next cuts.next.0 cuts.next.1
+-- bytes with a zero at each of these places; a place that they don't have counts for nothing
+abbrev pub with_zeros : List ℕ → List ℕ → List ℕ
+with_zeros [] bytes = bytes
+with_zeros (place ∷ places) bytes = with_zeros places (set bytes place 0)
+
+-- `torn_bytes` with zeros at places of the pending bytes that are kept, which are counted from 0
+abbrev pub holed_bytes : File → ℕ → ℕ → List ℕ → List ℕ
+holed_bytes file keep zeros places = file.synced ++ with_zeros places (take keep file.pending) ++ replicate zeros 0
+
+-- the bytes that such a cut leaves, where there is a file
+abbrev pub torn_at : List File → Option ℕ → ℕ → ℕ → List ℕ → Option (List ℕ)
+torn_at files None _ _ _ = None
+torn_at files (Some id) keep zeros places = Some (holed_bytes (get_or files id empty_file) keep zeros places)
+
+-- the places at which each of the two files has zeros in its kept bytes
+pub record Places : Type 0 where
+  pub store : List ℕ
+  pub next : List ℕ
+
+-- the places of the code
+abbrev pub places_of : Holes → Places
+places_of holes = record { store = holes.store.items; next = holes.next.items }
+
+-- no zeros
+abbrev pub no_places : Places
+no_places = record { store = []; next = [] }
+
+-- the image of a stage under these cuts and with zeros at these places, if the cuts fit; with the note, if it is kept or
+-- there was one
+abbrev pub image_of_stage : Folder → Option Stage → Cuts → Places → Bool → Option Image
+image_of_stage folder None cuts places note = None
+image_of_stage folder (Some stage) cuts places note =
+    if fits_at folder.files stage.store cuts.store.0 cuts.store.1 && fits_at folder.files stage.next cuts.next.0 cuts.next.1
     then Some (record {
-      store = torn_at files stage.store cuts.store.0 cuts.store.1;
-      next = torn_at files stage.next cuts.next.0 cuts.next.1;
+      store = torn_at folder.files stage.store cuts.store.0 cuts.store.1 places.store;
+      next = torn_at folder.files stage.next cuts.next.0 cuts.next.1 places.next;
+      several = folder.noted stage.store || note;
     })
     else None
 
--- the image of a stage, counted from 0, under these cuts, if the choice is one
+-- the image of a stage, counted from 0, under these cuts, with these holes, if the choice is one
+abbrev pub holed_image_at : Folder → ℕ → Cuts → Places → Bool → Option Image
+holed_image_at folder stage cuts places note = image_of_stage folder (slice_get (stages folder) stage) cuts places note
+
+-- the same without holes, and with the note only if there was one
 abbrev pub image_at : Folder → ℕ → Cuts → Option Image
-image_at folder stage cuts = image_of_stage folder.files (slice_get (stages folder) stage) cuts
+image_at folder stage cuts = holed_image_at folder stage cuts no_places false
 
 -- a file that has a name is one of so many
 abbrev pub IsMade : ℕ → Option ℕ → Type 0

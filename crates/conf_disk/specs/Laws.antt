@@ -1,20 +1,33 @@
 -- Facts about the model that hold of every folder.
-use Rattle.std.specs.Prelude.{◌≡◌, ◌⊎◌, ◌↔◌, ℕ, Some}
-use Rattle.conf_disk.specs.{Folder.Folder, Folder.Step, Folder.after, Folder.after_part, declared.cuts.Cuts.Cuts}
-use Rattle.conf_disk.specs.Image.{Image, IsImage, image_now, folder_of_image, image_at}
+use Rattle.std.specs.Prelude.{◌≡◌, ◌⊎◌, ◌↔◌, ◌+◌, ◌≤◌, ℕ, length, Bool, Some}
+use Rattle.conf_disk.specs.Folder.{File, Folder, Step, after, after_part}
+use Rattle.conf_disk.specs.Image.{Image, IsImage, IsTorn, IsLater, torn_bytes, image_now, folder_of_image, Places, holed_image_at}
+use Rattle.conf_disk.specs.declared.cuts.Cuts.{Cuts}
 
--- the stages and their cuts give every image, and nothing else
+-- a stage, cuts, the places of zeros, and whether the note is kept: such a choice leaves this image
+pub record IsCutTo (folder : Folder) (image : Image) : Type 0 where
+  pub stage : ℕ
+  pub cuts : Cuts
+  pub places : Places
+  pub note : Bool
+  pub is : holed_image_at folder stage cuts places note ≡ Some image
+
+-- such choices give every image, and nothing else
 abbrev pub ImagesAreCuts : Type 0
-ImagesAreCuts = (folder : Folder) (image : Image)
-    → IsImage folder image ↔ ((stage : ℕ) × ((cuts : Cuts) × (image_at folder stage cuts ≡ Some image)))
+ImagesAreCuts = (folder : Folder) (image : Image) → IsImage folder image ↔ IsCutTo folder image
+
+-- a prefix of the pending bytes, and zeros after it, is what may be left
+abbrev pub PrefixesAreTorn : Type 0
+PrefixesAreTorn = (file : File) (keep zeros : ℕ) → keep + zeros ≤ length file.pending
+    → IsTorn file (torn_bytes file keep zeros)
 
 -- what a crash leaves reads so
 abbrev pub ImagesRead : Type 0
 ImagesRead = (image : Image) → image_now (folder_of_image image) ≡ image
 
--- and every later crash leaves it
+-- and every later crash leaves it, perhaps with the note
 abbrev pub ImagesAreStable : Type 0
-ImagesAreStable = (image later : Image) → IsImage (folder_of_image image) later ↔ (later ≡ image)
+ImagesAreStable = (image later : Image) → IsImage (folder_of_image image) later ↔ IsLater image later
 
 -- what reads is one of the images
 abbrev pub ReadingIsAnImage : Type 0

@@ -4,38 +4,39 @@ use Rattle.std.proofs.Common.{refl, sym, ◌∙◌, ap, subst, arith, length-app
 use Rattle.std.proofs.lemmas.List.{take_all, length-set}
 use Rattle.std.proofs.lemmas.List.Elements.{All-weaker, All-contains, All-push, All-nil, Contains-append_right}
 use Rattle.std.proofs.lemmas.Option.{slice_get_past}
-use Rattle.conf_disk.specs.Folder.{Stage, File, empty_file, Folder, empty_folder, stages, under, Step, CreateNext}
+use Rattle.conf_disk.specs.Folder.{Stage, File, empty_file, Folder, stages, under, Step, CreateNext}
 use Rattle.conf_disk.specs.Folder.{Append, Sync, RenameNext, RemoveNext, SyncFolder, after, with_file, with_stage}
 use Rattle.conf_disk.specs.Folder.{after_create, after_rename, after_remove}
-use Rattle.conf_disk.specs.Image.{Image, IsImage, IsMade, IsApartFrom, IsStage, IsWhole}
+use Rattle.conf_disk.specs.Image.{Image, IsImage, IsMade, IsApartFrom, IsStage, IsWhole, synced_file, folder_with, folder_with_files}
+use Rattle.conf_disk.specs.Image.{folder_of_image}
 use Rattle.conf_disk.specs.Log.{folder_after, folder_within, folder_at, IsLeftSince}
 
 -- when all steps are done, the folder is the one after them
-pub folder_at-length : (steps : List Step) (part : ℕ)
-    → folder_at steps (length steps) part ≡ folder_after steps empty_folder
-folder_at-length steps part =
-    ap (λ (step : Option Step). folder_within step part (folder_after (take (length steps) steps) empty_folder))
+pub folder_at-length : (start : Folder) (steps : List Step) (part : ℕ)
+    → folder_at start steps (length steps) part ≡ folder_after steps start
+folder_at-length start steps part =
+    ap (λ (step : Option Step). folder_within step part (folder_after (take (length steps) steps) start))
     (slice_get_past steps (length steps) (omega arith))
-    ∙ ap (λ (done : List Step). folder_after done empty_folder) (take_all (length steps) steps (omega arith))
+    ∙ ap (λ (done : List Step). folder_after done start) (take_all (length steps) steps (omega arith))
 
 -- an image of the folder now is left at some moment since t
-pub left_now : (steps : List Step) (t : ℕ) (image : Image) → t ≤ length steps
-    → IsImage (folder_after steps empty_folder) image → IsLeftSince steps t image
-left_now steps t image le is = record {
+pub left_now : (start : Folder) (steps : List Step) (t : ℕ) (image : Image) → t ≤ length steps
+    → IsImage (folder_after steps start) image → IsLeftSince start steps t image
+left_now start steps t image le is = record {
   done = length steps;
   part = 0;
   since = le;
   until = omega arith;
-  is = subst (λ (folder : Folder). IsImage folder image) (sym (folder_at-length steps 0)) is;
+  is = subst (λ (folder : Folder). IsImage folder image) (sym (folder_at-length start steps 0)) is;
 }
 
 -- since now, only images of the folder now are left
-pub left_only_now : (steps : List Step) (image : Image) → IsLeftSince steps (length steps) image
-    → IsImage (folder_after steps empty_folder) image
-left_only_now steps image left =
+pub left_only_now : (start : Folder) (steps : List Step) (image : Image) → IsLeftSince start steps (length steps) image
+    → IsImage (folder_after steps start) image
+left_only_now start steps image left =
     let all : left.done ≡ length steps = omega (arith, left.since, left.until) in
-    let here = subst (λ (done : ℕ). IsImage (folder_at steps done left.part) image) all left.is in
-    subst (λ (folder : Folder). IsImage folder image) (folder_at-length steps left.part) here
+    let here = subst (λ (done : ℕ). IsImage (folder_at start steps done left.part) image) all left.is in
+    subst (λ (folder : Folder). IsImage folder image) (folder_at-length start steps left.part) here
 
 -- more files
 IsMade-more : (m n : ℕ) (place : Option ℕ) → m ≤ n → IsMade m place → IsMade n place
@@ -125,13 +126,25 @@ after-whole SyncFolder folder whole =
     All-push (IsStage (length folder.files) folder.now.next) [] folder.now
     (All-nil (IsStage (length folder.files) folder.now.next)) (now_staged folder whole)
 
-steps-whole : (steps : List Step) (folder : Folder) → IsWhole folder → IsWhole (folder_after steps folder)
-steps-whole [] folder whole = whole
-steps-whole (step ∷ steps) folder whole = steps-whole steps (after step folder) (after-whole step folder whole)
+-- so do any steps
+pub folder_after-whole : (steps : List Step) (folder : Folder) → IsWhole folder → IsWhole (folder_after steps folder)
+folder_after-whole [] folder whole = whole
+folder_after-whole (step ∷ steps) folder whole = folder_after-whole steps (after step folder) (after-whole step folder whole)
 
--- the folder after any steps is whole
-pub folder_after-whole : (steps : List Step) → IsWhole (folder_after steps empty_folder)
-folder_after-whole steps =
-    steps-whole steps empty_folder
-    (All-push (IsStage 0 None) [] empty_folder.now (All-nil (IsStage 0 None))
-    (record { store = tt; next = tt; apart = tt }))
+staged : (files : List File) (store next : Option ℕ) → IsMade (length files) store → IsMade (length files) next
+    → IsApartFrom next store → IsWhole (folder_with files store next)
+staged files store next made_store made_next apart =
+    All-push (IsStage (length files) next) [] (record { store = store; next = next }) (All-nil (IsStage (length files) next))
+    (record { store = made_store; next = made_next; apart = apart })
+
+files-whole : (store next : Option (List ℕ)) → IsWhole (folder_with_files store next)
+files-whole None None = staged [] None None tt tt tt
+files-whole (Some s) None = staged (synced_file s ∷ []) (Some 0) None (omega arith) tt tt
+files-whole None (Some n) = staged (synced_file n ∷ []) None (Some 0) tt (omega arith) (λ same. cc)
+files-whole (Some s) (Some n) =
+    staged (synced_file s ∷ synced_file n ∷ []) (Some 0) (Some 1) (omega arith) (omega arith)
+    (λ same. absurd (let at : ◌≡◌ {A = ℕ} 0 1 = cc in omega (arith, at)))
+
+-- what a crash leaves is whole
+pub image-whole : (image : Image) → IsWhole (folder_of_image image)
+image-whole image = files-whole image.store image.next

@@ -1,6 +1,6 @@
 // The trait: what a call returns, what it changes in the folder, and what a crash during it may leave.
 ghost use Rattle.std.specs.Prelude.{◌≡◌, ◌≢◌, ◌≤◌, ℕ, None, IsSome, IfOk, Result, Err};
-ghost use Rattle.conf_disk.specs.Folder.{Folder, Step, CreateNext, Append, Sync, RenameNext, RemoveNext, SyncFolder, under, Performs, Reads};
+ghost use Rattle.conf_disk.specs.Folder.{Folder, Step, CreateNext, Append, Sync, RenameNext, RemoveNext, SyncFolder, under, several_waited, Performs, Reads};
 ghost use Rattle.conf_disk.specs.Image.{Image, IsImage, IsWhole};
 ghost use Rattle.conf_disk.specs.Models.{DiskModel};
 ghost use Rattle.conf_disk.specs.Moments.{TimeGoesOn, CountsFailures, IsChange, SaysOfChange, SaysOfRead};
@@ -45,17 +45,23 @@ pub enum DiskFault {
 
 /// A folder of two names.
 ///
-/// A file has synced bytes, which a crash leaves, and pending bytes after them, of which it leaves a prefix and then
-/// perhaps zeros. The folder has stages, one for each change of its names since its last sync, and a crash leaves one
-/// of them.
+/// A file has synced bytes, which a crash leaves, and pending bytes after them, of which it leaves as many as there are
+/// or fewer, each as it was or zero. The folder has stages, one for each change of its names since its last sync, and a
+/// crash leaves one of them.
+///
+/// The disk keeps a note for each file under `Store`: that several appends to it may have waited for one sync. An
+/// append sets it if bytes of the file are pending. A file that is renamed to `Store` has no note, but where the rename
+/// failed it may have that of the file before. A crash leaves the note that there was, and may leave one where there
+/// was none.
 ///
 /// The clauses on what the disk holds, reads and leaves have the premise that the disk is `honest`, and so have the
 /// conditions on callers. A disk over a real folder does not claim it; where such a condition does not hold, it returns
 /// [`DiskFault::Device`]. The clauses on faults have no premise.
 ///
 /// # Errors
-/// Any call but `failures` may return [`DiskFault::Device`]; then what it was to change may have changed in whole, in
-/// part or not at all. Of an append a part is a prefix of the bytes, and of a sync a part of what it was to sync.
+/// Any call but `failures` and `several_waited` may return [`DiskFault::Device`]; then what it was to change may have
+/// changed in whole, in part or not at all. Of an append a part is a prefix of the bytes, and of a sync a part of what
+/// it was to sync.
 pub trait Disk {
     /// What contracts see of the disk: whether it is honest, its folder, the moment, what a crash leaves, and how often
     /// the device has failed.
@@ -69,10 +75,14 @@ pub trait Disk {
     /// disk after.
     ghost also_reads: { SaysOfRead Self } = { λ _ _ _ _ _. Unit {0} };
 
-    /// How often the device has failed, up to 18,446,744,073,709,551,615. From then on every other call returns
-    /// `Device` and changes nothing.
+    /// How often the device has failed, up to 18,446,744,073,709,551,615. From then on every call but this one and
+    /// `several_waited` returns `Device` and changes nothing.
     fn failures(&self) -> u64
         ensures { result ≡ model.failure_count self.now };
+
+    /// Whether several appends to the file under `Store` may have waited for one sync, in this run or in one before it.
+    fn several_waited(&self) -> bool
+        ensures { model.honest → result ≡ several_waited (model.folder self.now) };
 
     /// The bytes under a name, if they are at most `max`. A read changes nothing, whatever it returns.
     ///

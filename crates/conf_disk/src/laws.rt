@@ -1,17 +1,20 @@
 // Laws of the model, each the contract of a function that does nothing.
 ghost use Rattle.std.specs.Prelude.{◌≤◌, ℕ};
 ghost use Rattle.conf_disk.specs.Image.{image_now};
-ghost use Rattle.conf_disk.specs.Laws.{ImagesAreCuts, ImagesRead, ImagesAreStable, ReadingIsAnImage, CallsLeaveNoOther};
+ghost use Rattle.conf_disk.specs.Laws.{ImagesAreCuts, PrefixesAreTorn, ImagesRead, ImagesAreStable, ReadingIsAnImage, CallsLeaveNoOther};
 
 use crate::Disk;
 
-/// A law: a stage, counted from 0, and [`Cuts`](crate::Cuts) that fit it give an image that a crash may leave, and
-/// every image comes from such a choice.
+/// A law: a stage, counted from 0, [`Cuts`](crate::Cuts) that fit it, any [`Holes`](crate::Holes), and the note or
+/// none, give an image that a crash may leave, and every image comes from such a choice. A prefix of the pending bytes
+/// with zeros behind it is what a crash may leave of a file.
 pub fn images_are_cuts()
-    ensures { ImagesAreCuts }
+    ensures images { ImagesAreCuts }
+    ensures prefixes { PrefixesAreTorn }
 {}
 
-/// A law: what a crash leaves is what is then read, and every later crash leaves it.
+/// A law: what a crash leaves is what is then read, and every later crash leaves its bytes. It leaves the note if there
+/// is one.
 pub fn images_are_stable()
     ensures reads { ImagesRead }
     ensures stays { ImagesAreStable }

@@ -677,6 +677,10 @@ impl<'r, R: Files<File = File>> Disk for FolderDisk<'r, R> {
         self.failures
     }
 
+    fn several_waited(&self) -> bool {
+        true
+    }
+
     fn read(&mut self, alloc: Global, name: Name, max: u64) -> Result<Content, DiskFault> {
         self.may_fail()?;
         match self.try_read(alloc, name, max) {

@@ -1,12 +1,15 @@
 -- A prefix of the bytes of a store's file.
-use Rattle.std.proofs.Common.{◌≡◌, ⊎_elim, refl, sym, ◌∙◌, ap, subst, arith, ◌<◌, ◌≤◌, append_assoc, take-append-drop, length-take}
+use Rattle.std.proofs.Common.{◌≡◌, inl, inr, ⊎_elim, refl, sym, ◌∙◌, ap, subst, arith, ◌<◌, ◌≤◌, append_assoc, take-append-drop}
+use Rattle.std.proofs.Common.{length-append, length-take}
 use Rattle.std.specs.Prelude.{ℕ, ◌+◌, ◌-◌, zero, suc, List, [], ◌∷◌, ◌++◌, length, take, drop, replicate}
 use Rattle.conf_history.proofs.Prelude.{All, concat, All-nil, All-cons, All-head, All-tail, ClosesAt, ClosesOnce, Pieces, File, Command}
-use Rattle.conf_history.proofs.Prelude.{RecordsTear, records_bytes, AreRecords, after-prefix, journal-left, IsNoRecord, StartsWithHole}
+use Rattle.conf_history.proofs.Prelude.{RecordsTear, TornRecords, records_bytes, record_pieces, AreRecords, after-prefix, IsNoRecord}
+use Rattle.conf_history.proofs.Prelude.{StartsWithHole, HolesMean, length-replicate, no-others, pieces-joined, pieces-mean-more}
+use Rattle.conf_history.proofs.Prelude.{records-prefix}
 use Rattle.std.proofs.lemmas.Bool.{cases_lt}
 use Rattle.yaml_docs.proofs.ClosingLines.{lies_within}
 use Rattle.yaml_docs.proofs.CutLines.{closes-longer, closes-shorter}
-use Rattle.conf_history.specs.Beside.{PrefixesAreRead, AppendedRecordsAreRead}
+use Rattle.conf_history.specs.Beside.{PrefixesAreRead, AppendedRecordsAreRead, WornRecordsAreRead}
 
 take-beyond : (k : ℕ) (xs ys : List ℕ) → take (length xs + k) (xs ++ ys) ≡ xs ++ take k ys
 take-beyond k [] ys = let none : 0 + k ≡ k = omega arith in ap (λ n. take n ys) none
@@ -97,7 +100,7 @@ All-take P (suc k) [] all = All-nil P
 All-take P (suc k) (p ∷ ps) all = All-cons P p (take k ps) (All-head P p ps all) (All-take P k ps (All-tail P p ps all))
 
 pub prefixes-are-read : PrefixesAreRead
-prefixes-are-read bytes s m kept holds =
+prefixes-are-read several bytes s m kept holds =
     let mean = m.mean in
     let behind = mean.records ++ m.others in
     let all : m.pieces ++ m.others ≡ mean.base ∷ behind = ap (λ ps. ps ++ m.others) mean.are in
@@ -137,13 +140,51 @@ prefixes-are-read bytes s m kept holds =
           leads = mid.1;
         };
         hole = take-hole split.1 m.others m.hole;
-        lost = All-take IsNoRecord split.1 m.others m.lost;
+        lost = ⊎_elim (λ noted. inl noted) (λ none. inr (All-take IsNoRecord split.1 m.others none)) m.lost;
       };
     }
 
+-- ---- records that are appended
+
 pub appended-are-read : RecordsTear → AppendedRecordsAreRead
-appended-are-read tear bytes s end commands kept zeros whole are leads short fits =
+appended-are-read tear several bytes s commands kept zeros takes fits =
+    let tail = take kept (records_bytes s.count commands) ++ replicate zeros 0 in
+    let t : TornRecords s.count commands tail = tear s.count commands kept zeros in
+    let records = record_pieces s.count (take t.whole commands) in
+    let mid = after-prefix s takes.end commands t.whole takes.leads in
+    let none : List ℕ = replicate zeros 0 in
+    let all = bytes ++ take kept (records_bytes s.count commands) ++ none in
+    let is : all ≡ bytes ++ tail = append_assoc bytes (take kept (records_bytes s.count commands)) none in
+    record {
+      count = t.whole;
+      state = mid.0;
+      leads = mid.1;
+      means = record {
+        short = omega (
+          arith,
+          fits,
+          takes.short,
+          ap length is,
+          length-append bytes tail,
+          length-append (take kept (records_bytes s.count commands)) none,
+          length-replicate {A = ℕ} zeros 0,
+          length-take kept (records_bytes s.count commands),
+        );
+        pieces = takes.whole.pieces ++ records;
+        others = [];
+        rest = t.rest;
+        cut = no-others all (takes.whole.pieces ++ records) t.rest
+            (subst (λ b. Pieces b (takes.whole.pieces ++ records) t.rest) (sym is)
+            (pieces-joined bytes tail takes.whole.pieces records t.rest takes.whole.cut t.pieces));
+        hole = tt;
+        lost = inr (All-nil IsNoRecord);
+        mean = pieces-mean-more takes.whole.pieces records s mid.0 (take t.whole commands) takes.whole.mean
+            (records-prefix s.count t.whole commands takes.are) mid.1;
+      };
+    }
+
+pub worn-are-read : HolesMean → WornRecordsAreRead
+worn-are-read holes several bytes s commands left takes noted worn =
     let file : File = record { synced = bytes; pending = records_bytes s.count commands } in
-    journal-left tear file s end commands (bytes ++ take kept (records_bytes s.count commands) ++ replicate zeros 0)
-    (record { whole = whole; pending = refl; are_records = are; leads = leads; short = short })
-    (record { keep = kept; zeros = zeros; fits = fits; is = refl })
+    holes several file s takes.end commands left
+    (record { whole = takes.whole; pending = refl; are_records = takes.are; leads = takes.leads; short = takes.short }) noted worn

@@ -1,6 +1,6 @@
 -- The log: what is written so far, and how writing it ends.
 use Rattle.std.proofs.Common.{◌≡◌, inl, inr, refl, sym, ◌∙◌, ap, subst, arith, ◌<◌, append_assoc}
-use Rattle.std.specs.Prelude.{ℕ, ◌+◌, List, [], ◌∷◌, ◌++◌, length, take, Option, Some, None, IfSome}
+use Rattle.std.specs.Prelude.{ℕ, ◌+◌, Bool, List, [], ◌∷◌, ◌++◌, length, take, Option, Some, None, IfSome}
 use Rattle.conf_history.proofs.Prelude.{All, concat, Appends, Appends-nil, Appends-trans, Consumes-whole, append-nil, ClosesOnce}
 use Rattle.conf_history.proofs.Prelude.{SomePieces, ahead, piece_or_rest, Command, Contents, after-count, AreRecords, All-nil, IsNoRecord}
 use Rattle.conf_history.specs.{declared.log.LogForm.LogForm, declared.fault.HistoryFault.HistoryFault}
@@ -98,10 +98,11 @@ module _ (form : LogForm) (given left : Option (List ℕ)) (walk : Walked) (piec
   begun-log some further r = some-map given (λ bytes. (b : BeginsLog bytes form log_here)
       × (length b.pieces ≡ length pieces)) _ (λ bytes b. b.0) (begins-log some further r)
 
-  whole-at : SomePieces → IsBetween given left walk pieces start commands
-      → IfSome given (λ bytes. IsWholeLog bytes (Some walk.state.count) form log_here)
-  whole-at some r =
-      known given left (concat pieces ++ ahead walk.pieces) (λ bytes. IsWholeLog bytes (Some walk.state.count) form log_here) r.taken
+  whole-at : (several : Bool) → SomePieces → IsBetween given left walk pieces start commands
+      → IfSome given (λ bytes. IsWholeLog several bytes (Some walk.state.count) form log_here)
+  whole-at several some r =
+      known given left (concat pieces ++ ahead walk.pieces) (λ bytes. IsWholeLog several bytes (Some walk.state.count) form log_here)
+      r.taken
       (λ after.
       (let all = begins-with some pieces (ahead walk.pieces) after r.performed.closed in
       record {
@@ -117,10 +118,11 @@ module _ (form : LogForm) (given left : Option (List ℕ)) (walk : Walked) (piec
         up_to = refl;
       }))
 
-  whole-end : IsAtEndOf given left walk pieces start commands → IfSome given (λ bytes. IsWholeLog bytes None form log_here)
-  whole-end e =
+  whole-end : (several : Bool) → IsAtEndOf given left walk pieces start commands → IfSome given
+      (λ bytes. IsWholeLog several bytes None form log_here)
+  whole-end several e =
       let rest = piece_or_rest walk.pieces in
-      Consumes-whole given left (concat pieces ++ rest) (λ bytes. IsWholeLog bytes None form log_here) e.taken e.at_end
+      Consumes-whole given left (concat pieces ++ rest) (λ bytes. IsWholeLog several bytes None form log_here) e.taken e.at_end
       (record {
         begins = record {
           pieces = pieces;
@@ -135,12 +137,13 @@ module _ (form : LogForm) (given left : Option (List ℕ)) (walk : Walked) (piec
           mean = e.performed.mean;
           is = log-meant form pieces start commands walk.state e.performed;
         };
-        up_to = (tt, All-nil IsNoRecord);
+        up_to = (tt, inr (All-nil IsNoRecord));
       })
 
-  whole-torn : IsTornBehind given left walk.state pieces start commands → IfSome given (λ bytes. IsWholeLog bytes None form log_here)
-  whole-torn t =
-      Consumes-whole given left t.bytes (λ bytes. IsWholeLog bytes None form log_here) t.taken t.at_end
+  whole-torn : (several : Bool) → IsTornBehind several given left walk.state pieces start commands → IfSome given
+      (λ bytes. IsWholeLog several bytes None form log_here)
+  whole-torn several t =
+      Consumes-whole given left t.bytes (λ bytes. IsWholeLog several bytes None form log_here) t.taken t.at_end
       (record {
         begins = record {
           pieces = pieces;
@@ -163,43 +166,45 @@ module _ (form : LogForm) (given before : Option (List ℕ)) (old : Walked) (pie
   log = log_of_pieces form start.count pieces commands
 
   -- all was written
-  pub logs-all : (at : Option ℕ) (left : Option (List ℕ)) (now : Walked) → Ends at given left now pieces start commands
-      → LogsAll at form given left held mid
-  logs-all at left now (inr (none, t)) = record {
+  pub logs-all : (several : Bool) (at : Option ℕ) (left : Option (List ℕ)) (now : Walked) → Ends several at given left now pieces start
+      commands
+      → LogsAll several at form given left held mid
+  logs-all several at left now (inr (none, t)) = record {
     log = log;
     out = out;
-    whole = subst (λ a. IfSome given (λ bytes. IsWholeLog bytes a form log)) (sym none)
-        (whole-torn form given left now pieces start commands t);
+    whole = subst (λ a. IfSome given (λ bytes. IsWholeLog several bytes a form log)) (sym none)
+        (whole-torn form given left now pieces start commands several t);
     read = (t.bytes, t.taken, t.short);
   }
-  logs-all at left now (inl (inl (is, b))) = record {
+  logs-all several at left now (inl (inl (is, b))) = record {
     log = log;
     out = out;
-    whole = subst (λ a. IfSome given (λ bytes. IsWholeLog bytes a form log)) (sym is)
-        (whole-at form given left now pieces start commands some b);
+    whole = subst (λ a. IfSome given (λ bytes. IsWholeLog several bytes a form log)) (sym is)
+        (whole-at form given left now pieces start commands several some b);
     read = between-read given left now pieces start commands b;
   }
-  logs-all at left now (inl (inr (none, e))) = record {
+  logs-all several at left now (inl (inr (none, e))) = record {
     log = log;
     out = out;
-    whole = subst (λ a. IfSome given (λ bytes. IsWholeLog bytes a form log)) (sym none)
-        (whole-end form given left now pieces start commands e);
+    whole = subst (λ a. IfSome given (λ bytes. IsWholeLog several bytes a form log)) (sym none)
+        (whole-end form given left now pieces start commands several e);
     read = end-read given left now pieces start commands e;
   }
 
   -- the walk stopped
-  pub stops-log : (at : Option ℕ) (f : HistoryFault) → Fails at given pieces f → StopsLog at form given held mid f
-  stops-log at f fails = record {
+  pub stops-log : (several : Bool) (at : Option ℕ) (f : HistoryFault) → Fails several at given pieces f → StopsLog several at form given
+      held mid f
+  stops-log several at f fails = record {
     log = log;
     out = out;
-    before = some-both given (λ bytes. RefusesReading bytes at f × ComesAfter pieces f)
+    before = some-both given (λ bytes. RefusesReading several bytes at f × ComesAfter pieces f)
         (λ bytes. (begins : BeginsLog bytes form log) × (length begins.pieces ≡ length pieces))
-        (λ bytes. LogsBefore bytes at form log f) (before-fault f) fails
+        (λ bytes. LogsBefore several bytes at form log f) (before-fault f) fails
         (begins-log form given before old pieces start commands some (ahead old.pieces) b);
   }
     where
-      before-fault : (f : HistoryFault) (bytes : List ℕ) → RefusesReading bytes at f × ComesAfter pieces f
-          → (begins : BeginsLog bytes form log) × (length begins.pieces ≡ length pieces) → LogsBefore bytes at form log f
+      before-fault : (f : HistoryFault) (bytes : List ℕ) → RefusesReading several bytes at f × ComesAfter pieces f
+          → (begins : BeginsLog bytes form log) × (length begins.pieces ≡ length pieces) → LogsBefore several bytes at form log f
       before-fault (Damaged bad) bytes r begins = (r.0, begins.0, begins.1 ∙ r.1)
       before-fault NoSuchCommand bytes r begins = (r.0, inr begins.0)
       before-fault NotAStore bytes r begins = (r.0, inr begins.0)
@@ -220,14 +225,14 @@ module _ (form : LogForm) (given before : Option (List ℕ)) (old : Walked) (pie
     logged-more added = subst (Appends held written) (sym more) (Appends-trans held mid written log entry out added)
 
     -- or less than that
-    pub cuts-log : (at : Option ℕ) (left : Option (List ℕ)) (now : Walked)
+    pub cuts-log : (several : Bool) (at : Option ℕ) (left : Option (List ℕ)) (now : Walked)
         → IsBetween given left now (pieces ++ piece ∷ []) start (commands ++ command ∷ [])
         → ((kept : ℕ) × (kept < length entry) × Appends mid written (take kept entry))
-        → (f : HistoryFault) → f ≡ Output → StopsLog at form given held written f
-    cuts-log at left now next part f fault =
+        → (f : HistoryFault) → f ≡ Output → StopsLog several at form given held written f
+    cuts-log several at left now next part f fault =
         let all = pieces ++ piece ∷ [] in
         let made = commands ++ command ∷ [] in
-        subst (StopsLog at form given held written) (sym fault) (record {
+        subst (StopsLog several at form given held written) (sym fault) (record {
           log = log ++ take part.0 entry;
           out = Appends-trans held mid written log (take part.0 entry) out part.2;
           before = some-map given (λ bytes. BeginsLog bytes form (log_of_pieces form start.count all made))
@@ -251,15 +256,15 @@ begins-empty form (base ∷ []) start = refl
 begins-empty form (base ∷ (record_piece ∷ records)) start = refl
 
 -- the walk did not begin
-pub start-fails : (form : LogForm) (given held : Option (List ℕ)) (at : Option ℕ) (f : HistoryFault)
-    → IfSome given (λ bytes. RefusesStart at bytes f) → StopsLog at form given held held f
-start-fails form given held at f refused = record {
+pub start-fails : (several : Bool) (form : LogForm) (given held : Option (List ℕ)) (at : Option ℕ) (f : HistoryFault)
+    → IfSome given (λ bytes. RefusesStart at bytes f) → StopsLog several at form given held held f
+start-fails several form given held at f refused = record {
   log = [];
   out = Appends-nil held;
-  before = some-map given (λ bytes. RefusesStart at bytes f) (λ bytes. LogsBefore bytes at form [] f) not-started refused;
+  before = some-map given (λ bytes. RefusesStart at bytes f) (λ bytes. LogsBefore several bytes at form [] f) not-started refused;
 }
   where
-    not-begun : (f : HistoryFault) (bytes : List ℕ) → RefusesSurvey bytes f → LogsBefore bytes at form [] f
+    not-begun : (f : HistoryFault) (bytes : List ℕ) → RefusesSurvey bytes f → LogsBefore several bytes at form [] f
     not-begun NotAStore bytes r = (r, inl refl)
     not-begun Input bytes r = (tt, inl refl)
     not-begun OutOfMemory bytes r = (tt, inl refl)
@@ -267,8 +272,8 @@ start-fails form given held at f refused = record {
     not-begun Output bytes r = absurd r
     not-begun (Damaged bad) bytes r = absurd r
 
-    not-started : (bytes : List ℕ) → RefusesStart at bytes f → LogsBefore bytes at form [] f
+    not-started : (bytes : List ℕ) → RefusesStart at bytes f → LogsBefore several bytes at form [] f
     not-started bytes (inl r) = not-begun f bytes r
     not-started bytes (inr (is, number, asked, starts)) =
-        subst (LogsBefore bytes at form []) (sym is)
-        (subst (λ a. RefusesReading bytes a NoSuchCommand) (sym asked) (inl starts), inl refl)
+        subst (LogsBefore several bytes at form []) (sym is)
+        (subst (λ a. RefusesReading several bytes a NoSuchCommand) (sym asked) (inl starts), inl refl)

@@ -1,6 +1,6 @@
 -- A walk up to a number: how it goes on, and each way in which it ends.
 use Rattle.std.proofs.Common.{◌≡◌, ◌≢◌, inl, inr, refl, sym, ◌∙◌, ap, subst, arith, ◌<◌, ◌≤◌, length-append}
-use Rattle.std.specs.Prelude.{ℕ, ◌+◌, ◌-◌, true, List, [], ◌∷◌, ◌++◌, length, Option, Some, None, Ok, IfSome}
+use Rattle.std.specs.Prelude.{ℕ, ◌+◌, ◌-◌, Bool, true, List, [], ◌∷◌, ◌++◌, length, Option, Some, None, Ok, IfSome}
 use Rattle.conf_history.proofs.Prelude.{Means, NoZeroByte, concat, ClosesOnce, Enough, SomePieces}
 use Rattle.conf_history.proofs.Prelude.{Command, Contents, IsState, ahead, piece_or_rest}
 use Rattle.conf_history.proofs.Prelude.{step-one, store_limit}
@@ -38,23 +38,24 @@ next-number None count next one below = tt
 next-number (Some number) count next one below = omega (arith, one, below)
 
 -- what cannot be surveyed cannot be read
-pub survey-reading : (bytes : List ℕ) (at : Option ℕ) (f : HistoryFault) → RefusesSurvey bytes f → RefusesReading bytes at f
-survey-reading bytes at NotAStore r = r
-survey-reading bytes at Input r = tt
-survey-reading bytes at OutOfMemory r = tt
-survey-reading bytes at Output r = absurd r
-survey-reading bytes at (Damaged bad) r = absurd r
-survey-reading bytes at NoSuchCommand r = absurd r
+pub survey-reading : (several : Bool) (bytes : List ℕ) (at : Option ℕ) (f : HistoryFault) → RefusesSurvey bytes f → RefusesReading
+    several bytes at f
+survey-reading several bytes at NotAStore r = r
+survey-reading several bytes at Input r = tt
+survey-reading several bytes at OutOfMemory r = tt
+survey-reading several bytes at Output r = absurd r
+survey-reading several bytes at (Damaged bad) r = absurd r
+survey-reading several bytes at NoSuchCommand r = absurd r
 
-pub refuses-start : (given : Option (List ℕ)) (at : Option ℕ) (f : HistoryFault)
-    → IfSome given (λ bytes. RefusesStart at bytes f) → IfSome given (λ bytes. RefusesReading bytes at f)
-refuses-start given at f = some-map given _ _ (refused at f)
+pub refuses-start : (several : Bool) (given : Option (List ℕ)) (at : Option ℕ) (f : HistoryFault)
+    → IfSome given (λ bytes. RefusesStart at bytes f) → IfSome given (λ bytes. RefusesReading several bytes at f)
+refuses-start several given at f = some-map given _ _ (refused at f)
   where
-    refused : (at : Option ℕ) (f : HistoryFault) (bytes : List ℕ) → RefusesStart at bytes f → RefusesReading bytes at f
-    refused at f bytes (inl r) = survey-reading bytes at f r
+    refused : (at : Option ℕ) (f : HistoryFault) (bytes : List ℕ) → RefusesStart at bytes f → RefusesReading several bytes at f
+    refused at f bytes (inl r) = survey-reading several bytes at f r
     refused at f bytes (inr (is, number, asked, starts)) =
-        subst (RefusesReading bytes at) (sym is)
-        (subst (λ a. RefusesReading bytes a NoSuchCommand) (sym asked) (inl starts))
+        subst (RefusesReading several bytes at) (sym is)
+        (subst (λ a. RefusesReading several bytes a NoSuchCommand) (sym asked) (inl starts))
 
 -- one more piece is fewer bytes that are left
 pub goes-further : (given mid left : Option (List ℕ)) (old new : Walked) (pieces : List (List ℕ)) (piece : List ℕ)
@@ -76,11 +77,11 @@ goes-further given mid left old new pieces piece start commands others b closes 
     )
 
 -- what follows can't be had
-pub fails-lacking : (given : Option (List ℕ)) (at : Option ℕ) (pieces : List (List ℕ)) (f : HistoryFault)
-    → IfSome given (λ bytes. RefusesSurvey bytes f) → Fails at given pieces f
-fails-lacking given at pieces f = some-map given _ (λ bytes. RefusesReading bytes at f × ComesAfter pieces f) (lacking f)
+pub fails-lacking : (several : Bool) (given : Option (List ℕ)) (at : Option ℕ) (pieces : List (List ℕ)) (f : HistoryFault)
+    → IfSome given (λ bytes. RefusesSurvey bytes f) → Fails several at given pieces f
+fails-lacking several given at pieces f = some-map given _ (λ bytes. RefusesReading several bytes at f × ComesAfter pieces f) (lacking f)
   where
-    lacking : (f : HistoryFault) (bytes : List ℕ) → RefusesSurvey bytes f → RefusesReading bytes at f × ComesAfter pieces f
+    lacking : (f : HistoryFault) (bytes : List ℕ) → RefusesSurvey bytes f → RefusesReading several bytes at f × ComesAfter pieces f
     lacking NotAStore bytes r = (r, tt)
     lacking Input bytes r = (tt, tt)
     lacking OutOfMemory bytes r = (tt, tt)
@@ -142,47 +143,50 @@ module _ (at : Option ℕ) (given left : Option (List ℕ)) (walk : Walked) (pie
   -- ---- what it means that the walk has ended, or stopped
 
   -- a walk that has stopped, and not at a bad piece
-  pub fails-stop : (f : HistoryFault) → ((bad : BadPiece) → f ≡ Damaged bad → ⊥) → Stops at given left walk pieces start commands f
-      → Fails at given pieces f
-  fails-stop (Damaged bad) other s = absurd (other bad refl)
-  fails-stop NoSuchCommand other s =
-      subst (λ a. Fails a given pieces NoSuchCommand) (sym s.1)
-      (some-map given _ (λ bytes. RefusesReading bytes (Some s.0) NoSuchCommand × ComesAfter pieces NoSuchCommand)
-      (λ bytes m. (inr (walk.state, m, s.2), tt)) (end-means given left walk pieces start commands s.3))
-  fails-stop NotAStore other s = fails-lacking given at pieces NotAStore s
-  fails-stop Input other s = fails-lacking given at pieces Input s
-  fails-stop Output other s = fails-lacking given at pieces Output s
-  fails-stop OutOfMemory other s = fails-lacking given at pieces OutOfMemory s
+  pub fails-stop : (several : Bool) (f : HistoryFault) → ((bad : BadPiece) → f ≡ Damaged bad → ⊥) → Stops at given left walk pieces start
+      commands f
+      → Fails several at given pieces f
+  fails-stop several (Damaged bad) other s = absurd (other bad refl)
+  fails-stop several NoSuchCommand other s =
+      subst (λ a. Fails several a given pieces NoSuchCommand) (sym s.1)
+      (some-map given _ (λ bytes. RefusesReading several bytes (Some s.0) NoSuchCommand × ComesAfter pieces NoSuchCommand)
+      (λ bytes m. (inr (walk.state, m, s.2), tt)) (end-means given left walk pieces start commands several s.3))
+  fails-stop several NotAStore other s = fails-lacking several given at pieces NotAStore s
+  fails-stop several Input other s = fails-lacking several given at pieces Input s
+  fails-stop several Output other s = fails-lacking several given at pieces Output s
+  fails-stop several OutOfMemory other s = fails-lacking several given at pieces OutOfMemory s
 
   -- the state
-  pub reads-state : SomePieces → Ends at given left walk pieces start commands → IsState walk.state
-      → ReadsState given left at walk.state
-  reads-state some (inr (none, t)) kept = record {
-    holds = subst (λ a. IfSome given (λ bytes. HoldsAt bytes a walk.state)) (sym none)
-        (torn-means given left walk.state pieces start commands t);
+  pub reads-state : (several : Bool) → SomePieces → Ends several at given left walk pieces start commands → IsState walk.state
+      → ReadsState several given left at walk.state
+  reads-state several some (inr (none, t)) kept = record {
+    holds = subst (λ a. IfSome given (λ bytes. HoldsAt several bytes a walk.state)) (sym none)
+        (torn-means several given left walk.state pieces start commands t);
     kept = kept;
     read = (t.bytes, t.taken, t.short);
     whole = λ none. t.at_end;
   }
-  reads-state some (inl (inl (is, b))) kept = record {
-    holds = subst (λ a. IfSome given (λ bytes. HoldsAt bytes a walk.state)) (sym is)
+  reads-state several some (inl (inl (is, b))) kept = record {
+    holds = subst (λ a. IfSome given (λ bytes. HoldsAt several bytes a walk.state)) (sym is)
         (up-to given left walk pieces start commands some b walk.state.count refl);
     kept = kept;
     read = between-read given left walk pieces start commands b;
     whole = λ none. (let both : Some walk.state.count ≡ None = sym is ∙ none in absurd (cc both));
   }
-  reads-state some (inl (inr (none, e))) kept = record {
-    holds = subst (λ a. IfSome given (λ bytes. HoldsAt bytes a walk.state)) (sym none)
-        (end-means given left walk pieces start commands e);
+  reads-state several some (inl (inr (none, e))) kept = record {
+    holds = subst (λ a. IfSome given (λ bytes. HoldsAt several bytes a walk.state)) (sym none)
+        (end-means given left walk pieces start commands several e);
     kept = kept;
     read = end-read given left walk pieces start commands e;
     whole = λ none. e.at_end;
   }
 
 -- why not all can be read
-pub fails-reading : (given : Option (List ℕ)) (at : Option ℕ) (pieces : List (List ℕ)) (f : HistoryFault) → Fails at given pieces f
-    → IfSome given (λ bytes. RefusesReading bytes at f)
-fails-reading given at pieces f = some-map given (λ bytes. RefusesReading bytes at f × ComesAfter pieces f) _ (λ bytes r. r.0)
+pub fails-reading : (several : Bool) (given : Option (List ℕ)) (at : Option ℕ) (pieces : List (List ℕ)) (f : HistoryFault) → Fails
+    several at given pieces f
+    → IfSome given (λ bytes. RefusesReading several bytes at f)
+fails-reading several given at pieces f = some-map given (λ bytes. RefusesReading several bytes at f × ComesAfter pieces f) _
+    (λ bytes r. r.0)
 
 -- without a number, at the end of the file
 pub ended-whole : (given left : Option (List ℕ)) (walk : Walked) (pieces : List (List ℕ)) (start : Contents)
@@ -193,31 +197,31 @@ ended-whole given left walk pieces start commands (inr (none, e)) = e
 
 -- ---- a bad piece, and what follows it
 
-module _ (at : Option ℕ) (given mid left : Option (List ℕ)) (walk : Walked) (pieces : List (List ℕ)) (start : Contents)
+module _ (several : Bool) (at : Option ℕ) (given mid left : Option (List ℕ)) (walk : Walked) (pieces : List (List ℕ)) (start : Contents)
     (commands : List Command) (bad : BadPiece) (stops : Stops at given mid walk pieces start commands (Damaged bad))
     (now : Reading) (following : Following)
-    (f : Follow given left (concat pieces ++ piece_or_rest walk.pieces) (piece_or_rest walk.pieces) now following) where
+    (f : Follow several given left (concat pieces ++ piece_or_rest walk.pieces) (piece_or_rest walk.pieces) now following) where
   -- no crash left it
-  pub fails-bad : following.kind ≡ Unexpected → Fails at given pieces (Damaged bad)
+  pub fails-bad : following.kind ≡ Unexpected → Fails several at given pieces (Damaged bad)
   fails-bad is =
-      some-map given (λ bytes. (n : ℕ) × IsBadAt bytes walk.state bad n)
-      (λ bytes. RefusesReading bytes at (Damaged bad) × ComesAfter pieces (Damaged bad))
+      some-map given (λ bytes. (n : ℕ) × IsBadAt several bytes walk.state bad n)
+      (λ bytes. RefusesReading several bytes at (Damaged bad) × ComesAfter pieces (Damaged bad))
       (λ bytes b. ((walk.state, b.0, b.1, stops.2), stops.0.read.place.number ∙ stops.1.number))
-      (bad-followed given mid left walk pieces start commands stops.0 now following f is bad stops.1)
+      (bad-followed several given mid left walk pieces start commands stops.0 now following f is bad stops.1)
 
   -- a crash may have left it, and the number is not reached
-  pub fails-torn : NoZeroByte → following.kind ≡ Torn → (number : ℕ) → at ≡ Some number → Fails at given pieces NoSuchCommand
+  pub fails-torn : NoZeroByte → following.kind ≡ Torn → (number : ℕ) → at ≡ Some number → Fails several at given pieces NoSuchCommand
   fails-torn law is number asked =
-      subst (λ a. Fails a given pieces NoSuchCommand) (sym asked)
-      (some-map given (λ bytes. Means bytes walk.state)
-      (λ bytes. RefusesReading bytes (Some number) NoSuchCommand × ComesAfter pieces NoSuchCommand)
+      subst (λ a. Fails several a given pieces NoSuchCommand) (sym asked)
+      (some-map given (λ bytes. Means several bytes walk.state)
+      (λ bytes. RefusesReading several bytes (Some number) NoSuchCommand × ComesAfter pieces NoSuchCommand)
       (λ bytes m. (inr (walk.state, m, subst (λ a. IfSome a (λ number. walk.state.count < number)) asked stops.2), tt))
-      (torn-means given left walk.state pieces start commands
-      (torn-followed given mid left walk pieces start commands stops.0 now following f law is)))
+      (torn-means several given left walk.state pieces start commands
+      (torn-followed several given mid left walk pieces start commands stops.0 now following f law is)))
 
   -- what is found there
   pub fails-at : NoZeroByte → (kind : BadKind) → following.kind ≡ kind → (asked : Option ℕ) → at ≡ asked
-      → IfErr (end_at_bad bad kind asked) (Fails at given pieces)
+      → IfErr (end_at_bad bad kind asked) (Fails several at given pieces)
   fails-at law Unexpected is asked same = fails-bad is
   fails-at law Torn is (Some number) same = fails-torn law is number same
   fails-at law Torn is None same = tt
@@ -231,6 +235,6 @@ module _ (at : Option ℕ) (given mid left : Option (List ℕ)) (walk : Walked) 
   -- the piece is no record
   pub torn-none : NoZeroByte → following.kind ≡ Torn → IsNoRecord (piece_or_rest walk.pieces)
   torn-none law is =
-      let kind : IsOfKind Torn (piece_or_rest walk.pieces) f.further =
-      subst (λ kind. IsOfKind kind (piece_or_rest walk.pieces) f.further) is f.kind in
+      let kind : IsOfKind several Torn (piece_or_rest walk.pieces) f.further =
+      subst (λ kind. IsOfKind several kind (piece_or_rest walk.pieces) f.further) is f.kind in
       zero-no-record law (piece_or_rest walk.pieces) kind.0

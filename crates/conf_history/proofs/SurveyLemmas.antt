@@ -1,7 +1,7 @@
 -- A survey: what was gone past after a bad piece, and what was found.
-use Rattle.std.proofs.Common.{◌≡◌, inl, inr, refl, sym, ◌∙◌, ap, subst, arith, ◌<◌, ◌≤◌, append_assoc, length-append, length-take}
+use Rattle.std.proofs.Common.{◌≡◌, ◌⊎◌, inl, inr, refl, sym, ◌∙◌, ap, subst, arith, ◌<◌, ◌≤◌, append_assoc, length-append, length-take}
 use Rattle.std.proofs.lemmas.List.Elements.{Contains-append_left, Contains-append_right}
-use Rattle.conf_history.proofs.Prelude.{IsAnyRecord, IsKept, IsNoRecord, no_zero}
+use Rattle.conf_history.proofs.Prelude.{IsAnyRecord, IsKept, IsNoRecord, MayBeDropped, no_zero}
 use Rattle.std.specs.Prelude.{Bool, true, false, ℕ, ◌+◌, ◌-◌, suc, List, [], ◌∷◌, ◌++◌, length, drop, Option, Some, None, IfSome}
 use Rattle.conf_history.proofs.Prelude.{All, concat, Consumes, Consumes-nil, Consumes-trans, Consumes-whole, append-nil}
 use Rattle.conf_history.proofs.Prelude.{All-nil, All-push, ClosesOnce, AdvancesToPiece, IsSound, ahead}
@@ -103,46 +103,59 @@ module _ (given mid left : Option (List ℕ)) (old now new : Reading) (count : �
 -- ---- whether a crash may have left a bad piece, by what follows so far
 
 -- it has no zero, or a record follows; or it has one, and none does
-abbrev pub IsKnown : Bool → List ℕ → List (List ℕ) → Type 0
-IsKnown true bad further = IsOfKind Unexpected bad further
-IsKnown false bad further = IsOfKind Torn bad further
+abbrev pub IsKnown : Bool → Bool → List ℕ → List (List ℕ) → Type 0
+IsKnown several true bad further = IsOfKind several Unexpected bad further
+IsKnown several false bad further = IsOfKind several Torn bad further
 
-known-first : (bad : List ℕ) (is_kept : Bool) → no_zero bad ≡ is_kept → IsKnown is_kept bad []
-known-first bad true is = inl is
-known-first bad false is = (is, All-nil IsNoRecord)
+known-first : (several : Bool) (bad : List ℕ) (is_kept : Bool) → no_zero bad ≡ is_kept → IsKnown several is_kept bad []
+known-first several bad true is = inl is
+known-first several bad false is = (is, inr (All-nil IsNoRecord))
 
-kept-more : (bad : List ℕ) (further : List (List ℕ)) (piece : List ℕ) → IsKept bad further → IsKept bad (further ++ piece ∷ [])
-kept-more bad further piece (inl clean) = inl clean
-kept-more bad further piece (inr held) = inr (held.0, Contains-append_left further (piece ∷ []) held.0 held.1, held.2)
+kept-more : (several : Bool) (bad : List ℕ) (further : List (List ℕ)) (piece : List ℕ) → IsKept several bad further
+    → IsKept several bad (further ++ piece ∷ [])
+kept-more several bad further piece (inl clean) = inl clean
+kept-more several bad further piece (inr (one, held)) =
+    inr (one, held.0, Contains-append_left further (piece ∷ []) held.0 held.1, held.2)
 
-known-more : (bad : List ℕ) (further : List (List ℕ)) (piece : List ℕ) (found : Bool) → IsKnown false bad further
-    → (found ≡ true → IsAnyRecord piece) → (found ≡ false → IsNoRecord piece) → IsKnown found bad (further ++ piece ∷ [])
-known-more bad further piece true known some none =
-    inr (piece, Contains-append_right further (piece ∷ []) piece (0, omega arith, refl), some refl)
-known-more bad further piece false known some none = (known.0, All-push IsNoRecord further piece known.1 (none refl))
+dropped-more : (several : Bool) (further : List (List ℕ)) (piece : List ℕ) → MayBeDropped several further
+    → (several ≡ true) ⊎ IsNoRecord piece → MayBeDropped several (further ++ piece ∷ [])
+dropped-more several further piece (inl noted) one = inl noted
+dropped-more several further piece (inr all) (inl noted) = inl noted
+dropped-more several further piece (inr all) (inr none) = inr (All-push IsNoRecord further piece all none)
+
+known-more : (several : Bool) (bad : List ℕ) (further : List (List ℕ)) (piece : List ℕ) (found : Bool) → IsKnown several false bad further
+    → (found ≡ true → (several ≡ false) × IsAnyRecord piece) → (found ≡ false → (several ≡ true) ⊎ IsNoRecord piece)
+    → IsKnown several found bad (further ++ piece ∷ [])
+known-more several bad further piece true known some none =
+    let held = some refl in
+    inr (held.0, piece, Contains-append_right further (piece ∷ []) piece (0, omega arith, refl), held.1)
+known-more several bad further piece false known some none = (known.0, dropped-more several further piece known.1 (none refl))
 
 -- before any was gone past
-pub known-none : (given : Option (List ℕ)) (old : Reading) (sound : IsSound store_limit store_limit old) (bad : List ℕ)
-    (is_kept : Bool) → no_zero bad ≡ is_kept → IsKnown is_kept bad (counts-none given old sound).further
+pub known-none : (several : Bool) (given : Option (List ℕ)) (old : Reading) (sound : IsSound store_limit store_limit old) (bad : List ℕ)
+    (is_kept : Bool) → no_zero bad ≡ is_kept → IsKnown several is_kept bad (counts-none given old sound).further
 unfolding counts-none
-known-none given old sound = known-first
+known-none several given old sound = known-first several
 
 -- one more, which was looked at where nothing was known
-known-next : (bad : List ℕ) (further : List (List ℕ)) (piece : List ℕ) (old new : Bool) → IsKnown old bad further
-    → (old ≡ true → new ≡ true) → (old ≡ false → new ≡ true → IsAnyRecord piece) → (old ≡ false → new ≡ false → IsNoRecord piece)
-    → IsKnown new bad (further ++ piece ∷ [])
-known-next bad further piece true new known still some none =
-    subst (λ b. IsKnown b bad (further ++ piece ∷ [])) (sym (still refl)) (kept-more bad further piece known)
-known-next bad further piece false new known still some none = known-more bad further piece new known (some refl) (none refl)
+known-next : (several : Bool) (bad : List ℕ) (further : List (List ℕ)) (piece : List ℕ) (old new : Bool) → IsKnown several old bad further
+    → (old ≡ true → new ≡ true) → (old ≡ false → new ≡ true → (several ≡ false) × IsAnyRecord piece)
+    → (old ≡ false → new ≡ false → (several ≡ true) ⊎ IsNoRecord piece)
+    → IsKnown several new bad (further ++ piece ∷ [])
+known-next several bad further piece true new known still some none =
+    subst (λ b. IsKnown several b bad (further ++ piece ∷ [])) (sym (still refl)) (kept-more several bad further piece known)
+known-next several bad further piece false new known still some none =
+    known-more several bad further piece new known (some refl) (none refl)
 
 -- the same of what was gone past
-pub known-counted : (given mid left : Option (List ℕ)) (old now new : Reading) (count : ℕ) (s : CountsSoFar given mid old now count)
-    (a : AdvancesToPiece store_limit store_limit mid left now new) (bad : List ℕ) (was is : Bool) → IsKnown was bad s.further
-    → (was ≡ true → is ≡ true) → (was ≡ false → is ≡ true → IsAnyRecord (piece_or_rest new))
-    → (was ≡ false → is ≡ false → IsNoRecord (piece_or_rest new))
-    → IsKnown is bad (counts-more given mid left old now new count s a).further
+pub known-counted : (several : Bool) (given mid left : Option (List ℕ)) (old now new : Reading) (count : ℕ)
+    (s : CountsSoFar given mid old now count)
+    (a : AdvancesToPiece store_limit store_limit mid left now new) (bad : List ℕ) (was is : Bool) → IsKnown several was bad s.further
+    → (was ≡ true → is ≡ true) → (was ≡ false → is ≡ true → (several ≡ false) × IsAnyRecord (piece_or_rest new))
+    → (was ≡ false → is ≡ false → (several ≡ true) ⊎ IsNoRecord (piece_or_rest new))
+    → IsKnown several is bad (counts-more given mid left old now new count s a).further
 unfolding counts-more
-known-counted given mid left old now new count s a bad = known-next bad s.further (piece_or_rest new)
+known-counted several given mid left old now new count s a bad = known-next several bad s.further (piece_or_rest new)
 
 -- a piece that the walk is at was read too
 pub past-piece : (given left : Option (List ℕ)) (walk : Walked) (pieces : List (List ℕ)) (start : Contents)
@@ -183,17 +196,18 @@ module _ (pieces : List (List ℕ)) (start : Contents) (commands : List Command)
   base-count base is = is ∙ sym (ap (λ (t : Contents). t.count) p.begins)
 
 -- a file without a bad piece
-module _ (given left : Option (List ℕ)) (walk : Walked) (pieces : List (List ℕ)) (start : Contents) (commands : List Command) where
+module _ (several : Bool) (given left : Option (List ℕ)) (walk : Walked) (pieces : List (List ℕ)) (start : Contents)
+    (commands : List Command) where
   pub surveyed-whole : IsAtEndOf given left walk pieces start commands → (base count : ℕ) → base ≡ start.count
       → count ≡ walk.state.count → IsState walk.state → (findings : Findings)
       → findings ≡ record { base = base; commands = count - base; dropped = length (piece_or_rest walk.pieces); bad = None }
-      → ReadsSurvey given left walk.state findings
+      → ReadsSurvey several given left walk.state findings
   surveyed-whole e base count is all kept findings found =
       let rest = piece_or_rest walk.pieces in
       let none = sym (append-nil pieces) in
       record {
-        holds = Consumes-whole given left (concat pieces ++ rest) (λ bytes. IsSurvey bytes walk.state findings) e.taken e.at_end
-            (subst (IsSurvey (concat pieces ++ rest) walk.state) (sym found) (record {
+        holds = Consumes-whole given left (concat pieces ++ rest) (λ bytes. IsSurvey several bytes walk.state findings) e.taken e.at_end
+            (subst (IsSurvey several (concat pieces ++ rest) walk.state) (sym found) (record {
               short = e.short;
               pieces = pieces;
               unread = [];
@@ -218,30 +232,30 @@ module _ (given left : Option (List ℕ)) (walk : Walked) (pieces : List (List �
   pub surveyed-bad : (mid : Option (List ℕ)) (now : Reading) (bad : Bad)
       → IsAtPiece given mid walk pieces start commands → IsBadHere walk bad.piece
       → (following : Following) → following ≡ record { pieces = bad.following; kind = bad.kind }
-      → Follow given left (concat pieces ++ piece_or_rest walk.pieces) (piece_or_rest walk.pieces) now following → (base count : ℕ)
+      → Follow several given left (concat pieces ++ piece_or_rest walk.pieces) (piece_or_rest walk.pieces) now following → (base count : ℕ)
       → base ≡ start.count → count ≡ walk.state.count → IsState walk.state → (findings : Findings)
       → findings ≡ record { base = base; commands = count - base; dropped = length (piece_or_rest now); bad = Some bad }
-      → ReadsSurvey given left walk.state findings
+      → ReadsSurvey several given left walk.state findings
   surveyed-bad mid now bad p here following same f base count is all kept findings found =
       let piece = piece_or_rest walk.pieces in
       let read = p.read in
-      let bytes = all-read given mid left walk pieces start commands p now following f in
+      let bytes = all-read several given mid left walk pieces start commands p now following f in
       record {
-        holds = Consumes-whole given left bytes (λ bytes. IsSurvey bytes walk.state findings) f.taken f.at_end
-            (subst (IsSurvey bytes walk.state) (sym found) (record {
+        holds = Consumes-whole given left bytes (λ bytes. IsSurvey several bytes walk.state findings) f.taken f.at_end
+            (subst (IsSurvey several bytes walk.state) (sym found) (record {
               short = f.short;
               pieces = pieces;
               unread = piece ∷ f.further;
               rest = piece_or_rest now;
-              cut = cut-followed given mid left walk pieces start commands p now following f;
+              cut = cut-followed several given mid left walk pieces start commands p now following f;
               mean = read.performed.mean;
               base = base-count pieces start commands walk.state read.performed base is;
               commands = counted-records pieces start commands walk.state read.performed base is ∙ ap (λ n. suc (n - base)) (sym all);
               dropped = refl;
               bad = (
-                bad-is given mid left walk pieces start commands p now following f bad.piece here,
+                bad-is several given mid left walk pieces start commands p now following f bad.piece here,
                 f.counted ∙ ap (λ (f : Following). f.pieces) same,
-                subst (λ kind. IsOfKind kind piece f.further) (ap (λ (f : Following). f.kind) same) f.kind,
+                subst (λ kind. IsOfKind several kind piece f.further) (ap (λ (f : Following). f.kind) same) f.kind,
               );
             }));
         kept = kept;

@@ -1,5 +1,5 @@
 -- The walk over a store's file: what each call makes of what was read, and what the bytes of the file are then.
-use Rattle.std.proofs.Common.{◌≡◌, inl, inr, refl, sym, ◌∙◌, ap, subst, arith, ◌<◌, append_assoc, length-append}
+use Rattle.std.proofs.Common.{◌≡◌, inl, inr, ⊎_elim, refl, sym, ◌∙◌, ap, subst, arith, ◌<◌, append_assoc, length-append}
 use Rattle.std.specs.Prelude.{ℕ, ◌+◌, Bool, true, false, List, [], ◌∷◌, ◌++◌, length, ◌==◌, cond, Option, Some, None, Result, Ok, Err}
 use Rattle.std.specs.Prelude.{IfSome}
 use Rattle.conf_history.proofs.Prelude.{All, concat, Consumes, Consumes-trans, Consumes-whole, append-nil, concat-append, All-nil, All-cons}
@@ -330,9 +330,9 @@ module _ (given left : Option (List ℕ)) (old : Walked) (pieces : List (List �
 
 -- ---- a bad piece, and what follows it
 
-module _ (given mid left : Option (List ℕ)) (walk : Walked) (pieces : List (List ℕ)) (start : Contents)
+module _ (several : Bool) (given mid left : Option (List ℕ)) (walk : Walked) (pieces : List (List ℕ)) (start : Contents)
     (commands : List Command) (at : IsAtPiece given mid walk pieces start commands) (now : Reading) (following : Following)
-    (f : Follow given left (concat pieces ++ piece_or_rest walk.pieces) (piece_or_rest walk.pieces) now following) where
+    (f : Follow several given left (concat pieces ++ piece_or_rest walk.pieces) (piece_or_rest walk.pieces) now following) where
   abbrev bad-piece : List ℕ
   bad-piece = piece_or_rest walk.pieces
 
@@ -362,9 +362,9 @@ module _ (given mid left : Option (List ℕ)) (walk : Walked) (pieces : List (Li
 
   -- one that no crash left is the first bad one
   pub bad-followed : following.kind ≡ Unexpected → (bad : BadPiece) → IsBadHere walk bad
-      → IfSome given (λ bytes. (n : ℕ) × IsBadAt bytes walk.state bad n)
+      → IfSome given (λ bytes. (n : ℕ) × IsBadAt several bytes walk.state bad n)
   bad-followed is bad here =
-      Consumes-whole given left all-read (λ bytes. (n : ℕ) × IsBadAt bytes walk.state bad n) f.taken f.at_end (
+      Consumes-whole given left all-read (λ bytes. (n : ℕ) × IsBadAt several bytes walk.state bad n) f.taken f.at_end (
         following.pieces,
         record {
           pieces = pieces;
@@ -374,15 +374,15 @@ module _ (given mid left : Option (List ℕ)) (walk : Walked) (pieces : List (Li
           cut = cut-followed;
           mean = at.read.performed.mean;
           is_bad = bad-is bad here;
-          kept = subst (λ kind. IsOfKind kind bad-piece f.further) is f.kind;
+          kept = subst (λ kind. IsOfKind several kind bad-piece f.further) is f.kind;
           counted = f.counted;
         },
       )
 
   -- before one that a crash may have left, the file means the state
-  pub torn-followed : NoZeroByte → following.kind ≡ Torn → IsTornBehind given left walk.state pieces start commands
+  pub torn-followed : NoZeroByte → following.kind ≡ Torn → IsTornBehind several given left walk.state pieces start commands
   torn-followed law is =
-      let kind : IsOfKind Torn bad-piece f.further = subst (λ kind. IsOfKind kind bad-piece f.further) is f.kind in
+      let kind : IsOfKind several Torn bad-piece f.further = subst (λ kind. IsOfKind several kind bad-piece f.further) is f.kind in
       record {
         bytes = all-read;
         others = bad-piece ∷ f.further;
@@ -392,14 +392,16 @@ module _ (given mid left : Option (List ℕ)) (walk : Walked) (pieces : List (Li
         short = f.short;
         cut = cut-followed;
         hole = kind.0;
-        lost = All-cons IsNoRecord bad-piece f.further (zero-no-record law bad-piece kind.0) kind.1;
+        lost = ⊎_elim (λ noted. inl noted)
+            (λ none. inr (All-cons IsNoRecord bad-piece f.further (zero-no-record law bad-piece kind.0) none)) kind.1;
         performed = at.read.performed;
       }
 
-pub torn-means : (given left : Option (List ℕ)) (s : Contents) (pieces : List (List ℕ)) (start : Contents) (commands : List Command)
-    → IsTornBehind given left s pieces start commands → IfSome given (λ bytes. Means bytes s)
-torn-means given left s pieces start commands t =
-    Consumes-whole given left t.bytes (λ bytes. Means bytes s) t.taken t.at_end
+pub torn-means : (several : Bool) (given left : Option (List ℕ)) (s : Contents) (pieces : List (List ℕ)) (start : Contents)
+    (commands : List Command)
+    → IsTornBehind several given left s pieces start commands → IfSome given (λ bytes. Means several bytes s)
+torn-means several given left s pieces start commands t =
+    Consumes-whole given left t.bytes (λ bytes. Means several bytes s) t.taken t.at_end
     (record {
       short = t.short;
       pieces = pieces;
@@ -421,9 +423,10 @@ refuses-here walk record_fault.OutOfMemory refused = tt
 
 module _ (given left : Option (List ℕ)) (walk : Walked) (pieces : List (List ℕ)) (start : Contents) (commands : List Command) where
   -- at the end, the bytes mean the state
-  pub end-means : IsAtEndOf given left walk pieces start commands → IfSome given (λ bytes. Means bytes walk.state)
-  end-means e =
-      Consumes-whole given left (concat pieces ++ piece_or_rest walk.pieces) (λ bytes. Means bytes walk.state) e.taken e.at_end
+  pub end-means : (several : Bool) → IsAtEndOf given left walk pieces start commands
+      → IfSome given (λ bytes. Means several bytes walk.state)
+  end-means several e =
+      Consumes-whole given left (concat pieces ++ piece_or_rest walk.pieces) (λ bytes. Means several bytes walk.state) e.taken e.at_end
       (record {
         short = e.short;
         pieces = pieces;
@@ -433,7 +436,7 @@ module _ (given left : Option (List ℕ)) (walk : Walked) (pieces : List (List �
             (record { joined = refl; closed = e.performed.closed; unclosed = e.unclosed });
         mean = e.performed.mean;
         hole = tt;
-        lost = All-nil IsNoRecord;
+        lost = inr (All-nil IsNoRecord);
       })
 
   -- before the end, the bytes mean the state up to its count

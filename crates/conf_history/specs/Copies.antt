@@ -1,30 +1,30 @@
 -- A store's base and records as they stand in its file, in a new store, and why there is none.
-use Rattle.std.specs.Prelude.{◌≡◌, ◌≢◌, ◌⊎◌, ℕ, List, ◌++◌, Option, Some, None, Result, Ok, Err, IfSome}
+use Rattle.std.specs.Prelude.{◌≡◌, ◌≢◌, ◌⊎◌, ℕ, Bool, List, ◌++◌, Option, Some, None, Result, Ok, Err, IfSome}
 use Rattle.conf_history.specs.Prelude.{IsAtEnd, concat, Pieces, Folder, bytes_under, Image, IsImage, image_now}
 use Rattle.conf_history.specs.Prelude.{DiskModel, LeavesOnly, Store, IsStoreOf, store_limit, Contents, AllImagesMean}
-use Rattle.conf_history.specs.Prelude.{All, IsNoRecord, Means, PiecesMean, StartsWithHole}
+use Rattle.conf_history.specs.Prelude.{MayBeDropped, Means, PiecesMean, StartsWithHole}
 use Rattle.conf_history.specs.Histories.{ReadsAtMost, RefusesReading}
 use Rattle.conf_history.specs.declared.fault.SalvageFault.{SalvageFault}
 use Rattle.conf_history.specs.declared.fault.SalvageFault.TheVariants.{History, StoreExists, Device, OutOfMemory}
 
 -- The bytes are a base and records, which mean `s`, other pieces that a crash may have left, and a rest that isn't
 -- closed. The copy is the base and the records.
-pub record CopiesPieces (bytes copy : List ℕ) (s : Contents) : Type 0 where
+pub record CopiesPieces (several : Bool) (bytes copy : List ℕ) (s : Contents) : Type 0 where
   pub pieces : List (List ℕ)
   pub others : List (List ℕ)
   pub rest : List ℕ
   pub cut : Pieces bytes (pieces ++ others) rest
   pub mean : PiecesMean pieces s
   pub hole : StartsWithHole others
-  pub lost : All IsNoRecord others
+  pub lost : MayBeDropped several others
   pub is : copy ≡ concat pieces
 
--- The copy is that of the known bytes, and means the state that they mean. All that there are were read, at most
--- 1,073,741,824.
-pub record ReadsCopy (given left : Option (List ℕ)) (copy : List ℕ) : Type 0 where
+-- The copy is that of the known bytes, and means the state that they mean, with any note. All that there are were read,
+-- at most 1,073,741,824.
+pub record ReadsCopy (several : Bool) (given left : Option (List ℕ)) (copy : List ℕ) : Type 0 where
   pub s : Contents
-  pub holds : IfSome given (λ bytes. CopiesPieces bytes copy s)
-  pub means : Means copy s
+  pub holds : IfSome given (λ bytes. CopiesPieces several bytes copy s)
+  pub means : (note : Bool) → Means note copy s
   pub at_end : IsAtEnd left
   pub read : ReadsAtMost store_limit given left
 
@@ -49,34 +49,36 @@ RefusesFile old bytes (History fault) new = ⊥
 -- ---- a new store
 
 -- A new store was made where there was none. Its file is the copy of what was read, and a crash leaves that from now on.
-pub record BacksUp (given left : Option (List ℕ)) (old new : Folder) : Type 0 where
+pub record BacksUp (several : Bool) (given left : Option (List ℕ)) (old new : Folder) : Type 0 where
   pub copy : List ℕ
-  pub reads : ReadsCopy given left copy
+  pub reads : ReadsCopy several given left copy
   pub creates : CreatesFile old copy new
   pub now : AllImagesMean new reads.s
 
 -- no store was made of the copy
-pub record RefusesCopy (given left : Option (List ℕ)) (old new : Folder) (fault : SalvageFault) : Type 0 where
+pub record RefusesCopy (several : Bool) (given left : Option (List ℕ)) (old new : Folder)
+    (fault : SalvageFault) : Type 0 where
   pub copy : List ℕ
-  pub reads : ReadsCopy given left copy
+  pub reads : ReadsCopy several given left copy
   pub refused : RefusesFile old copy fault new
 
 -- Why there is no new store. At a fault of the file nothing of the disk has changed; OutOfMemory may be one.
-abbrev pub RefusesBackup : Option (List ℕ) → Option (List ℕ) → Folder → Folder → SalvageFault → Type 0
-RefusesBackup given left old new (History fault) =
-    IfSome given (λ bytes. RefusesReading bytes None fault) × (new ≡ old)
-RefusesBackup given left old new fault = RefusesCopy given left old new fault
+abbrev pub RefusesBackup : Bool → Option (List ℕ) → Option (List ℕ) → Folder → Folder → SalvageFault → Type 0
+RefusesBackup several given left old new (History fault) =
+    IfSome given (λ bytes. RefusesReading several bytes None fault) × (new ≡ old)
+RefusesBackup several given left old new fault = RefusesCopy several given left old new fault
 
 -- the whole copy of what was read
-pub record IsCopied (given left : Option (List ℕ)) (store : Option (List ℕ)) : Type 0 where
+pub record IsCopied (several : Bool) (given left : Option (List ℕ)) (store : Option (List ℕ)) : Type 0 where
   pub copy : List ℕ
-  pub reads : ReadsCopy given left copy
+  pub reads : ReadsCopy several given left copy
   pub is : store ≡ Some copy
 
 -- a crash at any moment since `old` leaves an old store, or the whole copy
-abbrev pub LeavesOldOrCopy : {D : Type 0} → DiskModel D → Option (List ℕ) → Option (List ℕ) → D → D → Type 0
-LeavesOldOrCopy model given left old new =
-    LeavesOnly model old new (λ image. IsStoreOf (model.folder old) image.store ⊎ IsCopied given left image.store)
+abbrev pub LeavesOldOrCopy : {D : Type 0} → Bool → DiskModel D → Option (List ℕ) → Option (List ℕ) → D → D
+    → Type 0
+LeavesOldOrCopy several model given left old new =
+    LeavesOnly model old new (λ image. IsStoreOf (model.folder old) image ⊎ IsCopied several given left image.store)
 
 -- the disk that is handed back
 abbrev pub disk_handed_back : {D : Type 0} → Result D (D × SalvageFault) → D

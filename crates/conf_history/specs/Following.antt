@@ -12,7 +12,7 @@ following_of pieces is_kept = record { pieces = pieces; kind = if is_kept then U
 
 -- After the bytes `read`, which end with the bad piece, come so many pieces, and then a rest that is not closed. The file
 -- was read to its end.
-pub record Follow (given left : Option (List ℕ)) (read bad : List ℕ) (now : Pieces) (following : Following) : Type 0 where
+pub record Follow (several : Bool) (given left : Option (List ℕ)) (read bad : List ℕ) (now : Pieces) (following : Following) : Type 0 where
   pub further : List (List ℕ)
   pub taken : Consumes given left (read ++ (concat further ++ piece_or_rest now))
   pub at_end : IsAtEnd left
@@ -20,9 +20,9 @@ pub record Follow (given left : Option (List ℕ)) (read bad : List ℕ) (now : 
   pub closed : All ClosesOnce further
   pub unclosed : Unclosed (piece_or_rest now)
   pub counted : length further ≡ following.pieces
-  pub kind : IsOfKind following.kind bad further
+  pub kind : IsOfKind several following.kind bad further
 
 -- after all further pieces were gone past, or why they weren't
-abbrev pub AfterLook : Option (List ℕ) → Option (List ℕ) → List ℕ → List ℕ → Pieces → Result Following HistoryFault → Type 0
-AfterLook given left read bad now (Ok following) = Follow given left read bad now following
-AfterLook given left read bad now (Err fault) = IfSome given (λ bytes. RefusesSurvey bytes fault)
+abbrev pub AfterLook : Bool → Option (List ℕ) → Option (List ℕ) → List ℕ → List ℕ → Pieces → Result Following HistoryFault → Type 0
+AfterLook several given left read bad now (Ok following) = Follow several given left read bad now following
+AfterLook several given left read bad now (Err fault) = IfSome given (λ bytes. RefusesSurvey bytes fault)

@@ -1,7 +1,7 @@
 -- What the bytes of a store's file hold: at each command, and before a bad piece.
-use Rattle.std.specs.Prelude.{◌≡◌, ◌<◌, ◌≤◌, ◌⊎◌, ℕ, suc, false, List, [], ◌∷◌, ◌++◌, length, Option, Some, None, IfSome}
+use Rattle.std.specs.Prelude.{◌≡◌, ◌<◌, ◌≤◌, ◌⊎◌, ℕ, suc, Bool, false, List, [], ◌∷◌, ◌++◌, length, Option, Some, None, IfSome}
 use Rattle.conf_history.specs.Prelude.{Consumes, IsAtEnd, Pieces, store_limit, Contents, IsState, IsBase, PiecesMean}
-use Rattle.conf_history.specs.Prelude.{All, Means, HasNoBase, IsKept, IsNoRecord, no_zero}
+use Rattle.conf_history.specs.Prelude.{Means, HasNoBase, IsKept, MayBeDropped, no_zero}
 use Rattle.conf_history.specs.{BadPieces.IsBadPiece, declared.place.BadPiece.BadPiece}
 use Rattle.conf_history.specs.{declared.fault.HistoryFault.HistoryFault, declared.following.BadKind.BadKind}
 use Rattle.conf_history.specs.{declared.following.BadKind.TheVariants.Torn, declared.following.BadKind.TheVariants.Unexpected}
@@ -20,12 +20,12 @@ pub record MeansUpTo (bytes : List ℕ) (number : ℕ) (s : Contents) : Type 0 w
   pub numbered : s.count ≡ number
 
 -- the state after all commands, or after the one with a number
-abbrev pub HoldsAt : List ℕ → Option ℕ → Contents → Type 0
-HoldsAt bytes None s = Means bytes s
-HoldsAt bytes (Some number) s = MeansUpTo bytes number s
+abbrev pub HoldsAt : Bool → List ℕ → Option ℕ → Contents → Type 0
+HoldsAt several bytes None s = Means several bytes s
+HoldsAt several bytes (Some number) s = MeansUpTo bytes number s
 
 -- The pieces before the first bad one mean `s`, and so many pieces follow it. No crash left it so.
-pub record IsBadAt (bytes : List ℕ) (s : Contents) (bad : BadPiece) (following : ℕ) : Type 0 where
+pub record IsBadAt (several : Bool) (bytes : List ℕ) (s : Contents) (bad : BadPiece) (following : ℕ) : Type 0 where
   pub pieces : List (List ℕ)
   pub piece : List ℕ
   pub further : List (List ℕ)
@@ -33,7 +33,7 @@ pub record IsBadAt (bytes : List ℕ) (s : Contents) (bad : BadPiece) (following
   pub cut : Pieces bytes (pieces ++ piece ∷ further) rest
   pub mean : PiecesMean pieces s
   pub is_bad : IsBadPiece pieces piece s bad
-  pub kept : IsKept piece further
+  pub kept : IsKept several piece further
   pub counted : length further ≡ following
 
 -- The first piece is a base with a count above this number.
@@ -47,8 +47,8 @@ pub record StartsAfter (bytes : List ℕ) (number : ℕ) : Type 0 where
   pub above : number < start.count
 
 -- the base comes after the command with this number, or all records before it
-abbrev pub HasNoCommand : List ℕ → ℕ → Type 0
-HasNoCommand bytes number = StartsAfter bytes number ⊎ ((s : Contents) × Means bytes s × (s.count < number))
+abbrev pub HasNoCommand : Bool → List ℕ → ℕ → Type 0
+HasNoCommand several bytes number = StartsAfter bytes number ⊎ ((s : Contents) × Means several bytes s × (s.count < number))
 
 -- the bytes are too many, or have no base
 abbrev pub IsNoStore : List ℕ → Type 0
@@ -56,15 +56,15 @@ IsNoStore bytes = (store_limit < length bytes) ⊎ HasNoBase bytes
 
 -- Why the bytes don't answer with a state. With a number, Damaged is told of a piece up to its record alone: the state
 -- before the piece has a smaller count. Input and OutOfMemory say nothing of the bytes.
-abbrev pub RefusesReading : List ℕ → Option ℕ → HistoryFault → Type 0
-RefusesReading bytes at NotAStore = IsNoStore bytes
-RefusesReading bytes at (Damaged bad) =
-    (s : Contents) × (following : ℕ) × IsBadAt bytes s bad following × IfSome at (λ number. s.count < number)
-RefusesReading bytes None NoSuchCommand = ⊥
-RefusesReading bytes (Some number) NoSuchCommand = HasNoCommand bytes number
-RefusesReading bytes at Output = ⊥
-RefusesReading bytes at Input = Unit {0}
-RefusesReading bytes at OutOfMemory = Unit {0}
+abbrev pub RefusesReading : Bool → List ℕ → Option ℕ → HistoryFault → Type 0
+RefusesReading several bytes at NotAStore = IsNoStore bytes
+RefusesReading several bytes at (Damaged bad) =
+    (s : Contents) × (following : ℕ) × IsBadAt several bytes s bad following × IfSome at (λ number. s.count < number)
+RefusesReading several bytes None NoSuchCommand = ⊥
+RefusesReading several bytes (Some number) NoSuchCommand = HasNoCommand several bytes number
+RefusesReading several bytes at Output = ⊥
+RefusesReading several bytes at Input = Unit {0}
+RefusesReading several bytes at OutOfMemory = Unit {0}
 
 -- at most so many bytes were read
 abbrev pub ReadsAtMost : ℕ → Option (List ℕ) → Option (List ℕ) → Type 0
@@ -72,29 +72,30 @@ ReadsAtMost most given left = (read : List ℕ) × Consumes given left read × (
 
 -- What is returned is the state that known bytes hold. At most 1,073,741,824 bytes were read; all that there are, if no
 -- number was given.
-pub record ReadsState (given left : Option (List ℕ)) (at : Option ℕ) (s : Contents) : Type 0 where
-  pub holds : IfSome given (λ bytes. HoldsAt bytes at s)
+pub record ReadsState (several : Bool) (given left : Option (List ℕ)) (at : Option ℕ)
+    (s : Contents) : Type 0 where
+  pub holds : IfSome given (λ bytes. HoldsAt several bytes at s)
   pub kept : IsState s
   pub read : ReadsAtMost store_limit given left
   pub whole : at ≡ None → IsAtEnd left
 
 -- ---- a survey
 
--- Whether a crash may have left a bad piece, which these follow: it has a zero, and they are no records.
-abbrev pub IsOfKind : BadKind → List ℕ → List (List ℕ) → Type 0
-IsOfKind Torn piece further = (no_zero piece ≡ false) × All IsNoRecord further
-IsOfKind Unexpected piece further = IsKept piece further
+-- Whether a crash may have left a bad piece, which these follow: it has a zero, and they may be dropped.
+abbrev pub IsOfKind : Bool → BadKind → List ℕ → List (List ℕ) → Type 0
+IsOfKind several Torn piece further = (no_zero piece ≡ false) × MayBeDropped several further
+IsOfKind several Unexpected piece further = IsKept several piece further
 
 -- The pieces after these: none, or a bad one and others.
-abbrev pub AreUnread : List (List ℕ) → List (List ℕ) → Contents → Option Bad → Type 0
-AreUnread before [] s None = Unit {0}
-AreUnread before [] s (Some bad) = ⊥
-AreUnread before (piece ∷ further) s None = ⊥
-AreUnread before (piece ∷ further) s (Some bad) =
-    IsBadPiece before piece s bad.piece × (length further ≡ bad.following) × IsOfKind bad.kind piece further
+abbrev pub AreUnread : Bool → List (List ℕ) → List (List ℕ) → Contents → Option Bad → Type 0
+AreUnread several before [] s None = Unit {0}
+AreUnread several before [] s (Some bad) = ⊥
+AreUnread several before (piece ∷ further) s None = ⊥
+AreUnread several before (piece ∷ further) s (Some bad) =
+    IsBadPiece before piece s bad.piece × (length further ≡ bad.following) × IsOfKind several bad.kind piece further
 
 -- The bytes begin with a base and records, which mean `s`. What comes after these is as the findings say.
-pub record IsSurvey (bytes : List ℕ) (s : Contents) (findings : Findings) : Type 0 where
+pub record IsSurvey (several : Bool) (bytes : List ℕ) (s : Contents) (findings : Findings) : Type 0 where
   pub short : length bytes ≤ store_limit
   pub pieces : List (List ℕ)
   pub unread : List (List ℕ)
@@ -104,11 +105,12 @@ pub record IsSurvey (bytes : List ℕ) (s : Contents) (findings : Findings) : Ty
   pub base : findings.base ≡ mean.start.count
   pub commands : length pieces ≡ suc findings.commands
   pub dropped : length rest ≡ findings.dropped
-  pub bad : AreUnread pieces unread s findings.bad
+  pub bad : AreUnread several pieces unread s findings.bad
 
 -- What is returned is what was found in the known bytes. All that there are were read, at most 1,073,741,824.
-pub record ReadsSurvey (given left : Option (List ℕ)) (s : Contents) (findings : Findings) : Type 0 where
-  pub holds : IfSome given (λ bytes. IsSurvey bytes s findings)
+pub record ReadsSurvey (several : Bool) (given left : Option (List ℕ)) (s : Contents)
+    (findings : Findings) : Type 0 where
+  pub holds : IfSome given (λ bytes. IsSurvey several bytes s findings)
   pub kept : IsState s
   pub at_end : IsAtEnd left
   pub read : ReadsAtMost store_limit given left

@@ -1,8 +1,8 @@
 -- The log of a store's file: a line for each command, without its values, with them, or with them but for what is hidden; or
 -- the records as they stand.
-use Rattle.std.specs.Prelude.{◌≡◌, ◌<◌, ◌⊎◌, ℕ, ◌+◌, List, [], ◌∷◌, ◌++◌, length, take, codes, decimal, encode_utf8_all, String}
+use Rattle.std.specs.Prelude.{◌≡◌, ◌<◌, ◌⊎◌, ℕ, ◌+◌, Bool, List, [], ◌∷◌, ◌++◌, length, take, codes, decimal, encode_utf8_all, String}
 use Rattle.std.specs.Prelude.{string_bytes, Option, Some, None, IfSome}
-use Rattle.conf_history.specs.Prelude.{All, IsNoRecord, StartsWithHole, Appends, Keeps, Pieces, in_double_quotes, store_limit, Edit}
+use Rattle.conf_history.specs.Prelude.{MayBeDropped, StartsWithHole, Appends, Keeps, Pieces, in_double_quotes, store_limit, Edit}
 use Rattle.conf_history.specs.Prelude.{import_as, set_at, delete_at, Command, single, batch, Contents, PiecesMean}
 use Rattle.std.specs.declared.alloc.Global.{Global}
 use Rattle.yaml_grammar.specs.Trees.{Tree}
@@ -77,20 +77,20 @@ pub record BeginsLog (bytes : List ℕ) (form : LogForm) (log : List ℕ) : Type
   pub is : log ≡ log_of_pieces form mean.start.count pieces mean.commands
 
 -- the number is reached, or no piece follows but those that a crash may have left
-abbrev pub IsUpTo : Option ℕ → Contents → List (List ℕ) → Type 0
-IsUpTo None s further = StartsWithHole further × All IsNoRecord further
-IsUpTo (Some number) s further = s.count ≡ number
+abbrev pub IsUpTo : Bool → Option ℕ → Contents → List (List ℕ) → Type 0
+IsUpTo several None s further = StartsWithHole further × MayBeDropped several further
+IsUpTo several (Some number) s further = s.count ≡ number
 
 -- what is written for all records, or for those up to a number
-pub record IsWholeLog (bytes : List ℕ) (at : Option ℕ) (form : LogForm) (log : List ℕ) : Type 0 where
+pub record IsWholeLog (several : Bool) (bytes : List ℕ) (at : Option ℕ) (form : LogForm) (log : List ℕ) : Type 0 where
   pub begins : BeginsLog bytes form log
-  pub up_to : IsUpTo at begins.s begins.further
+  pub up_to : IsUpTo several at begins.s begins.further
 
 -- What known bytes give was written whole. At most 1,073,741,824 bytes were read.
-pub record LogsAll (at : Option ℕ) (form : LogForm) (given left held written : Option (List ℕ)) : Type 0 where
+pub record LogsAll (several : Bool) (at : Option ℕ) (form : LogForm) (given left held written : Option (List ℕ)) : Type 0 where
   pub log : List ℕ
   pub out : Appends held written log
-  pub whole : IfSome given (λ bytes. IsWholeLog bytes at form log)
+  pub whole : IfSome given (λ bytes. IsWholeLog several bytes at form log)
   pub read : ReadsAtMost store_limit given left
 
 -- all records but the last were written whole, and less than the last
@@ -104,33 +104,33 @@ pub record CutsLog (bytes : List ℕ) (form : LogForm) (log : List ℕ) : Type 0
 
 -- Why not all was written, and what was: for the records before the bad piece at Damaged, and for a number of first
 -- records at another fault of the file.
-abbrev pub LogsBefore : List ℕ → Option ℕ → LogForm → List ℕ → HistoryFault → Type 0
-LogsBefore bytes at form log Output = CutsLog bytes form log
-LogsBefore bytes at form log (Damaged bad) =
-    RefusesReading bytes at (Damaged bad) × (begins : BeginsLog bytes form log) × (length begins.pieces ≡ bad.number)
-LogsBefore bytes at form log fault = RefusesReading bytes at fault × ((log ≡ []) ⊎ BeginsLog bytes form log)
+abbrev pub LogsBefore : Bool → List ℕ → Option ℕ → LogForm → List ℕ → HistoryFault → Type 0
+LogsBefore several bytes at form log Output = CutsLog bytes form log
+LogsBefore several bytes at form log (Damaged bad) =
+    RefusesReading several bytes at (Damaged bad) × (begins : BeginsLog bytes form log) × (length begins.pieces ≡ bad.number)
+LogsBefore several bytes at form log fault = RefusesReading several bytes at fault × ((log ≡ []) ⊎ BeginsLog bytes form log)
 
 -- so much of the log of known bytes was written, where each command is written as soon as it was performed
-pub record StopsLog (at : Option ℕ) (form : LogForm) (given held written : Option (List ℕ)) (fault : HistoryFault)
+pub record StopsLog (several : Bool) (at : Option ℕ) (form : LogForm) (given held written : Option (List ℕ)) (fault : HistoryFault)
     : Type 0 where
   pub log : List ℕ
   pub out : Appends held written log
-  pub before : IfSome given (λ bytes. LogsBefore bytes at form log fault)
+  pub before : IfSome given (λ bytes. LogsBefore several bytes at form log fault)
 
 -- less than what known bytes give was written, where the writer failed
-pub record CutsWholeLog (at : Option ℕ) (form : LogForm) (given held written : Option (List ℕ)) : Type 0 where
+pub record CutsWholeLog (several : Bool) (at : Option ℕ) (form : LogForm) (given held written : Option (List ℕ)) : Type 0 where
   pub log : List ℕ
   pub kept : ℕ
   pub out : Appends held written (take kept log)
   pub short : kept < length log
-  pub whole : IfSome given (λ bytes. IsWholeLog bytes at form log)
+  pub whole : IfSome given (λ bytes. IsWholeLog several bytes at form log)
 
 -- Why not all was written, and what was. With a number nothing was, unless the writer failed.
-abbrev pub FailsToLog : Option ℕ → LogForm → Option (List ℕ) → Option (List ℕ) → Option (List ℕ) → HistoryFault → Type 0
-FailsToLog None form given held written fault = StopsLog None form given held written fault
-FailsToLog (Some number) form given held written Output = CutsWholeLog (Some number) form given held written
-FailsToLog (Some number) form given held written fault =
-    IfSome given (λ bytes. RefusesReading bytes (Some number) fault) × Keeps held written
+abbrev pub FailsToLog : Bool → Option ℕ → LogForm → Option (List ℕ) → Option (List ℕ) → Option (List ℕ) → HistoryFault → Type 0
+FailsToLog several None form given held written fault = StopsLog several None form given held written fault
+FailsToLog several (Some number) form given held written Output = CutsWholeLog several (Some number) form given held written
+FailsToLog several (Some number) form given held written fault =
+    IfSome given (λ bytes. RefusesReading several bytes (Some number) fault) × Keeps held written
 
 -- the fault of a log that was to be held in memory, which takes no bytes only where there is no more
 abbrev pub fault_of_holding : HistoryFault → HistoryFault

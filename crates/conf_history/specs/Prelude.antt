@@ -13,8 +13,8 @@ pub use Rattle.conf_state.specs.States.{Contents, Entry, config_named, names_of}
 pub use Rattle.conf_state.specs.Steps.{after, step}
 pub use Rattle.conf_state.specs.declared.room.Room.TheVariants.{Enough}
 pub use Rattle.conf_store.specs.Calls.{HasFailed}
-pub use Rattle.conf_store.specs.Durable.{AfterPrefix, IsWholeStore, AllImagesMean}
-pub use Rattle.conf_store.specs.Holes.{IsAnyRecord, IsKept}
+pub use Rattle.conf_store.specs.Durable.{AfterPrefix, IsNoted, IsWholeStore, AllImagesMean}
+pub use Rattle.conf_store.specs.Holes.{IsAnyRecord, IsKept, MayBeDropped, is_several}
 pub use Rattle.conf_store.specs.Meaning.{AreRecords, Means, PiecesMean}
 pub use Rattle.conf_store.specs.NextRecords.{IsWhy, RefusesRecord}
 pub use Rattle.conf_store.specs.Opens.{HasNoBase, IsNextRecord, RecoversTo, RefusesBytes}
@@ -26,4 +26,4 @@ pub use Rattle.yaml_docs.specs.Cutting.{Unclosed}
 pub use Rattle.yaml_docs.specs.PieceReading.{piece_or_rest, IsSound, ahead, bytes_read}
 pub use Rattle.yaml_grammar.specs.Closings.{Pieces, ClosesOnce}
 pub use Rattle.yaml_grammar.specs.Style.{in_double_quotes}
-pub use Rattle.yaml_recognizers.specs.Zeroed.{no_zero, StartsWithHole}
+pub use Rattle.yaml_recognizers.specs.Zeroed.{no_zero, StartsWithHole, Zeroed}

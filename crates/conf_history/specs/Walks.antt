@@ -3,7 +3,7 @@ use Rattle.std.specs.Prelude.{◌≡◌, ◌+◌, ◌≤◌, ◌<◌, ◌⊎◌,
 use Rattle.std.specs.Prelude.{None, Result, Ok, Err, IfSome}
 use Rattle.conf_history.specs.Prelude.{All, concat, Consumes, IsAtEnd, ClosesOnce, Unclosed, IsSound, ahead, bytes_read}
 use Rattle.conf_history.specs.Prelude.{piece_or_rest, store_limit, Command, Contents, step, Enough, IsBase, IsNoBase}
-use Rattle.conf_history.specs.Prelude.{IsRecord, IsNoRecord, PiecesMean, IsWhy, StartsWithHole}
+use Rattle.conf_history.specs.Prelude.{IsRecord, MayBeDropped, PiecesMean, IsWhy, StartsWithHole}
 use Rattle.yaml_docs.specs.declared.pieces.Pieces.{Pieces}
 use Rattle.conf_history.specs.{BadPieces.line_feeds, declared.place.BadPiece.BadPiece}
 use Rattle.conf_history.specs.{declared.fault.HistoryFault.HistoryFault, declared.place.Place.Place}
@@ -121,9 +121,9 @@ HasEnded at given left walk pieces start commands =
     ⊎ ((at ≡ None) × IsAtEndOf given left walk pieces start commands)
 
 -- The file was read to its end. Behind the pieces come others, as a crash may have left them: the first has a zero, and
--- none is a record. Then come bytes that are not closed.
-pub record IsTornBehind (given left : Option (List ℕ)) (s : Contents) (pieces : List (List ℕ)) (start : Contents)
-    (commands : List Command) : Type 0 where
+-- they may be dropped. Then come bytes that are not closed.
+pub record IsTornBehind (several : Bool) (given left : Option (List ℕ)) (s : Contents) (pieces : List (List ℕ))
+    (start : Contents) (commands : List Command) : Type 0 where
   pub bytes : List ℕ
   pub others : List (List ℕ)
   pub rest : List ℕ
@@ -132,14 +132,15 @@ pub record IsTornBehind (given left : Option (List ℕ)) (s : Contents) (pieces 
   pub short : length bytes ≤ store_limit
   pub cut : Cut bytes (pieces ++ others) rest
   pub hole : StartsWithHole others
-  pub lost : All IsNoRecord others
+  pub lost : MayBeDropped several others
   pub performed : ArePerformed pieces start commands s
 
 -- The walk has come to its end, or, without a number, to pieces that a crash may have left.
-abbrev pub Ends : Option ℕ → Option (List ℕ) → Option (List ℕ) → Walked → List (List ℕ) → Contents → List Command → Type 0
-Ends at given left walk pieces start commands =
+abbrev pub Ends : Bool → Option ℕ → Option (List ℕ) → Option (List ℕ) → Walked → List (List ℕ) → Contents
+    → List Command → Type 0
+Ends several at given left walk pieces start commands =
     HasEnded at given left walk pieces start commands
-    ⊎ ((at ≡ None) × IsTornBehind given left walk.state pieces start commands)
+    ⊎ ((at ≡ None) × IsTornBehind several given left walk.state pieces start commands)
 
 -- the bad piece, if there is one, comes after these
 abbrev pub ComesAfter : List (List ℕ) → HistoryFault → Type 0
@@ -147,8 +148,8 @@ ComesAfter pieces (Damaged bad) = length pieces ≡ bad.number
 ComesAfter pieces fault = Unit {0}
 
 -- why the records after these pieces, up to a number or to the end, are not all performed
-abbrev pub Fails : Option ℕ → Option (List ℕ) → List (List ℕ) → HistoryFault → Type 0
-Fails at given pieces fault = IfSome given (λ bytes. RefusesReading bytes at fault × ComesAfter pieces fault)
+abbrev pub Fails : Bool → Option ℕ → Option (List ℕ) → List (List ℕ) → HistoryFault → Type 0
+Fails several at given pieces fault = IfSome given (λ bytes. RefusesReading several bytes at fault × ComesAfter pieces fault)
 
 -- what a walk up to a number, or to the end, finds at a bad piece of this kind
 abbrev pub end_at_bad : BadPiece → BadKind → Option ℕ → Result Bool HistoryFault

@@ -1,11 +1,11 @@
 // One configuration that the bytes of a store's file hold, which were read before.
 ghost use Rattle.std.specs.Prelude.{◌≡◌, option_map, IfOk, IfErr};
-ghost use Rattle.conf_history.specs.Prelude.{chars, tree_of, Contents, config_named, RecoversTo, RefusesBytes};
+ghost use Rattle.conf_history.specs.Prelude.{chars, tree_of, Contents, config_named, RecoversTo, RefusesBytes, is_several};
 
 use crate::base::Base;
 use crate::replayed::{BasePart, OfBase};
 use conf_state::Part;
-use conf_store::{OpenFault, Opened, replay_records};
+use conf_store::{OpenFault, Opened, Waiting, replay_records};
 use std::alloc::Global;
 use yaml_config::Config;
 use yaml_docs::next_close;
@@ -23,14 +23,15 @@ use yaml_recognizers::closings::{one_list_of_pieces, piece_between_closings};
 pub fn config_in(
     alloc: Global,
     bytes: Vec<u8>,
+    waiting: Waiting,
     name: &str,
 ) -> Result<(Option<Config>, Opened), OpenFault>
     ensures ok { IfOk result (λ found. (s : Contents)
-        × RecoversTo bytes.items s found.1.commands found.1.dropped
+        × RecoversTo (is_several waiting) bytes.items s found.1.commands found.1.dropped
         × (option_map tree_of found.0 ≡ config_named s.configs (chars name.now))) }
-    ensures refused { IfErr result (RefusesBytes bytes.items) }
+    ensures refused { IfErr result (RefusesBytes (is_several waiting) bytes.items) }
 {
-    let (part, opened) = match part_in(alloc, bytes) {
+    let (part, opened) = match part_in(alloc, bytes, waiting) {
         Ok(read) => read,
         Err(fault) => return Err(fault),
     };
@@ -44,10 +45,14 @@ pub fn config_in(
 ///
 /// # Errors
 /// Those of [`config_in`].
-fn part_in(alloc: Global, bytes: Vec<u8>) -> Result<(Part<Base>, Opened), OpenFault>
+fn part_in(
+    alloc: Global,
+    bytes: Vec<u8>,
+    waiting: Waiting,
+) -> Result<(Part<Base>, Opened), OpenFault>
     ensures ok { IfOk result (λ read.
-        RecoversTo bytes.items read.0 read.1.commands read.1.dropped) }
-    ensures refused { IfErr result (RefusesBytes bytes.items) }
+        RecoversTo (is_several waiting) bytes.items read.0 read.1.commands read.1.dropped) }
+    ensures refused { IfErr result (RefusesBytes (is_several waiting) bytes.items) }
 {
     piece_between_closings();
     one_list_of_pieces();
@@ -60,7 +65,7 @@ fn part_in(alloc: Global, bytes: Vec<u8>) -> Result<(Part<Base>, Opened), OpenFa
     let mut base = bytes;
     base.truncate(end);
     match BasePart::of_base(alloc, base) {
-        Ok(Some(mut held)) => match replay_records(alloc, &mut held, &records) {
+        Ok(Some(mut held)) => match replay_records(alloc, &mut held, &records, waiting) {
             Ok(opened) => Ok((held.part, opened)),
             Err(fault) => Err(fault),
         },

@@ -1,6 +1,6 @@
 // A new store with the base and the records of another one.
 ghost use Rattle.std.specs.Prelude.{◌≡◌, ◌≢◌, ◌≤◌, IfOk, IfErr, IfSome, IsErrOf, None, OnOk, Some, Err};
-ghost use Rattle.conf_history.specs.Prelude.{bytes_under, IsImage, image_now, LeavesOnly, LeavesStoreOr, HasFailed};
+ghost use Rattle.conf_history.specs.Prelude.{bytes_under, IsImage, image_now, LeavesOnly, LeavesStoreOr, HasFailed, is_several};
 ghost use Rattle.conf_journal.specs.Held.{HoldsStore};
 ghost use Rattle.conf_history.specs.Copies.{BacksUp, CreatesFile, LeavesOldOrCopy, ReadsCopy, RefusesBackup, RefusesFile, disk_handed_back};
 ghost use Rattle.conf_history.specs.Histories.{RefusesReading};
@@ -11,7 +11,7 @@ use crate::replayed::BasePart;
 use crate::walk::Walk;
 use conf_disk::{Disk, Name, reading_is_an_image};
 use conf_journal::{held_store_is_left, held_store_is_the_only_one};
-use conf_store::{CreateFault, OnRefusal, find_no_store, replace_store};
+use conf_store::{CreateFault, OnRefusal, Waiting, find_no_store, replace_store};
 use std::alloc::Global;
 use std::io::Read;
 use yaml_recognizers::closings::one_list_of_pieces;
@@ -32,24 +32,25 @@ use yaml_recognizers::closings::one_list_of_pieces;
 pub fn back_up<R: Read, D: Disk + Drop>(
     alloc: Global,
     reader: &mut R,
+    waiting: Waiting,
     disk: D,
 ) -> Result<D, (D, SalvageFault)>
-    ensures made { D.model.honest → IfOk result (λ made. BacksUp (R.remaining reader.old)
+    ensures made { D.model.honest → IfOk result (λ made. BacksUp (is_several waiting) (R.remaining reader.old)
         (R.remaining reader.new) (D.model.folder disk) (D.model.folder made)) }
-    ensures refused { D.model.honest → IfErr result (λ r. RefusesBackup (R.remaining reader.old)
+    ensures refused { D.model.honest → IfErr result (λ r. RefusesBackup (is_several waiting) (R.remaining reader.old)
         (R.remaining reader.new) (D.model.folder disk) (D.model.folder r.0) r.1) }
     // This holds also if the disk isn't honest.
     ensures unread { IfErr result (λ r. (fault : HistoryFault) → r.1 ≡ SalvageFault.History fault
-        → IfSome (R.remaining reader.old) (λ bytes. RefusesReading bytes None fault)) }
+        → IfSome (R.remaining reader.old) (λ bytes. RefusesReading (is_several waiting) bytes None fault)) }
     // A crash at any moment of the call leaves an old store, or the whole copy, whatever it returns.
-    ensures leaves { D.model.honest → LeavesOldOrCopy D.model (R.remaining reader.old)
+    ensures leaves { D.model.honest → LeavesOldOrCopy (is_several waiting) D.model (R.remaining reader.old)
         (R.remaining reader.new) disk (disk_handed_back result) }
     ensures cause { IfErr result (λ r. r.1 ≡ SalvageFault.Device →
         HasFailed (D.model.failure_count disk) (D.model.failure_count r.0)) }
     // The number of failures never falls.
     ensures risen { D.model.failure_count disk ≤ D.model.failure_count (disk_handed_back result) }
 {
-    let copy = match read_copy(alloc, reader) {
+    let copy = match read_copy(alloc, reader, waiting) {
         Ok(copy) => copy,
         Err(fault) => return Err((disk, SalvageFault::History(fault))),
     };
@@ -64,17 +65,28 @@ pub fn back_up<R: Read, D: Disk + Drop>(
 ///
 /// # Errors
 /// Those of [`state_at`](crate::state_at) without a number.
-fn read_copy<R: Read>(alloc: Global, reader: &mut R) -> Result<Vec<u8>, HistoryFault>
+fn read_copy<R: Read>(
+    alloc: Global,
+    reader: &mut R,
+    waiting: Waiting,
+) -> Result<Vec<u8>, HistoryFault>
     ensures ok { IfOk result (λ copy.
-        ReadsCopy (R.remaining reader.old) (R.remaining reader.new) copy.items) }
+        ReadsCopy (is_several waiting) (R.remaining reader.old) (R.remaining reader.new) copy.items) }
     ensures refused { IfErr result (λ fault.
-        IfSome (R.remaining reader.old) (λ bytes. RefusesReading bytes None fault)) }
+        IfSome (R.remaining reader.old) (λ bytes. RefusesReading (is_several waiting) bytes None fault)) }
 {
     one_list_of_pieces();
     let mut walk = Walk::begin(alloc, reader)?;
     let mut copy = Vec::from_slice(alloc, walk.pieces.piece())?;
     let mut part: BasePart = walk.take_base(alloc, None)?;
-    'records: while walk.next(alloc, reader, None, &mut part, OnRefusal::DropState)? {
+    'records: while walk.next(
+        alloc,
+        reader,
+        waiting,
+        None,
+        &mut part,
+        OnRefusal::DropState,
+    )? {
         copy.extend_from_slice(walk.pieces.piece())?;
     }
     Ok(copy)

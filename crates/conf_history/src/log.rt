@@ -1,6 +1,7 @@
 // Which commands a store's file holds.
 ghost use Rattle.std.specs.Prelude.{◌≡◌, Some, OnOk, IfErr};
 ghost use Rattle.conf_history.specs.Logs.{FailsToLog, LogsAll, StopsLog, fault_of_holding};
+ghost use Rattle.conf_history.specs.Prelude.{is_several};
 
 use crate::fault::HistoryFault;
 use crate::line::LineForm;
@@ -8,7 +9,7 @@ use crate::logged::Logged;
 use crate::output::put_bytes;
 use crate::replayed::BasePart;
 use crate::walk::Walk;
-use conf_store::OnRefusal;
+use conf_store::{OnRefusal, Waiting};
 use std::alloc::Global;
 use std::io::{Read, Write};
 use yaml_recognizers::closings::one_list_of_pieces;
@@ -44,18 +45,19 @@ pub enum LogForm<'h> {
 pub fn write_log<R: Read, W: Write>(
     alloc: Global,
     reader: &mut R,
+    waiting: Waiting,
     at: Option<u64>,
     form: LogForm<'_>,
     writer: &mut W,
 ) -> Result<(), HistoryFault>
-    ensures ok { OnOk result (LogsAll at form.entry (R.remaining reader.old) (R.remaining reader.new)
-        (W.contents writer.old) (W.contents writer.new)) }
-    ensures refused { IfErr result (FailsToLog at form.entry (R.remaining reader.old)
+    ensures ok { OnOk result (LogsAll (is_several waiting) at form.entry (R.remaining reader.old)
+        (R.remaining reader.new) (W.contents writer.old) (W.contents writer.new)) }
+    ensures refused { IfErr result (FailsToLog (is_several waiting) at form.entry (R.remaining reader.old)
         (W.contents writer.old) (W.contents writer.new)) }
 {
     match at {
-        Some(number) => log_up_to(alloc, reader, number, form, writer),
-        None => log_each(alloc, reader, None, form, writer),
+        Some(number) => log_up_to(alloc, reader, waiting, number, form, writer),
+        None => log_each(alloc, reader, waiting, None, form, writer),
     }
 }
 
@@ -63,17 +65,18 @@ pub fn write_log<R: Read, W: Write>(
 fn log_up_to<R: Read, W: Write>(
     alloc: Global,
     reader: &mut R,
+    waiting: Waiting,
     number: u64,
     form: LogForm<'_>,
     writer: &mut W,
 ) -> Result<(), HistoryFault>
-    ensures ok { OnOk result (LogsAll (Some number) form.entry (R.remaining reader.old) (R.remaining reader.new)
-        (W.contents writer.old) (W.contents writer.new)) }
-    ensures refused { IfErr result (FailsToLog (Some number) form.entry (R.remaining reader.old)
+    ensures ok { OnOk result (LogsAll (is_several waiting) (Some number) form.entry (R.remaining reader.old)
+        (R.remaining reader.new) (W.contents writer.old) (W.contents writer.new)) }
+    ensures refused { IfErr result (FailsToLog (is_several waiting) (Some number) form.entry (R.remaining reader.old)
         (W.contents writer.old) (W.contents writer.new)) }
 {
     let mut held = Vec::new(alloc);
-    match log_each(alloc, reader, Some(number), form, &mut held) {
+    match log_each(alloc, reader, waiting, Some(number), form, &mut held) {
         Ok(()) => put_bytes(writer, &held),
         Err(fault) => Err(fault_of_holding(fault)),
     }
@@ -96,20 +99,28 @@ fn fault_of_holding(fault: HistoryFault) -> HistoryFault
 fn log_each<R: Read, W: Write>(
     alloc: Global,
     reader: &mut R,
+    waiting: Waiting,
     at: Option<u64>,
     form: LogForm<'_>,
     writer: &mut W,
 ) -> Result<(), HistoryFault>
-    ensures ok { OnOk result (LogsAll at form.entry (R.remaining reader.old) (R.remaining reader.new)
-        (W.contents writer.old) (W.contents writer.new)) }
-    ensures refused { IfErr result (StopsLog at form.entry (R.remaining reader.old)
+    ensures ok { OnOk result (LogsAll (is_several waiting) at form.entry (R.remaining reader.old)
+        (R.remaining reader.new) (W.contents writer.old) (W.contents writer.new)) }
+    ensures refused { IfErr result (StopsLog (is_several waiting) at form.entry (R.remaining reader.old)
         (W.contents writer.old) (W.contents writer.new)) }
 {
     one_list_of_pieces();
     let mut walk = Walk::begin(alloc, reader)?;
     let BasePart { part } = walk.take_base(alloc, at)?;
     let mut logged = Logged::new(alloc, part, form);
-    'records: while walk.next(alloc, reader, at, &mut logged, OnRefusal::DropState)? {
+    'records: while walk.next(
+        alloc,
+        reader,
+        waiting,
+        at,
+        &mut logged,
+        OnRefusal::DropState,
+    )? {
         put_bytes(writer, logged.entry(walk.pieces.piece()))?;
     }
     Ok(())

@@ -1,11 +1,12 @@
 // One configuration that a store's file held after a command, and the names of all.
 ghost use Rattle.std.specs.Prelude.{◌≡◌, map, option_map, IfOk, IfErr, IfSome};
-ghost use Rattle.conf_history.specs.Prelude.{chars, tree_of, text_of, Contents, names_of, config_named};
+ghost use Rattle.conf_history.specs.Prelude.{chars, tree_of, text_of, Contents, names_of, config_named, is_several};
 ghost use Rattle.conf_history.specs.Histories.{ReadsState, RefusesReading};
 
 use crate::fault::HistoryFault;
 use crate::reading::read_up_to;
 use crate::replayed::BasePart;
+use conf_store::Waiting;
 use std::alloc::Global;
 use std::io::Read;
 use yaml_config::Config;
@@ -22,16 +23,17 @@ use yaml_config::Config;
 pub fn config_at<R: Read>(
     alloc: Global,
     reader: &mut R,
+    waiting: Waiting,
     at: Option<u64>,
     name: &str,
 ) -> Result<Option<Config>, HistoryFault>
     ensures ok { IfOk result (λ found. (s : Contents)
-        × ReadsState (R.remaining reader.old) (R.remaining reader.new) at s
+        × ReadsState (is_several waiting) (R.remaining reader.old) (R.remaining reader.new) at s
         × (option_map tree_of found ≡ config_named s.configs (chars name.now))) }
     ensures refused { IfErr result (λ fault.
-        IfSome (R.remaining reader.old) (λ bytes. RefusesReading bytes at fault)) }
+        IfSome (R.remaining reader.old) (λ bytes. RefusesReading (is_several waiting) bytes at fault)) }
 {
-    let BasePart { part } = read_up_to(alloc, reader, at)?;
+    let BasePart { part } = read_up_to(alloc, reader, waiting, at)?;
     Ok(part.copy_of(alloc, name)?)
 }
 
@@ -43,14 +45,15 @@ pub fn config_at<R: Read>(
 pub fn names_at<R: Read>(
     alloc: Global,
     reader: &mut R,
+    waiting: Waiting,
     at: Option<u64>,
 ) -> Result<Vec<String>, HistoryFault>
     ensures ok { IfOk result (λ names. (s : Contents)
-        × ReadsState (R.remaining reader.old) (R.remaining reader.new) at s
+        × ReadsState (is_several waiting) (R.remaining reader.old) (R.remaining reader.new) at s
         × (map text_of names.items ≡ names_of s.configs)) }
     ensures refused { IfErr result (λ fault.
-        IfSome (R.remaining reader.old) (λ bytes. RefusesReading bytes at fault)) }
+        IfSome (R.remaining reader.old) (λ bytes. RefusesReading (is_several waiting) bytes at fault)) }
 {
-    let BasePart { part } = read_up_to(alloc, reader, at)?;
+    let BasePart { part } = read_up_to(alloc, reader, waiting, at)?;
     Ok(part.names(alloc)?)
 }

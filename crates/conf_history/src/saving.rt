@@ -1,6 +1,6 @@
 // A new store of what stands in a damaged file.
 ghost use Rattle.std.specs.Prelude.{◌≡◌, ◌≤◌, IfOk, IfErr, IfSome};
-ghost use Rattle.conf_history.specs.Prelude.{HasFailed};
+ghost use Rattle.conf_history.specs.Prelude.{HasFailed, is_several};
 ghost use Rattle.conf_history.specs.declared.fault.HistoryFault.{HistoryFault};
 ghost use Rattle.conf_history.specs.Histories.{RefusesSurvey};
 ghost use Rattle.conf_history.specs.Salvages.{LeavesOldOrSaved, RefusesSalvage, Saves, disk_of};
@@ -8,7 +8,7 @@ ghost use Rattle.conf_history.specs.Salvages.{LeavesOldOrSaved, RefusesSalvage, 
 use crate::fault::SalvageFault;
 use crate::survey::{Findings, survey_store};
 use conf_disk::Disk;
-use conf_store::{CreateFault, create_store};
+use conf_store::{CreateFault, Waiting, create_store};
 use std::alloc::Global;
 use std::io::Read;
 
@@ -26,24 +26,25 @@ use std::io::Read;
 pub fn salvage<R: Read, D: Disk + Drop>(
     alloc: Global,
     reader: &mut R,
+    waiting: Waiting,
     disk: D,
 ) -> Result<(D, Findings), (D, SalvageFault)>
-    ensures saved { D.model.honest → IfOk result (λ r. Saves (R.remaining reader.old)
+    ensures saved { D.model.honest → IfOk result (λ r. Saves (is_several waiting) (R.remaining reader.old)
         (R.remaining reader.new) (D.model.folder disk) (D.model.folder r.0) r.1) }
-    ensures refused { D.model.honest → IfErr result (λ r. RefusesSalvage (R.remaining reader.old)
+    ensures refused { D.model.honest → IfErr result (λ r. RefusesSalvage (is_several waiting) (R.remaining reader.old)
         (R.remaining reader.new) (D.model.folder disk) (D.model.folder r.0) r.1) }
     // This holds also if the disk isn't honest.
     ensures unread { IfErr result (λ r. (fault : HistoryFault) → r.1 ≡ SalvageFault.History fault
         → IfSome (R.remaining reader.old) (λ bytes. RefusesSurvey bytes fault)) }
     // A crash at any moment of the call leaves an old store, or the whole new one, whatever it returns.
-    ensures leaves { D.model.honest → LeavesOldOrSaved D.model (R.remaining reader.old)
+    ensures leaves { D.model.honest → LeavesOldOrSaved (is_several waiting) D.model (R.remaining reader.old)
         (R.remaining reader.new) disk (disk_of result) }
     ensures cause { IfErr result (λ r. r.1 ≡ SalvageFault.Device →
         HasFailed (D.model.failure_count disk) (D.model.failure_count r.0)) }
     // The number of failures never falls.
     ensures risen { D.model.failure_count disk ≤ D.model.failure_count (disk_of result) }
 {
-    let found = match survey_store(alloc, reader) {
+    let found = match survey_store(alloc, reader, waiting) {
         Ok(found) => found,
         Err(fault) => return Err((disk, SalvageFault::History(fault))),
     };

@@ -1,6 +1,6 @@
 // What an opening of a store would find in its file.
 ghost use Rattle.std.specs.Prelude.{◌≡◌, ◌-◌, ◌≤◌, ℕ, List, Option, IfOk, IfErr, IfSome, length};
-ghost use Rattle.conf_history.specs.Prelude.{piece_or_rest, IsState, Contents};
+ghost use Rattle.conf_history.specs.Prelude.{piece_or_rest, is_several, IsState, Contents};
 ghost use Rattle.conf_state.specs.Commands.{Command as Meant};
 ghost use Rattle.conf_history.specs.Histories.{ReadsSurvey, RefusesSurvey};
 ghost use Rattle.conf_history.specs.Walks.{HasLimits, IsAtPiece, IsBadHere, with_state};
@@ -11,7 +11,7 @@ use crate::place::BadPiece;
 use crate::replayed::{BasePart, OfBase};
 use crate::walk::Walk;
 use conf_state::State;
-use conf_store::OnRefusal;
+use conf_store::{OnRefusal, Waiting};
 use std::alloc::Global;
 use std::io::Read;
 
@@ -57,13 +57,17 @@ pub struct Survey {
 /// - `Input`: a read failed.
 /// - `NotAStore`: the file has more than 1,073,741,824 bytes or no closing line, or its first piece is no base.
 /// - `OutOfMemory`.
-pub fn find_in_store<R: Read>(alloc: Global, reader: &mut R) -> Result<Findings, HistoryFault>
+pub fn find_in_store<R: Read>(
+    alloc: Global,
+    reader: &mut R,
+    waiting: Waiting,
+) -> Result<Findings, HistoryFault>
     ensures ok { IfOk result (λ findings. (s : Contents)
-        × ReadsSurvey (R.remaining reader.old) (R.remaining reader.new) s findings) }
+        × ReadsSurvey (is_several waiting) (R.remaining reader.old) (R.remaining reader.new) s findings) }
     ensures refused { IfErr result (λ fault.
         IfSome (R.remaining reader.old) (λ bytes. RefusesSurvey bytes fault)) }
 {
-    let (_, findings) = survey_pieces::<R, BasePart>(alloc, reader)?;
+    let (_, findings) = survey_pieces::<R, BasePart>(alloc, reader, waiting)?;
     Ok(findings)
 }
 
@@ -72,13 +76,17 @@ pub fn find_in_store<R: Read>(alloc: Global, reader: &mut R) -> Result<Findings,
 ///
 /// # Errors
 /// Those of [`find_in_store`].
-pub fn survey_store<R: Read>(alloc: Global, reader: &mut R) -> Result<Survey, HistoryFault>
+pub fn survey_store<R: Read>(
+    alloc: Global,
+    reader: &mut R,
+    waiting: Waiting,
+) -> Result<Survey, HistoryFault>
     ensures ok { IfOk result (λ found. ReadsSurvey
         (R.remaining reader.old) (R.remaining reader.new) found.state found.findings) }
     ensures refused { IfErr result (λ fault.
         IfSome (R.remaining reader.old) (λ bytes. RefusesSurvey bytes fault)) }
 {
-    let (state, findings) = survey_pieces::<R, State>(alloc, reader)?;
+    let (state, findings) = survey_pieces::<R, State>(alloc, reader, waiting)?;
     Ok(Survey { state, findings })
 }
 
@@ -89,9 +97,10 @@ pub fn survey_store<R: Read>(alloc: Global, reader: &mut R) -> Result<Survey, Hi
 fn survey_pieces<R: Read, T: OfBase>(
     alloc: Global,
     reader: &mut R,
+    waiting: Waiting,
 ) -> Result<(T, Findings), HistoryFault>
     ensures ok { IfOk result (λ found. (s : Contents)
-        × ReadsSurvey (R.remaining reader.old) (R.remaining reader.new) s found.1
+        × ReadsSurvey (is_several waiting) (R.remaining reader.old) (R.remaining reader.new) s found.1
         × T.Keeps found.0 s) }
     ensures refused { IfErr result (λ fault.
         IfSome (R.remaining reader.old) (λ bytes. RefusesSurvey bytes fault)) }
@@ -108,7 +117,7 @@ fn survey_pieces<R: Read, T: OfBase>(
                 return Ok((held, findings));
             }
             Err(HistoryFault::Damaged(bad)) => {
-                let findings = walk.find_after(alloc, reader, base, count, bad)?;
+                let findings = walk.find_after(alloc, reader, waiting, base, count, bad)?;
                 return Ok((held, findings));
             }
             Err(fault) => return Err(fault),
@@ -126,6 +135,7 @@ impl Walk {
         &mut self,
         alloc: Global,
         reader: &mut R,
+        waiting: Waiting,
         base: u64,
         count: u64,
         piece: BadPiece,
@@ -137,13 +147,13 @@ impl Walk {
             → IsAtPiece given (R.remaining reader.old) (with_state self.old s) pieces start commands
             → IsBadHere (with_state self.old s) piece
             → base ≡ start.count → count ≡ s.count → IsState s
-            → IfOk result (ReadsSurvey given (R.remaining reader.new) s) }
+            → IfOk result (ReadsSurvey (is_several waiting) given (R.remaining reader.new) s) }
         ensures refused { (given : Option (List ℕ)) (s : Contents) (pieces : List (List ℕ))
             (start : Contents) (commands : List Meant)
             → IsAtPiece given (R.remaining reader.old) (with_state self.old s) pieces start commands
             → IfErr result (λ fault. IfSome given (λ bytes. RefusesSurvey bytes fault)) }
     {
-        let Following { pieces, kind } = look_behind(alloc, &mut self.pieces, reader)?;
+        let Following { pieces, kind } = look_behind(alloc, &mut self.pieces, reader, waiting)?;
         let bad = Bad {
             piece,
             following: pieces,

@@ -1,7 +1,7 @@
 // A walk over the pieces of a store's file.
 ghost use Rattle.std.specs.Prelude.{◌≡◌, ◌≢◌, ◌<◌, ◌≤◌, ◌+◌, ℕ, List, [], ◌∷◌, Option, Some, Ok, true, false};
 ghost use Rattle.std.specs.Prelude.{OnOk, OnErr, IfOk, IfErr, IfSome};
-ghost use Rattle.conf_history.specs.Prelude.{Contents, IsNoRecord, IsState, piece_or_rest};
+ghost use Rattle.conf_history.specs.Prelude.{Contents, IsNoRecord, IsState, is_several, piece_or_rest};
 ghost use Rattle.conf_state.specs.Commands.{Command as Meant};
 ghost use Rattle.conf_history.specs.Histories.{RefusesSurvey};
 ghost use Rattle.conf_history.specs.Walks.{AfterAdvance, AfterGoing, BeginsWith, Ends, Fails, Goes, HasEnded, HasLimits, HasRoom};
@@ -12,7 +12,7 @@ use crate::following::{BadKind, Following, look_behind};
 use crate::place::{BadPiece, Place};
 use crate::replayed::OfBase;
 use conf_journal::STORE_LIMIT;
-use conf_store::{OnRefusal, Replayed, replay_record};
+use conf_store::{OnRefusal, Replayed, Waiting, replay_record};
 use std::alloc::Global;
 use std::io::Read;
 use yaml_docs::Pieces;
@@ -77,6 +77,7 @@ impl Walk {
     /// Performs the next piece as the next record, and goes past it. Returns whether there was one: there is none once
     /// the command with the number `at` is performed, and, without a number, where the file ends, or a piece stands
     /// that a crash may have left, as an opening finds it.
+    /// `waiting` says how many records may have waited for one sync.
     ///
     /// # Errors
     /// `Damaged` if the piece is not the next record, and no crash left it. `NoSuchCommand` if the file ends before the
@@ -86,6 +87,7 @@ impl Walk {
         &mut self,
         alloc: Global,
         reader: &mut R,
+        waiting: Waiting,
         at: Option<u64>,
         held: &mut T,
         on_refusal: OnRefusal,
@@ -101,20 +103,21 @@ impl Walk {
             (commands : List Meant)
             → IsOn at given (R.remaining reader.old) (with_state self.old (T.contents held.old))
             pieces start commands → result ≡ Ok false
-            → Ends at given (R.remaining reader.new) (with_state self.new (T.contents held.new))
-            pieces start commands × IsState (T.contents held.new) }
+            → Ends (is_several waiting) at given (R.remaining reader.new)
+            (with_state self.new (T.contents held.new)) pieces start commands
+            × IsState (T.contents held.new) }
         ensures stops { (given : Option (List ℕ)) (pieces : List (List ℕ)) (start : Contents)
             (commands : List Meant)
             → IsOn at given (R.remaining reader.old) (with_state self.old (T.contents held.old))
             pieces start commands
-            → IfErr result (Fails at given pieces) }
+            → IfErr result (Fails (is_several waiting) at given pieces) }
     {
         one_list_of_pieces();
         no_zero_read();
         match self.step(alloc, reader, at, held, on_refusal) {
             Ok(goes_on) => Ok(goes_on),
             Err(HistoryFault::Damaged(bad)) => {
-                let Following { kind, .. } = look_behind(alloc, &mut self.pieces, reader)?;
+                let Following { kind, .. } = look_behind(alloc, &mut self.pieces, reader, waiting)?;
                 ends_at(bad, kind, at)
             }
             Err(fault) => Err(fault),

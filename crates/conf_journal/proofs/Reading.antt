@@ -1,11 +1,13 @@
 -- What reads after a call.
-use Rattle.std.proofs.Common.{◌≡◌, inl, inr, ℕ, zero, suc, ◌<◌, List, ◌++◌, length, get_or, set, take, drop, Option, Some, None, Result, Ok}
+use Rattle.std.proofs.Common.{◌≡◌, inl, inr, ℕ, zero, suc, ◌<◌, List, ◌++◌, length, get_or, set, take, drop}
+use Rattle.std.proofs.Common.{Bool, Option, Some, None, Result, Ok}
 use Rattle.std.proofs.Common.{Err, OnOk, refl, sym, ◌∙◌, ap, append_assoc, take-append-drop}
 use Rattle.conf_journal.proofs.Prelude.{append-nil, get_or-set_same, get_or-set_other, File, empty_file, file_bytes, Folder, Step, Append}
 use Rattle.conf_journal.proofs.Prelude.{Sync, SyncFolder, with_file, with_pending, synced_whole, synced_first, after, after_part, Performs}
 use Rattle.conf_journal.proofs.Prelude.{bytes_at, bytes_under, under, Image, image_now, IsMade, IsApartFrom, IsWhole, now_staged, Name}
-use Rattle.conf_journal.proofs.Prelude.{Store, Next, DiskFault, get_or-set_cases}
-use Rattle.conf_journal.specs.Store.{file_with_bytes}
+use Rattle.conf_journal.proofs.Prelude.{Store, Next, DiskFault, get_or-set_cases, several_waited, with_notes, noted_by_append}
+use Rattle.conf_journal.specs.{Store.file_with_bytes, Store.ReadsAs, Appends.ReadsAppended}
+use Rattle.conf_journal.proofs.Held.{appended-noted}
 
 -- a file with more pending bytes reads as its bytes and then those
 pub file_bytes-with_pending : (bytes : List ℕ) (file : File) → file_bytes (with_pending bytes file) ≡ file_bytes file ++ bytes
@@ -36,7 +38,7 @@ with_file-reads_same folder None change same = refl
 with_file-reads_same folder (Some id) change same =
     let kept = bytes_at-set_same_bytes folder.files id (change (get_or folder.files id empty_file))
     (same (get_or folder.files id empty_file)) in
-    λ i. record { store = kept folder.now.store i; next = kept folder.now.next i }
+    λ i. record { store = kept folder.now.store i; next = kept folder.now.next i; several = several_waited folder }
 
 -- a sync of a file changes nothing that is read
 pub synced-reads_same : (name : Name) (folder : Folder) → image_now (after (Sync name) folder) ≡ image_now folder
@@ -99,30 +101,31 @@ append_next-at files store (Some id) bytes made apart folder is =
       ap (λ (l : List File). bytes_at l (Some id)) changed ∙ bytes_at-with_pending files id bytes made,
     )
 
-image_now-with_file : (folder : Folder) (place : Option ℕ) (change : File → File) (store next : Option (List ℕ))
+image_now-appended : (folder : Folder) (place : Option ℕ) (change : File → File) (noted : Option ℕ → Bool)
+    (store next : Option (List ℕ)) (several : Bool)
     → bytes_at (with_file folder place change).files folder.now.store ≡ store
-    → bytes_at (with_file folder place change).files folder.now.next ≡ next
-    → image_now (with_file folder place change) ≡ record { store = store; next = next }
-image_now-with_file folder None change store next s n = λ i. record { store = s i; next = n i }
-image_now-with_file folder (Some id) change store next s n = λ i. record { store = s i; next = n i }
+    → bytes_at (with_file folder place change).files folder.now.next ≡ next → noted folder.now.store ≡ several
+    → image_now (with_notes (with_file folder place change) noted) ≡ record { store = store; next = next; several = several }
+image_now-appended folder None change noted store next several s n m = λ i. record { store = s i; next = n i; several = m i }
+image_now-appended folder (Some id) change noted store next several s n m = λ i. record { store = s i; next = n i; several = m i }
 
 -- after an append to the store, its bytes are read and then the new ones
 pub appended_store-reads : (bytes : List ℕ) (folder : Folder) → IsWhole folder
-    → image_now (after (Append Store bytes) folder)
-    ≡ record { store = file_with_bytes (bytes_under folder Store) bytes; next = bytes_under folder Next }
+    → ReadsAppended bytes folder (after (Append Store bytes) folder)
 appended_store-reads bytes folder whole =
     let here = now_staged folder whole in
     let both = append_store-at folder.files folder.now.store folder.now.next bytes here.store here.apart folder refl in
-    image_now-with_file folder folder.now.store (with_pending bytes) _ _ both.0 both.1
+    image_now-appended folder folder.now.store (with_pending bytes) (noted_by_append folder Store) _ _ _ both.0 both.1
+    (appended-noted folder)
 
 -- after an append to `next.yaml`, its bytes are read and then the new ones
 pub appended_next-reads : (bytes : List ℕ) (folder : Folder) → IsWhole folder
-    → image_now (after (Append Next bytes) folder)
-    ≡ record { store = bytes_under folder Store; next = file_with_bytes (bytes_under folder Next) bytes }
+    → ReadsAs (after (Append Next bytes) folder) (bytes_under folder Store) (file_with_bytes (bytes_under folder Next) bytes)
+    (several_waited folder)
 appended_next-reads bytes folder whole =
     let here = now_staged folder whole in
     let both = append_next-at folder.files folder.now.store folder.now.next bytes here.next here.apart folder refl in
-    image_now-with_file folder folder.now.next (with_pending bytes) _ _ both.0 both.1
+    image_now-appended folder folder.now.next (with_pending bytes) folder.noted _ _ _ both.0 both.1 refl
 
 -- what reads when a call answers Ok
 pub performed-reads : {T : Type 0} (step : Step) (old new : Folder) (result : Result T DiskFault) (reads : Image)
@@ -150,7 +153,7 @@ sync_folder-reads_same old new (Err x) is = ap image_now is.1 ∙ partly_folder-
 appended_next-reads_store : (k : ℕ) (bytes : List ℕ) (folder : Folder) → IsWhole folder
     → bytes_under (after_part k (Append Next bytes) folder) Store ≡ bytes_under folder Store
 appended_next-reads_store zero bytes folder whole = refl
-appended_next-reads_store (suc k) bytes folder whole = ap (λ (i : Image). i.store) (appended_next-reads (take (suc k) bytes) folder whole)
+appended_next-reads_store (suc k) bytes folder whole = ap (λ (i : Image). i.store) (appended_next-reads (take k bytes) folder whole)
 
 -- so does appending to it
 pub append_next-leaves_store : {T : Type 0} (bytes : List ℕ) (old new : Folder) (result : Result T DiskFault)

@@ -1,7 +1,8 @@
 -- A run of steps on an honest disk: each is performed, or one fails and nothing more is done.
 use Rattle.std.proofs.Common.{◌≡◌, ◌⊎◌, inl, inr, ⊎_elim, List, [], ◌∷◌, ◌++◌, Result, refl, subst}
 use Rattle.conf_journal.proofs.Prelude.{Folder, Step, CreateNext, Append, Sync, RenameNext, RemoveNext, SyncFolder, after, Image, IsImage}
-use Rattle.conf_journal.proofs.Prelude.{TimeGoesOn, IsChange, LeavesOnly, Ghosts, DiskFault, grown, grown-grows, grown-cases, after-grown}
+use Rattle.conf_journal.proofs.Prelude.{TimeGoesOn, IsChange, LeavesOnly, Ghosts, DiskFault, Store, Next, Name}
+use Rattle.conf_journal.proofs.Prelude.{grown, grown-grows, after-grown}
 use Rattle.conf_journal.proofs.Prelude.{LeavesOnly-step, LeavesOnly-same, LeavesOnly-joined, LeavesOnly-weaker}
 use Rattle.conf_disk.specs.Log.{folder_after}
 
@@ -36,11 +37,12 @@ AreSyncs (RenameNext ∷ steps) = ⊥
 AreSyncs (RemoveNext ∷ steps) = ⊥
 AreSyncs (SyncFolder ∷ steps) = AreSyncs steps
 
--- the syncs come after all other steps
+-- The syncs come after all other steps. None of these appends to `store.yaml`, which may set the note.
 abbrev pub SyncsLast : List Step → Type 0
 SyncsLast [] = Unit {0}
 SyncsLast (CreateNext ∷ steps) = SyncsLast steps
-SyncsLast (Append name bytes ∷ steps) = SyncsLast steps
+SyncsLast (Append Store bytes ∷ steps) = ⊥
+SyncsLast (Append Next bytes ∷ steps) = SyncsLast steps
 SyncsLast (Sync name ∷ steps) = AreSyncs steps
 SyncsLast (RenameNext ∷ steps) = SyncsLast steps
 SyncsLast (RemoveNext ∷ steps) = SyncsLast steps
@@ -81,8 +83,9 @@ pub left-grown : (steps : List Step) → SyncsLast steps → (folder : Folder) (
 left-grown [] last folder image is = is
 left-grown (CreateNext ∷ steps) last folder image is =
     left_of_change CreateNext steps folder image (left-grown steps last (after CreateNext folder)) is
-left-grown (Append name bytes ∷ steps) last folder image is =
-    left_of_change (Append name bytes) steps folder image (left-grown steps last (after (Append name bytes) folder)) is
+left-grown (Append Store bytes ∷ steps) last folder image is = absurd last
+left-grown (Append Next bytes ∷ steps) last folder image is =
+    left_of_change (Append Next bytes) steps folder image (left-grown steps last (after (Append Next bytes) folder)) is
 left-grown (Sync name ∷ steps) last folder image is =
     grown_after-grows steps folder image (left_of_syncs (Sync name ∷ steps) last folder image is)
 left-grown (RenameNext ∷ steps) last folder image is =
@@ -106,7 +109,8 @@ pub grown-left : (steps : List Step) → SyncsLast steps → (folder : Folder) (
     → IsImage (grown_after steps folder) image → LeftDuring steps folder image
 grown-left [] last folder image is = is
 grown-left (CreateNext ∷ steps) last folder image is = inr (grown-left steps last (after CreateNext folder) image is)
-grown-left (Append name bytes ∷ steps) last folder image is = inr (grown-left steps last (after (Append name bytes) folder) image is)
+grown-left (Append Store bytes ∷ steps) last folder image is = absurd last
+grown-left (Append Next bytes ∷ steps) last folder image is = inr (grown-left steps last (after (Append Next bytes) folder) image is)
 grown-left (Sync name ∷ steps) last folder image is = inl (subst (λ (f : Folder). IsImage f image) (grown_by_syncs steps last folder) is)
 grown-left (RenameNext ∷ steps) last folder image is = inr (grown-left steps last (after RenameNext folder) image is)
 grown-left (RemoveNext ∷ steps) last folder image is = inr (grown-left steps last (after RemoveNext folder) image is)
@@ -129,6 +133,13 @@ run-then d {first} {second} {old} {between} {new} done one two = record {
       (λ image is. left_later first second (d.model.folder old) image (subst (λ (f : Folder). LeftDuring second f image) done is));
 }
 
+-- What a run leaves of one step and a sync of a file, which takes images away.
+pub left_synced : (step : Step) (name : Name) (folder : Folder) (image : Image) → LeftDuring (step ∷ Sync name ∷ []) folder image
+    → LeftDuring (step ∷ []) folder image
+left_synced step name folder image is =
+    ⊎_elim (λ was. inl was)
+    (λ later. inr (⊎_elim (λ now. now) (after-grown (Sync name) (after step folder) image) later)) is
+
 -- What a run leaves whose syncs come last.
 pub run-grown : {D : Type 0} (d : Ghosts D) {steps : List Step} {old new : D} → SyncsLast steps
     → IsRun d steps old new → LeavesOnly d.model old new (IsImage (grown_after steps (d.model.folder old)))
@@ -149,10 +160,9 @@ module _ {D : Type 0} (d : Ghosts D) (only : (disk : D) (image : Image) → d.mo
   pub run-call : (more : List Step) {step : Step} {old new : D} {result : Result (Unit {0}) DiskFault}
       → IsChange d.model step old result new → IsRun d (step ∷ more) old new
   run-call more {step} {old} {new} {result} goes = record {
-    leaves = LeavesOnly-weaker d.model old new (IsImage (grown step (d.model.folder old))) (LeftDuring (step ∷ more) (d.model.folder old))
+    leaves = LeavesOnly-weaker d.model old new _ (LeftDuring (step ∷ more) (d.model.folder old))
         (LeavesOnly-step d.model step old new result (λ image left. only old image h left) (goes.time h) (goes.change h))
-        (λ image is. ⊎_elim (λ was. inl was) (λ now.
-        inr (left_before more (after step (d.model.folder old)) image now)) (grown-cases step (d.model.folder old) image is));
+        (λ image is. ⊎_elim (λ was. inl was) (λ now. inr (left_before more (after step (d.model.folder old)) image now)) is);
   }
 
   -- one that changes nothing

@@ -1,6 +1,7 @@
 -- What a crash may leave of `store.yaml` when a call changed something else, or appended to it.
-use Rattle.std.proofs.Common.{◌≡◌, ◌≢◌, ◌⊎◌, inl, inr, ⊎_elim, ℕ, ◌<◌, List, [], ◌∷◌, ◌++◌, length, get_or, set, take, replicate, Option}
-use Rattle.std.proofs.Common.{Some, None, Contains, IsSome, Result, Ok, Err, OnOk, refl, sym, ◌∙◌, ap, subst, arith, length-append}
+use Rattle.std.proofs.Common.{◌≡◌, ◌≢◌, ◌⊎◌, inl, inr, ⊎_elim, ℕ, ◌<◌, List, [], ◌∷◌, ◌++◌, length, get_or, set}
+use Rattle.std.proofs.Common.{Bool, false, not, ◌&&◌, Option}
+use Rattle.std.proofs.Common.{Some, None, Contains, IsSome, Result, Ok, Err, OnOk, refl, sym, ◌∙◌, ap, subst, arith}
 use Rattle.conf_journal.proofs.Prelude.{append-nil, get_or-set_same, get_or-set_other, get_or_append_left, All-contains}
 use Rattle.conf_journal.proofs.Prelude.{Contains-append_right, Contains-append_cases, File, empty_file, file_bytes, Stage, Folder, stages}
 use Rattle.conf_journal.proofs.Prelude.{Step, CreateNext, Append, Sync, RenameNext, RemoveNext, SyncFolder, with_file, with_pending}
@@ -8,27 +9,41 @@ use Rattle.conf_journal.proofs.Prelude.{synced_whole, after_remove, after_create
 use Rattle.conf_journal.proofs.Prelude.{under, Image, IsImage, IsTorn, IsTornAt, IsMade, IsApartFrom, IsStage, IsWhole, now_staged}
 use Rattle.conf_journal.proofs.Prelude.{after-whole, LeavesOnly, Ghosts, Name, Store, Next, DiskFault, after-grown, LeavesOnly-weaker}
 use Rattle.conf_journal.proofs.Prelude.{IsTornAt-whole, IsTorn-synced, only_stage}
-use Rattle.std.proofs.lemmas.Bool.{cases_eq}
+use Rattle.std.proofs.lemmas.Bool.{cases_eq, ne_eqb}
+use Rattle.conf_journal.proofs.Prelude.{with_notes, is_place, noted_at, noted_behind, noted_but, IsWorn}
 use Rattle.conf_journal.specs.Store.{IsStoreOf, IsTail, IsSynced, IsSyncedAt, LeavesOldStore}
 use Rattle.conf_journal.proofs.{Reading.synced-reads_same, Runs.LeftDuring, Runs.SyncsLast, Runs.grown_after, Runs.grown-left}
 
+-- where no note is left, a place has none
+abbrev IsNotedAt : (Option ℕ → Bool) → Option ℕ → Image → Type 0
+IsNotedAt noted place image = image.several ≡ false → noted place ≡ false
+
 -- one of the folder's stages has this store
-IsStoreOf-stage : (folder : Folder) (stage : Stage) (store : Option (List ℕ)) → Contains (stages folder) stage
-    → IsTornAt folder.files stage.store store → IsStoreOf folder store
-IsStoreOf-stage folder stage store among torn = record {
-  image = record { store = store; next = bytes_at folder.files stage.next };
-  is = record { stage = stage; among = among; store = torn; next = IsTornAt-whole folder.files stage.next };
+IsStoreOf-stage : (folder : Folder) (stage : Stage) (image : Image) → Contains (stages folder) stage
+    → IsTornAt folder.files stage.store image.store → IsNotedAt folder.noted stage.store image → IsStoreOf folder image
+IsStoreOf-stage folder stage image among torn noted = record {
+  left = record { store = image.store; next = bytes_at folder.files stage.next; several = image.several };
+  is = record {
+    stage = stage;
+    among = among;
+    store = torn;
+    next = IsTornAt-whole folder.files stage.next;
+    noted = noted;
+  };
   same = refl;
+  noted = refl;
 }
 
 -- each image has a store that some stage leaves
-pub IsStoreOf-image : (folder : Folder) (image : Image) → IsImage folder image → IsStoreOf folder image.store
-IsStoreOf-image folder image is = record { image = image; is = is; same = refl }
+pub IsStoreOf-image : (folder : Folder) (image : Image) → IsImage folder image → IsStoreOf folder image
+IsStoreOf-image folder image is = record { left = image; is = is; same = refl; noted = refl }
 
 -- where each image of one folder has a store of the other
-pub IsStoreOf-along : (new old : Folder) → ((image : Image) → IsImage new image → IsStoreOf old image.store)
-    → (store : Option (List ℕ)) → IsStoreOf new store → IsStoreOf old store
-IsStoreOf-along new old along store is = subst (λ (s : Option (List ℕ)). IsStoreOf old s) is.same (along is.image is.is)
+pub IsStoreOf-along : (new old : Folder) → ((image : Image) → IsImage new image → IsStoreOf old image)
+    → (image : Image) → IsStoreOf new image → IsStoreOf old image
+IsStoreOf-along new old along image is =
+    let was = along is.left is.is in
+    record { left = was.left; is = was.is; same = was.same ∙ is.same; noted = was.noted ∙ is.noted }
 
 stage_of_whole : (folder : Folder) (stage : Stage) → IsWhole folder → Contains (stages folder) stage
     → IsStage (length folder.files) folder.now.next stage
@@ -38,25 +53,28 @@ now_among : (folder : Folder) → Contains (stages folder) folder.now
 now_among folder = Contains-append_right folder.earlier (folder.now ∷ []) folder.now (0, omega arith, refl)
 
 -- the stages of a folder and one more, which has the same store
-one_more : (folder : Folder) (files : List File) (stage last : Stage) (store : Option (List ℕ)) → last.store ≡ folder.now.store
-    → ((place : Option ℕ) → IsMade (length folder.files) place → IsTornAt files place store
-    → IsTornAt folder.files place store) → IsWhole folder
-    → Contains (stages folder ++ last ∷ []) stage → IsTornAt files stage.store store → IsStoreOf folder store
-one_more folder files stage last store same back whole among torn = elim (Contains-append_cases (stages folder) (last ∷ []) stage among) [
-  | inl old ↦ IsStoreOf-stage folder stage store old (back stage.store (stage_of_whole folder stage whole old).store torn)
-  | inr new ↦
-      let at_last : stage.store ≡ folder.now.store = ap (λ (s : Stage). s.store) (only_stage stage last new) ∙ same in
-      IsStoreOf-stage folder folder.now store (now_among folder)
-      (back folder.now.store (now_staged folder whole).store
-      (subst (λ (place : Option ℕ). IsTornAt files place store) at_last torn))
-]
+one_more : (folder : Folder) (files : List File) (stage last : Stage) (image : Image) → last.store ≡ folder.now.store
+    → ((place : Option ℕ) → IsMade (length folder.files) place → IsTornAt files place image.store
+    → IsTornAt folder.files place image.store) → IsWhole folder
+    → Contains (stages folder ++ last ∷ []) stage → IsTornAt files stage.store image.store
+    → IsNotedAt folder.noted stage.store image → IsStoreOf folder image
+one_more folder files stage last image same back whole among torn noted =
+    elim (Contains-append_cases (stages folder) (last ∷ []) stage among) [
+      | inl old ↦ IsStoreOf-stage folder stage image old (back stage.store (stage_of_whole folder stage whole old).store torn) noted
+      | inr new ↦
+          let at_last : stage.store ≡ folder.now.store = ap (λ (s : Stage). s.store) (only_stage stage last new) ∙ same in
+          IsStoreOf-stage folder folder.now image (now_among folder)
+          (back folder.now.store (now_staged folder whole).store
+          (subst (λ (place : Option ℕ). IsTornAt files place image.store) at_last torn))
+          (subst (λ (place : Option ℕ). IsNotedAt folder.noted place image) at_last noted)
+    ]
 
 after_remove-keeps : (folder : Folder) (place : Option ℕ) → IsWhole folder → (image : Image)
-    → IsImage (after_remove folder place) image → IsStoreOf folder image.store
+    → IsImage (after_remove folder place) image → IsStoreOf folder image
 after_remove-keeps folder None whole image is = IsStoreOf-image folder image is
 after_remove-keeps folder (Some id) whole image is =
-    one_more folder folder.files is.stage (record { store = folder.now.store; next = None }) image.store refl
-    (λ place made torn. torn) whole is.among is.store
+    one_more folder folder.files is.stage (record { store = folder.now.store; next = None }) image refl
+    (λ place made torn. torn) whole is.among is.store is.noted
 
 created_back : (files : List File) (store : Option (List ℕ)) (place : Option ℕ) → IsMade (length files) place
     → IsTornAt (files ++ empty_file ∷ []) place store → IsTornAt files place store
@@ -67,10 +85,10 @@ created_back files (Some bytes) (Some id) made torn =
     subst (λ (x : File). IsTorn x bytes) (get_or_append_left files (empty_file ∷ []) empty_file id made) torn
 
 after_create-keeps : (folder : Folder) → IsWhole folder → (image : Image) → IsImage (after_create folder) image
-    → IsStoreOf folder image.store
+    → IsStoreOf folder image
 after_create-keeps folder whole image is =
-    one_more folder (after_create folder).files is.stage (after_create folder).now image.store refl
-    (created_back folder.files image.store) whole is.among is.store
+    one_more folder (after_create folder).files is.stage (after_create folder).now image refl
+    (created_back folder.files image.store) whole is.among is.store is.noted
 
 set_back : (files : List File) (id : ℕ) (file : File) (place : Option ℕ) (store : Option (List ℕ)) → place ≢ Some id
     → IsTornAt (set files id file) place store → IsTornAt files place store
@@ -82,11 +100,12 @@ set_back files id file (Some k) (Some bytes) other torn =
 
 -- the staged file is no stage's store
 append_next-keeps : (folder : Folder) (next : Option ℕ) (change : File → File) → folder.now.next ≡ next
-    → IsWhole folder → (image : Image) → IsImage (with_file folder next change) image → IsStoreOf folder image.store
+    → IsWhole folder → (image : Image) → IsImage (with_notes (with_file folder next change) folder.noted) image
+    → IsStoreOf folder image
 append_next-keeps folder None change at whole image is = IsStoreOf-image folder image is
 append_next-keeps folder (Some id) change at whole image is =
     let apart = subst (λ (next : Option ℕ). IsApartFrom next is.stage.store) at (stage_of_whole folder is.stage whole is.among).apart in
-    IsStoreOf-stage folder is.stage image.store is.among (set_back folder.files id _ is.stage.store image.store apart is.store)
+    IsStoreOf-stage folder is.stage image is.among (set_back folder.files id _ is.stage.store image.store apart is.store) is.noted
 
 -- ---- no step changes `store.yaml`
 
@@ -102,15 +121,14 @@ AreStaging (RemoveNext ∷ steps) = AreStaging steps
 AreStaging (SyncFolder ∷ steps) = AreStaging steps
 
 staged_rest : (folder new : Folder) (rest : Image → Type 0)
-    → ((image : Image) → IsImage new image → IsStoreOf folder image.store)
-    → ((image : Image) → rest image → IsStoreOf new image.store)
-    → (image : Image) → IsImage folder image ⊎ rest image → IsStoreOf folder image.store
+    → ((image : Image) → IsImage new image → IsStoreOf folder image) → ((image : Image) → rest image → IsStoreOf new image)
+    → (image : Image) → IsImage folder image ⊎ rest image → IsStoreOf folder image
 staged_rest folder new rest one later image is =
-    ⊎_elim (IsStoreOf-image folder image) (λ left. IsStoreOf-along new folder one image.store (later image left)) is
+    ⊎_elim (IsStoreOf-image folder image) (λ left. IsStoreOf-along new folder one image (later image left)) is
 
 -- A crash leaves an old store.
 pub staging-leaves : (steps : List Step) → AreStaging steps → (folder : Folder) → IsWhole folder → (image : Image)
-    → LeftDuring steps folder image → IsStoreOf folder image.store
+    → LeftDuring steps folder image → IsStoreOf folder image
 staging-leaves [] staging folder whole image is = IsStoreOf-image folder image is
 staging-leaves (CreateNext ∷ steps) staging folder whole image is =
     staged_rest folder _ (LeftDuring steps (after CreateNext folder)) (after_create-keeps folder whole)
@@ -148,12 +166,26 @@ staged_torn : (files : List File) (id : ℕ) (store : Option (List ℕ)) → (ge
 staged_torn files id None none torn = absurd torn
 staged_torn files id (Some bytes) none torn = ap Some (IsTorn-synced (get_or files id empty_file) bytes none torn)
 
-after_rename-at : (folder : Folder) (next : Option ℕ) → IsSyncedAt folder.files next → (image : Image)
-    → IsImage (after_rename folder next) image → IsStoreOf folder image.store ⊎ (image.store ≡ bytes_at folder.files next)
-after_rename-at folder None synced image is = absurd synced
-after_rename-at folder (Some id) synced image is =
+-- another place than that of a file
+not_place : (id : ℕ) (place : Option ℕ) → place ≢ Some id → is_place (Some id) place ≡ false
+not_place id None other = refl
+not_place id (Some at) other = ne_eqb id at (λ same. other (ap Some (sym same)))
+
+-- a note that is not taken away
+noted_but-other : (id : ℕ) (noted : Option ℕ → Bool) (place : Option ℕ) (image : Image) → place ≢ Some id
+    → IsNotedAt (noted_but (Some id) noted) place image → IsNotedAt noted place image
+noted_but-other id noted place image other is none =
+    ap (λ (same : Bool). not same && noted place) (sym (not_place id place other)) ∙ is none
+
+after_rename-at : (folder : Folder) (next : Option ℕ) → folder.now.next ≡ next → IsWhole folder → IsSyncedAt folder.files next
+    → (image : Image) → IsImage (after_rename folder next) image → IsStoreOf folder image ⊎ (image.store ≡ bytes_at folder.files next)
+after_rename-at folder None at whole synced image is = absurd synced
+after_rename-at folder (Some id) at whole synced image is =
     elim (Contains-append_cases (stages folder) (record { store = Some id; next = None } ∷ []) is.stage is.among) [
-      | inl old ↦ inl (IsStoreOf-stage folder is.stage image.store old is.store)
+      | inl old ↦
+          let apart = subst (λ (next : Option ℕ). IsApartFrom next is.stage.store) at (stage_of_whole folder is.stage whole old).apart in
+          inl (IsStoreOf-stage folder is.stage image old is.store
+          (noted_but-other id folder.noted is.stage.store image apart is.noted))
       | inr new ↦
           let at_last : is.stage.store ≡ Some id = ap (λ (s : Stage). s.store)
           (only_stage is.stage (record { store = Some id; next = None }) new) in
@@ -162,9 +194,9 @@ after_rename-at folder (Some id) synced image is =
     ]
 
 -- after the rename, a crash leaves a store of the old folder, or the bytes of `next.yaml`
-pub after_rename-leaves : (folder : Folder) → IsSynced folder Next → (image : Image)
-    → IsImage (after RenameNext folder) image → IsStoreOf folder image.store ⊎ (image.store ≡ bytes_under folder Next)
-after_rename-leaves folder synced image is = after_rename-at folder folder.now.next synced image is
+pub after_rename-leaves : (folder : Folder) → IsWhole folder → IsSynced folder Next → (image : Image)
+    → IsImage (after RenameNext folder) image → IsStoreOf folder image ⊎ (image.store ≡ bytes_under folder Next)
+after_rename-leaves folder whole synced image is = after_rename-at folder folder.now.next refl whole synced image is
 
 synced_at : (folder : Folder) (place : Option ℕ) → IsMade (length folder.files) place → IsSome place
     → IsSyncedAt (with_file folder place synced_whole).files place
@@ -191,15 +223,15 @@ synced-is_synced name folder whole some =
 -- after `next.yaml` is synced and renamed, a crash leaves a store of the old folder, or its bytes
 pub finished-leaves : (folder : Folder) → IsWhole folder → IsSome folder.now.next → (image : Image)
     → IsImage folder image ⊎ IsImage (after RenameNext (after (Sync Next) folder)) image
-    → IsStoreOf folder image.store ⊎ (image.store ≡ bytes_under folder Next)
+    → IsStoreOf folder image ⊎ (image.store ≡ bytes_under folder Next)
 finished-leaves folder whole some image is =
     let synced = after (Sync Next) folder in
     ⊎_elim (λ was. inl (IsStoreOf-image folder image was))
     (λ swapped. ⊎_elim
     (λ was. inl (IsStoreOf-along synced folder (λ before image.
-    IsStoreOf-image folder before (after-grown (Sync Next) folder before image)) image.store was))
+    IsStoreOf-image folder before (after-grown (Sync Next) folder before image)) image was))
     (λ staged. inr (staged ∙ ap (λ (now : Image). now.next) (synced-reads_same Next folder)))
-    (after_rename-leaves synced (synced-is_synced Next folder whole some) image swapped))
+    (after_rename-leaves synced (after-whole (Sync Next) folder whole) (synced-is_synced Next folder whole some) image swapped))
     is
 
 -- more bytes after a file of which nothing is pending
@@ -208,24 +240,23 @@ appended_tail : (file : File) (bytes torn : List ℕ) → file.pending ≡ [] �
 appended_tail file bytes torn none is = record {
   start = file_bytes file;
   was = refl;
-  keep = is.keep;
-  zeros = is.zeros;
-  fits = omega (arith, is.fits, length-append file.pending bytes, ap length none);
-  is = ap Some (is.is
-      ∙ (λ i. file.synced ++ take is.keep (none i ++ bytes) ++ replicate is.zeros 0)
-      ∙ ap (λ (l : List ℕ). l ++ take is.keep bytes ++ replicate is.zeros 0) (sym (append-nil file.synced))
-      ∙ ap (λ (l : List ℕ). (file.synced ++ l) ++ take is.keep bytes ++ replicate is.zeros 0) (sym none));
+  left = is.left;
+  worn = subst (λ (pending : List ℕ). IsWorn (pending ++ bytes) is.left) none is.worn;
+  is = ap Some (is.is ∙ ap (λ (l : List ℕ). l ++ is.left) (sym (ap (λ (l : List ℕ). file.synced ++ l) none ∙ append-nil file.synced)));
 }
 
 appended_at : (folder : Folder) (id : ℕ) (bytes : List ℕ) → id < length folder.files → (get_or folder.files id empty_file).pending ≡ []
-    → (stage : Stage) → Contains (stages folder) stage → (place : Option ℕ) → stage.store ≡ place → (store : Option (List ℕ))
+    → (stage : Stage) → Contains (stages folder) stage → (place : Option ℕ) → stage.store ≡ place → (image : Image)
+    → IsNotedAt folder.noted stage.store image → (store : Option (List ℕ)) → image.store ≡ store
     → IsTornAt (set folder.files id (with_pending bytes (get_or folder.files id empty_file))) place store
-    → IsStoreOf folder store ⊎ IsTail (Some (file_bytes (get_or folder.files id empty_file))) bytes store
-appended_at folder id bytes within none stage among None at None torn =
-    inl (IsStoreOf-stage folder stage None among (subst (λ (place : Option ℕ). IsTornAt folder.files place None) (sym at) tt))
-appended_at folder id bytes within none stage among None at (Some torn) is = absurd is
-appended_at folder id bytes within none stage among (Some k) at None is = absurd is
-appended_at folder id bytes within none stage among (Some k) at (Some torn) is = elim (cases_eq k id) [
+    → IsStoreOf folder image ⊎ IsTail (Some (file_bytes (get_or folder.files id empty_file))) bytes store
+appended_at folder id bytes within none stage among None at image noted None has torn =
+    inl (IsStoreOf-stage folder stage image among
+    (subst (λ (store : Option (List ℕ)). IsTornAt folder.files stage.store store) (sym has)
+    (subst (λ (place : Option ℕ). IsTornAt folder.files place None) (sym at) tt)) noted)
+appended_at folder id bytes within none stage among None at image noted (Some torn) has is = absurd is
+appended_at folder id bytes within none stage among (Some k) at image noted None has is = absurd is
+appended_at folder id bytes within none stage among (Some k) at image noted (Some torn) has is = elim (cases_eq k id) [
   | inl same ↦
       let there = ap (λ (j : ℕ). get_or (set folder.files id (with_pending bytes (get_or folder.files id empty_file))) j empty_file) same
       ∙ get_or-set_same folder.files id (with_pending bytes (get_or folder.files id empty_file)) empty_file within in
@@ -233,21 +264,31 @@ appended_at folder id bytes within none stage among (Some k) at (Some torn) is =
   | inr other ↦
       let kept = subst (λ (x : File). IsTorn x torn)
       (get_or-set_other folder.files id k (with_pending bytes (get_or folder.files id empty_file)) empty_file other) is in
-      inl (IsStoreOf-stage folder stage (Some torn) among
-      (subst (λ (place : Option ℕ). IsTornAt folder.files place (Some torn)) (sym at) kept))
+      inl (IsStoreOf-stage folder stage image among
+      (subst (λ (store : Option (List ℕ)). IsTornAt folder.files stage.store store) (sym has)
+      (subst (λ (place : Option ℕ). IsTornAt folder.files place (Some torn)) (sym at) kept)) noted)
 ]
 
+-- behind no pending bytes, an append leaves the notes
+noted_behind-none : (pending : List ℕ) (id : ℕ) (noted : Option ℕ → Bool) → pending ≡ [] → noted_behind pending (Some id) noted ≡ noted
+noted_behind-none [] id noted none = refl
+noted_behind-none (byte ∷ pending) id noted none = cc
+
 appended_store-at : (folder : Folder) (store : Option ℕ) (bytes : List ℕ) → IsMade (length folder.files) store
-    → IsSyncedAt folder.files store → (image : Image) → IsImage (with_file folder store (with_pending bytes)) image
-    → IsStoreOf folder image.store ⊎ IsTail (bytes_at folder.files store) bytes image.store
+    → IsSyncedAt folder.files store → (image : Image)
+    → IsImage (with_notes (with_file folder store (with_pending bytes)) (noted_at folder.files store folder.noted)) image
+    → IsStoreOf folder image ⊎ IsTail (bytes_at folder.files store) bytes image.store
 appended_store-at folder None bytes made synced image is = absurd synced
 appended_store-at folder (Some id) bytes made synced image is =
-    appended_at folder id bytes made synced is.stage is.among is.stage.store refl image.store is.store
+    appended_at folder id bytes made synced is.stage is.among is.stage.store refl image
+    (subst (λ (noted : Option ℕ → Bool). IsNotedAt noted is.stage.store image)
+    (noted_behind-none (get_or folder.files id empty_file).pending id folder.noted synced) is.noted)
+    image.store refl is.store
 
 -- after an append to a synced store, a crash leaves an old store, or the old bytes with a tail of the new ones
 pub appended_store-leaves : (bytes : List ℕ) (folder : Folder) → IsWhole folder → IsSynced folder Store
     → (image : Image) → IsImage (after (Append Store bytes) folder) image
-    → IsStoreOf folder image.store ⊎ IsTail (bytes_under folder Store) bytes image.store
+    → IsStoreOf folder image ⊎ IsTail (bytes_under folder Store) bytes image.store
 appended_store-leaves bytes folder whole synced image is =
     appended_store-at folder folder.now.store bytes (now_staged folder whole).store synced image is
 

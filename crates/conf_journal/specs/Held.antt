@@ -1,6 +1,6 @@
 -- One file that is `store.yaml` in every stage.
-use Rattle.std.specs.Prelude.{◌≡◌, ℕ, List, get_or, All, Option, Some, None, option_map}
-use Rattle.conf_journal.specs.Prelude.{File, empty_file, Stage, Folder, stages, bytes_under, Reads, Image, IsImage}
+use Rattle.std.specs.Prelude.{◌≡◌, ℕ, List, [], ◌∷◌, get_or, All, Option, Some, None, option_map, Bool, true, false}
+use Rattle.conf_journal.specs.Prelude.{File, empty_file, Stage, Folder, stages, several_waited, bytes_under, Reads, Image, IsImage}
 use Rattle.conf_journal.specs.Prelude.{IsTorn, synced_file, Store, Next}
 use Rattle.conf_disk.specs.declared.disk.Content.TheVariants.{Missing}
 use Rattle.conf_journal.specs.Store.{IsStoreOf}
@@ -26,10 +26,30 @@ IsLeftOf None (Some bytes) = ⊥
 IsLeftOf (Some file) None = ⊥
 IsLeftOf (Some file) (Some bytes) = IsTorn file bytes
 
+-- what a crash leaves of a file, if there is one, and of its note: it leaves the note if there is one
+pub record IsLeftNoted (several : Bool) (file : Option File) (image : Image) : Type 0 where
+  pub left : IsLeftOf file image.store
+  pub noted : image.several ≡ false → several ≡ false
+
+-- there are bytes
+abbrev pub any_bytes : List ℕ → Bool
+any_bytes [] = false
+any_bytes (byte ∷ bytes) = true
+
+-- bytes of a file are pending, if there is one
+abbrev pub waits_in : Option File → Bool
+waits_in None = false
+waits_in (Some file) = any_bytes file.pending
+
 -- a crash leaves of the store what it leaves of the file that every stage has there
 abbrev pub HeldIsLeft : Type 0
 HeldIsLeft = (folder : Folder) (file : Option File) → HoldsStore folder file → (image : Image) → IsImage folder image
     → IsLeftOf file image.store
+
+-- and the note, if there is one
+abbrev pub HeldIsNoted : Type 0
+HeldIsNoted = (folder : Folder) (file : Option File) → HoldsStore folder file → (image : Image) → IsImage folder image
+    → IsLeftNoted (several_waited folder) file image
 
 -- if nothing of that file is pending, it leaves exactly its bytes
 abbrev pub SyncedIsLeft : Type 0
@@ -40,8 +60,8 @@ SyncedIsLeft = (folder : Folder) (bytes : List ℕ) → HoldsStore folder (Some 
 
 -- a crash leaves exactly that
 abbrev pub OnlyHeldIsLeft : Type 0
-OnlyHeldIsLeft = (folder : Folder) (held store : Option (List ℕ)) → HoldsStore folder (option_map synced_file held)
-    → IsStoreOf folder store → store ≡ held
+OnlyHeldIsLeft = (folder : Folder) (held : Option (List ℕ)) (image : Image)
+    → HoldsStore folder (option_map synced_file held) → IsStoreOf folder image → image.store ≡ held
 
 -- and that is what reads
 abbrev pub HeldIsRead : Type 0

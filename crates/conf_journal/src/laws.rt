@@ -1,15 +1,17 @@
 // Laws of the model, each the contract of a function that does nothing.
 ghost use Rattle.std.specs.Prelude.{ℕ, List, Option};
 ghost use Rattle.conf_journal.specs.Prelude.{Folder, IsImage, LeavesOnly};
-ghost use Rattle.conf_journal.specs.Held.{HeldIsLeft, SyncedIsLeft, OnlyHeldIsLeft, HeldIsRead, MissingIsNone};
+ghost use Rattle.conf_journal.specs.Held.{HeldIsLeft, HeldIsNoted, SyncedIsLeft, OnlyHeldIsLeft, HeldIsRead, MissingIsNone};
 ghost use Rattle.conf_journal.specs.Store.{LeavesOldStore, LeavesStoreOr};
 
 use conf_disk::Disk;
 
-/// A law: if every stage has the same file under `store.yaml`, a crash leaves that file: its synced bytes, a prefix of
-/// its pending bytes, and perhaps zeros. If none are pending, it leaves exactly its bytes.
+/// A law: if every stage has the same file under `store.yaml`, a crash leaves that file: its synced bytes, and as many
+/// of its pending bytes as there are or fewer, each as it was or zero. If none are pending, it leaves exactly its
+/// bytes. It leaves the note of several appends if there is one.
 pub fn held_store_is_left()
     ensures held { HeldIsLeft }
+    ensures noted { HeldIsNoted }
     ensures synced { SyncedIsLeft }
 {}
 

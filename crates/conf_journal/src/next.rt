@@ -1,7 +1,7 @@
 // The procedures that replace `store.yaml` by a new file.
-ghost use Rattle.std.specs.Prelude.{◌≡◌, ◌⊎◌, [], ◌∷◌, Option, IsSome, OnOk, Some, None};
+ghost use Rattle.std.specs.Prelude.{◌≡◌, ◌⊎◌, [], ◌∷◌, Option, IsSome, OnOk, Some, None, false};
 ghost use Rattle.conf_journal.specs.Prelude.{File, CreateNext, Append, Sync, RenameNext, RemoveNext, SyncFolder, after};
-ghost use Rattle.conf_journal.specs.Prelude.{bytes_under, IsImage, image_now, folder_after, LeavesOnly};
+ghost use Rattle.conf_journal.specs.Prelude.{bytes_under, several_waited, IsImage, image_now, folder_after, LeavesOnly};
 ghost use Rattle.conf_journal.specs.Fails.{FailsAsCalls};
 ghost use Rattle.conf_journal.specs.Store.{IsSynced, LeavesOldStore, LeavesStoreOrStaged, ReadsAs, file_with_bytes};
 ghost use Rattle.conf_journal.specs.Held.{HoldsStaged, HoldsStore};
@@ -23,7 +23,8 @@ pub fn begin_next<D: Disk>(disk: &mut D) -> Result<(), DiskFault>
 
     ensures reads { D.model.honest →
         OnOk result
-        (ReadsAs (D.model.folder disk.new) (bytes_under (D.model.folder disk.old) Name.Store) (Some [])) }
+        (ReadsAs (D.model.folder disk.new) (bytes_under (D.model.folder disk.old) Name.Store) (Some [])
+        (several_waited (D.model.folder disk.old))) }
     // Whatever it returns, `store.yaml` is read as before.
     ensures left_alone { D.model.honest →
         bytes_under (D.model.folder disk.new) Name.Store ≡ bytes_under (D.model.folder disk.old) Name.Store }
@@ -53,7 +54,8 @@ pub fn append_next<D: Disk>(disk: &mut D, bytes: &[u8]) -> Result<(), DiskFault>
     ensures reads { D.model.honest →
         OnOk result
         (ReadsAs (D.model.folder disk.new) (bytes_under (D.model.folder disk.old) Name.Store)
-        (file_with_bytes (bytes_under (D.model.folder disk.old) Name.Next) bytes.now)) }
+        (file_with_bytes (bytes_under (D.model.folder disk.old) Name.Next) bytes.now)
+        (several_waited (D.model.folder disk.old))) }
     // Whatever it returns, `store.yaml` is read as before.
     ensures left_alone { D.model.honest →
         bytes_under (D.model.folder disk.new) Name.Store ≡ bytes_under (D.model.folder disk.old) Name.Store }
@@ -109,7 +111,7 @@ pub fn stage_next<D: Disk>(disk: &mut D, bytes: &[u8]) -> Result<(), DiskFault>
     ensures reads { D.model.honest →
         OnOk result
         (ReadsAs (D.model.folder disk.new) (bytes_under (D.model.folder disk.old) Name.Store)
-        (Some bytes.now)) }
+        (Some bytes.now) (several_waited (D.model.folder disk.old))) }
     ensures synced { D.model.honest → OnOk result (IsSynced (D.model.folder disk.new) Name.Next) }
     // Whatever it returns, `store.yaml` is read as before.
     ensures left_alone { D.model.honest →
@@ -125,7 +127,7 @@ pub fn stage_next<D: Disk>(disk: &mut D, bytes: &[u8]) -> Result<(), DiskFault>
 }
 
 /// Replaces `store.yaml` by `next.yaml`, which has to be there and synced whole: after `Ok`, every crash leaves it
-/// there.
+/// there. The new file has no note of several appends.
 ///
 /// # Errors
 /// `Device`: `store.yaml` is the old file or the new one.
@@ -140,7 +142,8 @@ pub fn swap_next<D: Disk>(disk: &mut D) -> Result<(), DiskFault>
     ensures fails { FailsAsCalls D.model disk.old result disk.new }
 
     ensures reads { D.model.honest →
-        OnOk result (ReadsAs (D.model.folder disk.new) (bytes_under (D.model.folder disk.old) Name.Next) None) }
+        OnOk result
+        (ReadsAs (D.model.folder disk.new) (bytes_under (D.model.folder disk.old) Name.Next) None false) }
     // A crash leaves an old store, or the whole staged file.
     ensures store { D.model.honest →
         LeavesStoreOrStaged D.model disk.old disk.new }
@@ -169,7 +172,8 @@ pub fn finish_next<D: Disk>(disk: &mut D) -> Result<(), DiskFault>
     ensures fails { FailsAsCalls D.model disk.old result disk.new }
 
     ensures reads { D.model.honest →
-        OnOk result (ReadsAs (D.model.folder disk.new) (bytes_under (D.model.folder disk.old) Name.Next) None) }
+        OnOk result
+        (ReadsAs (D.model.folder disk.new) (bytes_under (D.model.folder disk.old) Name.Next) None false) }
     // A crash leaves an old store, or the whole staged file.
     ensures store { D.model.honest →
         LeavesStoreOrStaged D.model disk.old disk.new }

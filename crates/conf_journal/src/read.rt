@@ -14,7 +14,7 @@ pub const STORE_LIMIT: u64 = 1_073_741_824;
 /// Syncs the folder and `store.yaml`, and reads that file: after `Ok`, a crash leaves exactly what was read.
 ///
 /// Returns `Missing` if there is no file, and `TooLong` if it has more than [`STORE_LIMIT`] bytes. What the two names
-/// read as is unchanged, whatever this returns.
+/// read as is unchanged, whatever this returns, and so is the note of several appends.
 ///
 /// # Errors
 /// `Device`: the folder and the file may be synced or not. `OutOfMemory`: both are synced.

@@ -2,14 +2,14 @@
 ghost use Rattle.std.specs.Prelude.{◌≡◌, [], ◌∷◌, Option, IsSome, OnOk, Err, option_map};
 ghost use Rattle.conf_journal.specs.Prelude.{File, Append, Sync, after, with_pending, synced_whole, IsImage, image_now};
 ghost use Rattle.conf_journal.specs.Prelude.{folder_after, LeavesOnly};
-ghost use Rattle.conf_journal.specs.Appends.{LeavesAppended};
+ghost use Rattle.conf_journal.specs.Appends.{LeavesAppended, ReadsAppended};
 ghost use Rattle.conf_journal.specs.Fails.{FailsAsCalls};
-ghost use Rattle.conf_journal.specs.Store.{ReadsAppended};
 ghost use Rattle.conf_journal.specs.Held.{HoldsStore};
 
 use conf_disk::{Disk, DiskFault, Name};
 
-/// Appends bytes to `store.yaml`, which has to be there. They are pending until [`sync_store`] returns `Ok`.
+/// Appends bytes to `store.yaml`, which has to be there. They are pending until [`sync_store`] returns `Ok`. If others
+/// are pending there, it is noted that several appends may have waited for one sync.
 ///
 /// # Errors
 /// `Device`: a prefix of the bytes was appended, perhaps none or all of them.

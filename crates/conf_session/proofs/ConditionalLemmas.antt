@@ -3,7 +3,7 @@ use Rattle.std.proofs.Common.{◌≡◌, ◌≢◌, inl, inr, refl, sym, ap, sub
 use Rattle.std.specs.Prelude.{ℕ, true, false, if◌then◌else◌, List, [], ◌∷◌, ◌++◌, length, Option, Some, None, Result, Ok, Err, IfOk, IfErr}
 use Rattle.std.specs.Prelude.{is_ok}
 use Rattle.conf_session.proofs.Prelude.{false≢true, append-nil, chars, IsUtf8, ReadFault, bytes_under, Image, IsImage, DiskModel}
-use Rattle.conf_session.proofs.Prelude.{LeavesOnly, Store, Command, command_of, Contents, StoreFault, AfterPrefix, HasFlushed, staged_text}
+use Rattle.conf_session.proofs.Prelude.{LeavesOnly, Store, Command, command_of, Contents, StoreFault, MeansPrefix, HasFlushed, staged_text}
 use Rattle.conf_session.proofs.Prelude.{IsImportOf, RefusesText, StoreView, Condition, first_fault, ConditionFault, first-none, first-some}
 use Rattle.conf_session.proofs.Prelude.{told-first}
 use Rattle.conf_session.specs.{declared.fault.SessionFault.SessionFault, declared.reply.Reply.Reply}
@@ -167,7 +167,7 @@ module _ {D : Type 0} (model : DiskModel D) where
         stages = λ h on. p.stages h on ∙ sym (met-staged now conditions request none (staged_text (model.folder old.disk) old.staged));
         any_moment = λ h flushed waiting has.
             subst (λ cs. LeavesOnly model old.disk new.disk
-            (λ image. AfterPrefix flushed (waiting ++ cs) image.store))
+            (λ image. MeansPrefix flushed (waiting ++ cs) image))
             (sym (met-accepted now conditions request none)) (p.any_moment h flushed waiting has);
         waits = λ h on flushed waiting has.
             subst (λ s. HasFlushed (model.folder new.disk) s

@@ -4,7 +4,7 @@ use Rattle.std.specs.Prelude.{ℕ, ◌+◌, ◌^◌, ◌↔◌, true, false, Boo
 use Rattle.std.specs.Prelude.{option_map, Result, Ok, Err}
 use Rattle.conf_session.proofs.Prelude.{concat, Appends, Keeps-refl, false≢true, append-nil, concat-append, All-nil, ClosesOnce}
 use Rattle.conf_session.proofs.Prelude.{bytes_under, Image, IsImage, DiskModel, LeavesOnly, Store, LeavesOnly-joined, Command, Contents}
-use Rattle.conf_session.proofs.Prelude.{StoreFault, AfterPrefix, AllImagesMean, HasFlushed, staged_text, StaysTheSame, Staged, StoreView}
+use Rattle.conf_session.proofs.Prelude.{StoreFault, MeansPrefix, AllImagesMean, HasFlushed, staged_text, StaysTheSame, Staged, StoreView}
 use Rattle.conf_session.specs.{Said.piece_limit, Input.ahead, Input.piece_or_rest, Input.AdvancesAhead, Input.AdvancesWithin}
 use Rattle.conf_session.specs.{Requests.Request, Requests.Asks, Runs.TakesUp, Runs.stored_of, Groups.all_asked}
 use Rattle.conf_session.specs.{declared.input.Input.Input, declared.reply.Reply.Reply, declared.unwritten.Unwritten.Unwritten}
@@ -289,7 +289,7 @@ module _ {D : Type 0} (model : DiskModel D) where
       → new.state ≡ old.state
       → (model.honest → (flushed : Contents) (waiting : List Command)
       → HasFlushed (model.folder old.disk) flushed waiting old.state
-      → LeavesOnly model old.disk new.disk (λ image. AfterPrefix flushed waiting image.store))
+      → LeavesOnly model old.disk new.disk (λ image. MeansPrefix flushed waiting image))
       → StopsShort model old new
   stops-short old new f off reopen one device state run =
       record { broken = ⊎_elim (λ e. absurd (false≢true (sym off ∙ reopen e))) device one; state = state; any_moment = run }
@@ -300,7 +300,7 @@ module _ {D : Type 0} (model : DiskModel D) where
       → (model.honest → staged_text (model.folder new.disk) new.staged ≡ staged_text (model.folder old.disk) old.staged)
       → (model.honest → (flushed : Contents) (waiting : List Command)
       → HasFlushed (model.folder old.disk) flushed waiting old.state
-      → LeavesOnly model old.disk new.disk (λ image. AfterPrefix flushed waiting image.store))
+      → LeavesOnly model old.disk new.disk (λ image. MeansPrefix flushed waiting image))
       → (model.honest → HasFlushed (model.folder new.disk) new.state [] new.state)
       → (model.honest → AllImagesMean (model.folder new.disk) new.state)
       → PerformsTurns model old new []
@@ -309,7 +309,7 @@ module _ {D : Type 0} (model : DiskModel D) where
     stored = same-stored old new same;
     files = λ h. files-asked model.folder old new [] (reads h) (stages h);
     any_moment = λ h flushed waiting has.
-        subst (λ (l : List Command). LeavesOnly model old.disk new.disk (λ image. AfterPrefix flushed l image.store))
+        subst (λ (l : List Command). LeavesOnly model old.disk new.disk (λ image. MeansPrefix flushed l image))
         (sym (append-nil waiting)) (run h flushed waiting has);
     flushed = flushes;
     now = means;
@@ -319,16 +319,16 @@ module _ {D : Type 0} (model : DiskModel D) where
     -- what a crash leaves up to the flush's end
     pub flush-moments : (model.honest → (flushed : Contents) (waiting : List Command)
         → HasFlushed (model.folder mid.disk) flushed waiting mid.state
-        → LeavesOnly model mid.disk new.disk (λ image. AfterPrefix flushed waiting image.store))
+        → LeavesOnly model mid.disk new.disk (λ image. MeansPrefix flushed waiting image))
         → model.honest → (flushed : Contents) (waiting : List Command) → HasFlushed (model.folder old.disk) flushed waiting old.state
-        → LeavesOnly model old.disk new.disk (λ image. AfterPrefix flushed (waiting ++ accepted_commands (stored_of old) rs) image.store)
+        → LeavesOnly model old.disk new.disk (λ image. MeansPrefix flushed (waiting ++ accepted_commands (stored_of old) rs) image)
     flush-moments run h flushed waiting has =
         let f = flushed_after false (stored_of old) flushed rs in
         let w = waiting_after false (stored_of old) waiting rs in
         LeavesOnly-joined model old.disk mid.disk new.disk _ _ _ (before.any_moment h flushed waiting has)
         (run h f w (before.waits h flushed waiting has))
         (λ image some. some)
-        (λ image. prefix-whole flushed f (waiting ++ accepted_commands (stored_of old) rs) w image.store
+        (λ image. prefix-whole flushed f (waiting ++ accepted_commands (stored_of old) rs) w image
         (continues (stored_of old) flushed waiting rs has.journal.leads))
 
     -- what was submitted is flushed
@@ -340,9 +340,9 @@ module _ {D : Type 0} (model : DiskModel D) where
           (ap (λ f. f.staged) (flush.files h) ∙ before.stages h);
       any_moment = λ h flushed waiting has.
           subst (λ (l : List Command). LeavesOnly model old.disk new.disk
-          (λ image. AfterPrefix flushed (waiting ++ l) image.store)) (sym (asked-accepted (stored_of old) rs))
+          (λ image. MeansPrefix flushed (waiting ++ l) image)) (sym (asked-accepted (stored_of old) rs))
           (flush-moments (λ h f w there. subst (λ (l : List Command).
-          LeavesOnly model mid.disk new.disk (λ image. AfterPrefix f l image.store)) (append-nil w)
+          LeavesOnly model mid.disk new.disk (λ image. MeansPrefix f l image)) (append-nil w)
           (flush.any_moment h f w there)) h flushed waiting has);
       flushed = flush.flushed;
       now = flush.now;

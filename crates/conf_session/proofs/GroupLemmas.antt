@@ -2,7 +2,7 @@
 use Rattle.std.proofs.Common.{◌≡◌, ◌⊎◌, inl, inr, ⊎_elim, refl, sym, ◌∙◌, ap, subst, arith, ◌≤◌, ◌<◌, append_assoc, length-append}
 use Rattle.std.specs.Prelude.{ℕ, ◌+◌, ◌-◌, ◌*◌, true, false, List, [], ◌∷◌, ◌++◌, length, take, Option, Result, Ok, Err}
 use Rattle.conf_session.proofs.Prelude.{Appends, Keeps, Appends-trans, Appends-kept, Keeps-refl, cases_lt, append-nil, Image, IsImage}
-use Rattle.conf_session.proofs.Prelude.{DiskModel, LeavesOnly, LeavesOnly-start, Command, Contents, AfterPrefix, HasFlushed, StoreView}
+use Rattle.conf_session.proofs.Prelude.{DiskModel, LeavesOnly, LeavesOnly-start, Command, Contents, MeansPrefix, HasFlushed, StoreView}
 use Rattle.conf_session.specs.Input.{piece_or_rest as piece_of}
 use Rattle.conf_session.specs.{declared.fault.SessionFault.SessionFault, declared.input.Input.Input, declared.unwritten.Unwritten.Unwritten}
 use Rattle.conf_session.specs.{declared.groups.Checkpoints.Checkpoints, declared.groups.Grouping.Grouping, declared.session.Tally.Tally}
@@ -83,7 +83,7 @@ pub record Untouched {D : Type 0} (model : DiskModel D) (grouping : Grouping) (o
   pub means : MeansPrefixes model old
   pub any_moment : model.honest → (flushed : Contents) (waiting : List Command)
       → HasFlushed (model.folder old.disk) flushed waiting old.state
-      → LeavesOnly model old.disk old.disk (λ image. AfterPrefix flushed waiting image.store)
+      → LeavesOnly model old.disk old.disk (λ image. MeansPrefix flushed waiting image)
 
 -- the turns are performed and flushed, of which there is one at least where each piece is a group
 pub record AreFlushed {D : Type 0} (model : DiskModel D) (grouping : Grouping) (old new : StoreView D) (turns : List Turn)
@@ -151,13 +151,13 @@ module _ {D : Type 0} (model : DiskModel D) (grouping : Grouping) (old now : Sto
     -- what a crash leaves of the turns and of what comes after them
     performed-moments : HasPerformed model grouping old now turns → (new : StoreView D) (more : List Command)
         → ((flushed : Contents) (waiting : List Command) → HasFlushed (model.folder now.disk) flushed waiting now.state
-        → LeavesOnly model now.disk new.disk (λ image. AfterPrefix flushed (waiting ++ more) image.store))
+        → LeavesOnly model now.disk new.disk (λ image. MeansPrefix flushed (waiting ++ more) image))
         → LeavesOnly model old.disk new.disk
-        (λ image. AfterPrefix flushed ((waiting ++ turns_accepted from turns) ++ more) image.store)
+        (λ image. MeansPrefix flushed ((waiting ++ turns_accepted from turns) ++ more) image)
     performed-moments (inl u) new more run =
-        subst (λ (l : List Command). LeavesOnly model old.disk new.disk (λ image. AfterPrefix flushed (l ++ more) image.store))
+        subst (λ (l : List Command). LeavesOnly model old.disk new.disk (λ image. MeansPrefix flushed (l ++ more) image))
         (none-accepted u.none)
-        (subst (λ (t : StoreView D). LeavesOnly model t.disk new.disk (λ image. AfterPrefix flushed (waiting ++ more) image.store)) u.same
+        (subst (λ (t : StoreView D). LeavesOnly model t.disk new.disk (λ image. MeansPrefix flushed (waiting ++ more) image)) u.same
         (run flushed waiting
         (subst (λ (t : StoreView D). HasFlushed (model.folder t.disk) flushed waiting t.state) (sym u.same) has)))
     performed-moments (inr f) new more run =
@@ -166,11 +166,11 @@ module _ {D : Type 0} (model : DiskModel D) (grouping : Grouping) (old now : Sto
     -- a crash during what comes after them
     performed-during : (performs : HasPerformed model grouping old now turns) (new : StoreView D) (more : List Command)
         → ((flushed : Contents) (waiting : List Command) → HasFlushed (model.folder now.disk) flushed waiting now.state
-        → LeavesOnly model now.disk new.disk (λ image. AfterPrefix flushed (waiting ++ more) image.store))
+        → LeavesOnly model now.disk new.disk (λ image. MeansPrefix flushed (waiting ++ more) image))
         → ((t : ℕ) (image : Image) → t ≤ model.moment new.disk → IsImage (model.folder new.disk) image → model.left new.disk t image)
         → (image : Image) → IsImage (model.folder new.disk) image
         → AfterAtLeast flushed (acknowledged_turns from waiting turns)
-        ((waiting ++ turns_accepted from turns) ++ more) image.store
+        ((waiting ++ turns_accepted from turns) ++ more) image
     performed-during (inl u) new more run counts_now image is =
         let all = performed-moments (inl u) new more run in
         let some = all.each image (counts_now (model.moment old.disk) image all.later is) in
@@ -184,23 +184,23 @@ module _ {D : Type 0} (model : DiskModel D) (grouping : Grouping) (old now : Sto
 
     -- what a crash leaves of the turns
     performed-all : HasPerformed model grouping old now turns
-        → LeavesOnly model old.disk now.disk (λ image. AfterPrefix flushed (waiting ++ turns_accepted from turns) image.store)
+        → LeavesOnly model old.disk now.disk (λ image. MeansPrefix flushed (waiting ++ turns_accepted from turns) image)
     performed-all (inl u) =
         subst (λ (t : StoreView D). LeavesOnly model old.disk t.disk
-        (λ image. AfterPrefix flushed (waiting ++ turns_accepted from turns) image.store)) (sym u.same)
-        (subst (λ (l : List Command). LeavesOnly model old.disk old.disk (λ image. AfterPrefix flushed l image.store))
+        (λ image. MeansPrefix flushed (waiting ++ turns_accepted from turns) image)) (sym u.same)
+        (subst (λ (l : List Command). LeavesOnly model old.disk old.disk (λ image. MeansPrefix flushed l image))
         (none-accepted u.none) (u.any_moment h flushed waiting has))
     performed-all (inr f) = f.performs.any_moment h flushed waiting has
 
     -- a crash after them, of which some are answered
     performed-kept : HasPerformed model grouping old now turns → (answered more : List Turn) → turns ≡ answered ++ more
         → (image : Image) → IsImage (model.folder now.disk) image
-        → AfterAtLeast flushed (acknowledged_turns from waiting answered) (waiting ++ turns_accepted from turns) image.store
+        → AfterAtLeast flushed (acknowledged_turns from waiting answered) (waiting ++ turns_accepted from turns) image
     performed-kept (inl u) answered more all image is =
         let some = u.means h on flushed waiting has image
         (subst (λ (t : StoreView D). IsImage (model.folder t.disk) image) u.same is) in
         let least = ap (acknowledged_turns from waiting) (begun-none answered more (sym all ∙ u.none)) in
-        subst (λ (l : List Command). AfterAtLeast flushed (acknowledged_turns from waiting answered) l image.store)
+        subst (λ (l : List Command). AfterAtLeast flushed (acknowledged_turns from waiting answered) l image)
         (none-accepted u.none)
         (record { count = some.count; enough = omega (arith, least); state = some.state; leads = some.leads; means = some.means })
     performed-kept (inr f) answered more all image is =
@@ -250,13 +250,13 @@ pub record Session {D : Type 0} (model : DiskModel D) (grouping : Grouping) (giv
   pub performs : new.reopen ≡ false → HasPerformed model grouping old new (answered ++ all_asked unanswered)
   pub any_moment : model.honest → old.reopen ≡ false → (flushed : Contents) (waiting : List Command)
       → HasFlushed (model.folder old.disk) flushed waiting old.state
-      → LeavesOnly model old.disk new.disk (λ image. AfterPrefix flushed
-      (waiting ++ turns_accepted (stored_of old) (answered ++ all_asked unanswered)) image.store)
+      → LeavesOnly model old.disk new.disk (λ image. MeansPrefix flushed
+      (waiting ++ turns_accepted (stored_of old) (answered ++ all_asked unanswered)) image)
   pub kept : model.honest → old.reopen ≡ false → (flushed : Contents) (waiting : List Command)
       → HasFlushed (model.folder old.disk) flushed waiting old.state
       → (image : Image) → IsImage (model.folder new.disk) image
       → AfterAtLeast flushed (acknowledged_turns (stored_of old) waiting answered)
-      (waiting ++ turns_accepted (stored_of old) (answered ++ all_asked unanswered)) image.store
+      (waiting ++ turns_accepted (stored_of old) (answered ++ all_asked unanswered)) image
 
 -- a session that flushes what one read brought
 pub session-grouped : {D : Type 0} (model : DiskModel D) (checkpoints : Checkpoints) (given left held written : Option (List ℕ))
@@ -333,7 +333,7 @@ module _ {D : Type 0} (model : DiskModel D) (grouping : Grouping) where
       → new.reopen ≡ true → new.state ≡ (stored_after_all (stored_of mid) unanswered).state
       → (model.honest → (flushed : Contents) (waiting : List Command) → HasFlushed (model.folder mid.disk) flushed waiting mid.state
       → LeavesOnly model mid.disk new.disk (λ image.
-      AfterPrefix flushed (waiting ++ accepted_commands (stored_of mid) unanswered) image.store))
+      MeansPrefix flushed (waiting ++ accepted_commands (stored_of mid) unanswered) image))
       → ((t : ℕ) (image : Image) → model.honest → t ≤ model.moment new.disk → IsImage (model.folder new.disk) image
       → model.left new.disk t image)
       → (grouping ≡ Each → IsOne unanswered)
@@ -363,10 +363,10 @@ module _ {D : Type 0} (model : DiskModel D) (grouping : Grouping) where
             ∙ sym (stored-joined start answered (all_asked unanswered)));
         performs = λ on. absurd (cc (on, broken));
         any_moment = λ h on flushed waiting has.
-            subst (λ (l : List Command). LeavesOnly model old.disk new.disk (λ image. AfterPrefix flushed l image.store)) (grouped waiting)
+            subst (λ (l : List Command). LeavesOnly model old.disk new.disk (λ image. MeansPrefix flushed l image)) (grouped waiting)
             (performed-moments model grouping old mid answered on h flushed waiting has performs new more (run h));
         kept = λ h on flushed waiting has image is.
-            subst (λ (l : List Command). AfterAtLeast flushed (acknowledged_turns start waiting answered) l image.store) (grouped waiting)
+            subst (λ (l : List Command). AfterAtLeast flushed (acknowledged_turns start waiting answered) l image) (grouped waiting)
             (performed-during model grouping old mid answered on h flushed waiting has performs new more (run h)
             (λ t image. counts_now t image h) image is);
       }
@@ -404,12 +404,12 @@ module _ {D : Type 0} (model : DiskModel D) (grouping : Grouping) where
     state = stops.state;
     performs = λ on. absurd (cc (on, stops.broken));
     any_moment = λ h on flushed waiting has.
-        subst (λ (l : List Command). LeavesOnly model old.disk new.disk (λ image. AfterPrefix flushed l image.store))
+        subst (λ (l : List Command). LeavesOnly model old.disk new.disk (λ image. MeansPrefix flushed l image))
         (sym (append-nil waiting)) (stops.any_moment h flushed waiting has);
     kept = λ h on flushed waiting has image is.
         (let run = stops.any_moment h flushed waiting has in
         let some = run.each image (counts_now (model.moment old.disk) image h run.later is) in
-        subst (λ (l : List Command). AfterAtLeast flushed 0 l image.store) (sym (append-nil waiting))
+        subst (λ (l : List Command). AfterAtLeast flushed 0 l image) (sym (append-nil waiting))
         (record { count = some.count; enough = omega arith; state = some.state; leads = some.leads; means = some.means }));
   }
 
@@ -758,7 +758,7 @@ module _ {D : Type 0} (model : DiskModel D) (grouping : Grouping) where
         subst (λ (x : SessionFault). Session model grouping given mid held between old new (Err x)) (sym tends.1.0)
         (runs-broken given mid held between old now new s.turns [] s.performs s.only_asked s.due stops.broken stops.state
         (λ h flushed waiting has. subst (λ (l : List Command).
-        LeavesOnly model now.disk new.disk (λ image. AfterPrefix flushed l image.store))
+        LeavesOnly model now.disk new.disk (λ image. MeansPrefix flushed l image))
         (sym (append-nil waiting)) (stops.any_moment h flushed waiting has))
         counts_now (λ e. absurd (cc ((tends.0 (ap checkpoints_of e)).0)))
         (ends-here given mid held between (requests_of s.turns) sent accepted refused (ahead was) answers

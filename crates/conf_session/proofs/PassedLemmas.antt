@@ -4,7 +4,7 @@ use Rattle.std.specs.Prelude.{ℕ, ◌+◌, ◌-◌, suc, Bool, true, false, if�
 use Rattle.std.specs.Prelude.{Result, Ok, Err}
 use Rattle.conf_session.proofs.Prelude.{append-nil, All-push, ClosesOnce, Image, IsImage, bytes_under, DiskModel, LeavesOnly, Store}
 use Rattle.conf_session.proofs.Prelude.{LeavesOnly-start, LeavesOnly-joined, Command, Contents, after, StoreFault, outcome, room_for}
-use Rattle.conf_session.proofs.Prelude.{tree_named, AfterPrefix, HasFlushed, staged_text, StoreView, accepted-room, accepted-anyway}
+use Rattle.conf_session.proofs.Prelude.{tree_named, MeansPrefix, HasFlushed, staged_text, StoreView, accepted-room, accepted-anyway}
 use Rattle.conf_session.proofs.Prelude.{after-done, after-joined, prefix-longer, first_fault, ConditionFault}
 use Rattle.conf_session.specs.{Said.piece_limit, Runs.stored_of, Runs.ArePieces, Runs.AfterAtLeast, Replies.LeavesPrefixes}
 use Rattle.conf_session.specs.{Replies.Performs, Replies.PerformsAll}
@@ -223,14 +223,14 @@ continues now flushed waiting (x ∷ rs) leads =
     by false synced waits = record { first = waits.first; is = grouped ∙ waits.is; leads = waits.leads }
 
 -- a file after a prefix of what waits, and more, is after at least the commands that are flushed
-pub at-least : (start flushed : Contents) (commands waiting more : List Command) (file : Option (List ℕ))
-    → Continues start commands flushed waiting → AfterPrefix flushed (waiting ++ more) file
-    → AfterAtLeast start (length commands - length waiting) (commands ++ more) file
-at-least start flushed commands waiting more file c some =
+pub at-least : (start flushed : Contents) (commands waiting more : List Command) (image : Image)
+    → Continues start commands flushed waiting → MeansPrefix flushed (waiting ++ more) image
+    → AfterAtLeast start (length commands - length waiting) (commands ++ more) image
+at-least start flushed commands waiting more image c some =
     let same : c.first ++ (waiting ++ more) ≡ commands ++ more = sym (append_assoc c.first waiting more) ∙ ap (λ l. l ++ more) (sym c.is) in
     let long = ap length c.is in
     let sum = length-append c.first waiting in
-    subst (λ (l : List Command). AfterAtLeast start (length commands - length waiting) l file) same
+    subst (λ (l : List Command). AfterAtLeast start (length commands - length waiting) l image) same
     (record {
       count = length c.first + some.count;
       enough = omega (arith, long, sum);
@@ -241,19 +241,19 @@ at-least start flushed commands waiting more file c some =
     })
 
 -- and so after a prefix of all
-pub prefix-continued : (start flushed : Contents) (commands waiting more : List Command) (file : Option (List ℕ))
-    → Continues start commands flushed waiting → AfterPrefix flushed (waiting ++ more) file
-    → AfterPrefix start (commands ++ more) file
-prefix-continued start flushed commands waiting more file c some =
-    let all = at-least start flushed commands waiting more file c some in
+pub prefix-continued : (start flushed : Contents) (commands waiting more : List Command) (image : Image)
+    → Continues start commands flushed waiting → MeansPrefix flushed (waiting ++ more) image
+    → MeansPrefix start (commands ++ more) image
+prefix-continued start flushed commands waiting more image c some =
+    let all = at-least start flushed commands waiting more image c some in
     record { count = all.count; state = all.state; leads = all.leads; means = all.means }
 
 -- where none comes after what waits
-pub prefix-whole : (start flushed : Contents) (commands waiting : List Command) (file : Option (List ℕ))
-    → Continues start commands flushed waiting → AfterPrefix flushed waiting file → AfterPrefix start commands file
-prefix-whole start flushed commands waiting file c some =
-    subst (λ (l : List Command). AfterPrefix start l file) (append-nil commands)
-    (prefix-continued start flushed commands waiting [] file c (prefix-longer flushed waiting [] file some))
+pub prefix-whole : (start flushed : Contents) (commands waiting : List Command) (image : Image)
+    → Continues start commands flushed waiting → MeansPrefix flushed waiting image → MeansPrefix start commands image
+prefix-whole start flushed commands waiting image c some =
+    subst (λ (l : List Command). MeansPrefix start l image) (append-nil commands)
+    (prefix-continued start flushed commands waiting [] image c (prefix-longer flushed waiting [] image some))
 
 -- ---- requests that were performed
 
@@ -269,7 +269,7 @@ module _ {D : Type 0} (model : DiskModel D) where
     reads = λ h. refl;
     stages = λ h. refl;
     any_moment = λ h flushed waiting has. LeavesOnly-start model store.disk _
-        (λ image is. prefix-longer flushed waiting [] image.store (means h off flushed waiting has image (only image h is)));
+        (λ image is. prefix-longer flushed waiting [] image (means h off flushed waiting has image (only image h is)));
     waits = λ h flushed waiting has. has;
   }
 
@@ -319,22 +319,22 @@ module _ {D : Type 0} (model : DiskModel D) where
 
       -- what a crash leaves during the last request
       last-moments : LeavesOnly model mid.disk new.disk
-          (λ image. AfterPrefix (flushed_after false (stored_of old) flushed rs)
-          (waiting_after false (stored_of old) waiting rs ++ accepted_command (stored_of mid) r) image.store)
+          (λ image. MeansPrefix (flushed_after false (stored_of old) flushed rs)
+          (waiting_after false (stored_of old) waiting rs ++ accepted_command (stored_of mid) r) image)
       last-moments = does.any_moment h (flushed_after false (stored_of old) flushed rs)
           (waiting_after false (stored_of old) waiting rs) (before.waits h flushed waiting has)
 
       -- and during all
       pub moments-more : LeavesOnly model old.disk new.disk
-          (λ image. AfterPrefix flushed (waiting ++ accepted_commands (stored_of old) (rs ++ r ∷ [])) image.store)
+          (λ image. MeansPrefix flushed (waiting ++ accepted_commands (stored_of old) (rs ++ r ∷ [])) image)
       moments-more =
           let first = waiting ++ accepted_commands (stored_of old) rs in
           let second = accepted_command (stored_of mid) r in
-          subst (λ (l : List Command). LeavesOnly model old.disk new.disk (λ image. AfterPrefix flushed l image.store)) joined
+          subst (λ (l : List Command). LeavesOnly model old.disk new.disk (λ image. MeansPrefix flushed l image)) joined
           (LeavesOnly-joined model old.disk mid.disk new.disk _ _ _ (before.any_moment h flushed waiting has) last-moments
-          (λ image. prefix-longer flushed first second image.store)
+          (λ image. prefix-longer flushed first second image)
           (λ image. prefix-continued flushed (flushed_after false (stored_of old) flushed rs) first
-          (waiting_after false (stored_of old) waiting rs) second image.store continued))
+          (waiting_after false (stored_of old) waiting rs) second image continued))
 
       -- what waits after one request more
       pub waits-more : new.reopen ≡ false → HasFlushed (model.folder new.disk)

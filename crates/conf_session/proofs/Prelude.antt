@@ -35,9 +35,9 @@ pub use Rattle.conf_store.proofs.MeaningLemmas.{after-done, after-joined}
 pub use Rattle.conf_store.proofs.StepLemmas.{accepted-anyway}
 pub use Rattle.conf_store.specs.Calls.{tree_named, tree_at, outcome, room_for, HasFailed, next_record, journal_length, Accepts}
 pub use Rattle.conf_store.specs.Calls.{RefusesCommand}
-pub use Rattle.conf_store.specs.Durable.{AfterPrefix, HasFlushed, staged_text, AllImagesMean}
+pub use Rattle.conf_store.specs.Durable.{MeansPrefix, HasFlushed, staged_text, AllImagesMean}
 pub use Rattle.conf_store.specs.Imports.{RefusesText, IsImportOf}
-pub use Rattle.conf_store.specs.Meaning.{FileMeans}
+pub use Rattle.conf_store.specs.Meaning.{ImageMeans}
 pub use Rattle.conf_store.specs.Slices.{StaysTheSame, Begins, SlicesPart, SlicesLast, Slices, SliceReads, SliceFlushes}
 pub use Rattle.conf_store.specs.Staged.{Staged, staged_length, with_more, slice_limit, after_slice}
 pub use Rattle.conf_store.specs.View.{StoreView}

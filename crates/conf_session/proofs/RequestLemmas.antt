@@ -6,7 +6,7 @@ use Rattle.conf_session.proofs.Prelude.{chars, IsUtf8, Global, cases_lt, encodes
 use Rattle.conf_session.proofs.Prelude.{Folder, bytes_under, Image, IsImage, DiskModel, LeavesOnly, greatest, Store, LeavesOnly-start}
 use Rattle.conf_session.proofs.Prelude.{LeavesOnly-weaker, base_bytes, Command, Edit, single, IsState, Contents, count_limit, step, after}
 use Rattle.conf_session.proofs.Prelude.{StoreFault, Room, HasFailed, outcome, room_for, next_record, journal_length, Accepts}
-use Rattle.conf_session.proofs.Prelude.{RefusesCommand, IsImportOf, RefusesText, Staged, staged_length, with_more, FileMeans, AfterPrefix}
+use Rattle.conf_session.proofs.Prelude.{RefusesCommand, IsImportOf, RefusesText, Staged, staged_length, with_more, ImageMeans, MeansPrefix}
 use Rattle.conf_session.proofs.Prelude.{AllImagesMean, HasFlushed, staged_text, StoreView, accepted-room, accepted-anyway, after-done}
 use Rattle.conf_session.proofs.Prelude.{after-joined, prefix-longer}
 use Rattle.conf_journal.specs.Store.{file_with_bytes}
@@ -71,10 +71,10 @@ leaves-same {D} model old new same means = subst
     (λ (s : StoreView D). model.honest → s.reopen ≡ false → LeavesPrefixes (model.folder s.disk) s.state) (sym same) means
 
 -- the state after all commands that wait, and one more
-all-after : (flushed s end : Contents) (waiting : List Command) (command : Command) (file : Option (List ℕ))
-    → after flushed waiting ≡ Ok s → after s (command ∷ []) ≡ Ok end → FileMeans file end
-    → AfterPrefix flushed (waiting ++ command ∷ []) file
-all-after flushed s end waiting command file leads done means =
+all-after : (flushed s end : Contents) (waiting : List Command) (command : Command) (image : Image)
+    → after flushed waiting ≡ Ok s → after s (command ∷ []) ≡ Ok end → ImageMeans image end
+    → MeansPrefix flushed (waiting ++ command ∷ []) image
+all-after flushed s end waiting command image leads done means =
     let all = waiting ++ command ∷ [] in
     record {
       count = length all;
@@ -141,10 +141,10 @@ module _ {D : Type 0} (model : DiskModel D) where
       → IsImage (model.folder store.disk) image)
       → (model.honest → store.reopen ≡ false → LeavesPrefixes (model.folder store.disk) store.state)
       → model.honest → (flushed : Contents) (waiting : List Command) → HasFlushed (model.folder store.disk) flushed waiting store.state
-      → LeavesOnly model store.disk store.disk (λ image. AfterPrefix flushed (waiting ++ more) image.store)
+      → LeavesOnly model store.disk store.disk (λ image. MeansPrefix flushed (waiting ++ more) image)
   unchanged store off more only means h flushed waiting has =
       LeavesOnly-start model store.disk _ (λ image is.
-      prefix-longer flushed waiting more image.store (means h off flushed waiting has image (only image h is)))
+      prefix-longer flushed waiting more image (means h off flushed waiting has image (only image h is)))
 
   -- a request that only reads leaves the store as it is
   pub only-read : (store : StoreView D) → store.reopen ≡ false → (request : Request) → OnlyReads request
@@ -155,7 +155,7 @@ module _ {D : Type 0} (model : DiskModel D) where
     where
       any_moment : model.honest → (flushed : Contents) (waiting : List Command)
           → HasFlushed (model.folder store.disk) flushed waiting store.state
-          → LeavesOnly model store.disk store.disk (λ image. AfterPrefix flushed (waiting ++ []) image.store)
+          → LeavesOnly model store.disk store.disk (λ image. MeansPrefix flushed (waiting ++ []) image)
       any_moment = unchanged store off [] only means
 
       waits : model.honest → store.reopen ≡ false → (flushed : Contents) (waiting : List Command)
@@ -188,7 +188,7 @@ module _ {D : Type 0} (model : DiskModel D) where
       → (model.honest → new.reopen ≡ false → staged_text (model.folder new.disk) new.staged
       ≡ file_with_bytes (staged_text (model.folder old.disk) old.staged) (next_record old.state command))
       → (model.honest → (flushed : Contents) (waiting : List Command) → HasFlushed (model.folder old.disk) flushed waiting old.state
-      → LeavesOnly model old.disk new.disk (λ image. AfterPrefix flushed waiting image.store ⊎ FileMeans image.store new.state))
+      → LeavesOnly model old.disk new.disk (λ image. MeansPrefix flushed waiting image ⊎ ImageMeans image new.state))
       → (model.honest → new.reopen ≡ false → (flushed : Contents) (waiting : List Command)
       → HasFlushed (model.folder old.disk) flushed waiting old.state
       → HasFlushed (model.folder new.disk) flushed (waiting ++ command ∷ []) new.state)
@@ -208,10 +208,10 @@ module _ {D : Type 0} (model : DiskModel D) where
         reads = λ h on. grown h on ∙ sym (ap (file_after_change (bytes_under (model.folder old.disk) Store) now command) here);
         stages = λ h on. staged h on ∙ sym (ap (file_after_change (staged_text (model.folder old.disk) old.staged) now command) here);
         any_moment = λ h flushed waiting has. subst
-            (λ cs. LeavesOnly model old.disk new.disk (λ image. AfterPrefix flushed (waiting ++ cs) image.store)) (sym one)
+            (λ cs. LeavesOnly model old.disk new.disk (λ image. MeansPrefix flushed (waiting ++ cs) image)) (sym one)
             (LeavesOnly-weaker model old.disk new.disk _ _ (moments h flushed waiting has)
-            (λ image. ⊎_elim (prefix-longer flushed waiting (command ∷ []) image.store)
-            (all-after flushed old.state new.state waiting command image.store has.journal.leads leads)));
+            (λ image. ⊎_elim (prefix-longer flushed waiting (command ∷ []) image)
+            (all-after flushed old.state new.state waiting command image has.journal.leads leads)));
         waits = λ h on flushed waiting has.
             subst (λ cs. HasFlushed (model.folder new.disk) flushed (waiting ++ cs) new.state) (sym one) (flushes h on flushed waiting has);
       }
@@ -242,7 +242,7 @@ module _ {D : Type 0} (model : DiskModel D) where
       → (new.reopen ≡ false → (new.staged ≡ None) × (new.size ≡ length (base_bytes old.state)))
       → (model.honest → new.reopen ≡ false → bytes_under (model.folder new.disk) Store ≡ Some (base_bytes old.state))
       → (model.honest → (flushed : Contents) (waiting : List Command) → HasFlushed (model.folder old.disk) flushed waiting old.state
-      → LeavesOnly model old.disk new.disk (λ image. AfterPrefix flushed waiting image.store))
+      → LeavesOnly model old.disk new.disk (λ image. MeansPrefix flushed waiting image))
       → (model.honest → new.reopen ≡ false → HasFlushed (model.folder new.disk) new.state [] new.state)
       → Performs model old new checkpointing
   checkpointed old new same long base moments flushes = record {
@@ -255,7 +255,7 @@ module _ {D : Type 0} (model : DiskModel D) where
     reads = base;
     stages = λ h on. ap (staged_text (model.folder new.disk)) (long on).0;
     any_moment = λ h flushed waiting has. LeavesOnly-weaker model old.disk new.disk _ _
-        (moments h flushed waiting has) (λ image. prefix-longer flushed waiting [] image.store);
+        (moments h flushed waiting has) (λ image. prefix-longer flushed waiting [] image);
     waits = λ h on flushed waiting has. subst (λ (s : Contents). HasFlushed (model.folder new.disk) s [] new.state) same (flushes h on);
   }
 

@@ -2,7 +2,7 @@
 use Rattle.std.proofs.Common.{◌≡◌, inl, inr, refl, sym, ◌∙◌, ap, subst, arith, ◌≤◌, ◌<◌, get_or, length-append}
 use Rattle.std.specs.Prelude.{ℕ, ◌+◌, false, List, [], ◌∷◌, ◌++◌, length, codes, take, Ok, Err}
 use Rattle.conf_session.proofs.Prelude.{Global, length-take-le, length-map, take_more, get_or-map, ClosesAt, ClosesOnce, Image, IsImage}
-use Rattle.conf_session.proofs.Prelude.{DiskModel, LeavesOnly, Command, AfterPrefix, StoreView}
+use Rattle.conf_session.proofs.Prelude.{DiskModel, LeavesOnly, Command, MeansPrefix, StoreView}
 use Rattle.std.specs.declared.vec.Vec.{Vec}
 use Rattle.yaml_docs.specs.NextClosing.{IsNextClosing, NoClosingAfter}
 use Rattle.conf_session.specs.Answers.{answer_bytes as answer_to}
@@ -193,7 +193,7 @@ module _ {D : Type 0} (model : DiskModel D) where
             };
             any_moment = λ h on flushed waiting has.
                 subst (λ (l : List Command). LeavesOnly model old.disk new.disk
-                (λ image. AfterPrefix flushed (waiting ++ l) image.store))
+                (λ image. MeansPrefix flushed (waiting ++ l) image))
                 (asked-accepted (stored_of old) s.requests) (performs.any_moment h flushed waiting has);
           }
 

@@ -1,7 +1,7 @@
 -- A session each of whose pieces is a group is a run.
 use Rattle.std.proofs.Common.{◌≡◌, inl, inr, refl, sym, ◌∙◌, ap, subst, arith, ◌≤◌}
 use Rattle.std.specs.Prelude.{ℕ, true, false, List, [], ◌∷◌, ◌++◌, length, take, Option, Result, Ok, Err}
-use Rattle.conf_session.proofs.Prelude.{Appends, append-nil, Folder, DiskModel, LeavesOnly, Command, Contents, AfterPrefix}
+use Rattle.conf_session.proofs.Prelude.{Appends, append-nil, Folder, DiskModel, LeavesOnly, Command, Contents, MeansPrefix}
 use Rattle.conf_session.proofs.Prelude.{HasFlushed, StoreView}
 use Rattle.conf_session.specs.{declared.fault.SessionFault.SessionFault, declared.groups.Grouping.Grouping, declared.session.Tally.Tally}
 use Rattle.conf_session.specs.{Requests.Request, Streams.Streams, Streams.streams_of}
@@ -150,11 +150,11 @@ module _ {D : Type 0} (model : DiskModel D) (given left held written : Option (L
       reads = λ h on. ap (λ f. f.store) (files h on);
       stages = λ h on. ap (λ f. f.staged) (files h on);
       any_moment = λ h on flushed waiting has.
-          subst (λ (l : List Command). LeavesOnly model old.disk new.disk (λ image. AfterPrefix flushed (waiting ++ l) image.store))
+          subst (λ (l : List Command). LeavesOnly model old.disk new.disk (λ image. MeansPrefix flushed (waiting ++ l) image))
           accepted (s.any_moment h on flushed waiting has);
       kept = λ h on flushed waiting has image is.
           (let kept = subst (λ (l : List Command).
-          AfterAtLeast flushed (acknowledged_turns start waiting s.answered) (waiting ++ l) image.store)
+          AfterAtLeast flushed (acknowledged_turns start waiting s.answered) (waiting ++ l) image)
           accepted (s.kept h on flushed waiting has image is) in
           let few = few-acknowledged start waiting rs in
           let same = ap (acknowledged_turns start waiting) all in

@@ -2,7 +2,7 @@
 use Rattle.std.proofs.Common.{◌≡◌, refl, sym, ◌∙◌, ap, arith, append_assoc}
 use Rattle.std.specs.Prelude.{ℕ, ◌+◌, List, [], ◌++◌, length, take, Option, Ok}
 use Rattle.conf_session.proofs.Prelude.{Appends, Appends-trans, append-nil, DiskModel, LeavesOnly-weaker, Command, Contents, after}
-use Rattle.conf_session.proofs.Prelude.{AfterPrefix, StoreView, after-joined}
+use Rattle.conf_session.proofs.Prelude.{Image, MeansPrefix, StoreView, after-joined}
 use Rattle.conf_session.specs.{Requests.Request, Answers.Stored, Answers.output, Runs.AfterAtLeast, Runs.stored_of, Gathering.KeepsAnswers}
 use Rattle.conf_session.specs.{Gathering.PerformsFlushed, Gathering.unwritten_bytes, Sinks.AreAcknowledged, Sinks.NoneIsTakenBack}
 use Rattle.conf_session.specs.{Sinks.SentSoFar, declared.unwritten.Unwritten.Unwritten}
@@ -72,10 +72,10 @@ module _ {D : Type 0} (model : DiskModel D) where
     }
 
 -- a file after a prefix of further commands is after all that were accepted before
-further-kept : (start s : Contents) (accepted further : List Command) (file : Option (List ℕ))
-    → after start accepted ≡ Ok s → AfterPrefix s further file
-    → AfterAtLeast start (length accepted) (accepted ++ further) file
-further-kept start s accepted further file leads some = record {
+further-kept : (start s : Contents) (accepted further : List Command) (image : Image)
+    → after start accepted ≡ Ok s → MeansPrefix s further image
+    → AfterAtLeast start (length accepted) (accepted ++ further) image
+further-kept start s accepted further image leads some = record {
   count = length accepted + some.count;
   enough = omega arith;
   state = some.state;
@@ -88,11 +88,11 @@ further-kept start s accepted further file leads some = record {
 pub none-is-taken-back : {D : Type 0} (model : DiskModel D) → NoneIsTakenBack model
 none-is-taken-back {D} model = record {
   now = λ taken store bytes told h image is.
-      further-kept told.start.state store.state (turns_accepted told.start told.turns) [] image.store (leads taken store bytes told)
+      further-kept told.start.state store.state (turns_accepted told.start told.turns) [] image (leads taken store bytes told)
       (record { count = 0; state = store.state; leads = refl; means = told.now h image is });
   later = λ taken store bytes told disk further leaves.
       LeavesOnly-weaker model store.disk disk _ _ leaves
-      (λ image. further-kept told.start.state store.state (turns_accepted told.start told.turns) further image.store
+      (λ image. further-kept told.start.state store.state (turns_accepted told.start told.turns) further image
       (leads taken store bytes told));
 }
   where

@@ -2,7 +2,7 @@
 use Rattle.std.proofs.Common.{◌≡◌, refl, sym, ◌∙◌, ap, subst, arith, ◌≤◌, length-drop}
 use Rattle.std.specs.Prelude.{ℕ, ◌+◌, min, false, List, [], ◌∷◌, ◌++◌, length, Option, Some, None, option_map, unwrap_or, Result, Ok, Err}
 use Rattle.conf_session.proofs.Prelude.{append-nil, take_all, bytes_under, Image, IsImage, DiskModel, LeavesOnly, Store, LeavesOnly-start}
-use Rattle.conf_session.proofs.Prelude.{base_bytes, Command, Contents, after, FileMeans, AfterPrefix, AllImagesMean, HasFlushed}
+use Rattle.conf_session.proofs.Prelude.{base_bytes, Command, Contents, after, ImageMeans, MeansPrefix, AllImagesMean, HasFlushed}
 use Rattle.conf_session.proofs.Prelude.{staged_text, Begins, SlicesPart, SlicesLast, Slices, SliceReads, SliceFlushes, Staged}
 use Rattle.conf_session.proofs.Prelude.{staged_length, slice_limit, after_slice, StoreView}
 use Rattle.conf_store.specs.Grown.{HasGrown}
@@ -17,9 +17,9 @@ use Rattle.conf_session.proofs.TurnLemmas.{quiet-now}
 -- ---- where all is flushed
 
 -- commands that lead to the state, all of them, are a prefix
-whole-prefix : (flushed s : Contents) (waiting : List Command) (file : Option (List ℕ)) → after flushed waiting ≡ Ok s
-    → FileMeans file s → AfterPrefix flushed waiting file
-whole-prefix flushed s waiting file leads means = record {
+whole-prefix : (flushed s : Contents) (waiting : List Command) (image : Image) → after flushed waiting ≡ Ok s
+    → ImageMeans image s → MeansPrefix flushed waiting image
+whole-prefix flushed s waiting image leads means = record {
   count = length waiting;
   state = s;
   leads = ap (after flushed) (take_all (length waiting) waiting (omega arith)) ∙ leads;
@@ -52,7 +52,7 @@ module _ {D : Type 0} (model : DiskModel D) where
     stored = refl;
     files = λ h. refl;
     any_moment = λ h from waiting has. LeavesOnly-start model store.disk _
-        (λ image is. whole-prefix from store.state (waiting ++ []) image.store
+        (λ image is. whole-prefix from store.state (waiting ++ []) image
         (ap (after from) (append-nil waiting) ∙ has.journal.leads) (means h image (only image h is)));
     flushed = flushed;
     now = means;
@@ -61,15 +61,15 @@ module _ {D : Type 0} (model : DiskModel D) where
   module _ (old new : StoreView D) (state : new.state ≡ old.state)
       (any_moment : model.honest → (flushed : Contents) (waiting : List Command)
       → HasFlushed (model.folder old.disk) flushed waiting old.state
-      → LeavesOnly model old.disk new.disk (λ image. AfterPrefix flushed waiting image.store))
+      → LeavesOnly model old.disk new.disk (λ image. MeansPrefix flushed waiting image))
       (flushed : model.honest → HasFlushed (model.folder old.disk) old.state [] old.state)
       (counts_now : (t : ℕ) (image : Image) → model.honest → t ≤ model.moment new.disk
       → IsImage (model.folder new.disk) image → model.left new.disk t image) where
     moments-none : model.honest → (from : Contents) (waiting : List Command)
         → HasFlushed (model.folder old.disk) from waiting old.state
-        → LeavesOnly model old.disk new.disk (λ image. AfterPrefix from (waiting ++ []) image.store)
+        → LeavesOnly model old.disk new.disk (λ image. MeansPrefix from (waiting ++ []) image)
     moments-none h from waiting has =
-        subst (λ (l : List Command). LeavesOnly model old.disk new.disk (λ image. AfterPrefix from l image.store))
+        subst (λ (l : List Command). LeavesOnly model old.disk new.disk (λ image. MeansPrefix from l image))
         (sym (append-nil waiting)) (any_moment h from waiting has)
 
     means-now : model.honest → AllImagesMean (model.folder new.disk) new.state

@@ -2,7 +2,7 @@
 use Rattle.std.proofs.Common.{◌≡◌, refl, sym, ◌∙◌, ap, subst, arith, ◌≤◌, append_assoc, length-append}
 use Rattle.std.specs.Prelude.{ℕ, ◌+◌, List, [], ◌∷◌, ◌++◌, length, Option, Ok}
 use Rattle.conf_session.proofs.Prelude.{append-nil, take_all, Folder, Image, IsImage, DiskModel, LeavesOnly, LeavesOnly-joined, Command}
-use Rattle.conf_session.proofs.Prelude.{Contents, after, AfterPrefix, AllImagesMean, HasFlushed, StoreView, after-joined, after-nothing}
+use Rattle.conf_session.proofs.Prelude.{Contents, after, MeansPrefix, AllImagesMean, HasFlushed, StoreView, after-joined, after-nothing}
 use Rattle.conf_session.proofs.Prelude.{prefix-longer}
 use Rattle.conf_session.specs.{Requests.Request, Runs.AfterAtLeast, Runs.stored_of, Gathering.PerformsTurns}
 use Rattle.conf_session.specs.Answers.{Stored, answer_bytes, output, stored_after, stored_after_all, file_after, file_after_all}
@@ -153,11 +153,11 @@ few-acknowledged now waiting (t ∷ ts) us =
 
 module _ {D : Type 0} (model : DiskModel D) where
   -- what a crash leaves, where the state is flushed and stays
-  pub quiet-now : (old new : D) (s : Contents) → LeavesOnly model old new (λ image. AfterPrefix s [] image.store)
+  pub quiet-now : (old new : D) (s : Contents) → LeavesOnly model old new (λ image. MeansPrefix s [] image)
       → ((t : ℕ) (image : Image) → t ≤ model.moment new → IsImage (model.folder new) image → model.left new t image)
       → AllImagesMean (model.folder new) s
   quiet-now old new s run counts_now image is =
-      after-nothing s image.store (run.each image (counts_now (model.moment old) image run.later is))
+      after-nothing image.several s image.store (run.each image (counts_now (model.moment old) image run.later is))
 
   module _ (old mid : StoreView D) (ts : List Turn) (before : PerformsTurns model old mid ts)
       (h : model.honest) (flushed : Contents) (waiting : List Command)
@@ -175,18 +175,18 @@ module _ {D : Type 0} (model : DiskModel D) where
     }
 
     -- what a crash leaves of the turns and of what comes after them
-    pub moments-after : (new : D) (more : List Command) → LeavesOnly model mid.disk new (λ image. AfterPrefix mid.state more image.store)
-        → LeavesOnly model old.disk new (λ image. AfterPrefix flushed ((waiting ++ turns_accepted (stored_of old) ts) ++ more) image.store)
+    pub moments-after : (new : D) (more : List Command) → LeavesOnly model mid.disk new (λ image. MeansPrefix mid.state more image)
+        → LeavesOnly model old.disk new (λ image. MeansPrefix flushed ((waiting ++ turns_accepted (stored_of old) ts) ++ more) image)
     moments-after new more run =
         let first = waiting ++ turns_accepted (stored_of old) ts in
         LeavesOnly-joined model old.disk mid.disk new _ _ _ (before.any_moment h flushed waiting has) run
-        (λ image. prefix-longer flushed first more image.store)
-        (λ image. prefix-continued flushed mid.state first [] more image.store continued)
+        (λ image. prefix-longer flushed first more image)
+        (λ image. prefix-continued flushed mid.state first [] more image continued)
 
     -- a crash after the turns
     pub kept-after : (least : ℕ) → least ≤ length (waiting ++ turns_accepted (stored_of old) ts) → (image : Image)
         → IsImage (model.folder mid.disk) image
-        → AfterAtLeast flushed least (waiting ++ turns_accepted (stored_of old) ts) image.store
+        → AfterAtLeast flushed least (waiting ++ turns_accepted (stored_of old) ts) image
     kept-after least few image is =
         let all = waiting ++ turns_accepted (stored_of old) ts in
         record {
@@ -198,14 +198,14 @@ module _ {D : Type 0} (model : DiskModel D) where
         }
 
     -- a crash during what comes after them
-    pub kept-during : (new : D) (more : List Command) → LeavesOnly model mid.disk new (λ image. AfterPrefix mid.state more image.store)
+    pub kept-during : (new : D) (more : List Command) → LeavesOnly model mid.disk new (λ image. MeansPrefix mid.state more image)
         → ((t : ℕ) (image : Image) → t ≤ model.moment new → IsImage (model.folder new) image → model.left new t image)
         → (least : ℕ) → least ≤ length (waiting ++ turns_accepted (stored_of old) ts) → (image : Image) → IsImage (model.folder new) image
-        → AfterAtLeast flushed least ((waiting ++ turns_accepted (stored_of old) ts) ++ more) image.store
+        → AfterAtLeast flushed least ((waiting ++ turns_accepted (stored_of old) ts) ++ more) image
     kept-during new more run counts_now least few image is =
         let first = waiting ++ turns_accepted (stored_of old) ts in
         let some = run.each image (counts_now (model.moment mid.disk) image run.later is) in
-        let all = at-least flushed mid.state first [] more image.store continued some in
+        let all = at-least flushed mid.state first [] more image continued some in
         let enough = all.enough in
         record { count = all.count; enough = omega (arith, few, enough); state = all.state; leads = all.leads; means = all.means }
 
@@ -219,7 +219,7 @@ module _ {D : Type 0} (model : DiskModel D) where
         ∙ ap (λ t. files_after_turns (files_after_turns (files_of model.folder old) (stored_of old) ts) t us) before.stored
         ∙ sym (files-joined (files_of model.folder old) (stored_of old) ts us);
     any_moment = λ h flushed waiting has.
-        subst (λ (l : List Command). LeavesOnly model old.disk new.disk (λ image. AfterPrefix flushed l image.store))
+        subst (λ (l : List Command). LeavesOnly model old.disk new.disk (λ image. MeansPrefix flushed l image))
         (append_assoc waiting (turns_accepted (stored_of old) ts) (turns_accepted (stored_of mid) us)
         ∙ ap (λ l. waiting ++ l) (ap (λ t. turns_accepted (stored_of old) ts ++ turns_accepted t us) before.stored
         ∙ sym (accepted-joined (stored_of old) ts us)))

@@ -2,7 +2,7 @@
 use Rattle.std.specs.Prelude.{◌≡◌, ◌⊎◌, ℕ, ◌+◌, ◌*◌, ◌<◌, ◌≤◌, true, false, List, [], ◌++◌, length, take, Option}
 use Rattle.std.specs.Prelude.{Some, None, Result, Ok, Err}
 use Rattle.conf_session.specs.Prelude.{Appends, Keeps, ClosesOnce, DiskModel, LeavesOnly, Command, Contents}
-use Rattle.conf_session.specs.Prelude.{AfterPrefix, AllImagesMean, HasFlushed, HasGrown, StoreView}
+use Rattle.conf_session.specs.Prelude.{MeansPrefix, AllImagesMean, HasFlushed, HasGrown, StoreView}
 use Rattle.conf_session.specs.{Said.piece_limit, declared.input.Input.Input, Requests.Request, Requests.Asks}
 use Rattle.conf_session.specs.{Runs.TakesUp, Runs.stored_of, declared.groups.Checkpoints.Checkpoints}
 use Rattle.conf_session.specs.{declared.groups.Checkpoints.TheVariants.Asked}
@@ -80,7 +80,7 @@ pub record PerformsTurns {D : Type 0} (model : DiskModel D) (old new : StoreView
   pub any_moment : model.honest → (flushed : Contents) (waiting : List Command)
       → HasFlushed (model.folder old.disk) flushed waiting old.state
       → LeavesOnly model old.disk new.disk
-      (λ image. AfterPrefix flushed (waiting ++ turns_accepted (stored_of old) turns) image.store)
+      (λ image. MeansPrefix flushed (waiting ++ turns_accepted (stored_of old) turns) image)
   pub flushed : model.honest → HasFlushed (model.folder new.disk) new.state [] new.state
   pub now : model.honest → AllImagesMean (model.folder new.disk) new.state
 
@@ -94,7 +94,7 @@ pub record StopsShort {D : Type 0} (model : DiskModel D) (old new : StoreView D)
   pub state : new.state ≡ old.state
   pub any_moment : model.honest → (flushed : Contents) (waiting : List Command)
       → HasFlushed (model.folder old.disk) flushed waiting old.state
-      → LeavesOnly model old.disk new.disk (λ image. AfterPrefix flushed waiting image.store)
+      → LeavesOnly model old.disk new.disk (λ image. MeansPrefix flushed waiting image)
 
 -- how a call ends that only the device can make fail
 abbrev pub OrStops : {D : Type 0} → DiskModel D → StoreView D → StoreView D → Type 0
@@ -200,7 +200,7 @@ pub record BreaksOff {D : Type 0} (model : DiskModel D) (bytes : List ℕ) (limi
   pub any_moment : model.honest → (flushed : Contents) (waiting : List Command)
       → HasFlushed (model.folder old.disk) flushed waiting old.state
       → LeavesOnly model old.disk new.disk
-      (λ image. AfterPrefix flushed (waiting ++ accepted_commands (stored_of old) requests) image.store)
+      (λ image. MeansPrefix flushed (waiting ++ accepted_commands (stored_of old) requests) image)
 
 -- What became of a group before it is flushed, whose bytes are the piece in hand and those after it. Only a checkpoint
 -- flushed something. If memory ran out, the pieces before are performed.

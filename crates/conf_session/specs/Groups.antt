@@ -2,7 +2,7 @@
 use Rattle.std.specs.Prelude.{◌≡◌, ℕ, ◌+◌, ◌*◌, ◌<◌, ◌≤◌, false, List, [], ◌∷◌, ◌++◌, length, take, map, Option, Some}
 use Rattle.std.specs.Prelude.{None, unwrap_or, Result, Err}
 use Rattle.conf_session.specs.Prelude.{Consumes, Keeps, Appends, Folder, bytes_under, Image, IsImage, DiskModel}
-use Rattle.conf_session.specs.Prelude.{LeavesOnly, Store, base_bytes, Command, Contents, AfterPrefix, AllImagesMean}
+use Rattle.conf_session.specs.Prelude.{LeavesOnly, Store, base_bytes, Command, Contents, MeansPrefix, AllImagesMean}
 use Rattle.conf_session.specs.Prelude.{HasFlushed, staged_text, HasGrown, StoreView}
 use Rattle.conf_session.specs.{Requests.Request, declared.fault.SessionFault.SessionFault}
 use Rattle.conf_session.specs.{declared.groups.Checkpoints.Checkpoints, declared.session.Tally.Tally, Streams.Streams}
@@ -169,14 +169,14 @@ pub record RunsGrouped {D : Type 0} (model : DiskModel D) (io : Streams)
   pub any_moment : model.honest → old.reopen ≡ false → (flushed : Contents) (waiting : List Command)
       → HasFlushed (model.folder old.disk) flushed waiting old.state
       → LeavesOnly model old.disk new.disk
-      (λ image. AfterPrefix flushed
-      (waiting ++ turns_accepted (stored_of old) (answered ++ all_asked unanswered)) image.store)
+      (λ image. MeansPrefix flushed
+      (waiting ++ turns_accepted (stored_of old) (answered ++ all_asked unanswered)) image)
   -- and a crash after the session leaves one that has every command that was answered
   pub kept : model.honest → old.reopen ≡ false → (flushed : Contents) (waiting : List Command)
       → HasFlushed (model.folder old.disk) flushed waiting old.state
       → (image : Image) → IsImage (model.folder new.disk) image
       → AfterAtLeast flushed (acknowledged_turns (stored_of old) waiting answered)
-      (waiting ++ turns_accepted (stored_of old) (answered ++ all_asked unanswered)) image.store
+      (waiting ++ turns_accepted (stored_of old) (answered ++ all_asked unanswered)) image
   -- after the session nothing waits
   pub flushed : model.honest → new.reopen ≡ false → HasFlushed (model.folder new.disk) new.state [] new.state
   pub now : model.honest → new.reopen ≡ false → AllImagesMean (model.folder new.disk) new.state

@@ -17,7 +17,7 @@ pub use Rattle.conf_state.specs.States.{Contents, names_of, base_limit}
 pub use Rattle.conf_state.specs.Steps.{and_then, by_path, after}
 pub use Rattle.conf_state.specs.declared.fault.StoreFault.{StoreFault}
 pub use Rattle.conf_store.specs.Calls.{outcome, next_record, tree_named, HasFailed}
-pub use Rattle.conf_store.specs.Durable.{AfterPrefix, AllImagesMean, HasFlushed, staged_text, AllImagesAfterPrefix}
+pub use Rattle.conf_store.specs.Durable.{MeansPrefix, AllImagesMean, HasFlushed, staged_text, AllImagesAfterPrefix}
 pub use Rattle.conf_store.specs.Grown.{HasGrown}
 pub use Rattle.conf_store.specs.View.{StoreView}
 pub use Rattle.std.specs.Io.KnownBytes.{Appends, Keeps, Consumes, IsAtEnd}

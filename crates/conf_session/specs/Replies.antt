@@ -2,7 +2,7 @@
 use Rattle.std.specs.Prelude.{◌≡◌, ◌≤◌, ℕ, true, false, List, [], ◌∷◌, ◌++◌, length, string_bytes, Result, Ok}
 use Rattle.std.specs.Prelude.{Err, IsErrOf}
 use Rattle.conf_session.specs.Prelude.{framed_text_bytes, Folder, bytes_under, DiskModel, LeavesOnly, Store, Command}
-use Rattle.conf_session.specs.Prelude.{Contents, HasFailed, AfterPrefix, HasFlushed, AllImagesAfterPrefix, staged_text}
+use Rattle.conf_session.specs.Prelude.{Contents, HasFailed, MeansPrefix, HasFlushed, AllImagesAfterPrefix, staged_text}
 use Rattle.conf_session.specs.Prelude.{StoreView, StoreFault, ConditionFault}
 use Rattle.conf_session.specs.{declared.fault.SessionFault.SessionFault, Runs.stored_of, declared.words.Refusal.Refusal}
 use Rattle.conf_session.specs.{declared.reply.Reply.Reply}
@@ -74,7 +74,7 @@ pub record Performs {D : Type 0} (model : DiskModel D) (old new : StoreView D)
   pub any_moment : model.honest → (flushed : Contents) (waiting : List Command)
       → HasFlushed (model.folder old.disk) flushed waiting old.state
       → LeavesOnly model old.disk new.disk
-      (λ image. AfterPrefix flushed (waiting ++ accepted_command (stored_of old) request) image.store)
+      (λ image. MeansPrefix flushed (waiting ++ accepted_command (stored_of old) request) image)
   pub waits : model.honest → new.reopen ≡ false → (flushed : Contents) (waiting : List Command)
       → HasFlushed (model.folder old.disk) flushed waiting old.state
       → HasFlushed (model.folder new.disk) (flushed_after false (stored_of old) flushed (request ∷ []))
@@ -92,7 +92,7 @@ pub record PerformsAll {D : Type 0} (model : DiskModel D) (old new : StoreView D
   pub any_moment : model.honest → (flushed : Contents) (waiting : List Command)
       → HasFlushed (model.folder old.disk) flushed waiting old.state
       → LeavesOnly model old.disk new.disk
-      (λ image. AfterPrefix flushed (waiting ++ accepted_commands (stored_of old) requests) image.store)
+      (λ image. MeansPrefix flushed (waiting ++ accepted_commands (stored_of old) requests) image)
   pub waits : model.honest → (flushed : Contents) (waiting : List Command)
       → HasFlushed (model.folder old.disk) flushed waiting old.state
       → HasFlushed (model.folder new.disk) (flushed_after false (stored_of old) flushed requests)

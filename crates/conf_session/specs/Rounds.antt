@@ -1,7 +1,7 @@
 -- What a round has answered and stored, for each of its results.
 use Rattle.std.specs.Prelude.{◌≡◌, ◌⊎◌, ℕ, ◌+◌, false, true, List, [], ◌∷◌, ◌++◌, length, take, map, Result, Ok, Err}
 use Rattle.conf_session.specs.Prelude.{ClosesOnce, bytes_under, DiskModel, LeavesOnly, Store, Command, Contents}
-use Rattle.conf_session.specs.Prelude.{AfterPrefix, AllImagesMean, HasFlushed, staged_text, StoreView}
+use Rattle.conf_session.specs.Prelude.{MeansPrefix, AllImagesMean, HasFlushed, staged_text, StoreView}
 use Rattle.std.specs.declared.vec.Vec.{Vec}
 use Rattle.std.specs.declared.alloc.Global.{Global}
 use Rattle.conf_session.specs.Answers.{answer_bytes as answer_to}
@@ -83,7 +83,7 @@ pub record Rounds {D : Type 0} (model : DiskModel D) (old new : StoreView D) (pi
   pub any_moment : model.honest → old.reopen ≡ false → (flushed : Contents) (waiting : List Command)
       → HasFlushed (model.folder old.disk) flushed waiting old.state
       → LeavesOnly model old.disk new.disk
-      (λ image. AfterPrefix flushed (waiting ++ accepted_commands (stored_of old) requests) image.store)
+      (λ image. MeansPrefix flushed (waiting ++ accepted_commands (stored_of old) requests) image)
 
 -- ---- one piece of a round
 

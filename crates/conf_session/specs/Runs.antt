@@ -3,8 +3,8 @@ use Rattle.std.specs.Prelude.{◌≡◌, ℕ, ◌+◌, ◌*◌, ◌<◌, ◌≤�
 use Rattle.std.specs.Prelude.{option_map, Result, Ok, Err, All}
 use Rattle.conf_session.specs.Prelude.{concat, Consumes, IsAtEnd, Keeps, Appends, ClosesOnce, Pieces, bytes_under}
 use Rattle.conf_session.specs.Prelude.{Image, IsImage, DiskModel, LeavesOnly, Store, Command, Contents, after}
-use Rattle.conf_session.specs.Prelude.{AfterPrefix, HasFlushed, staged_text, StoreView}
-use Rattle.conf_store.specs.Meaning.{FileMeans}
+use Rattle.conf_session.specs.Prelude.{MeansPrefix, HasFlushed, staged_text, StoreView}
+use Rattle.conf_store.specs.Meaning.{ImageMeans}
 use Rattle.conf_store.specs.Staged.{Staged}
 use Rattle.conf_session.specs.{Said.piece_limit, Input.session_limit, Input.IsOverlong}
 use Rattle.conf_session.specs.{declared.fault.SessionFault.SessionFault, Requests.Request, Requests.AllAsk}
@@ -139,13 +139,13 @@ Ends io start answered performed result =
 
 -- ---- a run
 
--- the state after a prefix of the commands that has at least so many of them
-pub record AfterAtLeast (s : Contents) (least : ℕ) (commands : List Command) (store : Option (List ℕ)) : Type 0 where
+-- the image means the state after a prefix of the commands that has at least so many of them
+pub record AfterAtLeast (s : Contents) (least : ℕ) (commands : List Command) (image : Image) : Type 0 where
   pub count : ℕ
   pub enough : least ≤ count
   pub state : Contents
   pub leads : after s (take count commands) ≡ Ok state
-  pub means : FileMeans store state
+  pub means : ImageMeans image state
 
 -- A run from one value of a store to the next. `flushed` is the state that is flushed at its start, and `waiting` are
 -- the commands that were submitted since.
@@ -169,13 +169,13 @@ pub record Runs {D : Type 0} (model : DiskModel D)
   pub any_moment : model.honest → old.reopen ≡ false → (flushed : Contents) (waiting : List Command)
       → HasFlushed (model.folder old.disk) flushed waiting old.state
       → LeavesOnly model old.disk new.disk
-      (λ image. AfterPrefix flushed (waiting ++ accepted_commands (stored_of old) performed) image.store)
+      (λ image. MeansPrefix flushed (waiting ++ accepted_commands (stored_of old) performed) image)
   -- and a crash after the run leaves one that has every command that was answered
   pub kept : model.honest → old.reopen ≡ false → (flushed : Contents) (waiting : List Command)
       → HasFlushed (model.folder old.disk) flushed waiting old.state
       → (image : Image) → IsImage (model.folder new.disk) image
       → AfterAtLeast flushed (acknowledged (stored_of old) waiting answered)
-      (waiting ++ accepted_commands (stored_of old) performed) image.store
+      (waiting ++ accepted_commands (stored_of old) performed) image
   -- what is flushed after the run, and what waits
   pub waits : model.honest → new.reopen ≡ false → (flushed : Contents) (waiting : List Command)
       → HasFlushed (model.folder old.disk) flushed waiting old.state

@@ -1,6 +1,6 @@
 -- What holds of answers when they are handed out.
 use Rattle.std.specs.Prelude.{◌≡◌, ℕ, false, List, [], ◌++◌, length, Option}
-use Rattle.conf_session.specs.Prelude.{Appends, Image, IsImage, DiskModel, LeavesOnly, Command, AfterPrefix}
+use Rattle.conf_session.specs.Prelude.{Appends, Image, IsImage, DiskModel, LeavesOnly, Command, MeansPrefix}
 use Rattle.conf_session.specs.Prelude.{AllImagesMean, HasFlushed, StoreView}
 use Rattle.conf_session.specs.{Answers.Stored, Runs.AfterAtLeast, Runs.stored_of}
 use Rattle.conf_session.specs.Groups.{Turn, stored_after_turns, turns_accepted, turns_output}
@@ -37,7 +37,7 @@ abbrev pub HasAll : {D : Type 0} {model : DiskModel D} {taken : Option (List ℕ
     → AreAcknowledged model taken store bytes → List Command → Image → Type 0
 HasAll told further image =
     AfterAtLeast told.start.state (length (turns_accepted told.start told.turns))
-    (turns_accepted told.start told.turns ++ further) image.store
+    (turns_accepted told.start told.turns ++ further) image
 
 -- What follows for bytes that are handed out: no crash takes back a command that was accepted up to them.
 pub record NoneIsTakenBack {D : Type 0} (model : DiskModel D) : Type 0 where
@@ -48,5 +48,5 @@ pub record NoneIsTakenBack {D : Type 0} (model : DiskModel D) : Type 0 where
   -- a crash while further commands are performed, of which it leaves a prefix
   pub later : (taken : Option (List ℕ)) (store : StoreView D) (bytes : List ℕ)
       (told : AreAcknowledged model taken store bytes) (disk : D) (further : List Command)
-      → LeavesOnly model store.disk disk (λ image. AfterPrefix store.state further image.store)
+      → LeavesOnly model store.disk disk (λ image. MeansPrefix store.state further image)
       → LeavesOnly model store.disk disk (HasAll told further)

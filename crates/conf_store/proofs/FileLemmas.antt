@@ -4,7 +4,7 @@ use Rattle.std.specs.Prelude.{ℕ, Bool, List, get_or, Option, Some, None, IsSom
 use Rattle.conf_store.proofs.Prelude.{false≢true, File, empty_file, file_bytes, Folder, bytes_at, bytes_under, Image, IsImage, image_now}
 use Rattle.conf_store.proofs.Prelude.{synced_file, ReadingIsAnImage, DiskModel, LeavesOnly, TimeGoesOn, DiskFault, Store, LeavesOnly-weaker}
 use Rattle.conf_store.proofs.Prelude.{LeavesOnly-joined, LeavesOnly-now, LeavesOnly-same, HoldsStore, OnlyHeldIsLeft, file_at, IsStoreOf}
-use Rattle.conf_store.proofs.Prelude.{LeavesStoreOr, Contents, base_bytes}
+use Rattle.conf_store.proofs.Prelude.{LeavesStoreOr, Contents, base_bytes, several_waited}
 use Rattle.conf_store.specs.{Faults.open_fault, Staged.Staged, Staged.staged_length, Durable.IsHeld, Durable.IsStaging, Durable.staged_text}
 use Rattle.conf_store.specs.{Opens.IsFound, declared.fault.OpenFault.OpenFault, declared.fault.OpenFault.TheVariants.Device}
 use Rattle.conf_store.specs.Files.{HasLength, FilesStay, IsNewBase, IsOldOrBase, LeavesOldOrBase}
@@ -38,6 +38,10 @@ staging-length folder s (Some staged) is some =
 
 -- ---- nothing is written
 
+-- an image is one with its own store and note
+pub own-store : (folder : Folder) (image : Image) → IsImage folder image → IsStoreOf folder image
+own-store folder image is = record { left = image; is = is; same = refl; noted = refl }
+
 -- a run that leaves only old images and reads as before
 pub files-stay : {D : Type 0} (model : DiskModel D) (old new : D)
     → ((t : ℕ) (image : Image) → t ≤ model.moment new → IsImage (model.folder new) image → model.left new t image)
@@ -62,19 +66,20 @@ pub images-old : {D : Type 0} (model : DiskModel D) (old new : D)
     → LeavesOnly model old new (IsImage (model.folder old)) → LeavesOldOrBase model old new
 images-old model old new run =
     LeavesOnly-weaker model old new (IsImage (model.folder old))
-    (λ image. IsStoreOf (model.folder old) image.store ⊎ IsNewBase (bytes_under (model.folder old) Store) image.store) run
-    (λ image is. inl (record { image = image; is = is; same = refl }))
+    (λ image. IsStoreOf (model.folder old) image
+    ⊎ IsNewBase (several_waited (model.folder old)) (bytes_under (model.folder old) Store) image.store) run
+    (λ image is. inl (own-store (model.folder old) image is))
 
 -- where a base is written, the file is missing or has bytes after its last closing line
-pub not-needed : (store : Option (List ℕ)) (s : Contents) (records dropped : ℕ) (size : Option ℕ)
-    → IsFound store s records dropped size → size ≡ None → dropped ≡ 0 → IsSome store → ⊥
-not-needed None s records dropped size found is none some = absurd (false≢true some)
-not-needed (Some bytes) s records dropped size found is none some = ⊎_elim (λ e. cc e) (λ other. other none) (found.staged is)
+pub not-needed : (several : Bool) (store : Option (List ℕ)) (s : Contents) (records dropped : ℕ) (size : Option ℕ)
+    → IsFound several store s records dropped size → size ≡ None → dropped ≡ 0 → IsSome store → ⊥
+not-needed several None s records dropped size found is none some = absurd (false≢true some)
+not-needed several (Some bytes) s records dropped size found is none some = ⊎_elim (λ e. cc e) (λ other. other none) (found.staged is)
 
 -- where the file stays as it is, it is there and ends with a closing line
-pub kept-as-it-is : (store : Option (List ℕ)) (s : Contents) (records dropped n : ℕ) (size : Option ℕ)
-    → IsFound store s records dropped size → size ≡ Some n → (store ≡ None) ⊎ (dropped ≢ 0) → ⊥
-kept-as-it-is store s records dropped n size found is needed =
+pub kept-as-it-is : (several : Bool) (store : Option (List ℕ)) (s : Contents) (records dropped n : ℕ) (size : Option ℕ)
+    → IsFound several store s records dropped size → size ≡ Some n → (store ≡ None) ⊎ (dropped ≢ 0) → ⊥
+kept-as-it-is several store s records dropped n size found is needed =
     let stays = found.stays n is in
     ⊎_elim (λ none. let both : Some stays.1 ≡ None = sym stays.2 ∙ none in cc both) (λ some. some stays.0) needed
 
@@ -85,11 +90,11 @@ disk-memory disk.OutOfMemory reason is some = refl
 
 -- ---- a base is written
 
-new-base : (store file : Option (List ℕ)) (s : Contents) (records dropped : ℕ) (size : Option ℕ)
-    → IsFound store s records dropped size → size ≡ None → file ≡ Some (base_bytes s) → IsNewBase store file
-new-base store file s records dropped size found is same = record {
+new-base : (several : Bool) (store file : Option (List ℕ)) (s : Contents) (records dropped : ℕ) (size : Option ℕ)
+    → IsFound several store s records dropped size → size ≡ None → file ≡ Some (base_bytes s) → IsNewBase several store file
+new-base several store file s records dropped size found is same = record {
   state = s;
-  means = found-means store s records dropped size found;
+  means = found-means several store s records dropped size found;
   records = records;
   dropped = dropped;
   recovers = found.recovers;
@@ -97,38 +102,39 @@ new-base store file s records dropped size found is same = record {
   is = same;
 }
 
--- an image of the loaded folder has the store that was read, which is an old one
-pub loaded-old : ReadingIsAnImage → OnlyHeldIsLeft → (entry now : Folder)
-    → HoldsStore now (option_map synced_file (bytes_under entry Store)) → (store : Option (List ℕ))
-    → IsStoreOf now store → IsStoreOf entry store
-loaded-old reading only entry now holds store is = record {
-  image = image_now entry;
-  is = reading entry;
-  same = sym (only now (bytes_under entry Store) store holds is);
-}
+-- a store of a folder that has no other images than the entry is an old one
+pub loaded-old : (entry now : Folder) → ((image : Image) → IsImage now image → IsImage entry image)
+    → (image : Image) → IsStoreOf now image → IsStoreOf entry image
+loaded-old entry now shrinks image is =
+    record { left = is.left; is = shrinks is.left is.is; same = is.same; noted = is.noted }
 
-module _ {D : Type 0} (model : DiskModel D) (old mid new : D)
-    (reading : ReadingIsAnImage) (only : OnlyHeldIsLeft)
-    (s : Contents) (records dropped : ℕ) (size : Option ℕ)
-    (found : IsFound (bytes_under (model.folder old) Store) s records dropped size) (is : size ≡ None)
-    (holds : HoldsStore (model.folder mid) (option_map synced_file (bytes_under (model.folder old) Store)))
+module _ {D : Type 0} (model : DiskModel D) (old mid new : D) (s : Contents) (records dropped : ℕ) (size : Option ℕ)
+    (found : IsFound (several_waited (model.folder old)) (bytes_under (model.folder old) Store) s records dropped size) (is : size ≡ None)
     (writes : LeavesStoreOr model (Some (base_bytes s)) mid new) where
+  abbrev pub note : Bool
+  note = several_waited (model.folder old)
+
+  abbrev pub file : Option (List ℕ)
+  file = bytes_under (model.folder old) Store
+
   -- after `old` was loaded, a run that leaves the store or the base
-  pub base-leaves : LeavesOnly model old mid (IsImage (model.folder old)) → LeavesOldOrBase model old new
-  base-leaves loads =
+  pub base-leaves : ((image : Image) → IsImage (model.folder mid) image → IsImage (model.folder old) image)
+      → LeavesOnly model old mid (IsImage (model.folder old)) → LeavesOldOrBase model old new
+  base-leaves shrinks loads =
       LeavesOnly-joined model old mid new (IsImage (model.folder old))
-      (λ image. IsStoreOf (model.folder mid) image.store ⊎ (image.store ≡ Some (base_bytes s)))
-      (λ image. IsStoreOf (model.folder old) image.store ⊎ IsNewBase (bytes_under (model.folder old) Store) image.store) loads writes
-      (λ image was. inl (record { image = image; is = was; same = refl }))
-      (λ image. ⊎_elim (λ was. inl (loaded-old reading only (model.folder old) (model.folder mid) holds image.store was))
-      (λ same. inr (new-base (bytes_under (model.folder old) Store) image.store s records dropped size found is same)))
+      (λ image. IsStoreOf (model.folder mid) image ⊎ (image.store ≡ Some (base_bytes s)))
+      (λ image. IsStoreOf (model.folder old) image ⊎ IsNewBase note file image.store) loads writes
+      (λ image was. inl (own-store (model.folder old) image was))
+      (λ image. ⊎_elim (λ was. inl (loaded-old (model.folder old) (model.folder mid) shrinks image was))
+      (λ same. inr (new-base note file image.store s records dropped size found is same)))
 
   -- what is read then
-  pub base-reads : ((t : ℕ) (image : Image) → t ≤ model.moment new → IsImage (model.folder new) image
-      → model.left new t image) → IsOldOrBase (bytes_under (model.folder old) Store) (bytes_under (model.folder new) Store)
-  base-reads counts =
+  pub base-reads : ReadingIsAnImage → OnlyHeldIsLeft → HoldsStore (model.folder mid) (option_map synced_file file)
+      → ((t : ℕ) (image : Image) → t ≤ model.moment new → IsImage (model.folder new) image → model.left new t image)
+      → IsOldOrBase note file (bytes_under (model.folder new) Store)
+  base-reads reading only holds counts =
       let image = image_now (model.folder new) in
-      ⊎_elim (λ was. inl (only (model.folder mid) (bytes_under (model.folder old) Store) image.store holds was))
-      (λ same. inr (new-base (bytes_under (model.folder old) Store) image.store s records dropped size found is same))
-      (LeavesOnly-now model mid new (λ (i : Image). IsStoreOf (model.folder mid) i.store
+      ⊎_elim (λ was. inl (only (model.folder mid) file image holds was))
+      (λ same. inr (new-base note file image.store s records dropped size found is same))
+      (LeavesOnly-now model mid new (λ (i : Image). IsStoreOf (model.folder mid) i
       ⊎ (i.store ≡ Some (base_bytes s))) counts writes image (reading (model.folder new)))

@@ -1,6 +1,6 @@
 -- How long the base at the start of a file is, and by how much the file has grown.
 use Rattle.std.proofs.Common.{◌≡◌, refl, sym, ◌∙◌, ap, subst, arith, append_assoc, length-append, take-append-drop}
-use Rattle.std.specs.Prelude.{ℕ, ◌-◌, List, [], ◌++◌, length, take, drop, Option, Some, None}
+use Rattle.std.specs.Prelude.{ℕ, ◌-◌, Bool, List, [], ◌++◌, length, take, drop, Option, Some, None}
 use Rattle.conf_store.proofs.Prelude.{append-nil, length-take-le, All-head, ClosesOnce, PieceBetween, IsNextClosing, StartsLine, Folder}
 use Rattle.conf_store.proofs.Prelude.{Tells, bytes_under, Missing, Next, file_with_bytes, store_limit, Contents, IsBase}
 use Rattle.conf_store.specs.{Accepting.IsBaseOf, Durable.staged_text, Files.HasLength, Opens.IsFound, Staged.Staged, Staged.with_more}
@@ -70,10 +70,10 @@ file-more None more base starts = absurd starts
 file-more (Some bytes) more base starts = starts-more bytes more base starts
 
 -- a file that is there and stays as it is
-pub found-base : (file : Option (List ℕ)) (s : Contents) (records dropped n : ℕ) (size : Option ℕ) (base : ℕ)
-    → IsFound file s records dropped size → size ≡ Some n → FoundBase file base → FileStartsWithBase file base
-found-base None s records dropped n size base found is starts = (let stays = found.stays n is in absurd (cc stays.2))
-found-base (Some bytes) s records dropped n size base found is starts = starts
+pub found-base : (several : Bool) (file : Option (List ℕ)) (s : Contents) (records dropped n : ℕ) (size : Option ℕ) (base : ℕ)
+    → IsFound several file s records dropped size → size ≡ Some n → FoundBase file base → FileStartsWithBase file base
+found-base several None s records dropped n size base found is starts = (let stays = found.stays n is in absurd (cc stays.2))
+found-base several (Some bytes) s records dropped n size base found is starts = starts
 
 -- ---- the new file of a checkpoint
 

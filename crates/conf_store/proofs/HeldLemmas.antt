@@ -1,25 +1,42 @@
 -- What an open store has on its disk, with commands that wait for a flush, and what a crash leaves of it.
 use Rattle.std.proofs.Common.{◌≡◌, ◌⊎◌, inl, inr, refl, sym, ◌∙◌, ap, subst, arith, ◌≤◌, append_assoc, length-append}
-use Rattle.std.specs.Prelude.{ℕ, zero, suc, false, ◌+◌, Bool, List, [], ◌∷◌, ◌++◌, length, take, Option, Some, None, option_map, Ok}
+use Rattle.std.specs.Prelude.{ℕ, zero, suc, true, false, ◌+◌, ◌||◌, Bool, List, [], ◌∷◌, ◌++◌, length, take, Option, Some, None}
+use Rattle.std.specs.Prelude.{option_map, Ok}
 use Rattle.conf_store.proofs.Prelude.{append-nil, take-append-le, take_all, All-nil, cases_lt, ClosesOnce, Pieces, File, Folder}
-use Rattle.conf_store.proofs.Prelude.{with_pending, synced_whole, synced_file, HoldsStore, IsLeftOf, HeldIsLeft, IsStoreOf, store_limit}
+use Rattle.conf_store.proofs.Prelude.{with_pending, synced_whole, synced_file, HoldsStore, IsLeftOf, IsLeftNoted, HeldIsNoted, IsStoreOf}
+use Rattle.conf_store.proofs.Prelude.{Image, IsWorn, Zeroed, several_waited, several_after, any_bytes, file_at, store_limit}
 use Rattle.conf_store.proofs.Prelude.{Command, Contents, step, after, after-count, Enough, OnePieces, OneBase, OneRecord, IsRecord}
-use Rattle.conf_store.proofs.Prelude.{RecordsTear, RecordsClose, record_pieces, records_bytes, record_bytes}
-use Rattle.conf_store.specs.Meaning.{AreRecords, PiecesMean, FileMeans}
+use Rattle.conf_store.proofs.Prelude.{RecordsClose, record_pieces, records_bytes, record_bytes}
+use Rattle.conf_store.specs.Meaning.{AreRecords, PiecesMean, FileMeans, ImageMeans}
 use Rattle.conf_store.specs.Durable.{IsWholeStore, IsJournal, HasFlushed, IsHeld, IsDurable, AllImagesMean, AfterPrefix}
-use Rattle.conf_store.specs.Durable.{AllImagesAfterPrefix, OneFlushed, NothingWaits}
+use Rattle.conf_store.specs.Durable.{AllImagesAfterPrefix, HolesMean, IsNoted, MeansPrefix, OneFlushed, NothingWaits}
 use Rattle.conf_store.proofs.PieceLemmas.{pieces-joined, pieces-one, no_closing}
 use Rattle.conf_store.proofs.MeaningLemmas.{records-joined, after-joined, after-done, pieces-mean-more, pieces-mean-one, one-list}
-use Rattle.conf_store.proofs.MeaningLemmas.{journal-left, ok-same}
+use Rattle.conf_store.proofs.MeaningLemmas.{ok-same}
 
 -- ---- what a crash leaves
 
+-- what a crash leaves of pending bytes is the same relation as that of the laws on zeros
+worn-zeroed : (pending left : List ℕ) → IsWorn pending left → Zeroed pending left
+worn-zeroed pending [] worn = tt
+worn-zeroed [] (b ∷ left) worn = absurd worn
+worn-zeroed (p ∷ pending) (b ∷ left) worn = (worn.0, worn-zeroed pending left worn.1)
+
 -- of a file that is a journal
-pub journal-images : RecordsTear → (file : File) (flushed s : Contents) (since : List Command)
-    → IsJournal file flushed since s → (store : Option (List ℕ)) → IsLeftOf (Some file) store
-    → AfterPrefix flushed since store
-journal-images tear file flushed s since journal None left = absurd left
-journal-images tear file flushed s since journal (Some torn) left = journal-left tear file flushed s since torn journal left
+pub journal-images : HolesMean → (several : Bool) (file : File) (flushed s : Contents) (since : List Command)
+    → IsJournal file flushed since s → IsNoted several since → (store : Option (List ℕ)) → IsLeftOf (Some file) store
+    → AfterPrefix several flushed since store
+journal-images holes several file flushed s since journal noted None left = absurd left
+journal-images holes several file flushed s since journal noted (Some torn) left =
+    subst (λ b. AfterPrefix several flushed since (Some b)) (sym left.is)
+    (holes several file flushed s since left.left journal noted (worn-zeroed file.pending left.left left.worn))
+
+-- of a file that is a journal, and its note
+pub noted-images : HolesMean → (several : Bool) (file : File) (flushed s : Contents) (since : List Command)
+    → IsJournal file flushed since s → IsNoted several since → (image : Image) → IsLeftNoted several (Some file) image
+    → MeansPrefix flushed since image
+noted-images holes several file flushed s since journal noted image is =
+    journal-images holes image.several file flushed s since journal (λ quiet. noted (is.noted quiet)) image.store is.left
 
 -- the file that every stage has is the one of the last stage
 pub held-journal : (folder : Folder) (s : Contents) (size : ℕ) (waits : Bool) → (held : IsHeld folder s size waits)
@@ -33,22 +50,24 @@ held-journal folder s size waits held flushed since has =
 -- and what is flushed can be found
 pub held-flushed : (folder : Folder) (s : Contents) (size : ℕ) (waits : Bool) → (held : IsHeld folder s size waits)
     → HasFlushed folder held.flushed held.since s
-held-flushed folder s size waits held = record { file = held.file; is = held.holds.is; journal = held.journal }
+held-flushed folder s size waits held = record { file = held.file; is = held.holds.is; journal = held.journal; noted = held.noted }
 
 -- a crash leaves the state after a prefix of what was submitted
-pub held-images : HeldIsLeft → RecordsTear → (folder : Folder) (s : Contents) (size : ℕ) (waits : Bool)
+pub held-images : HeldIsNoted → HolesMean → (folder : Folder) (s : Contents) (size : ℕ) (waits : Bool)
     → IsHeld folder s size waits → (flushed : Contents) (since : List Command)
     → HasFlushed folder flushed since s → AllImagesAfterPrefix folder flushed since
-held-images left tear folder s size waits held flushed since has image is =
-    journal-images tear held.file flushed s since
-    (held-journal folder s size waits held flushed since has) image.store (left folder (Some held.file) held.holds image is)
+held-images left holes folder s size waits held flushed since has image is =
+    noted-images holes (several_waited folder) held.file flushed s since (held-journal folder s size waits held flushed since has) has.noted
+    image (left folder (Some held.file) held.holds image is)
 
 -- the same of a store that some image has
-pub held-stores : HeldIsLeft → RecordsTear → (folder : Folder) (s : Contents) (size : ℕ) (waits : Bool)
+pub held-stores : HeldIsNoted → HolesMean → (folder : Folder) (s : Contents) (size : ℕ) (waits : Bool)
     → IsHeld folder s size waits → (flushed : Contents) (since : List Command)
-    → HasFlushed folder flushed since s → (store : Option (List ℕ)) → IsStoreOf folder store → AfterPrefix flushed since store
-held-stores left tear folder s size waits held flushed since has store is =
-    subst (AfterPrefix flushed since) is.same (held-images left tear folder s size waits held flushed since has is.image is.is)
+    → HasFlushed folder flushed since s → (image : Image) → IsStoreOf folder image → MeansPrefix flushed since image
+held-stores left holes folder s size waits held flushed since has image is =
+    subst (λ several. AfterPrefix several flushed since image.store) is.noted
+    (subst (AfterPrefix is.left.several flushed since) is.same
+    (held-images left holes folder s size waits held flushed since has is.left is.is))
 
 -- ---- where nothing was submitted since
 
@@ -58,21 +77,26 @@ take-nothing (suc k) = refl
 
 -- the state after a prefix of no commands is the state
 pub after-nothing : NothingWaits
-after-nothing s store some =
+after-nothing several s store some =
     let leads : after s [] ≡ Ok some.state = ap (after s) (sym (take-nothing some.count)) ∙ some.leads in
-    subst (FileMeans store) (sym (ok-same s some.state (Ok s) refl leads)) some.means
+    subst (FileMeans several store) (sym (ok-same s some.state (Ok s) refl leads)) some.means
 
 -- whatever a crash leaves means the state
-pub held-means : HeldIsLeft → RecordsTear → (folder : Folder) (s : Contents) (size : ℕ) (waits : Bool)
+pub held-means : HeldIsNoted → HolesMean → (folder : Folder) (s : Contents) (size : ℕ) (waits : Bool)
     → IsHeld folder s size waits → waits ≡ false → AllImagesMean folder s
-held-means left tear folder s size waits held quiet image is =
+held-means left holes folder s size waits held quiet image is =
     let none = held.none quiet in
     let leads : after held.flushed [] ≡ Ok s = ap (after held.flushed) (sym none) ∙ held.journal.leads in
     let same : held.flushed ≡ s = ok-same held.flushed s (Ok held.flushed) refl leads in
-    subst (FileMeans image.store) same
-    (after-nothing held.flushed image.store
-    (subst (λ cs. AfterPrefix held.flushed cs image.store) none
-    (journal-images tear held.file held.flushed s held.since held.journal image.store (left folder (Some held.file) held.holds image is))))
+    subst (ImageMeans image) same
+    (after-nothing image.several held.flushed image.store
+    (subst (λ cs. MeansPrefix held.flushed cs image) none
+    (noted-images holes (several_waited folder) held.file held.flushed s held.since held.journal held.noted image
+    (left folder (Some held.file) held.holds image is))))
+
+-- of no commands nothing has to be noted
+pub none-noted : (several : Bool) → let none : List Command = [] in IsNoted several none
+none-noted several quiet = omega arith
 
 -- a journal without pending records
 pub journal-synced : (bytes : List ℕ) (s : Contents) → IsWholeStore bytes s → length bytes ≤ store_limit
@@ -89,6 +113,7 @@ durable-held folder s size waits durable = record {
   journal = journal-synced durable.bytes s durable.whole (omega (arith, durable.long, durable.short));
   long = omega (arith, durable.long);
   none = λ quiet. refl;
+  noted = none-noted (several_waited folder);
 }
 
 -- ---- one command more
@@ -135,31 +160,32 @@ journal-more file flushed s end since command more journal is reads done short =
     }
 
 -- the state after a prefix of one command more: after a prefix of the others, or after all
-pub prefix-last : (flushed end : Contents) (since : List Command) (command : Command) (store : Option (List ℕ))
-    → after flushed (since ++ command ∷ []) ≡ Ok end
-    → AfterPrefix flushed (since ++ command ∷ []) store → AfterPrefix flushed since store ⊎ FileMeans store end
-prefix-last flushed end since command store leads some = elim (cases_lt (length since) some.count) [
+pub prefix-last : (several : Bool) (flushed end : Contents) (since : List Command) (command : Command) (store : Option (List ℕ))
+    → after flushed (since ++ command ∷ []) ≡ Ok end → AfterPrefix several flushed (since ++ command ∷ []) store
+    → AfterPrefix several flushed since store ⊎ FileMeans several store end
+prefix-last several flushed end since command store leads some = elim (cases_lt (length since) some.count) [
   | inl all ↦
       let whole : take some.count (since ++ command ∷ []) ≡ since ++ command ∷ [] =
       take_all some.count (since ++ command ∷ []) (omega (arith, all, length-append since (command ∷ []))) in
       let here : after flushed (since ++ command ∷ []) ≡ Ok some.state = ap (after flushed) (sym whole) ∙ some.leads in
-      inr (subst (FileMeans store) (ok-same some.state end (after flushed (since ++ command ∷ [])) here leads) some.means)
+      inr (subst (FileMeans several store) (ok-same some.state end (after flushed (since ++ command ∷ [])) here leads) some.means)
   | inr few ↦
       let fewer : take some.count (since ++ command ∷ []) ≡ take some.count since =
       take-append-le some.count since (command ∷ []) (omega (arith, few)) in
       inl (record { count = some.count; state = some.state; leads = ap (after flushed) (sym fewer) ∙ some.leads; means = some.means })
 ]
 
-pub prefix-more : (flushed s end : Contents) (since : List Command) (command : Command) (store : Option (List ℕ))
-    → after flushed since ≡ Ok s → step s command Enough ≡ Ok end
-    → AfterPrefix flushed (since ++ command ∷ []) store → AfterPrefix flushed since store ⊎ FileMeans store end
-prefix-more flushed s end since command store leads done =
-    prefix-last flushed end since command store (after-joined flushed s end since (command ∷ []) leads (after-done s end command done))
+pub prefix-more : (several : Bool) (flushed s end : Contents) (since : List Command) (command : Command) (store : Option (List ℕ))
+    → after flushed since ≡ Ok s → step s command Enough ≡ Ok end → AfterPrefix several flushed (since ++ command ∷ []) store
+    → AfterPrefix several flushed since store ⊎ FileMeans several store end
+prefix-more several flushed s end since command store leads done =
+    prefix-last several flushed end since command store (after-joined flushed s end since (command ∷ []) leads
+    (after-done s end command done))
 
 -- the same the other way round
-pub prefix-longer : (flushed : Contents) (since more : List Command) (store : Option (List ℕ))
-    → AfterPrefix flushed since store → AfterPrefix flushed (since ++ more) store
-prefix-longer flushed since more store some = elim (cases_lt (length since) some.count) [
+pub prefix-longer : (flushed : Contents) (since more : List Command) (image : Image) → MeansPrefix flushed since image
+    → MeansPrefix flushed (since ++ more) image
+prefix-longer flushed since more image some = elim (cases_lt (length since) some.count) [
   | inl all ↦
       let whole : take some.count since ≡ since = take_all some.count since (omega (arith, all)) in
       let upto : take (length since) (since ++ more) ≡ since = take-append-le (length since) since more (omega arith)
@@ -170,16 +196,64 @@ prefix-longer flushed since more store some = elim (cases_lt (length since) some
       record { count = some.count; state = some.state; leads = ap (after flushed) fewer ∙ some.leads; means = some.means }
 ]
 
+-- ---- the note of an append
+
+some-bytes : (bytes : List ℕ) → ClosesOnce bytes → bytes ≡ [] → ⊥
+some-bytes bytes closes none = absurd (let end = closes.closes.ends in omega (arith, end, ap length none))
+
+-- where no bytes are pending, no command waits
+none-pending : RecordsClose → (file : File) (flushed s : Contents) (since : List Command) → IsJournal file flushed since s
+    → file.pending ≡ [] → since ≡ []
+none-pending close file flushed s [] journal none = refl
+none-pending close file flushed s (c ∷ cs) journal none =
+    absurd (some-bytes (record_bytes c (flushed.count + 1)) (close c (flushed.count + 1))
+    (front-none (record_bytes c (flushed.count + 1)) (records_bytes (flushed.count + 1) cs) (sym journal.pending ∙ none)))
+  where
+    front-none : (a b : List ℕ) → a ++ b ≡ [] → a ≡ []
+    front-none [] b e = refl
+    front-none (x ∷ xs) b e = absurd (cc e)
+
+none-waits : (several : Bool) (file : File) → several_after several (Some file) ≡ false → file.pending ≡ []
+none-waits several file quiet = by several file.pending quiet
+  where
+    by : (noted : Bool) (pending : List ℕ) → (noted || any_bytes pending) ≡ false → pending ≡ []
+    by noted [] e = refl
+    by true (b ∷ bs) e = absurd (cc e)
+    by false (b ∷ bs) e = absurd (cc e)
+
+-- a record that is appended behind pending bytes is noted
+pub append-noted : RecordsClose → (several : Bool) (file : File) (flushed s : Contents) (since : List Command) (command : Command)
+    → IsJournal file flushed since s → IsNoted (several_after several (Some file)) (since ++ command ∷ [])
+append-noted close several file flushed s since command journal quiet =
+    let none : since ≡ [] = none-pending close file flushed s since journal (none-waits several file quiet) in
+    omega (arith, length-append since (command ∷ []), ap length none)
+
+-- the same of the folder after it
+pub appended-noted : RecordsClose → (old new : Folder) (file : File) (flushed s : Contents) (since : List Command) (command : Command)
+    → several_waited new ≡ several_after (several_waited old) (file_at old.files old.now.store)
+    → file_at old.files old.now.store ≡ Some file → IsJournal file flushed since s
+    → IsNoted (several_waited new) (since ++ command ∷ [])
+appended-noted close old new file flushed s since command note is journal =
+    let noted : several_waited new ≡ several_after (several_waited old) (Some file) =
+    note ∙ ap (several_after (several_waited old)) is in
+    subst (λ several. IsNoted several (since ++ command ∷ [])) (sym noted)
+    (append-noted close (several_waited old) file flushed s since command journal)
+
 -- what a crash leaves while a record is appended
-pub appended-left : RecordsTear → (file : File) (flushed s end : Contents) (since : List Command) (command : Command)
-    (more : List ℕ) → IsJournal file flushed since s → more ≡ record_bytes command (s.count + 1)
-    → IsRecord more command (s.count + 1) → step s command Enough ≡ Ok end
+pub appended-left : HolesMean → RecordsClose → (several : Bool) (file : File) (flushed s end : Contents) (since : List Command)
+    (command : Command) (more : List ℕ) → IsJournal file flushed since s → IsNoted several since
+    → more ≡ record_bytes command (s.count + 1) → IsRecord more command (s.count + 1) → step s command Enough ≡ Ok end
     → length file.synced + length file.pending + length more ≤ store_limit
-    → (store : Option (List ℕ)) → IsLeftOf (Some (with_pending more file)) store → AfterPrefix flushed since store ⊎ FileMeans store end
-appended-left tear file flushed s end since command more journal is reads done short store left =
-    prefix-more flushed s end since command store journal.leads done
-    (journal-images tear (with_pending more file) flushed end (since ++ command ∷ [])
-    (journal-more file flushed s end since command more journal is reads done short) store left)
+    → (image : Image) → IsLeftNoted several (Some file) image
+    ⊎ IsLeftNoted (several_after several (Some file)) (Some (with_pending more file)) image
+    → MeansPrefix flushed since image ⊎ ImageMeans image end
+appended-left holes close several file flushed s end since command more journal noted is reads done short image (inl left) =
+    inl (noted-images holes several file flushed s since journal noted image left)
+appended-left holes close several file flushed s end since command more journal noted is reads done short image (inr left) =
+    prefix-more image.several flushed s end since command image.store journal.leads done
+    (noted-images holes (several_after several (Some file)) (with_pending more file) flushed end (since ++ command ∷ [])
+    (journal-more file flushed s end since command more journal is reads done short)
+    (append-noted close several file flushed s since command journal) image left)
 
 -- ---- all is flushed
 

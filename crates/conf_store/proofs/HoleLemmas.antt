@@ -1,9 +1,9 @@
 -- Pieces that mean a state have no zero, so what comes before the first one with a zero is one list.
-use Rattle.std.proofs.Common.{◌≡◌, refl, sym, ◌∙◌, ap, subst}
+use Rattle.std.proofs.Common.{◌≡◌, inl, refl, sym, ◌∙◌, ap, subst}
 use Rattle.std.specs.Prelude.{ℕ, ◌+◌, true, false, List, [], ◌∷◌, ◌++◌}
 use Rattle.conf_store.proofs.Prelude.{All, All-nil, All-cons, All-head, All-tail, false≢true, NoZeroByte, no_zero, StartsWithHole}
 use Rattle.conf_store.proofs.Prelude.{Command, Contents, IsRecord, IsBase, IsNoRecord}
-use Rattle.conf_store.specs.Meaning.{AreRecords, PiecesMean}
+use Rattle.conf_store.specs.Meaning.{AreRecords, PiecesMean, Means}
 
 abbrev Clean : List ℕ → Type 0
 Clean piece = no_zero piece ≡ true
@@ -86,3 +86,18 @@ means-longer law ps qs os ts bad s mean clean =
 pub same-others : (ps os ts : List (List ℕ)) → ps ++ os ≡ ps ++ ts → os ≡ ts
 same-others [] os ts e = e
 same-others (p ∷ ps) os ts e = same-others ps os ts (cc e)
+
+-- ---- with the note and without it
+
+-- what means a state without the note means it with the note
+pub noted-means : (bytes : List ℕ) (s : Contents) → Means false bytes s → Means true bytes s
+noted-means bytes s m = record {
+  short = m.short;
+  pieces = m.pieces;
+  others = m.others;
+  rest = m.rest;
+  cut = m.cut;
+  mean = m.mean;
+  hole = m.hole;
+  lost = inl refl;
+}

@@ -1,12 +1,12 @@
--- What is left of the record of one command that waits, with zeros in any places.
-use Rattle.std.proofs.Common.{◌≡◌, refl, sym, ap, subst, arith, ◌≤◌, append_assoc, length-append}
-use Rattle.std.specs.Prelude.{ℕ, ◌+◌, Bool, true, false, List, [], ◌∷◌, ◌++◌, length, take, Contains}
+-- What is left of the records of commands that wait, with zeros in any places.
+use Rattle.std.proofs.Common.{◌≡◌, inl, inr, refl, sym, ap, subst, arith, ◌≤◌, append_assoc, length-append}
+use Rattle.std.specs.Prelude.{ℕ, suc, ◌+◌, Bool, true, false, List, [], ◌∷◌, ◌++◌, length, take, Contains}
 use Rattle.conf_store.proofs.Prelude.{All, All-nil, All-cons, All-head, All-tail, ClosesOnce, Pieces, SomePieces}
 use Rattle.conf_store.proofs.Prelude.{Command, IsNoRecord, RecordsClose, record_pieces, record_bytes}
 use Rattle.conf_store.proofs.Prelude.{NoZeroByte, no_zero, StartsWithHole}
 use Rattle.std.proofs.lemmas.List.Elements.{All-weaker}
 use Rattle.yaml_recognizers.specs.Zeroed.{AreLeft, HoleAfter, HolesAfter, WholeBehind, Zeroed}
-use Rattle.conf_store.specs.Durable.{HolesMean}
+use Rattle.conf_store.specs.{Durable.HolesMean, Durable.IsNoted, Holes.MayBeDropped}
 use Rattle.conf_store.proofs.{HoleLemmas.zero-no-record, PieceLemmas.pieces-joined}
 use Rattle.conf_store.proofs.MeaningLemmas.{after-prefix, pieces-mean-more, records-prefix}
 
@@ -41,27 +41,48 @@ closed-behind [] others a = a
 closed-behind (w ∷ ws) others a = closed-behind ws others (All-tail ClosesOnce w (ws ++ others) a)
 
 -- the whole records are those of the first commands
-front-records : (count : ℕ) (command : Command) (whole further : List (List ℕ)) → record_pieces count (command ∷ []) ≡ whole ++ further
-    → whole ≡ record_pieces count (take (length whole) (command ∷ []))
-front-records count command [] further e = refl
-front-records count command (w ∷ []) further e = (let one : record_bytes command (count + 1) ≡ w = cc e in ap (λ l. l ∷ []) (sym one))
-front-records count command (w ∷ (v ∷ ws)) further e = absurd (let long = ap length e in omega (arith, long, length-append ws further))
+front-records : (count : ℕ) (commands : List Command) (whole further : List (List ℕ)) → record_pieces count commands ≡ whole ++ further
+    → whole ≡ record_pieces count (take (length whole) commands)
+front-records count commands [] further e = refl
+front-records count [] (w ∷ ws) further e = absurd (cc e)
+front-records count (command ∷ commands) (w ∷ ws) further e =
+    let one : record_bytes command (count + 1) ≡ w = cc e in
+    let more : record_pieces (count + 1) commands ≡ ws ++ further = cc e in
+    λ i. sym one i ∷ front-records (count + 1) commands ws further more i
 
-further-short : (pieces whole further : List (List ℕ)) → length pieces ≡ 1 → pieces ≡ whole ++ further → length further ≤ 1
+records-long : (count : ℕ) (commands : List Command) → length (record_pieces count commands) ≡ length commands
+records-long count [] = refl
+records-long count (command ∷ commands) = ap suc (records-long (count + 1) commands)
+
+records-close : RecordsClose → (count : ℕ) (commands : List Command) → All ClosesOnce (record_pieces count commands)
+records-close close count [] = All-nil ClosesOnce
+records-close close count (command ∷ commands) =
+    All-cons ClosesOnce (record_bytes command (count + 1)) (record_pieces (count + 1) commands) (close command (count + 1))
+    (records-close close (count + 1) commands)
+
+further-short : (pieces whole further : List (List ℕ)) → length pieces ≤ 1 → pieces ≡ whole ++ further → length further ≤ 1
 further-short pieces whole further one e = omega (arith, one, ap length e, length-append whole further)
 
+-- what stands behind the whole records may be dropped
+behind-dropped : NoZeroByte → WholeBehind → (several : Bool) (count : ℕ) (commands : List Command) (whole further others : List (List ℕ))
+    (rest : List ℕ) → IsNoted several commands → record_pieces count commands ≡ whole ++ further → StartsWithHole others
+    → All ClosesOnce others → AreLeft further others rest → MayBeDropped several others
+behind-dropped law behind true count commands whole further others rest noted all hole closed left = inl refl
+behind-dropped law behind false count commands whole further others rest noted all hole closed left =
+    let few : length commands ≤ 1 = noted refl in
+    let one : length (record_pieces count commands) ≤ 1 = omega (arith, few, records-long count commands) in
+    inr (none-behind law behind further others rest (further-short (record_pieces count commands) whole further one all) hole closed left)
+
 pub journal-holed : NoZeroByte → WholeBehind → HolesAfter → RecordsClose → SomePieces → HolesMean
-journal-holed law behind holes close some file flushed end command left journal zeroed =
+journal-holed law behind holes close some several file flushed end since left journal noted zeroed =
     let count = flushed.count in
-    let texts : List (List ℕ) = record_pieces count (command ∷ []) in
-    let closed : All ClosesOnce texts = All-cons ClosesOnce (record_bytes command (count + 1)) [] (close command (count + 1))
-    (All-nil ClosesOnce) in
+    let texts : List (List ℕ) = record_pieces count since in
+    let closed : All ClosesOnce texts = records-close close count since in
     let p : (pieces : List (List ℕ)) × (rest : List ℕ) × Pieces left pieces rest = some left in
     let h : HoleAfter texts p.0 p.1 = holes texts p.0 left p.1 closed (subst (λ l. Zeroed l left) journal.pending zeroed) p.2 in
-    let front : h.whole ≡ record_pieces count (take (length h.whole) (command ∷ [])) =
-    front-records count command h.whole h.further h.all in
-    let commands : List Command = take (length h.whole) (command ∷ []) in
-    let mid = after-prefix flushed end (command ∷ []) (length h.whole) journal.leads in
+    let front : h.whole ≡ record_pieces count (take (length h.whole) since) = front-records count since h.whole h.further h.all in
+    let commands : List Command = take (length h.whole) since in
+    let mid = after-prefix flushed end since (length h.whole) journal.leads in
     let cut : Pieces left (h.whole ++ h.others) p.1 = subst (λ ps. Pieces left ps p.1) h.found p.2 in
     let own : Pieces left (record_pieces count commands ++ h.others) p.1 = subst (λ ws. Pieces left (ws ++ h.others) p.1) front cut in
     let long = zeroed-short file.pending left zeroed in
@@ -78,9 +99,9 @@ journal-holed law behind holes close some file flushed end command left journal 
             (sym (append_assoc journal.whole.pieces (record_pieces count commands) h.others))
             (pieces-joined file.synced left journal.whole.pieces (record_pieces count commands ++ h.others) p.1 journal.whole.cut own);
         mean = pieces-mean-more journal.whole.pieces (record_pieces count commands) flushed mid.0 commands journal.whole.mean
-            (records-prefix count (length h.whole) (command ∷ []) journal.are_records) mid.1;
+            (records-prefix count (length h.whole) since journal.are_records) mid.1;
         hole = h.hole;
-        lost = none-behind law behind h.further h.others p.1 (further-short texts h.whole h.further refl h.all) h.hole
+        lost = behind-dropped law behind several count since h.whole h.further h.others p.1 noted h.all h.hole
             (closed-behind h.whole h.others cut.closed) h.left;
       };
     }

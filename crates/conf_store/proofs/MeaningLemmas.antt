@@ -1,12 +1,12 @@
--- What bytes mean: at most one state. After a crash it is the state after the records that are whole.
-use Rattle.std.proofs.Common.{◌≡◌, refl, sym, ◌∙◌, ap, subst, arith, ◌≤◌, append_assoc, length-append, length-take}
-use Rattle.std.specs.Prelude.{ℕ, zero, suc, ◌+◌, List, [], ◌∷◌, ◌++◌, length, take, replicate, Some, Result, Ok}
-use Rattle.conf_store.proofs.Prelude.{All-nil, IsNoRecord, append-nil, NoZeroByte, length-replicate, ClosesOnce, Pieces}
-use Rattle.conf_store.proofs.Prelude.{OnePieces, File, IsTorn, Command, Contents, step, after}
+-- What bytes mean: at most one state.
+use Rattle.std.proofs.Common.{◌≡◌, inr, refl, sym, ◌∙◌, ap, subst, arith, ◌≤◌}
+use Rattle.std.specs.Prelude.{ℕ, zero, suc, ◌+◌, Bool, List, [], ◌∷◌, ◌++◌, length, take, Result, Ok}
+use Rattle.conf_store.proofs.Prelude.{All-nil, IsNoRecord, append-nil, NoZeroByte, ClosesOnce, Pieces}
+use Rattle.conf_store.proofs.Prelude.{OnePieces, Command, Contents, step, after}
 use Rattle.conf_store.proofs.Prelude.{and_then, StoreFault, after-append, after-count, and_then-Ok, Enough, IsRecord, IsBase, record_pieces}
-use Rattle.conf_store.proofs.Prelude.{records_bytes, TornRecords, OneBase, OneRecord, RecordsTear, store_limit}
+use Rattle.conf_store.proofs.Prelude.{OneBase, OneRecord, store_limit}
 use Rattle.conf_store.specs.Meaning.{AreRecords, PiecesMean, Means}
-use Rattle.conf_store.specs.Durable.{IsWholeStore, IsJournal, AfterPrefix}
+use Rattle.conf_store.specs.Durable.{IsWholeStore}
 use Rattle.conf_store.proofs.{HoleLemmas.means-front, PieceLemmas.pieces-joined, PieceLemmas.pieces-one}
 
 -- ---- lists of records
@@ -120,10 +120,10 @@ pieces-mean-one one_base one_record pieces s end first second =
     one-list second.start.count one_record second.records first.commands second.commands are_records second.are_records in
     ok-same s end (after second.start second.commands) ((λ i. after (sym starts i) (sym commands i)) ∙ first.leads) second.leads
 
--- bytes mean at most one state
-pub means-one : NoZeroByte → OnePieces → OneBase → OneRecord → (bytes : List ℕ) (s end : Contents) → Means bytes s
-    → Means bytes end → s ≡ end
-means-one no_zero_byte one_pieces one_base one_record bytes s end first second =
+-- bytes mean at most one state, whatever the note
+pub means-one : NoZeroByte → OnePieces → OneBase → OneRecord → (bytes : List ℕ) (several more : Bool) (s end : Contents)
+    → Means several bytes s → Means more bytes end → s ≡ end
+means-one no_zero_byte one_pieces one_base one_record bytes several more s end first second =
     let all = (one_pieces bytes (first.pieces ++ first.others) (second.pieces ++ second.others) first.rest second.rest
     first.cut second.cut).0 in
     let same = means-front no_zero_byte first.pieces second.pieces first.others second.others s end first.mean second.mean
@@ -138,8 +138,9 @@ no-others bytes pieces rest cut = subst (λ ps. Pieces bytes ps rest) (sym (appe
 -- ---- files without a rest
 
 -- a whole store means its state, if it is within the limit
-pub whole-means : (bytes : List ℕ) (s : Contents) → IsWholeStore bytes s → length bytes ≤ store_limit → Means bytes s
-whole-means bytes s whole short = record {
+pub whole-means : (several : Bool) (bytes : List ℕ) (s : Contents) → IsWholeStore bytes s → length bytes ≤ store_limit
+    → Means several bytes s
+whole-means several bytes s whole short = record {
   short = short;
   pieces = whole.pieces;
   others = [];
@@ -147,7 +148,7 @@ whole-means bytes s whole short = record {
   cut = no-others bytes whole.pieces [] whole.cut;
   mean = whole.mean;
   hole = tt;
-  lost = All-nil IsNoRecord;
+  lost = inr (All-nil IsNoRecord);
 }
 
 -- a base that closes once is a whole store
@@ -163,58 +164,6 @@ record-whole bytes piece s end command whole closes is done = record {
   cut = pieces-joined bytes piece whole.pieces (piece ∷ []) [] whole.cut (pieces-one piece closes);
   mean = record-means whole.pieces piece s end command whole.mean is done;
 }
-
--- ---- what a crash leaves of pending records
-
-torn-length : (file : File) (bytes : List ℕ) → IsTorn file bytes → length bytes ≤ length file.synced + length file.pending
-torn-length file bytes torn =
-    let zeros : List ℕ = replicate torn.zeros 0 in
-    omega (
-      arith,
-      torn.fits,
-      ap length torn.is,
-      length-append (file.synced ++ take torn.keep file.pending) zeros,
-      length-append file.synced (take torn.keep file.pending),
-      length-replicate {A = ℕ} torn.zeros 0,
-      length-take torn.keep file.pending,
-    )
-
--- a journal that a crash has cut means the state after a prefix of its commands
-pub journal-left : RecordsTear → (file : File) (flushed end : Contents) (since : List Command) (bytes : List ℕ)
-    → IsJournal file flushed since end → IsTorn file bytes
-    → AfterPrefix flushed since (Some bytes)
-journal-left tear file flushed end since bytes journal torn =
-    let pending = records_bytes flushed.count since in
-    let tail = take torn.keep pending ++ replicate torn.zeros 0 in
-    let t : TornRecords flushed.count since tail = tear flushed.count since torn.keep torn.zeros in
-    let mid = after-prefix flushed end since t.whole journal.leads in
-    let zeros : List ℕ = replicate torn.zeros 0 in
-    let is : bytes ≡ file.synced ++ tail =
-    torn.is ∙ append_assoc file.synced (take torn.keep file.pending) zeros
-    ∙ ap (λ l. file.synced ++ (take torn.keep l ++ zeros)) journal.pending in
-    record {
-      count = t.whole;
-      state = mid.0;
-      leads = mid.1;
-      means = record {
-        short = omega (arith, torn-length file bytes torn, journal.short);
-        pieces = journal.whole.pieces ++ record_pieces flushed.count (take t.whole since);
-        others = [];
-        rest = t.rest;
-        cut = no-others bytes (journal.whole.pieces ++ record_pieces flushed.count (take t.whole since)) t.rest
-            (subst (λ b. Pieces b (journal.whole.pieces ++ record_pieces flushed.count (take t.whole since)) t.rest) (sym is)
-            (pieces-joined file.synced tail journal.whole.pieces
-            (record_pieces flushed.count (take t.whole since)) t.rest journal.whole.cut t.pieces));
-        hole = tt;
-        lost = All-nil IsNoRecord;
-        mean = pieces-mean-more journal.whole.pieces (record_pieces flushed.count (take t.whole since)) flushed mid.0 (take t.whole since)
-            journal.whole.mean (records-prefix flushed.count t.whole since journal.are_records) mid.1;
-      };
-    }
-
-take-none : (k : ℕ) → let none : List Command = [] in take k none ≡ none
-take-none zero = refl
-take-none (suc k) = refl
 
 -- the state after one command is the one after a list of it
 pub after-done : (s end : Contents) (command : Command) → step s command Enough ≡ Ok end → after s (command ∷ []) ≡ Ok end

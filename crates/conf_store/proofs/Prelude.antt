@@ -1,17 +1,19 @@
 -- What the proofs of this crate name of others.
 pub use Rattle.conf_disk.proofs.Moments.{LeavesOnly-joined, LeavesOnly-now, LeavesOnly-weaker, LeavesOnly-same, LeavesOnly-start}
+pub use Rattle.conf_disk.specs.Folder.{several_waited}
 pub use Rattle.conf_disk.specs.Folder.{bytes_under, File, empty_file, file_bytes, Folder, bytes_at, Tells, with_pending, synced_whole}
-pub use Rattle.conf_disk.specs.Image.{Image, IsImage, image_now, synced_file, IsTorn}
+pub use Rattle.conf_disk.specs.Image.{Image, IsImage, image_now, synced_file, IsWorn}
 pub use Rattle.conf_disk.specs.Laws.{ReadingIsAnImage}
 pub use Rattle.conf_disk.specs.Models.{DiskModel}
 pub use Rattle.conf_disk.specs.Moments.{LeavesOnly, TimeGoesOn, greatest}
 pub use Rattle.conf_disk.specs.declared.disk.Content.TheVariants.{Missing, Bytes, TooLong}
 pub use Rattle.conf_disk.specs.declared.disk.DiskFault.{DiskFault}
 pub use Rattle.conf_disk.specs.declared.disk.Name.TheVariants.{Store, Next}
-pub use Rattle.conf_journal.specs.Held.{HoldsStore, OnlyHeldIsLeft, file_at, IsLeftOf, HeldIsLeft, SyncedIsLeft}
+pub use Rattle.conf_journal.specs.Appends.{several_after}
+pub use Rattle.conf_journal.specs.Held.{HoldsStore, OnlyHeldIsLeft, file_at, any_bytes, IsLeftOf, IsLeftNoted, HeldIsNoted, SyncedIsLeft}
 pub use Rattle.conf_journal.specs.Store.{IsStoreOf, LeavesStoreOr, file_with_bytes, store_limit, ReadsAs}
-pub use Rattle.conf_record.specs.Documents.{IsBase, OneBase, OneRecord, IsRecord, RecordsTear, RecordsClose, record_pieces, records_bytes}
-pub use Rattle.conf_record.specs.Documents.{TornRecords, IsNoBase, IsNoRecord, BasesAreRead, BasesClose, BasesFit, RecordsAreRead}
+pub use Rattle.conf_record.specs.Documents.{IsBase, OneBase, OneRecord, IsRecord, RecordsClose, record_pieces, records_bytes}
+pub use Rattle.conf_record.specs.Documents.{IsNoBase, IsNoRecord, BasesAreRead, BasesClose, BasesFit, RecordsAreRead}
 pub use Rattle.conf_record.specs.Records.{command_members, record_tree, FitsRecord}
 unfoldable pub use Rattle.conf_record.specs.Records.{record_bytes, record_text}
 pub use Rattle.conf_record.specs.RecordsRead.{keys_are, values, number_from_digits, entries, base_keys, import_keys, set_keys, delete_keys}
@@ -56,5 +58,5 @@ pub use Rattle.yaml_grammar.specs.Style.{style_text, members_after, scalar_lines
 pub use Rattle.yaml_grammar.specs.Texts.{same_text, byte_len, spaces}
 pub use Rattle.yaml_grammar.specs.Trees.{Tree, text, sequence, mapping, Members, no_member, member, depth}
 pub use Rattle.yaml_recognizers.specs.Closings.{PieceBetween, OnePieces, RestUnclosed, SomePieces}
-pub use Rattle.yaml_recognizers.specs.Zeroed.{NoZeroByte, no_zero, StartsWithHole}
+pub use Rattle.yaml_recognizers.specs.Zeroed.{NoZeroByte, no_zero, StartsWithHole, Zeroed}
 pub use Rattle.yaml_writer.proofs.ByteLemmas.{byte_len-encoded}

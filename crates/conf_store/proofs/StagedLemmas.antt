@@ -1,9 +1,10 @@
 -- A running checkpoint beside what is under `store.yaml`.
 use Rattle.std.proofs.Common.{◌≡◌, refl, sym, ◌∙◌, ap, subst, arith, ◌≤◌, append_assoc, length-append, take-append-drop}
-use Rattle.std.specs.Prelude.{ℕ, ◌+◌, min, List, [], ◌∷◌, ◌++◌, length, take, Option, Some, None, IsSome, option_map, Ok}
-use Rattle.conf_store.proofs.Prelude.{false≢true, length-take-le, ClosesOnce, File, Folder, bytes_under, synced_file, Next, HoldsStore}
+use Rattle.std.specs.Prelude.{ℕ, ◌+◌, min, Bool, List, [], ◌∷◌, ◌++◌, length, take, Option, Some, None, IsSome, option_map, Ok}
+use Rattle.conf_store.proofs.Prelude.{Image, false≢true, length-take-le, ClosesOnce, File, Folder, bytes_under, synced_file, Next}
+use Rattle.conf_store.proofs.Prelude.{HoldsStore}
 use Rattle.conf_store.proofs.Prelude.{store_limit, file_with_bytes, Command, Contents, step, after, Enough, IsRecord, IsBase}
-use Rattle.conf_store.specs.Meaning.{FileMeans}
+use Rattle.conf_store.specs.Meaning.{FileMeans, ImageMeans}
 use Rattle.conf_store.specs.Staged.{Staged, staged_length, with_more, slice_limit, next_slice, after_slice}
 use Rattle.conf_store.specs.Durable.{IsWholeStore, IsJournal, IsDurable, AfterPrefix, IsStaged, IsStaging, staged_text}
 use Rattle.conf_store.proofs.MeaningLemmas.{whole-means, base-whole, record-whole}
@@ -129,18 +130,18 @@ staged-durable old new s staged is holds short = record {
 
 -- it means the state
 pub text-means : (folder : Folder) (s : Contents) (staged : Option Staged) → IsSome staged → IsStaging folder s staged
-    → staged_length staged ≤ store_limit → (store : Option (List ℕ)) → store ≡ staged_text folder staged
-    → FileMeans store s
-text-means folder s None some is short store e = absurd (false≢true some)
-text-means folder s (Some staged) some is short store e =
+    → staged_length staged ≤ store_limit → (image : Image) → image.store ≡ staged_text folder staged
+    → ImageMeans image s
+text-means folder s None some is short image e = absurd (false≢true some)
+text-means folder s (Some staged) some is short image e =
     let long = text-length folder s staged is in
-    subst (λ b. FileMeans b s) (sym (e ∙ text-of folder s staged is))
-    (whole-means (is.start ++ staged.left) s is.whole (omega (arith, long, short)))
+    subst (λ b. FileMeans image.several b s) (sym (e ∙ text-of folder s staged is))
+    (whole-means image.several (is.start ++ staged.left) s is.whole (omega (arith, long, short)))
 
 -- the state is the one after all commands that wait
-pub means-waiting : (file : File) (flushed s : Contents) (since : List Command) (store : Option (List ℕ))
-    → IsJournal file flushed since s → FileMeans store s → AfterPrefix flushed since store
-means-waiting file flushed s since store journal means =
+pub means-waiting : (several : Bool) (file : File) (flushed s : Contents) (since : List Command) (store : Option (List ℕ))
+    → IsJournal file flushed since s → FileMeans several store s → AfterPrefix several flushed since store
+means-waiting several file flushed s since store journal means =
     let all : take (length since) since ≡ since = whole-list since in
     record { count = length since; state = s; leads = ap (after flushed) all ∙ journal.leads; means = means }
   where

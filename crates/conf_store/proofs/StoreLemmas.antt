@@ -1,28 +1,30 @@
 -- What an open store keeps on its disk, and what a crash during its calls leaves.
 use Rattle.std.proofs.Common.{◌≡◌, ◌⊎◌, inl, ⊎_elim, refl, sym, ◌∙◌, ap, subst, arith, ◌≤◌, length-append}
-use Rattle.std.specs.Prelude.{ℕ, true, false, ◌+◌, ◌&&◌, min, Bool, nat_le, nat_lt, if◌then◌else◌, List, [], ◌∷◌, ◌++◌, length, Option}
+use Rattle.std.specs.Prelude.{ℕ, true, false, ◌+◌, ◌&&◌, min, Bool, nat_le, nat_lt, if◌then◌else◌, List, [], ◌∷◌, ◌++◌, length}
 use Rattle.std.specs.Prelude.{Some, option_map, Ok, Err}
 use Rattle.conf_store.proofs.Prelude.{false≢true, ClosesOnce, byte_len, byte_len-encoded, Folder, with_pending, Image, IsImage, synced_file}
-use Rattle.conf_store.proofs.Prelude.{DiskModel, LeavesOnly, greatest, LeavesOnly-start, LeavesOnly-weaker, HoldsStore, IsLeftOf}
-use Rattle.conf_store.proofs.Prelude.{HeldIsLeft, SyncedIsLeft, IsStoreOf, store_limit, Command, single, batch, is_batch, Contents}
+use Rattle.conf_store.proofs.Prelude.{DiskModel, LeavesOnly, greatest, LeavesOnly-start, LeavesOnly-weaker, HoldsStore}
+use Rattle.conf_store.proofs.Prelude.{HeldIsNoted, SyncedIsLeft, IsStoreOf, store_limit, Command, single, batch, is_batch, Contents}
 use Rattle.conf_store.proofs.Prelude.{count_limit, IsState, step, after, Room, Enough, LongRecord, IsRecord, IsBase, BasesAreRead}
-use Rattle.conf_store.proofs.Prelude.{BasesClose, BasesFit, RecordsAreRead, RecordsClose, RecordsTear, base_bytes, FitsRecord, record_text}
+use Rattle.conf_store.proofs.Prelude.{IsLeftNoted, several_waited, several_after, file_at}
+use Rattle.conf_store.proofs.Prelude.{BasesClose, BasesFit, RecordsAreRead, RecordsClose, base_bytes, FitsRecord, record_text}
 use Rattle.conf_store.proofs.Prelude.{record_bytes, IsCommand, nat_tests, StoreFault}
 use Rattle.conf_state.specs.Rooms.{record_limit, room_of}
 use Rattle.conf_state.specs.declared.room.Room.TheVariants.{Missing}
-use Rattle.conf_store.specs.{Accepting.IsAccepted, Accepting.IsBaseOf, Accepting.IsMeasured, Meaning.FileMeans}
+use Rattle.conf_store.specs.{Accepting.IsAccepted, Accepting.IsBaseOf, Accepting.IsMeasured, Meaning.FileMeans, Meaning.ImageMeans}
 use Rattle.conf_store.specs.Calls.{next_number, next_record, room_for, outcome}
-use Rattle.conf_store.specs.Durable.{IsJournal, HasFlushed, IsHeld, IsDurable, AllImagesMean, AfterPrefix}
+use Rattle.conf_store.specs.Durable.{IsJournal, HasFlushed, HolesMean, IsHeld, IsDurable, AllImagesMean, MeansPrefix}
 use Rattle.conf_store.proofs.{MeaningLemmas.whole-means, MeaningLemmas.base-whole, MeaningLemmas.ok-same, StagedLemmas.means-waiting}
 use Rattle.conf_store.proofs.StepLemmas.{StepsNeedRoom, StepsCount, accepted-anyway, accepted-number}
-use Rattle.conf_store.proofs.HeldLemmas.{held-journal, held-images, held-stores, journal-more, journal-synced, appended-left}
+use Rattle.conf_store.proofs.HeldLemmas.{held-journal, held-images, held-stores, journal-more, journal-synced, none-noted, appended-noted}
+use Rattle.conf_store.proofs.HeldLemmas.{appended-left}
 
 -- a durable store's images mean its state
 pub durable-means : SyncedIsLeft → (folder : Folder) (s : Contents) (size : ℕ) → IsDurable folder s size → AllImagesMean folder s
 durable-means left folder s size durable image is =
     let same : image.store ≡ Some durable.bytes = left folder durable.bytes durable.holds image is in
-    subst (λ store. FileMeans store s) (sym same)
-    (whole-means durable.bytes s durable.whole (omega (arith, durable.long, durable.short)))
+    subst (λ store. FileMeans image.several store s) (sym same)
+    (whole-means image.several durable.bytes s durable.whole (omega (arith, durable.long, durable.short)))
 
 -- ---- a base as the new file
 
@@ -44,28 +46,29 @@ base-durable folder s bytes base holds =
     record { bytes = bytes; holds = holds; whole = base-whole bytes s base.closes base.reads; long = refl; short = base.short }
 
 -- a file of a state's base means that state
-pub base-file-means : (s : Contents) (bytes : List ℕ) → IsBaseOf s bytes → (file : Option (List ℕ)) → file ≡ Some bytes → FileMeans file s
-base-file-means s bytes base file same =
-    subst (λ b. FileMeans b s) (sym same) (whole-means bytes s (base-whole bytes s base.closes base.reads) base.short)
+pub base-file-means : (s : Contents) (bytes : List ℕ) → IsBaseOf s bytes → (image : Image) → image.store ≡ Some bytes → ImageMeans image s
+base-file-means s bytes base image same =
+    subst (λ b. FileMeans image.several b s) (sym same)
+    (whole-means image.several bytes s (base-whole bytes s base.closes base.reads) base.short)
 
 -- ---- before any call of the disk
 
-pub start-prefix : {D : Type 0} (model : DiskModel D) (disk : D) (s : Contents) (size : ℕ) (waits : Bool) → HeldIsLeft → RecordsTear
+pub start-prefix : {D : Type 0} (model : DiskModel D) (disk : D) (s : Contents) (size : ℕ) (waits : Bool) → HeldIsNoted → HolesMean
     → ((image : Image) → model.left disk (model.moment disk) image → IsImage (model.folder disk) image)
     → IsHeld (model.folder disk) s size waits → (flushed : Contents) (since : List Command)
     → HasFlushed (model.folder disk) flushed since s
-    → LeavesOnly model disk disk (λ image. AfterPrefix flushed since image.store)
-start-prefix model disk s size waits held_left tear only held flushed since has =
-    LeavesOnly-start model disk (λ image. AfterPrefix flushed since image.store)
-    (λ image is. held-images held_left tear (model.folder disk) s size waits held flushed since has image (only image is))
+    → LeavesOnly model disk disk (MeansPrefix flushed since)
+start-prefix model disk s size waits held_left holes only held flushed since has =
+    LeavesOnly-start model disk (MeansPrefix flushed since)
+    (λ image is. held-images held_left holes (model.folder disk) s size waits held flushed since has image (only image is))
 
 -- what may also mean another state
 pub or-means : {D : Type 0} (model : DiskModel D) (old new : D) (flushed end : Contents) (since : List Command)
-    → LeavesOnly model old new (λ image. AfterPrefix flushed since image.store)
-    → LeavesOnly model old new (λ image. AfterPrefix flushed since image.store ⊎ FileMeans image.store end)
+    → LeavesOnly model old new (MeansPrefix flushed since)
+    → LeavesOnly model old new (λ image. MeansPrefix flushed since image ⊎ ImageMeans image end)
 or-means model old new flushed end since leaves =
-    LeavesOnly-weaker model old new (λ image. AfterPrefix flushed since image.store)
-    (λ image. AfterPrefix flushed since image.store ⊎ FileMeans image.store end) leaves (λ image is. inl is)
+    LeavesOnly-weaker model old new (MeansPrefix flushed since)
+    (λ image. MeansPrefix flushed since image ⊎ ImageMeans image end) leaves (λ image is. inl is)
 
 -- ---- a command that is accepted
 
@@ -180,80 +183,85 @@ accepted-short : (folder : Folder) (s end : Contents) (command : Command) (size 
 accepted-short folder s end command size longest waits more held within ok =
     (let short = ok.short in omega (arith, held.long, within, short))
 
--- after its record is appended, every stage has the file with it
-pub append-held : (old new : Folder) (s end : Contents) (command : Command) (size longest : ℕ) (waits : Bool)
-    (more : List ℕ) → (held : IsHeld old s size waits) → size ≤ longest → IsAccepted s command end longest more
-    → HoldsStore new (option_map (with_pending more) (Some held.file)) → IsHeld new end (size + length more) true
-append-held old new s end command size longest waits more held within ok holds = record {
-  file = with_pending more held.file;
-  holds = holds;
-  flushed = held.flushed;
-  since = held.since ++ command ∷ [];
-  journal =
-      journal-more held.file held.flushed s end held.since command more held.journal
-      (accepted-record s end command longest more ok) ok.reads ok.done
-      (accepted-short old s end command size longest waits more held within ok);
-  long = omega (arith, held.long, length-append held.file.pending more);
-  none = λ quiet. absurd (false≢true (sym quiet));
-}
+module _ (old new : Folder) (s end : Contents) (command : Command) (size longest : ℕ) (waits : Bool) (more : List ℕ)
+    (held : IsHeld old s size waits) (within : size ≤ longest) (ok : IsAccepted s command end longest more)
+    (close : RecordsClose) (note : several_waited new ≡ several_after (several_waited old) (file_at old.files old.now.store))
+    (holds : HoldsStore new (option_map (with_pending more) (Some held.file))) where
+  -- after its record is appended, every stage has the file with it
+  pub append-held : IsHeld new end (size + length more) true
+  append-held = record {
+    file = with_pending more held.file;
+    holds = holds;
+    flushed = held.flushed;
+    since = held.since ++ command ∷ [];
+    journal =
+        journal-more held.file held.flushed s end held.since command more held.journal
+        (accepted-record s end command longest more ok) ok.reads ok.done
+        (accepted-short old s end command size longest waits more held within ok);
+    long = omega (arith, held.long, length-append held.file.pending more);
+    none = λ quiet. absurd (false≢true (sym quiet));
+    noted = appended-noted close old new held.file held.flushed s held.since command note held.holds.is held.journal;
+  }
 
--- and it waits
-pub append-flushed : (old new : Folder) (s end : Contents) (command : Command) (size longest : ℕ) (waits : Bool)
-    (more : List ℕ) → (held : IsHeld old s size waits) → size ≤ longest → IsAccepted s command end longest more
-    → HoldsStore new (option_map (with_pending more) (Some held.file)) → (flushed : Contents) (since : List Command)
-    → HasFlushed old flushed since s → HasFlushed new flushed (since ++ command ∷ []) end
-append-flushed old new s end command size longest waits more held within ok holds flushed since has = record {
-  file = with_pending more held.file;
-  is = holds.is;
-  journal =
-      journal-more held.file flushed s end since command more (held-journal old s size waits held flushed since has)
-      (accepted-record s end command longest more ok) ok.reads ok.done
-      (accepted-short old s end command size longest waits more held within ok);
-}
+  -- and it waits
+  pub append-flushed : (flushed : Contents) (since : List Command) → HasFlushed old flushed since s
+      → HasFlushed new flushed (since ++ command ∷ []) end
+  append-flushed flushed since has = record {
+    file = with_pending more held.file;
+    is = holds.is;
+    journal =
+        journal-more held.file flushed s end since command more (held-journal old s size waits held flushed since has)
+        (accepted-record s end command longest more ok) ok.reads ok.done
+        (accepted-short old s end command size longest waits more held within ok);
+    noted = appended-noted close old new held.file flushed s since command note held.holds.is
+        (held-journal old s size waits held flushed since has);
+  }
 
 -- a crash while it is appended leaves the state after a prefix of what waits, or after it
 pub append-leaves : {D : Type 0} (model : DiskModel D) (old new : D) (folder : Folder) (s end : Contents)
-    (command : Command) (size longest : ℕ) (waits : Bool) (more : List ℕ) → RecordsTear
+    (command : Command) (size longest : ℕ) (waits : Bool) (more : List ℕ) → HolesMean → RecordsClose
     → (held : IsHeld folder s size waits) → size ≤ longest → IsAccepted s command end longest more
     → (flushed : Contents) (since : List Command) → HasFlushed folder flushed since s
-    → LeavesOnly model old new (λ image. IsLeftOf (option_map (with_pending more) (Some held.file)) image.store)
-    → LeavesOnly model old new (λ image. AfterPrefix flushed since image.store ⊎ FileMeans image.store end)
-append-leaves model old new folder s end command size longest waits more tear held within ok flushed since has run =
-    LeavesOnly-weaker model old new (λ image. IsLeftOf (option_map (with_pending more) (Some held.file)) image.store)
-    (λ image. AfterPrefix flushed since image.store ⊎ FileMeans image.store end) run
-    (λ image. appended-left tear held.file flushed s end since command more
-    (held-journal folder s size waits held flushed since has) (accepted-record s end command longest more ok) ok.reads ok.done
-    (accepted-short folder s end command size longest waits more held within ok) image.store)
+    → LeavesOnly model old new (λ image. IsLeftNoted (several_waited folder) (Some held.file) image
+    ⊎ IsLeftNoted (several_after (several_waited folder) (Some held.file)) (option_map (with_pending more) (Some held.file)) image)
+    → LeavesOnly model old new (λ image. MeansPrefix flushed since image ⊎ ImageMeans image end)
+append-leaves model old new folder s end command size longest waits more holes close held within ok flushed since has run =
+    LeavesOnly-weaker model old new (λ image. IsLeftNoted (several_waited folder) (Some held.file) image
+    ⊎ IsLeftNoted (several_after (several_waited folder) (Some held.file)) (option_map (with_pending more) (Some held.file)) image)
+    (λ image. MeansPrefix flushed since image ⊎ ImageMeans image end) run
+    (appended-left holes close (several_waited folder) held.file flushed s end since command more
+    (held-journal folder s size waits held flushed since has) has.noted (accepted-record s end command longest more ok) ok.reads ok.done
+    (accepted-short folder s end command size longest waits more held within ok))
 
 -- ---- calls that change no meaning
 
 -- a crash leaves an old store, so the state after a prefix of what waits
 pub old-prefix : {D : Type 0} (model : DiskModel D) (old new : D) (folder : Folder) (s : Contents) (size : ℕ)
-    (waits : Bool) → HeldIsLeft → RecordsTear → IsHeld folder s size waits
+    (waits : Bool) → HeldIsNoted → HolesMean → IsHeld folder s size waits
     → (flushed : Contents) (since : List Command) → HasFlushed folder flushed since s
-    → LeavesOnly model old new (λ image. IsStoreOf folder image.store)
-    → LeavesOnly model old new (λ image. AfterPrefix flushed since image.store)
-old-prefix model old new folder s size waits held_left tear held flushed since has run =
-    LeavesOnly-weaker model old new (λ image. IsStoreOf folder image.store) (λ image. AfterPrefix flushed since image.store) run
-    (λ image. held-stores held_left tear folder s size waits held flushed since has image.store)
+    → LeavesOnly model old new (IsStoreOf folder)
+    → LeavesOnly model old new (MeansPrefix flushed since)
+old-prefix model old new folder s size waits held_left holes held flushed since has run =
+    LeavesOnly-weaker model old new (IsStoreOf folder) (MeansPrefix flushed since) run
+    (held-stores held_left holes folder s size waits held flushed since has)
 
 -- or another file that means the state
 pub other-prefix : {D : Type 0} (model : DiskModel D) (old new : D) (folder : Folder) (s : Contents) (size : ℕ)
-    (waits : Bool) (P : Image → Type 0) → HeldIsLeft → RecordsTear → IsHeld folder s size waits
+    (waits : Bool) (P : Image → Type 0) → HeldIsNoted → HolesMean → IsHeld folder s size waits
     → (flushed : Contents) (since : List Command) → HasFlushed folder flushed since s
-    → ((image : Image) → P image → FileMeans image.store s)
-    → LeavesOnly model old new (λ image. IsStoreOf folder image.store ⊎ P image)
-    → LeavesOnly model old new (λ image. AfterPrefix flushed since image.store)
-other-prefix model old new folder s size waits P held_left tear held flushed since has means run =
-    LeavesOnly-weaker model old new (λ image. IsStoreOf folder image.store ⊎ P image) (λ image. AfterPrefix flushed since image.store) run
-    (λ image. ⊎_elim (held-stores held_left tear folder s size waits held flushed since has image.store)
-    (λ other. means-waiting held.file flushed s since image.store
+    → ((image : Image) → P image → ImageMeans image s)
+    → LeavesOnly model old new (λ image. IsStoreOf folder image ⊎ P image)
+    → LeavesOnly model old new (MeansPrefix flushed since)
+other-prefix model old new folder s size waits P held_left holes held flushed since has means run =
+    LeavesOnly-weaker model old new (λ image. IsStoreOf folder image ⊎ P image) (MeansPrefix flushed since) run
+    (λ image. ⊎_elim (held-stores held_left holes folder s size waits held flushed since has image)
+    (λ other. means-waiting image.several held.file flushed s since image.store
     (held-journal folder s size waits held flushed since has) (means image other)))
 
 -- the same file in another folder
 pub held-along : (old new : Folder) (s : Contents) (size : ℕ) (waits : Bool) → (held : IsHeld old s size waits)
-    → HoldsStore new (Some held.file) → IsHeld new s size waits
-held-along old new s size waits held holds =
+    → HoldsStore new (Some held.file) → several_waited new ≡ several_waited old → IsHeld new s size waits
+held-along old new s size waits held holds note =
     record {
       file = held.file;
       holds = holds;
@@ -262,13 +270,18 @@ held-along old new s size waits held holds =
       journal = held.journal;
       long = held.long;
       none = held.none;
+      noted = λ quiet. held.noted (sym note ∙ quiet);
     }
 
 pub flushed-along : (old new : Folder) (s : Contents) (size : ℕ) (waits : Bool) → (held : IsHeld old s size waits)
-    → HoldsStore new (Some held.file) → (flushed : Contents) (since : List Command) → HasFlushed old flushed since s
-    → HasFlushed new flushed since s
-flushed-along old new s size waits held holds flushed since has =
-    record { file = held.file; is = holds.is; journal = held-journal old s size waits held flushed since has }
+    → HoldsStore new (Some held.file) → several_waited new ≡ several_waited old → (flushed : Contents) (since : List Command)
+    → HasFlushed old flushed since s → HasFlushed new flushed since s
+flushed-along old new s size waits held holds note flushed since has = record {
+  file = held.file;
+  is = holds.is;
+  journal = held-journal old s size waits held flushed since has;
+  noted = λ quiet. has.noted (sym note ∙ quiet);
+}
 
 -- a durable store has flushed its state, and none waits
 pub durable-flushed : (folder : Folder) (s : Contents) (size : ℕ) → IsDurable folder s size → HasFlushed folder s [] s
@@ -276,6 +289,7 @@ durable-flushed folder s size durable = record {
   file = synced_file durable.bytes;
   is = durable.holds.is;
   journal = journal-synced durable.bytes s durable.whole (let short = durable.short in omega (arith, durable.long, short));
+  noted = none-noted (several_waited folder);
 }
 
 -- where none waits, the state is flushed
@@ -289,4 +303,5 @@ quiet-flushed folder s size waits held quiet =
       file = held.file;
       is = held.holds.is;
       journal = subst (λ f. IsJournal held.file f [] s) same (subst (λ cs. IsJournal held.file held.flushed cs s) none held.journal);
+      noted = none-noted (several_waited folder);
     }

@@ -1,9 +1,9 @@
 -- What a call that may change an open store says of the store before it, `old`, and of the one after it, `new`.
-use Rattle.std.specs.Prelude.{◌≡◌, ◌≢◌, ◌⊎◌, ◌≤◌, ℕ, false, List, [], ◌∷◌, ◌++◌, Option, Result, IfErr, IsErrOf, OnOk}
-use Rattle.conf_store.specs.Prelude.{bytes_under, DiskModel, LeavesOnly, Store, file_with_bytes, Command, Contents}
+use Rattle.std.specs.Prelude.{◌≡◌, ◌≢◌, ◌⊎◌, ◌≤◌, ℕ, Bool, false, List, [], ◌∷◌, ◌++◌, Option, Result, IfErr, IsErrOf, OnOk}
+use Rattle.conf_store.specs.Prelude.{bytes_under, several_waited, DiskModel, LeavesOnly, Store, file_with_bytes, Command, Contents}
 use Rattle.conf_store.specs.Prelude.{StoreFault, Device}
-use Rattle.conf_store.specs.{Calls.HasFailed, Calls.next_record, Meaning.FileMeans, View.StoreView}
-use Rattle.conf_store.specs.Durable.{AfterPrefix, AllImagesMean, HasFlushed, staged_text}
+use Rattle.conf_store.specs.{Calls.HasFailed, Calls.next_record, Meaning.ImageMeans, View.StoreView}
+use Rattle.conf_store.specs.Durable.{MeansPrefix, AllImagesMean, HasFlushed, staged_text}
 
 -- ---- faults
 
@@ -26,6 +26,10 @@ FailuresNeverFall model old new = model.failure_count old.disk ≤ model.failure
 abbrev pub store_file : {D : Type 0} → DiskModel D → D → Option (List ℕ)
 store_file model disk = bytes_under (model.folder disk) Store
 
+-- whether it is noted that several records may have waited for one sync
+abbrev pub store_note : {D : Type 0} → DiskModel D → D → Bool
+store_note model disk = several_waited (model.folder disk)
+
 -- the new file of the running checkpoint: what `next.yaml` reads as, and then what is left to append
 abbrev pub new_file : {D : Type 0} → DiskModel D → StoreView D → Option (List ℕ)
 new_file model seen = staged_text (model.folder seen.disk) seen.staged
@@ -40,13 +44,13 @@ AppendsRecord old command before after = after ≡ file_with_bytes before (next_
 abbrev pub LeavesPrefix : {D : Type 0} → DiskModel D → StoreView D → StoreView D → Type 0
 LeavesPrefix model old new = model.honest → old.reopen ≡ false → (flushed : Contents) (since : List Command)
     → HasFlushed (model.folder old.disk) flushed since old.state
-    → LeavesOnly model old.disk new.disk (λ image. AfterPrefix flushed since image.store)
+    → LeavesOnly model old.disk new.disk (MeansPrefix flushed since)
 
 -- The same, or the state after the call.
 abbrev pub LeavesPrefixOrNew : {D : Type 0} → DiskModel D → StoreView D → StoreView D → Type 0
 LeavesPrefixOrNew model old new = model.honest → old.reopen ≡ false → (flushed : Contents) (since : List Command)
     → HasFlushed (model.folder old.disk) flushed since old.state
-    → LeavesOnly model old.disk new.disk (λ image. AfterPrefix flushed since image.store ⊎ FileMeans image.store new.state)
+    → LeavesOnly model old.disk new.disk (λ image. MeansPrefix flushed since image ⊎ ImageMeans image new.state)
 
 -- after Ok, the command waits behind those that waited
 abbrev pub CommandWaits : {D T : Type 0} → DiskModel D → StoreView D → Command → StoreView D → Result T StoreFault

@@ -1,10 +1,11 @@
 -- What an open store keeps on its disk, and what a crash leaves of it.
-use Rattle.std.specs.Prelude.{◌≡◌, ◌≤◌, ℕ, ◌+◌, Bool, false, List, [], ◌∷◌, ◌++◌, length, take, Option, Some, None}
+use Rattle.std.specs.Prelude.{◌≡◌, ◌≤◌, ℕ, ◌+◌, Bool, false, List, [], ◌++◌, length, take, Option, Some, None}
 use Rattle.std.specs.Prelude.{option_map, Ok}
-use Rattle.conf_store.specs.Prelude.{Pieces, File, Folder, bytes_under, Image, IsImage, synced_file, Next, HoldsStore}
+use Rattle.conf_store.specs.Prelude.{Pieces, File, Folder, bytes_under, several_waited, Image, IsImage, synced_file, Next, HoldsStore}
 use Rattle.conf_store.specs.Prelude.{file_at, store_limit, Command, Contents, after, record_pieces, records_bytes}
 use Rattle.conf_store.specs.Prelude.{Zeroed}
-use Rattle.conf_store.specs.{Meaning.AreRecords, Meaning.PiecesMean, Meaning.FileMeans, Staged.Staged}
+use Rattle.conf_store.specs.Meaning.{AreRecords, PiecesMean, FileMeans, ImageMeans}
+use Rattle.conf_store.specs.Staged.{Staged}
 
 -- The bytes mean `s`, and end with a closing line: nothing follows the last piece.
 pub record IsWholeStore (bytes : List ℕ) (s : Contents) : Type 0 where
@@ -21,15 +22,22 @@ pub record IsJournal (file : File) (flushed : Contents) (since : List Command) (
   pub leads : after flushed since ≡ Ok s
   pub short : length file.synced + length file.pending ≤ store_limit
 
+-- two commands wait only where it is noted that several may
+abbrev pub IsNoted : Bool → List Command → Type 0
+IsNoted several since = several ≡ false → length since ≤ 1
+
 -- What is flushed of an open store whose state is `s`, and which commands were submitted since: in the last stage, the
--- synced bytes of `store.yaml` mean `flushed`, and its pending bytes are the records of `since`.
+-- synced bytes of `store.yaml` mean `flushed`, and its pending bytes are the records of `since`. It is noted if these
+-- are several.
 pub record HasFlushed (folder : Folder) (flushed : Contents) (since : List Command) (s : Contents) : Type 0 where
   pub file : File
   pub is : file_at folder.files folder.now.store ≡ Some file
   pub journal : IsJournal file flushed since s
+  pub noted : IsNoted (several_waited folder) since
 
 -- Every stage of the folder has one and the same `store.yaml`, of `size` bytes. Its synced bytes mean a state, and its
--- pending bytes are the records of the commands that were submitted since. If none `waits`, nothing is pending.
+-- pending bytes are the records of the commands that were submitted since. It is noted if these are several. If none
+-- `waits`, nothing is pending.
 pub record IsHeld (folder : Folder) (s : Contents) (size : ℕ) (waits : Bool) : Type 0 where
   pub file : File
   pub holds : HoldsStore folder (Some file)
@@ -38,6 +46,7 @@ pub record IsHeld (folder : Folder) (s : Contents) (size : ℕ) (waits : Bool) :
   pub journal : IsJournal file flushed since s
   pub long : length file.synced + length file.pending ≡ size
   pub none : waits ≡ false → since ≡ []
+  pub noted : IsNoted (several_waited folder) since
 
 -- Every stage of the folder has one and the same `store.yaml`. All its bytes are synced, there are `size` of them, and
 -- they mean `s`.
@@ -50,19 +59,24 @@ pub record IsDurable (folder : Folder) (s : Contents) (size : ℕ) : Type 0 wher
 
 -- whatever a crash now leaves means `s`
 abbrev pub AllImagesMean : Folder → Contents → Type 0
-AllImagesMean folder s = (image : Image) → IsImage folder image → FileMeans image.store s
+AllImagesMean folder s = (image : Image) → IsImage folder image → ImageMeans image s
 
 -- the file means the state after a prefix of the commands
-pub record AfterPrefix (s : Contents) (commands : List Command) (file : Option (List ℕ)) : Type 0 where
+pub record AfterPrefix (several : Bool) (s : Contents) (commands : List Command)
+    (file : Option (List ℕ)) : Type 0 where
   pub count : ℕ
   pub state : Contents
   pub leads : after s (take count commands) ≡ Ok state
-  pub means : FileMeans file state
+  pub means : FileMeans several file state
+
+-- the same of an image
+abbrev pub MeansPrefix : Contents → List Command → Image → Type 0
+MeansPrefix s commands image = AfterPrefix image.several s commands image.store
 
 -- whatever a crash now leaves means the state after a prefix of the commands
 abbrev pub AllImagesAfterPrefix : Folder → Contents → List Command → Type 0
 AllImagesAfterPrefix folder flushed since =
-    (image : Image) → IsImage folder image → AfterPrefix flushed since image.store
+    (image : Image) → IsImage folder image → MeansPrefix flushed since image
 
 -- ---- laws
 
@@ -74,14 +88,15 @@ OneFlushed = (folder : Folder) (flushed other : Contents) (since others : List C
 
 -- the state after a prefix of no commands is the state
 abbrev pub NothingWaits : Type 0
-NothingWaits = (s : Contents) (file : Option (List ℕ)) → AfterPrefix s [] file → FileMeans file s
+NothingWaits = (several : Bool) (s : Contents) (file : Option (List ℕ)) → AfterPrefix several s [] file
+    → FileMeans several file s
 
--- Only the record of one command waits. However a crash cuts it, and whatever zeros it leaves in it, the file means the
--- state before the command or after it.
+-- The records of some commands wait, and it is noted if these are several. However a crash cuts them, and whatever zeros
+-- it leaves in them, the file means the state after a prefix of the commands.
 abbrev pub HolesMean : Type 0
-HolesMean = (file : File) (flushed end : Contents) (command : Command) (left : List ℕ)
-    → IsJournal file flushed (command ∷ []) end → Zeroed file.pending left
-    → AfterPrefix flushed (command ∷ []) (Some (file.synced ++ left))
+HolesMean = (several : Bool) (file : File) (flushed end : Contents) (since : List Command) (left : List ℕ)
+    → IsJournal file flushed since end → IsNoted several since → Zeroed file.pending left
+    → AfterPrefix several flushed since (Some (file.synced ++ left))
 
 -- ---- a checkpoint that runs
 

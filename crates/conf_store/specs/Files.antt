@@ -1,6 +1,6 @@
 -- What the files of a folder read as, and what opening makes of them.
-use Rattle.std.specs.Prelude.{◌≡◌, ◌≢◌, ◌⊎◌, ℕ, List, length, Option, Some, None}
-use Rattle.conf_store.specs.Prelude.{bytes_under, Image, IsImage, image_now, DiskModel, LeavesOnly, Store, IsStoreOf}
+use Rattle.std.specs.Prelude.{◌≡◌, ◌≢◌, ◌⊎◌, ℕ, Bool, List, length, Option, Some, None}
+use Rattle.conf_store.specs.Prelude.{bytes_under, several_waited, Image, IsImage, image_now, DiskModel, LeavesOnly, Store, IsStoreOf}
 use Rattle.conf_store.specs.Prelude.{Contents, base_bytes}
 use Rattle.conf_store.specs.{Meaning.FileMeans, Opens.FileRecoversTo}
 
@@ -19,21 +19,22 @@ pub record FilesStay {D : Type 0} (model : DiskModel D)
 
 -- `file` is the whole new base that opening writes over `old`. The old file means this state, and is missing or has
 -- bytes after its last closing line.
-pub record IsNewBase (old file : Option (List ℕ)) : Type 0 where
+pub record IsNewBase (several : Bool) (old file : Option (List ℕ)) : Type 0 where
   pub state : Contents
-  pub means : FileMeans old state
+  pub means : FileMeans several old state
   pub records : ℕ
   pub dropped : ℕ
-  pub recovers : FileRecoversTo old state records dropped
+  pub recovers : FileRecoversTo several old state records dropped
   pub needed : (old ≡ None) ⊎ (dropped ≢ 0)
   pub is : file ≡ Some (base_bytes state)
 
 -- the old file, or the whole new base
-abbrev pub IsOldOrBase : Option (List ℕ) → Option (List ℕ) → Type 0
-IsOldOrBase old file = (file ≡ old) ⊎ IsNewBase old file
+abbrev pub IsOldOrBase : Bool → Option (List ℕ) → Option (List ℕ) → Type 0
+IsOldOrBase several old file = (file ≡ old) ⊎ IsNewBase several old file
 
 -- a crash at any moment since `old` leaves an old `store.yaml`, or the whole new base
 abbrev pub LeavesOldOrBase : {D : Type 0} → DiskModel D → D → D → Type 0
 LeavesOldOrBase model old new =
     LeavesOnly model old new
-    (λ image. IsStoreOf (model.folder old) image.store ⊎ IsNewBase (bytes_under (model.folder old) Store) image.store)
+    (λ image. IsStoreOf (model.folder old) image
+    ⊎ IsNewBase (several_waited (model.folder old)) (bytes_under (model.folder old) Store) image.store)

@@ -1,6 +1,18 @@
--- What a crash leaves behind the last whole record: a piece with a zero, and behind it pieces that are no records.
-use Rattle.std.specs.Prelude.{◌≡◌, ◌⊎◌, ℕ, true, false, List, Contains}
+-- What a crash leaves behind the last whole record: a piece with a zero, and behind it pieces that are no records, or
+-- any pieces if several records waited for one sync.
+use Rattle.std.specs.Prelude.{◌≡◌, ◌⊎◌, ℕ, Bool, true, false, List, Contains}
 use Rattle.conf_store.specs.Prelude.{All, Pieces, Command, IsRecord, IsNoRecord, no_zero}
+use Rattle.conf_store.specs.declared.waiting.Waiting.{Waiting}
+use Rattle.conf_store.specs.declared.waiting.Waiting.TheVariants.{One, Several}
+
+-- whether several records may have waited for one sync
+abbrev pub is_several : Waiting → Bool
+is_several One = false
+is_several Several = true
+
+-- These pieces may be dropped: several records may have waited for one sync, or none of the pieces is a record.
+abbrev pub MayBeDropped : Bool → List (List ℕ) → Type 0
+MayBeDropped several pieces = (several ≡ true) ⊎ All IsNoRecord pieces
 
 -- the bytes are a record of some command, whatever its number
 abbrev pub IsAnyRecord : List ℕ → Type 0
@@ -25,14 +37,14 @@ pub record LacksRecord (bytes : List ℕ) : Type 0 where
   pub none : All IsNoRecord pieces
 
 -- The piece and what stands behind it may be what a crash left of commands that were not synced: the piece has a zero,
--- and no record stands behind it.
-abbrev pub MayBeLeft : List ℕ → List ℕ → Type 0
-MayBeLeft piece behind = (no_zero piece ≡ false) × LacksRecord behind
+-- and several may have waited, or no record stands behind it.
+abbrev pub MayBeLeft : Bool → List ℕ → List ℕ → Type 0
+MayBeLeft several piece behind = (no_zero piece ≡ false) × ((several ≡ true) ⊎ LacksRecord behind)
 
--- no crash left them so: the piece has no zero, or a record stands behind it
-abbrev pub WasKept : List ℕ → List ℕ → Type 0
-WasKept piece behind = (no_zero piece ≡ true) ⊎ KeepsRecord behind
+-- no crash left them so: the piece has no zero, or one waited at most and a record stands behind it
+abbrev pub WasKept : Bool → List ℕ → List ℕ → Type 0
+WasKept several piece behind = (no_zero piece ≡ true) ⊎ ((several ≡ false) × KeepsRecord behind)
 
 -- the same of the pieces behind it
-abbrev pub IsKept : List ℕ → List (List ℕ) → Type 0
-IsKept piece behind = (no_zero piece ≡ true) ⊎ HoldsRecord behind
+abbrev pub IsKept : Bool → List ℕ → List (List ℕ) → Type 0
+IsKept several piece behind = (no_zero piece ≡ true) ⊎ ((several ≡ false) × HoldsRecord behind)

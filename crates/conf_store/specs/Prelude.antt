@@ -1,5 +1,5 @@
 -- What the definitions and the code of this crate name of others.
-pub use Rattle.conf_disk.specs.Folder.{bytes_under, Folder, File, Tells}
+pub use Rattle.conf_disk.specs.Folder.{bytes_under, Folder, File, Tells, several_waited}
 pub use Rattle.conf_disk.specs.Image.{image_now, Image, IsImage, synced_file}
 pub use Rattle.conf_disk.specs.Models.{DiskModel}
 pub use Rattle.conf_disk.specs.Moments.{greatest, LeavesOnly, CountsFailures}

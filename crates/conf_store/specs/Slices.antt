@@ -1,6 +1,6 @@
 -- What a checkpoint does that is written in slices.
 use Rattle.std.specs.Prelude.{◌≡◌, ℕ, ◌<◌, true, false, List, [], length, Option, Some, None}
-use Rattle.conf_store.specs.Prelude.{File, Folder, bytes_under, synced_file, DiskModel, Store, Next, HoldsStore}
+use Rattle.conf_store.specs.Prelude.{File, Folder, bytes_under, several_waited, synced_file, DiskModel, Store, Next, HoldsStore}
 use Rattle.conf_store.specs.Prelude.{IsSynced, file_with_bytes, Command, Contents, base_bytes}
 use Rattle.conf_store.specs.{View.StoreView, declared.slicing.Progress.Progress}
 use Rattle.conf_store.specs.Staged.{Staged, staged_length, next_slice, after_slice, is_sync_due}
@@ -24,6 +24,7 @@ pub record WritesPart {D : Type 0} (model : DiskModel D) (old : D) (staged : Sta
   pub store : model.honest → bytes_under (model.folder new) Store ≡ bytes_under (model.folder old) Store
   pub holds : model.honest → (file : Option File) → HoldsStore (model.folder old) file
       → HoldsStore (model.folder new) file
+  pub noted : model.honest → several_waited (model.folder new) ≡ several_waited (model.folder old)
   pub synced : model.honest → SyncedWhenDue (model.folder new) after
 
 -- All that was left is in the file, which is synced and in the place of `store.yaml`.

@@ -7,6 +7,7 @@ ghost use Rattle.conf_store.specs.Durable.{HasFlushed};
 ghost use Rattle.conf_store.specs.Slices.{Begins, SliceFlushes, SliceReads, Slices, SyncedWhenDue};
 
 use crate::base_file::write_base;
+use crate::holes_mean;
 use crate::slicing::{Progress, write_slice};
 use crate::staging::Staging;
 use crate::store::Store;
@@ -46,8 +47,8 @@ impl<D: Disk> Store<D> {
         ensures flushed { D.model.honest → OnOk result (NoneWaits D.model self.new) }
         ensures now { D.model.honest → OnOk result (CrashesLeaveState D.model self.new) }
     {
-        documents_close();
         held_store_is_left();
+        holes_mean();
         if self.reopen {
             return Err(StoreFault::Reopen);
         }
@@ -99,6 +100,7 @@ impl<D: Disk> Store<D> {
         documents_are_read();
         documents_close();
         held_store_is_left();
+        holes_mean();
         if self.reopen {
             return Err(StoreFault::Reopen);
         }
@@ -153,8 +155,8 @@ impl<D: Disk> Store<D> {
             → HasFlushed (D.model.folder self.old.disk) flushed since self.old.state →
             IfOk result (SliceFlushes D.model.folder flushed since self.new) }
     {
-        documents_close();
         held_store_is_left();
+        holes_mean();
         if self.reopen {
             return Err(StoreFault::Reopen);
         }

@@ -7,6 +7,7 @@ ghost use Rattle.conf_store.specs.Imports.{AppendsImport, Imports, RefusesImport
 ghost use Rattle.conf_store.specs.Slices.{StaysTheSame};
 
 use crate::accepting::accept;
+use crate::holes_mean;
 use crate::importing::import_command;
 use crate::store::Store;
 use conf_disk::Disk;
@@ -48,6 +49,7 @@ impl<D: Disk> Store<D> {
     {
         documents_close();
         held_store_is_left();
+        holes_mean();
         if self.reopen {
             return Err(StoreFault::Reopen);
         }
@@ -100,6 +102,7 @@ impl<D: Disk> Store<D> {
     {
         documents_close();
         held_store_is_left();
+        holes_mean();
         if self.reopen {
             return Err(StoreFault::Reopen);
         }

@@ -5,7 +5,7 @@ ghost use Rattle.conf_store.specs.Prelude.{LeavesStoreOr, base_bytes, IsState};
 ghost use Rattle.conf_store.specs.Calls.{HasFailed};
 ghost use Rattle.conf_store.specs.Creates.{RefusesCreation, disk_behind};
 ghost use Rattle.conf_store.specs.Durable.{AllImagesMean};
-ghost use Rattle.conf_store.specs.Meaning.{FileMeans};
+ghost use Rattle.conf_store.specs.Meaning.{FolderMeans};
 
 use crate::base_file::write_base;
 use conf_disk::{Content, Disk, DiskFault, Name, reading_is_an_image};
@@ -51,7 +51,7 @@ pub fn create_store<D: Disk + Drop>(
     ensures gone { D.model.honest → IfOk result (λ made.
         bytes_under (D.model.folder made) Name.Next ≡ None) }
     ensures means { D.model.honest → IfOk result (λ made.
-        FileMeans (bytes_under (D.model.folder made) Name.Store) state.now) }
+        FolderMeans (D.model.folder made) state.now) }
     // After Ok, a crash leaves the new file, and so what means the state.
     ensures synced { D.model.honest → IfOk result (λ made. (image : Image) →
         IsImage (D.model.folder made) image → image.store ≡ Some (base_bytes state.now)) }

@@ -1,23 +1,32 @@
 // What a crash leaves of records that were not synced: bytes, and zeros in the place of others.
 ghost use Rattle.std.specs.Prelude.{◌≡◌, not, true, false, Ok};
 ghost use Rattle.conf_store.specs.Prelude.{IsNoRecord, no_zero};
-ghost use Rattle.conf_store.specs.Holes.{IsAnyRecord, KeepsRecord, LacksRecord, MayBeLeft, WasKept};
+ghost use Rattle.conf_store.specs.Holes.{IsAnyRecord, KeepsRecord, LacksRecord, MayBeLeft, WasKept, is_several};
 
+use crate::waiting::Waiting;
 use conf_record::read_record;
 use std::alloc::{AllocError, Global};
 use yaml_docs::next_close;
 use yaml_recognizers::closings::{one_list_of_pieces, piece_between_closings};
 
 /// Whether a crash may have left a piece and what stands behind it, of commands that were not synced: the piece has a
-/// zero, and no record stands behind it. It fails only if memory runs out.
-pub(crate) fn may_be_left(alloc: Global, piece: &[u8], behind: &[u8]) -> Result<bool, AllocError>
-    ensures left { result ≡ Ok true → MayBeLeft piece.now behind.now }
-    ensures kept { result ≡ Ok false → WasKept piece.now behind.now }
+/// zero, and several commands may have waited, or no record stands behind it. It fails only if memory runs out.
+pub(crate) fn may_be_left(
+    alloc: Global,
+    piece: &[u8],
+    behind: &[u8],
+    waiting: Waiting,
+) -> Result<bool, AllocError>
+    ensures left { result ≡ Ok true → MayBeLeft (is_several waiting) piece.now behind.now }
+    ensures kept { result ≡ Ok false → WasKept (is_several waiting) piece.now behind.now }
 {
     if !has_zero(piece) {
         return Ok(false);
     }
-    Ok(!holds_record(alloc, behind)?)
+    match waiting {
+        Waiting::One => Ok(!holds_record(alloc, behind)?),
+        Waiting::Several => Ok(true),
+    }
 }
 
 /// Whether one of the bytes is 0.

@@ -3,7 +3,7 @@ ghost use Rattle.conf_store.specs.Calls.{RecordsAreMeasured};
 ghost use Rattle.conf_store.specs.Durable.{HolesMean, OneFlushed, NothingWaits};
 ghost use Rattle.conf_store.specs.Lives.{LivesHold};
 ghost use Rattle.conf_store.specs.OldStores.{OldStoresRead};
-ghost use Rattle.conf_store.specs.Opens.{OneMeaning, RefusedMeansNothing, RecoveredIsMeant};
+ghost use Rattle.conf_store.specs.Opens.{OneMeaning, NoteIsMilder, RefusedMeansNothing, RecoveredIsMeant, WholeIsMeant};
 
 use conf_record::{documents_are_read, documents_close};
 use yaml_recognizers::closings::one_list_of_pieces;
@@ -51,9 +51,9 @@ pub fn one_state_is_flushed()
     one_list_of_pieces();
 }
 
-/// Suppose that the record of one command waits for its sync, as after a `set`, an `import` or a batch, and that the
-/// machine stops. However the crash cuts the record, and whatever zeros it leaves in the place of bytes that had not
-/// reached the device, `store.yaml` means the state before the command or the one after it.
+/// Suppose that records wait for a sync: that of one command, or those of several, which the disk has noted. Then the
+/// machine stops. However the crash cuts the records, and whatever zeros it leaves in the place of bytes that had not
+/// reached the device, `store.yaml` means the state after a prefix of the commands.
 pub fn holes_mean()
     ensures { HolesMean }
 {
@@ -63,9 +63,13 @@ pub fn holes_mean()
     zeros_close_nothing();
 }
 
-/// Bytes mean at most one state; it is the one that opening recovers, and bytes that opening refuses mean none.
+/// Bytes mean at most one state; it is the one that opening recovers, and bytes that opening refuses mean none. Bytes
+/// that mean a state mean it also where it is noted that several records may have waited. Where opening drops none of
+/// them, the note says nothing.
 pub fn bytes_mean_one_state()
     ensures one { OneMeaning }
+    ensures milder { NoteIsMilder }
+    ensures whole { WholeIsMeant }
     ensures refused { RefusedMeansNothing }
     ensures recovered { RecoveredIsMeant }
 {

@@ -16,7 +16,7 @@
 //!
 //! [`replay_record`] performs one record on what is [`Replayed`], and [`replay_records`] all of them, for whoever goes
 //! over a store's file. [`has_zero`] and [`is_record`] say of a piece that is not the next record whether a crash may
-//! have left it.
+//! have left it; [`Waiting`] says whether several records may have waited for one sync.
 //!
 //! After a crash at any moment, opening finds the state after a prefix of the accepted commands, with every command
 //! that was acknowledged ([`lives_hold`]).
@@ -41,6 +41,7 @@ mod recovery;
 mod slicing;
 mod staging;
 mod store;
+mod waiting;
 
 pub use base_file::replace_store;
 pub use creating::{CreateFault, create_store, find_no_store};
@@ -56,3 +57,4 @@ pub use records::{NoRecord, OnRefusal, RecordFault, Replayed, replay_record};
 pub use recovery::{Opened, replay_records};
 pub use slicing::Progress;
 pub use store::Store;
+pub use waiting::Waiting;

@@ -1,13 +1,15 @@
 // Reading the state of a folder without a change to it.
 ghost use Rattle.std.specs.Prelude.{◌≡◌, ◌≤◌, IfOk, IfErr, IsErrOf};
-ghost use Rattle.conf_store.specs.Prelude.{bytes_under, IsState};
+ghost use Rattle.conf_store.specs.Prelude.{IsState};
 ghost use Rattle.conf_store.specs.Calls.{HasFailed};
+ghost use Rattle.conf_store.specs.Changing.{store_file, store_note};
 ghost use Rattle.conf_store.specs.Files.{FilesStay};
-ghost use Rattle.conf_store.specs.Meaning.{FileMeans};
+ghost use Rattle.conf_store.specs.Meaning.{FolderMeans};
 ghost use Rattle.conf_store.specs.Opens.{FileRecoversTo, RefusesOpening, RefusalMeans};
 
 use crate::opening::{Found, find_state};
 use crate::recovery::Opened;
+use crate::waiting::Waiting;
 use crate::{OpenFault, bytes_mean_one_state};
 use conf_disk::{Disk, DiskFault, Name};
 use conf_journal::STORE_LIMIT;
@@ -28,16 +30,16 @@ use std::alloc::Global;
 /// and `OutOfMemory`. Both files are as they were, whatever this returns.
 pub fn read_state<D: Disk>(alloc: Global, disk: &mut D) -> Result<(State, Opened), OpenFault>
     ensures found { D.model.honest → IfOk result (λ r.
-        FileRecoversTo (bytes_under (D.model.folder disk.old) Name.Store) r.0 r.1.commands r.1.dropped) }
+        FileRecoversTo (store_note D.model disk.old) (store_file D.model disk.old)
+        r.0 r.1.commands r.1.dropped) }
     // The state is what `store.yaml` means.
-    ensures means { D.model.honest → IfOk result (λ r.
-        FileMeans (bytes_under (D.model.folder disk.old) Name.Store) r.0) }
+    ensures means { D.model.honest → IfOk result (λ r. FolderMeans (D.model.folder disk.old) r.0) }
     ensures limits { IfOk result (λ r. IsState r.0) }
     ensures refused { D.model.honest → IfErr result (λ fault.
-        RefusesOpening fault (bytes_under (D.model.folder disk.old) Name.Store)) }
+        RefusesOpening fault (store_note D.model disk.old) (store_file D.model disk.old)) }
     // A file that is refused means nothing.
     ensures no_meaning { D.model.honest → IfErr result (λ fault.
-        RefusalMeans fault (bytes_under (D.model.folder disk.old) Name.Store)) }
+        RefusalMeans fault (store_note D.model disk.old) (store_file D.model disk.old)) }
     ensures cause { IsErrOf result OpenFault.Device →
         HasFailed (D.model.failure_count disk.old) (D.model.failure_count disk.new) }
     // The number of failures never falls.
@@ -48,12 +50,13 @@ pub fn read_state<D: Disk>(alloc: Global, disk: &mut D) -> Result<(State, Opened
     ensures stays { D.model.honest → FilesStay D.model disk.old disk.new }
 {
     bytes_mean_one_state();
+    let waiting = Waiting::noted_on(disk);
     let content = match disk.read(alloc, Name::Store, STORE_LIMIT) {
         Ok(content) => content,
         Err(DiskFault::Device) => return Err(OpenFault::Device),
         Err(DiskFault::OutOfMemory) => return Err(OpenFault::OutOfMemory),
     };
-    match find_state(alloc, content) {
+    match find_state(alloc, content, waiting) {
         Ok(Found { state, opened, .. }) => Ok((state, opened)),
         Err(fault) => Err(fault),
     }

@@ -5,11 +5,11 @@ ghost use Rattle.conf_store.specs.Prelude.{chars, bytes_under, LeavesOnly, IsSta
 ghost use Rattle.yaml_data.specs.Seen.{tree_of};
 ghost use Rattle.conf_state.specs.Commands.{Command as GivenCommand};
 ghost use Rattle.conf_store.specs.Calls.{Exports, HasFailed, tree_at, tree_named};
-ghost use Rattle.conf_store.specs.Changing.{new_file, store_file};
+ghost use Rattle.conf_store.specs.Changing.{new_file, store_file, store_note};
 ghost use Rattle.conf_store.specs.Durable.{AllImagesMean, AllImagesAfterPrefix, HasFlushed};
 ghost use Rattle.conf_store.specs.Files.{FilesStay, HasLength, IsOldOrBase, LeavesOldOrBase};
 ghost use Rattle.conf_store.specs.Grown.{HasGrown};
-ghost use Rattle.conf_store.specs.Meaning.{FileMeans};
+ghost use Rattle.conf_store.specs.Meaning.{FolderMeans};
 ghost use Rattle.conf_store.specs.Opens.{FileRecoversTo, ReadsAfterOpening, RefusesOpening, RefusalMeans, MeantAtEntry, disk_after};
 ghost use Rattle.conf_store.specs.Staged.{staged_length};
 
@@ -17,16 +17,14 @@ use crate::base_file::write_base;
 use crate::opening::{Found, find_store};
 use crate::recovery::Opened;
 use crate::staging::Staging;
-use crate::{OpenFault, bytes_mean_one_state};
+use crate::{OpenFault, bytes_mean_one_state, holes_mean};
 use conf_disk::{Disk, Name, reading_is_an_image};
 use conf_journal::{held_store_is_left, held_store_is_the_only_one};
-use conf_record::{documents_are_read, documents_close};
 use conf_state::{Names, State, StoreFault, good_name};
 use std::alloc::Global;
 use std::marker::Model;
 use tree_path::Path;
 use yaml_emit::style_text;
-use yaml_recognizers::closings::one_list_of_pieces;
 use yaml_tree::{Config, Tree};
 
 /// Named configurations, kept in a folder.
@@ -109,27 +107,27 @@ impl<D: Disk> Store<D> {
     /// `store.yaml` means nothing; both files stay as they were. `OutOfMemory`: so do they, since all memory is taken
     /// before the first change. `Device`: `store.yaml` is the old file or the whole new base.
     pub fn open(alloc: Global, disk: D) -> Result<(Store<D>, Opened), (D, OpenFault)>
-        ensures found { D.model.honest → IfOk result (λ r.
-            FileRecoversTo (store_file D.model disk) r.0.state r.1.commands r.1.dropped) }
+        ensures found { D.model.honest → IfOk result (λ r. FileRecoversTo (store_note D.model disk)
+            (store_file D.model disk) r.0.state r.1.commands r.1.dropped) }
         // The state is what `store.yaml` means.
         ensures means { D.model.honest → IfOk result (λ r.
-            FileMeans (store_file D.model disk) r.0.state) }
+            FolderMeans (D.model.folder disk) r.0.state) }
         ensures no_reopen { IfOk result (λ r. r.0.reopen ≡ false) }
         ensures no_checkpoint { IfOk result (λ r. r.0.staged ≡ None) }
         ensures reads { D.model.honest → IfOk result (λ r. ReadsAfterOpening
             (store_file D.model disk) r.0.state r.1.dropped (store_file D.model r.0.disk)) }
         ensures refused { D.model.honest → IfErr result (λ r.
-            RefusesOpening r.1 (store_file D.model disk)) }
+            RefusesOpening r.1 (store_note D.model disk) (store_file D.model disk)) }
         // A file that is refused means nothing.
         ensures no_meaning { D.model.honest → IfErr result (λ r.
-            RefusalMeans r.1 (store_file D.model disk)) }
+            RefusalMeans r.1 (store_note D.model disk) (store_file D.model disk)) }
         ensures cause { IfErr result (λ r.
             r.1 ≡ OpenFault.Device → HasFailed (D.model.failure_count disk) (D.model.failure_count r.0)) }
         // The number of failures never falls.
         ensures risen { D.model.failure_count disk ≤ D.model.failure_count (disk_after result) }
         // A crash at any moment of the call leaves what some image at its start meant, whatever it returns.
         ensures any_moment { D.model.honest → LeavesOnly D.model disk (disk_after result)
-            (λ image. MeantAtEntry (D.model.folder disk) image.store) }
+            (MeantAtEntry (D.model.folder disk)) }
         // After Ok, whatever a crash leaves means the state.
         ensures now { D.model.honest → IfOk result (λ r. AllImagesMean (D.model.folder r.0.disk) r.0.state) }
         // The state is flushed, and nothing waits.
@@ -146,7 +144,7 @@ impl<D: Disk> Store<D> {
             ((store_file D.model disk ≡ None) ⊎ (r.1.dropped ≢ 0)) →
             bytes_under (D.model.folder r.0.disk) Name.Next ≡ None) }
         // Whatever it returns, `store.yaml` reads as before, or as the whole new base.
-        ensures old_or_base { D.model.honest → IsOldOrBase
+        ensures old_or_base { D.model.honest → IsOldOrBase (store_note D.model disk)
             (store_file D.model disk) (store_file D.model (disk_after result)) }
         // A crash at any moment of the call leaves an old `store.yaml`, or the whole new base.
         ensures leaves { D.model.honest → LeavesOldOrBase D.model disk (disk_after result) }
@@ -154,12 +152,10 @@ impl<D: Disk> Store<D> {
         ensures size { D.model.honest → IfOk result (λ r.
             HasLength (store_file D.model r.0.disk) r.0.size) }
     {
-        documents_are_read();
-        documents_close();
         bytes_mean_one_state();
         held_store_is_left();
         held_store_is_the_only_one();
-        one_list_of_pieces();
+        holes_mean();
         reading_is_an_image();
         let mut disk = disk;
         let Found {
@@ -298,8 +294,8 @@ impl<D: Disk> Store<D> {
         ensures staged_size { D.model.honest → self.now.reopen ≡ false → IsSome self.now.staged →
             HasLength (new_file D.model self.now) (staged_length self.now.staged) }
     {
-        documents_close();
         held_store_is_left();
+        holes_mean();
         self.reopen
     }
 

@@ -17,6 +17,7 @@ pub(crate) fn call<D: Disk>(
 {
     match words {
         ["failures"] => failures_of(alloc, disk),
+        ["several_waited"] => String::from_str(alloc, note_of(disk)),
         ["read", name, limit] => reading_of(alloc, disk, name_of(name), limit),
         ["load"] => content_of(alloc, load(alloc, disk)),
         ["create_next"] => outcome_of(alloc, disk.create_next()),
@@ -101,4 +102,13 @@ fn reading_of<D: Disk>(
 fn failures_of<D: Disk>(alloc: Global, disk: &D) -> Result<String, AllocError> {
     let failures = disk.failures();
     format!(in alloc; "{failures}")
+}
+
+/// Whether the disk says that several appends may have waited for one sync.
+pub(crate) fn note_of<D: Disk>(disk: &D) -> &'static str {
+    if disk.several_waited() {
+        "several"
+    } else {
+        "one"
+    }
 }

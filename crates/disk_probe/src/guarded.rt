@@ -2,7 +2,7 @@
 ghost use Rattle.std.specs.Prelude.{◌≡◌, ◌≢◌, ◌<◌, Err};
 ghost use Rattle.conf_disk.specs.Moments.{CountsFailures};
 
-use conf_disk::{Content, Cuts, Disk, DiskFault, Name};
+use conf_disk::{Content, Cuts, Disk, DiskFault, Holes, Name};
 use std::alloc::{AllocError, Global};
 use test_disks::MemoryDisk;
 
@@ -56,6 +56,19 @@ impl GuardedDisk {
         }
     }
 
+    /// What a crash leaves, as [`MemoryDisk::image_with_holes`].
+    pub(crate) fn image_with_holes(
+        &self,
+        stage: usize,
+        cuts: Cuts,
+        holes: &Holes,
+    ) -> Result<Option<Self>, AllocError> {
+        match self.disk.image_with_holes(stage, cuts, holes)? {
+            Some(image) => Ok(Some(GuardedDisk::over(self.alloc, image))),
+            None => Ok(None),
+        }
+    }
+
     /// Counts a failure if a call failed, and returns it as `Device`.
     fn count(&mut self, done: Result<(), DiskFault>) -> Result<(), DiskFault>
         requires { self.old.failures < u64.MAX }
@@ -91,6 +104,10 @@ impl Disk for GuardedDisk {
 
     fn failures(&self) -> u64 {
         self.failures
+    }
+
+    fn several_waited(&self) -> bool {
+        self.disk.several_waited()
     }
 
     fn read(&mut self, alloc: Global, name: Name, max: u64) -> Result<Content, DiskFault> {

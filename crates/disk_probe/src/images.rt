@@ -1,7 +1,7 @@
 // The images that a crash may leave of a disk in memory.
-use crate::calls::{call, content_of};
+use crate::calls::{call, content_of, note_of};
 use crate::guarded::GuardedDisk;
-use conf_disk::{Cuts, Disk, Name};
+use conf_disk::{Cuts, Disk, Holes, Name};
 use conf_journal::STORE_LIMIT;
 use std::alloc::{AllocError, Global};
 use test_disks::{Fuse, FusedDisk};
@@ -11,6 +11,9 @@ const STAGES: usize = 6;
 
 /// Cuts keep fewer bytes than this, and have fewer zeros. The files of the orders have fewer pending bytes.
 const CUT: usize = 5;
+
+/// The bytes of a page.
+const PAGE: usize = 4;
 
 /// How many choices there are of a stage and of cuts.
 const CHOICES: usize = STAGES * CUT * CUT * CUT * CUT;
@@ -42,6 +45,42 @@ pub(crate) fn images_of(alloc: Global, disk: &GuardedDisk) -> Result<String, All
         }
     }
     Ok(shown)
+}
+
+/// What `store.yaml` reads as in the image of a stage with pages of its kept bytes zero, and the note.
+pub(crate) fn holed(
+    alloc: Global,
+    disk: &GuardedDisk,
+    stage: usize,
+    store: (usize, usize),
+    pages: &str,
+) -> Result<String, AllocError> {
+    let cuts = Cuts {
+        store,
+        ..Cuts::default()
+    };
+    let holes = holes_of(alloc, store.0, pages)?;
+    match disk.image_with_holes(stage, cuts, &holes)? {
+        Some(mut image) => {
+            let store = file_of(alloc, &mut image, Name::Store)?;
+            format!(in alloc; "{store} {}", note_of(&image))
+        }
+        None => String::from_str(alloc, "no image"),
+    }
+}
+
+/// Zeros at each of so many bytes whose page is a `0` in the word.
+fn holes_of(alloc: Global, kept: usize, pages: &str) -> Result<Holes, AllocError> {
+    let mut store = Vec::new(alloc);
+    for place in 0..kept {
+        if pages.as_bytes().get(place / PAGE) == Some(&b'0') {
+            store.push(place)?;
+        }
+    }
+    Ok(Holes {
+        store,
+        next: Vec::new(alloc),
+    })
 }
 
 /// What the two names read as.

@@ -11,10 +11,12 @@
 //! - `images`: a line for each image that a crash may leave: its stage, how `store.yaml` and `next.yaml` are cut, and
 //!   what each reads as then. All stages below 6 are tried, and all cuts of less than 5 bytes and zeros.
 //! - `crash;STAGE;KEPT;ZEROS;NEXT_KEPT;NEXT_ZEROS`: takes the disk that is such an image.
-//! - A call of the disk, `failures`, `read;NAME;LIMIT`, `create_next`, `append;NAME;BYTES`, `sync;NAME`, `rename_next`,
-//!   `remove_next` or `sync_folder`, where a `NAME` is `store` or `next`. Or a procedure of the journal, `load`,
-//!   `append_store;BYTES`, `sync_store`, `append_closed;BYTES`, `begin_next`, `append_next;BYTES`, `sync_next`,
-//!   `stage_next;BYTES`, `swap_next` or `finish_next`.
+//! - `holes;STAGE;KEPT;ZEROS;PAGES`: what `store.yaml` reads as in such an image with pages of 4 of the kept bytes
+//!   zero, and its note, `several` or `one`. `PAGES` has a `0` for each page that is zero, and a `-` for each other.
+//! - A call of the disk, `failures`, `several_waited`, `read;NAME;LIMIT`, `create_next`, `append;NAME;BYTES`,
+//!   `sync;NAME`, `rename_next`, `remove_next` or `sync_folder`, where a `NAME` is `store` or `next`. Or a procedure of
+//!   the journal, `load`, `append_store;BYTES`, `sync_store`, `append_closed;BYTES`, `begin_next`, `append_next;BYTES`,
+//!   `sync_next`, `stage_next;BYTES`, `swap_next` or `finish_next`.
 //! - `stop;CALLS;FUSE;` before one of these: it is made on a disk of its own with the files `old` and `new` and such a
 //!   fuse. After its answer come how many calls passed, and all that `store.yaml` reads as in the images that are left.
 //!

@@ -1,7 +1,7 @@
 // The disk in memory that orders are about.
 use crate::calls::call;
 use crate::guarded::GuardedDisk;
-use crate::images::images_of;
+use crate::images::{holed, images_of};
 use conf_disk::Cuts;
 use std::alloc::{AllocError, Global};
 use std::mem;
@@ -57,6 +57,20 @@ impl Memory {
         match disk.image(stage, cuts)? {
             Some(image) => self.take(alloc, image),
             None => String::from_str(alloc, "no image"),
+        }
+    }
+
+    /// What a crash leaves of `store.yaml` with pages of it zero, and the note.
+    pub(crate) fn holed(
+        &self,
+        alloc: Global,
+        stage: usize,
+        store: (usize, usize),
+        pages: &str,
+    ) -> Result<String, AllocError> {
+        match self {
+            Memory::Bare(disk) => holed(alloc, disk, stage, store, pages),
+            Memory::Fused(_) => String::from_str(alloc, "a fuse"),
         }
     }
 

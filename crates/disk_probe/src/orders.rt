@@ -48,6 +48,9 @@ fn answer(alloc: Global, memory: &mut Memory, words: &[&str]) -> Result<String, 
         ["unfuse"] => memory.unfuse(alloc),
         ["images"] => memory.images(alloc),
         ["crash", stage, cuts @ ..] => crash(alloc, memory, stage, cuts),
+        ["holes", stage, kept, zeros, pages] => {
+            memory.holed(alloc, place(stage), (place(kept), place(zeros)), pages)
+        }
         ["stop", calls, fuse, words @ ..] => stop(alloc, calls, fuse, words),
         words => memory.call(alloc, words),
     }

@@ -1,6 +1,6 @@
 // A folder in memory, and what its files hold.
 use crate::calls::FusedStore;
-use conf_disk::{Content, Cuts, Disk, DiskFault, Name};
+use conf_disk::{Content, Cuts, Disk, DiskFault, Holes, Name};
 use conf_journal::STORE_LIMIT;
 use conf_store::{OpenFault, Opened, Store, create_store, read_state};
 use probe_words::{meant, measured};
@@ -64,6 +64,14 @@ pub(crate) fn renew(
     let next = bytes_of(alloc, next)?;
     let answer = lengths(alloc, &store, &next)?;
     *place = Place::Folder(MemoryDisk::with_files(alloc, store, next)?);
+    Ok(answer)
+}
+
+/// Takes a new folder with this `store.yaml`, of which it is noted that several appends may have waited for one sync.
+pub(crate) fn noted(alloc: Global, place: &mut Place, store: &str) -> Result<String, AllocError> {
+    let store = bytes_of(alloc, Some(store))?;
+    let answer = lengths(alloc, &store, &None)?;
+    *place = Place::Folder(MemoryDisk::left_by_crash(alloc, store, None, true));
     Ok(answer)
 }
 
@@ -153,6 +161,53 @@ fn content_of(alloc: Global, read: Result<Content, DiskFault>) -> Result<String,
 pub(crate) fn image(alloc: Global, place: &mut Place, stage: u64) -> Result<String, AllocError> {
     let disk = place.take(alloc);
     let image = disk.image(stage as usize, Cuts::default())?;
+    left(alloc, place, disk, image)
+}
+
+/// Takes the image of a stage that keeps all pending bytes of `store.yaml`, with so many zeros from one of them on.
+/// Where there is none the folder stays.
+pub(crate) fn worn(
+    alloc: Global,
+    place: &mut Place,
+    stage: u64,
+    first: u64,
+    count: u64,
+) -> Result<String, AllocError> {
+    let disk = place.take(alloc);
+    let stage = stage as usize;
+    let holes = Holes {
+        store: run_of(alloc, first, count)?,
+        next: Vec::new(alloc),
+    };
+    let image = match disk.pending(stage, Name::Store)? {
+        Some(keep) => {
+            let cuts = Cuts {
+                store: (keep, 0),
+                next: (0, 0),
+            };
+            disk.image_with_holes(stage, cuts, &holes)?
+        }
+        None => None,
+    };
+    left(alloc, place, disk, image)
+}
+
+/// So many places from a first one on.
+fn run_of(alloc: Global, first: u64, count: u64) -> Result<Vec<usize>, AllocError> {
+    let mut places = Vec::new(alloc);
+    for place in first..first.saturating_add(count) {
+        places.push(place as usize)?;
+    }
+    Ok(places)
+}
+
+/// Takes the image of a disk, or the disk again where there is none.
+fn left(
+    alloc: Global,
+    place: &mut Place,
+    disk: MemoryDisk,
+    image: Option<MemoryDisk>,
+) -> Result<String, AllocError> {
     let (left, answer) = match image {
         Some(image) => (image, "an image"),
         None => (disk, "no image"),

@@ -38,7 +38,7 @@ pub(crate) struct Found {
 
 impl Found {
     /// Counts an image with so many commands.
-    fn note(&mut self, count: u64) {
+    pub(crate) fn note(&mut self, count: u64) {
         self.images = self.images.saturating_add(1);
         if let Some(images) = self.counts.get_mut(count as usize) {
             *images = images.saturating_add(1);
@@ -86,7 +86,11 @@ fn open_choice(
 }
 
 /// Opens what a crash left. Its store goes on, and the file then has the next command. Returns the count before it.
-fn open_image(alloc: Global, image: MemoryDisk, expected: Expected) -> Result<u64, Wrong> {
+pub(crate) fn open_image(
+    alloc: Global,
+    image: MemoryDisk,
+    expected: Expected,
+) -> Result<u64, Wrong> {
     let mut store = opened(alloc, image)?;
     match go_on(alloc, &mut store, expected) {
         Ok(count) => {

@@ -20,14 +20,14 @@ const LENGTH: u64 = 8;
 /// What a list leaves: the disk with the counts that a crash may leave, and how many calls the disk let pass if it did
 /// not stop.
 #[derive(Drop)]
-struct Left {
-    disk: MemoryDisk,
-    counts: Counts,
+pub(crate) struct Left {
+    pub(crate) disk: MemoryDisk,
+    pub(crate) counts: Counts,
     passed: u64,
 }
 
 /// Makes the calls of a list over a disk that stops after so many calls.
-fn run_list(
+pub(crate) fn run_list(
     alloc: Global,
     subject: &Subject,
     calls: &[Call],

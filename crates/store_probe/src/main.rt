@@ -7,13 +7,15 @@
 //!
 //! - `folder`: a new folder without a file. `folder;TEXT`: one with this `store.yaml`, and `folder;TEXT;TEXT`: one with
 //!   this `next.yaml` too. The answer is the length of each file.
+//! - `noted;TEXT`: the same as `folder;TEXT`, where it is noted that several appends may have waited for one sync.
 //! - `open`: opens it. The answer is how many commands were found and how many bytes dropped, or why it is refused.
 //!   `open;FUSE;CALLS` does so over a disk that lets so many calls pass. Then all fail (`stop`), or one fails, which
 //!   has no effect (`undone`) or has it (`done`).
 //! - `create;TEXT`: makes a store of the state that this text means as a `store.yaml`. The answer is `made`, or why
 //!   none is made, or why the text means nothing. `create;FUSE;CALLS;TEXT` does so over such a disk.
 //! - `file` and `next`: the length of `store.yaml` or of `next.yaml`, and its text if it has at most 1,000 bytes.
-//! - `image;STAGE`: takes what a crash leaves of this stage if it keeps no pending byte.
+//! - `image;STAGE`: takes what a crash leaves of this stage if it keeps no pending byte. `worn;STAGE;FIRST;COUNT`: if
+//!   it keeps all those of `store.yaml`, with so many zeros from this one on.
 //!
 //! On the open store:
 //!
@@ -45,6 +47,9 @@
 //! - `waiting;CALLS`: three commands are submitted and then flushed, over a disk that stops after so many calls. The
 //!   answer is how many of the images have how many of the commands. `misjudged;CALLS` takes each submit for a flush:
 //!   as long as a command waits, the answer says that an image lacks it.
+//! - `holes;COUNT;BYTES`: so many commands are submitted, at most three. A crash keeps all bytes of their records, with
+//!   zeros in each subset of the pages of so many bytes. The answer is how many of the images have how many of the
+//!   commands, and how many are damaged. `unnoted;COUNT;BYTES`: the same without the note of several appends.
 //! - `lists;LENGTH`: each list of so many calls, which are submit, flush, slice (a checkpoint begins if none runs),
 //!   checkpoint, apply, and close and open. It is stopped after each disk call of its last call, and what a crash
 //!   leaves is cut at the ends of records and beside them. The answer is how many lists, stops and images there are.
@@ -74,6 +79,7 @@ mod cut_sessions;
 mod device;
 mod folders;
 mod groups;
+mod holes;
 mod images;
 mod list_calls;
 mod lists;

@@ -2,7 +2,8 @@
 use crate::calls::call;
 use crate::cut_sessions::each;
 use crate::device::device;
-use crate::folders::{Place, create, image, open, renew, shown};
+use crate::folders::{Place, create, image, noted, open, renew, shown, worn};
+use crate::holes::{Note, holes};
 use crate::images::Openings;
 use crate::lists::{crash, lists, misjudged, waiting};
 use crate::puts::puts;
@@ -25,6 +26,7 @@ fn answer(alloc: Global, place: &mut Place, words: &[&str]) -> Result<String, Al
         ["folder"] => renew(alloc, place, None, None),
         ["folder", store] => renew(alloc, place, Some(store), None),
         ["folder", store, next] => renew(alloc, place, Some(store), Some(next)),
+        ["noted", store] => noted(alloc, place, store),
         ["open"] => open(alloc, place, u64::MAX, Fuse::Stop),
         ["open", fuse, calls] => open(alloc, place, number_of(calls), fuse_of(fuse)),
         ["create", text] => create(alloc, place, u64::MAX, Fuse::Stop, text),
@@ -38,6 +40,25 @@ fn answer(alloc: Global, place: &mut Place, words: &[&str]) -> Result<String, Al
         ["file"] => shown(alloc, place, Name::Store),
         ["next"] => shown(alloc, place, Name::Next),
         ["image", stage] => image(alloc, place, number_of(stage)),
+        ["worn", stage, first, count] => worn(
+            alloc,
+            place,
+            number_of(stage),
+            number_of(first),
+            number_of(count),
+        ),
+        ["holes", commands, page] => holes(
+            alloc,
+            number_of(commands),
+            number_of(page) as usize,
+            Note::Left,
+        ),
+        ["unnoted", commands, page] => holes(
+            alloc,
+            number_of(commands),
+            number_of(page) as usize,
+            Note::Taken,
+        ),
         ["crash", calls] => crash(alloc, number_of(calls)),
         ["waiting", calls] => waiting(alloc, number_of(calls)),
         ["misjudged", calls] => misjudged(alloc, number_of(calls)),

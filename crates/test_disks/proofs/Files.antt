@@ -1,7 +1,11 @@
 -- A file that is changed in its place.
-use Rattle.std.proofs.Common.{◌≡◌, ℕ, ◌<◌, List, length, get_or, set, map, sym, ◌∙◌, ap}
-use Rattle.std.proofs.lemmas.List.{map-set, get_or-map}
-use Rattle.conf_disk.specs.Folder.{File, empty_file}
+use Rattle.std.proofs.Common.{◌≡◌, ℕ, ◌<◌, List, length, get_or, set, map, Option, Some, None, sym, ◌∙◌, ap, arith}
+use Rattle.std.proofs.lemmas.List.{map-set, get_or-map, length-map}
+use Rattle.conf_disk.specs.Folder.{File, empty_file, Folder, under}
+use Rattle.conf_disk.specs.Image.{IsMade, IsWhole}
+use Rattle.conf_disk.specs.LogLaws.{now_staged}
+use Rattle.conf_disk.specs.declared.disk.Name.{Name}
+use Rattle.conf_disk.specs.declared.disk.Name.TheVariants.{Store, Next}
 use Rattle.test_disks.specs.Replay.{file_of}
 use Rattle.test_disks.specs.declared.folder.FileData.{FileData}
 
@@ -12,3 +16,15 @@ pub map-set-change : (xs : List FileData) (i : ℕ) (x y : FileData) (change : F
 map-set-change xs i x y change within at is =
     let old : get_or (map file_of xs) i empty_file ≡ file_of x = get_or-map file_of xs i x empty_file within ∙ ap file_of (sym at) in
     map-set file_of xs i y ∙ ap (λ (z : File). set (map file_of xs) i z) (is ∙ ap change (sym old))
+
+-- the file of a name is one of the folder's
+pub under-made : (folder : Folder) (name : Name) → IsWhole folder → IsMade (length folder.files) (under folder.now name)
+under-made folder Store whole = (now_staged folder whole).store
+under-made folder Next whole = (now_staged folder whole).next
+
+-- so among the data
+pub data-made : (files : List FileData) (place : Option ℕ) (id : ℕ) → IsMade (length (map file_of files)) place → place ≡ Some id
+    → id < length files
+data-made files None id made is = cc
+data-made files (Some k) id made is =
+    let same : k ≡ id = cc in omega (arith, made, same, length-map files file_of)

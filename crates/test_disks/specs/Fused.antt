@@ -1,6 +1,6 @@
 -- A disk with a fuse: which calls pass to the disk below, and what becomes of the others.
 use Rattle.std.specs.Prelude.{◌≡◌, ◌≢◌, ℕ, ◌+◌, ◌-◌, min, Result, Err, ◌==◌, nat_lt, if◌then◌else◌}
-use Rattle.conf_disk.specs.Folder.{Folder, Step, CreateNext, Append, Sync, RenameNext, RemoveNext, SyncFolder, Performs}
+use Rattle.conf_disk.specs.Folder.{Step, CreateNext, Append, Sync, RenameNext, RemoveNext, SyncFolder, Performs}
 use Rattle.conf_disk.specs.Models.{DiskModel}
 use Rattle.conf_disk.specs.Moments.{CountsFailures, greatest}
 use Rattle.conf_disk.specs.declared.disk.Name.{Name}

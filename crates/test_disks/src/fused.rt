@@ -20,8 +20,8 @@ pub enum Fuse {
 }
 
 /// A disk over another one, for tests: the first calls pass to that disk, and then a [`Fuse`] lets calls fail with
-/// [`DiskFault::Device`]. All calls are counted but [`Disk::failures`]. Its failures are those of the disk below and
-/// those of the fuse.
+/// [`DiskFault::Device`]. All calls are counted but [`Disk::failures`] and [`Disk::several_waited`]. Its failures are
+/// those of the disk below and those of the fuse.
 #[derive(Drop)]
 pub struct FusedDisk<D> {
     inner: D,
@@ -234,6 +234,10 @@ impl<D: Disk> Disk for FusedDisk<D> {
     fn failures(&self) -> u64 {
         let below = u128::from(self.inner.failures());
         at_most_greatest(self.counter.failed().saturating_add(below))
+    }
+
+    fn several_waited(&self) -> bool {
+        self.inner.several_waited()
     }
 
     fn read(&mut self, alloc: Global, name: Name, max: u64) -> Result<Content, DiskFault> {

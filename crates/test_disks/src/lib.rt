@@ -4,6 +4,7 @@
 
 mod folder;
 mod fused;
+mod marks;
 mod memory;
 
 pub use fused::{Fuse, FusedDisk};

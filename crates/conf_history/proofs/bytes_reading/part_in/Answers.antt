@@ -1,6 +1,7 @@
 -- The bytes up to the first closing line are the base, and the others are its records.
 use Rattle.std.proofs.Common.{rules, ◌∙◌, ℕ, List, sym, subst}
 use Rattle.std.specs.Prelude.{IfSome, IfNone}
+use Rattle.conf_history.specs.Prelude.{is_several}
 use Rattle.conf_history.proofs.Prelude.{ClosesOnce, IsNextClosing, NoClosingAfter, StartsLine, IsBase, IsNoBase, RecoversTo, RefusesBytes}
 use Rattle.conf_history.proofs.Prelude.{cut-apart, first-closes, first-no-base, no-closing-no-base}
 use Rattle.conf_history.proofs.bytes_reading.part_in.Goals as goal
@@ -34,7 +35,7 @@ returns-in-Ok-replay_records-clause-ok c =
     let is : IsBase base c.in-Ok-Some.held.part =
     subst (λ r. IfSome r (λ held. IsBase base held.part)) c.in-Ok-Some.field-0-is c.in-Ok-Some.ensures.some in
     let opened = c.in-Ok-replay_records.opened in
-    subst (λ b. RecoversTo b c.replay_records.new.held.part opened.commands opened.dropped)
+    subst (λ b. RecoversTo (is_several c.args.waiting) b c.replay_records.new.held.part opened.commands opened.dropped)
     (cut-apart bytes c.deref-2.result.now base c.deref-in-Ok-Some.result.now c.in-Some.end c.deref-2.ensures.value
     c.truncate.ensures.items (c.deref-in-Ok-Some.ensures.value ∙ c.in-Ok.ensures.items))
     (c.in-Ok-replay_records.ensures.ok base closes is)
@@ -50,7 +51,7 @@ returns-in-Ok-Some-clause-refused c =
     (first-closes c.piece_between_closings.ensures.piece bytes c.in-Some.end starts next) in
     let is : IsBase base c.in-Ok-Some.held.part =
     subst (λ r. IfSome r (λ held. IsBase base held.part)) c.in-Ok-Some.field-0-is c.in-Ok-Some.ensures.some in
-    subst (λ b. RefusesBytes b c.in-Err-replay_records.fault)
+    subst (λ b. RefusesBytes (is_several c.args.waiting) b c.in-Err-replay_records.fault)
     (cut-apart bytes c.deref-2.result.now base c.deref-in-Ok-Some.result.now c.in-Some.end c.deref-2.ensures.value
     c.truncate.ensures.items (c.deref-in-Ok-Some.ensures.value ∙ c.in-Ok.ensures.items))
     (c.in-Err-replay_records.ensures.refused base closes is)

@@ -1,5 +1,6 @@
 -- A file was made of the copy that was read, or none was.
 use Rattle.std.proofs.Common.{Some, subst}
+use Rattle.conf_history.specs.Prelude.{is_several}
 use Rattle.conf_history.proofs.Prelude.{LeavesStoreOr}
 use Rattle.conf_history.specs.Copies.{CreatesFile, RefusesFile}
 use Rattle.conf_history.proofs.CopyLemmas.{backs-up, copy-leaves, refuses-copy}
@@ -10,14 +11,14 @@ returns-in-Ok-create_file-clause-made g c h =
     let d = g.D.Disk in
     let old = d.model.folder c.args.disk in
     let new = d.model.folder c.create_file.new.disk in
-    backs-up (g.R.Read.remaining c.args.reader.now)
+    backs-up (is_several c.args.waiting) (g.R.Read.remaining c.args.reader.now)
     (g.R.Read.remaining c.read_copy.new.reader) c.in-Ok.copy.items c.in-Ok.ensures.ok old new
     (subst (λ bytes. CreatesFile old bytes new) c.deref.ensures.value (c.in-Ok-create_file.ensures.made h))
 
 pub returns-in-Ok-create_file-clause-leaves : goal.returns-in-Ok-create_file-clause-leaves
 returns-in-Ok-create_file-clause-leaves g c h =
     let d = g.D.Disk in
-    copy-leaves (g.R.Read.remaining c.args.reader.now)
+    copy-leaves (is_several c.args.waiting) (g.R.Read.remaining c.args.reader.now)
     (g.R.Read.remaining c.read_copy.new.reader) c.in-Ok.copy.items c.in-Ok.ensures.ok d.model c.args.disk
     c.create_file.new.disk
     (subst (λ bytes. LeavesStoreOr d.model (Some bytes) c.args.disk c.create_file.new.disk) c.deref.ensures.value
@@ -26,7 +27,7 @@ returns-in-Ok-create_file-clause-leaves g c h =
 pub returns-clause-leaves : goal.returns-clause-leaves
 returns-clause-leaves g c h =
     let d = g.D.Disk in
-    copy-leaves (g.R.Read.remaining c.args.reader.now)
+    copy-leaves (is_several c.args.waiting) (g.R.Read.remaining c.args.reader.now)
     (g.R.Read.remaining c.read_copy.new.reader) c.in-Ok.copy.items c.in-Ok.ensures.ok d.model c.args.disk
     c.create_file.new.disk
     (subst (λ bytes. LeavesStoreOr d.model (Some bytes) c.args.disk c.create_file.new.disk) c.deref.ensures.value
@@ -38,6 +39,6 @@ returns-clause-refused g c h =
     let old = d.model.folder c.args.disk in
     let new = d.model.folder c.create_file.new.disk in
     let fault = c.in-Err-create_file.fault in
-    refuses-copy (g.R.Read.remaining c.args.reader.now)
+    refuses-copy (is_several c.args.waiting) (g.R.Read.remaining c.args.reader.now)
     (g.R.Read.remaining c.read_copy.new.reader) c.in-Ok.copy.items c.in-Ok.ensures.ok old new fault
     (subst (λ bytes. RefusesFile old bytes fault new) c.deref.ensures.value (c.in-Err-create_file.ensures.refused h))

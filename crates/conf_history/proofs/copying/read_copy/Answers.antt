@@ -1,6 +1,7 @@
 -- Each turn performs one piece, and copies it.
 use Rattle.std.proofs.Common.{sym, ◌∙◌, ap, [], ◌∷◌, ◌++◌}
 use Rattle.std.specs.Prelude.{None, Ok}
+use Rattle.conf_history.specs.Prelude.{is_several}
 use Rattle.conf_history.proofs.Prelude.{concat, append-nil, err_from_is_err_and, piece_or_rest}
 use Rattle.conf_history.specs.Walks.{with_state}
 use Rattle.conf_history.proofs.{CopyLemmas.reads-copy, ReadingLemmas.goes-further, ReadingLemmas.fails-reading}
@@ -10,7 +11,7 @@ use Rattle.conf_history.proofs.copying.read_copy.Goals as goal
 pub returns-in_err-part-clause-refused : goal.returns-in_err-part-clause-refused
 returns-in_err-part-clause-refused g c =
     let given = g.R.Read.remaining c.args.reader.now in
-    let fails = refuses-start given None c.in_err-part.field-0.0
+    let fails = refuses-start (is_several c.args.waiting) given None c.in_err-part.field-0.0
     (c.in_err-part.ensures.refused given (g.R.Read.remaining c.begin.new.reader) c.in_ok-walk.ensures.ok) in
     let p = err_from_is_err_and c.from_residual-in_err-part.result c.from_residual-in_err-part.ensures.1 in
     rw (p.1, p.2) fails
@@ -34,7 +35,7 @@ pub returns-in_err-next-clause-refused : goal.returns-in_err-next-clause-refused
 returns-in_err-next-clause-refused g c =
     let given = g.R.Read.remaining c.args.reader.now in
     let walked = c.records.invariant in
-    let fails = fails-reading given None walked.0 c.in_err-next.field-0.0
+    let fails = fails-reading (is_several c.args.waiting) given None walked.0 c.in_err-next.field-0.0
     (c.in_err-next.ensures.stops given walked.0 walked.1 walked.2 walked.3) in
     let p = err_from_is_err_and c.from_residual-in_err-next.result c.from_residual-in_err-next.ensures.1 in
     rw (p.1, p.2) fails
@@ -76,4 +77,4 @@ returns-clause-ok g c =
     let left = g.R.Read.remaining c.next.new.reader in
     let walk = with_state c.next.new.self c.next.new.held.part in
     let ended = c.in_ok-next.ensures.ended given walked.0 walked.1 walked.2 walked.3 (ap Ok c.if-branch.false) in
-    reads-copy given left walk walked.0 walked.1 walked.2 c.records.copy.items walked.4 ended.0
+    reads-copy (is_several c.args.waiting) given left walk walked.0 walked.1 walked.2 c.records.copy.items walked.4 ended.0

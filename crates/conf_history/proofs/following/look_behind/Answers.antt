@@ -1,6 +1,7 @@
 -- Each turn goes past one piece.
-use Rattle.std.proofs.Common.{rules, ◌+◌, ap, arith, subst}
+use Rattle.std.proofs.Common.{rules, ◌+◌, inl, inr, ⊎_elim, ap, arith, subst}
 use Rattle.std.specs.Prelude.{Ok}
+use Rattle.conf_history.specs.Prelude.{is_several}
 use Rattle.conf_history.proofs.Prelude.{Advances, AdvancesToPiece, IsAnyRecord, IsNoRecord, piece_or_rest, store_limit}
 use Rattle.conf_history.proofs.SurveyLemmas.{counts-none, counts-more, counts-few, counts-smaller, known-none, known-counted}
 use Rattle.conf_history.proofs.WalkLemmas.{own-limits}
@@ -10,7 +11,8 @@ pub pieces-init : goal.pieces-init
 pieces-init g c = record {
   so_far = counts-none (g.R.Read.remaining c.args.reader.now) c.args.pieces.now c.requires;
   few = omega arith;
-  known = known-none (g.R.Read.remaining c.args.reader.now) c.args.pieces.now c.requires (piece_or_rest c.args.pieces.now) _ (search rules);
+  known = known-none (is_several c.args.waiting) (g.R.Read.remaining c.args.reader.now) c.args.pieces.now c.requires
+      (piece_or_rest c.args.pieces.now) _ (search rules);
 }
 
 pub pieces-smaller : goal.pieces-smaller
@@ -41,9 +43,11 @@ pieces-preserved g c =
     record {
       so_far = more;
       few = counts-few given left c.args.pieces.now new (c.pieces.count + 1) c.requires more;
-      known = known-counted given mid left c.args.pieces.now now new c.pieces.count so_far next
+      known = known-counted (is_several c.args.waiting) given mid left c.args.pieces.now now new c.pieces.count so_far next
           (piece_or_rest c.args.pieces.now) c.pieces.is_kept c.in_ok-is_kept-in-Ok-true.is_kept
           c.pieces.invariant.known c.in_ok-is_kept-in-Ok-true.ensures.still
-          (λ old is. subst IsAnyRecord c.piece-in-Ok-true.ensures (c.in_ok-is_kept-in-Ok-true.ensures.some old (ap Ok is)))
-          (λ old is. subst IsNoRecord c.piece-in-Ok-true.ensures (c.in_ok-is_kept-in-Ok-true.ensures.none old (ap Ok is)));
+          (λ old is. (let some = c.in_ok-is_kept-in-Ok-true.ensures.some old (ap Ok is) in
+          (some.0, subst IsAnyRecord c.piece-in-Ok-true.ensures some.1)))
+          (λ old is. ⊎_elim (λ noted. inl noted) (λ none. inr (subst IsNoRecord c.piece-in-Ok-true.ensures none))
+          (c.in_ok-is_kept-in-Ok-true.ensures.none old (ap Ok is)));
     }

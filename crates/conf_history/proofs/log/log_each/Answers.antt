@@ -1,6 +1,7 @@
 -- Each turn performs one piece, and writes what is told of its command.
 use Rattle.std.proofs.Common.{◌≡◌, ◌∙◌, inl, sym, ap, subst, ℕ, ◌+◌, ◌<◌, List, [], ◌∷◌, ◌++◌, length, take}
 use Rattle.std.specs.Prelude.{Ok}
+use Rattle.conf_history.specs.Prelude.{is_several}
 use Rattle.conf_history.proofs.Prelude.{Appends, Appends-nil, err_from_is_err_and, piece_or_rest}
 use Rattle.conf_history.specs.{Logs.TellsEntry, Logs.entry_bytes, Walks.with_state}
 use Rattle.conf_history.proofs.ReadingLemmas.{goes-further}
@@ -11,7 +12,8 @@ use Rattle.conf_history.proofs.log.log_each.Goals as goal
 pub returns-in_err-walk-clause-refused : goal.returns-in_err-walk-clause-refused
 returns-in_err-walk-clause-refused g c =
     let given = g.R.Read.remaining c.args.reader.now in
-    let fails = start-fails c.args.form given (g.W.Write.contents c.args.writer.now) c.args.at c.in_err-walk.field-0.0
+    let fails = start-fails (is_several c.args.waiting) c.args.form given (g.W.Write.contents c.args.writer.now) c.args.at
+    c.in_err-walk.field-0.0
     (some-map given _ _ (λ bytes r. inl r) c.in_err-walk.ensures.refused) in
     let p = err_from_is_err_and c.from_residual.result c.from_residual.ensures.1 in
     rw (p.1, p.2) fails
@@ -19,7 +21,8 @@ returns-in_err-walk-clause-refused g c =
 pub returns-in_err-part-clause-refused : goal.returns-in_err-part-clause-refused
 returns-in_err-part-clause-refused g c =
     let given = g.R.Read.remaining c.args.reader.now in
-    let fails = start-fails c.args.form given (g.W.Write.contents c.args.writer.now) c.args.at c.in_err-part.field-0.0
+    let fails = start-fails (is_several c.args.waiting) c.args.form given (g.W.Write.contents c.args.writer.now) c.args.at
+    c.in_err-part.field-0.0
     (c.in_err-part.ensures.refused given (g.R.Read.remaining c.begin.new.reader) c.in_ok-walk.ensures.ok) in
     let p = err_from_is_err_and c.from_residual-in_err-part.result c.from_residual-in_err-part.ensures.1 in
     rw (p.1, p.2) fails
@@ -48,7 +51,8 @@ returns-in_err-next-clause-refused g c =
     let walked = c.records.invariant.walked in
     let fails = stops-log c.args.form given (g.R.Read.remaining c.records.reader) (with_state c.records.walk c.records.logged.part)
     walked.0 walked.1 walked.2 walked.3.between c.one_list_of_pieces.ensures.some
-    (g.W.Write.contents c.args.writer.now) (g.W.Write.contents c.records.writer) walked.4 c.args.at c.in_err-next.field-0.0
+    (g.W.Write.contents c.args.writer.now) (g.W.Write.contents c.records.writer) walked.4 (is_several c.args.waiting) c.args.at
+    c.in_err-next.field-0.0
     (c.in_err-next.ensures.stops given walked.0 walked.1 walked.2 walked.3) in
     let p = err_from_is_err_and c.from_residual-in_err-next.result c.from_residual-in_err-next.ensures.1 in
     rw (p.1, p.2) fails
@@ -71,7 +75,8 @@ returns-in_err-put_bytes-clause-refused g c =
     × Appends (g.W.Write.contents c.records.writer) (g.W.Write.contents c.put_bytes.new.writer) (take kept bytes) in
     let fails = cuts-log c.args.form given (g.R.Read.remaining c.records.reader) old walked.0 walked.1 walked.2 walked.3.between
     c.one_list_of_pieces.ensures.some (g.W.Write.contents c.args.writer.now) (g.W.Write.contents c.records.writer) walked.4
-    (g.W.Write.contents c.put_bytes.new.writer) piece goes.command c.args.at left (with_state c.next.new.self c.next.new.held.part)
+    (g.W.Write.contents c.put_bytes.new.writer) piece goes.command (is_several c.args.waiting) c.args.at left
+    (with_state c.next.new.self c.next.new.held.part)
     goes.on.between (subst Part same c.in_err-put_bytes.ensures.part) c.in_err-put_bytes.field-0.0 c.in_err-put_bytes.ensures.fault in
     let p = err_from_is_err_and c.from_residual-in_err-put_bytes.result c.from_residual-in_err-put_bytes.ensures.1 in
     rw (p.1, p.2) fails
@@ -122,5 +127,5 @@ returns-clause-ok g c =
     let ended = c.in_ok-next.ensures.ended given walked.0 walked.1 walked.2 walked.3 (ap Ok c.if-branch.false) in
     logs-all c.args.form given (g.R.Read.remaining c.records.reader) (with_state c.records.walk c.records.logged.part)
     walked.0 walked.1 walked.2 walked.3.between c.one_list_of_pieces.ensures.some
-    (g.W.Write.contents c.args.writer.now) (g.W.Write.contents c.records.writer) walked.4 c.args.at
+    (g.W.Write.contents c.args.writer.now) (g.W.Write.contents c.records.writer) walked.4 (is_several c.args.waiting) c.args.at
     (g.R.Read.remaining c.next.new.reader) (with_state c.next.new.self c.next.new.held.part) ended.0

@@ -1,6 +1,7 @@
 -- Each turn performs one piece.
 use Rattle.std.proofs.Common.{ap, [], ◌∷◌, ◌++◌}
 use Rattle.std.specs.Prelude.{Ok}
+use Rattle.conf_history.specs.Prelude.{is_several}
 use Rattle.conf_history.proofs.Prelude.{err_from_is_err_and, piece_or_rest}
 use Rattle.conf_history.specs.Walks.{with_state}
 use Rattle.conf_history.proofs.ReadingLemmas.{goes-further, reads-state, fails-reading, refuses-start}
@@ -9,7 +10,7 @@ use Rattle.conf_history.proofs.reading.read_up_to.Goals as goal
 pub returns-in_err-held-clause-refused : goal.returns-in_err-held-clause-refused
 returns-in_err-held-clause-refused g c =
     let given = g.R.Read.remaining c.args.reader.now in
-    let fails = refuses-start given c.args.at c.in_err-held.field-0.0
+    let fails = refuses-start (is_several c.args.waiting) given c.args.at c.in_err-held.field-0.0
     (c.in_err-held.ensures.refused given (g.R.Read.remaining c.begin.new.reader) c.in_ok-walk.ensures.ok) in
     let p = err_from_is_err_and c.from_residual-in_err-held.result c.from_residual-in_err-held.ensures.1 in
     rw (p.1, p.2) fails
@@ -31,7 +32,7 @@ pub returns-in_err-next-clause-refused : goal.returns-in_err-next-clause-refused
 returns-in_err-next-clause-refused g c =
     let given = g.R.Read.remaining c.args.reader.now in
     let walked = c.records.invariant in
-    let fails = fails-reading given c.args.at walked.0 c.in_err-next.field-0.0
+    let fails = fails-reading (is_several c.args.waiting) given c.args.at walked.0 c.in_err-next.field-0.0
     (c.in_err-next.ensures.stops given walked.0 walked.1 walked.2 walked.3) in
     let p = err_from_is_err_and c.from_residual-in_err-next.result c.from_residual-in_err-next.ensures.1 in
     rw (p.1, p.2) fails
@@ -60,4 +61,4 @@ returns-clause-ok g c =
     let ended = c.in_ok-next.ensures.ended given walked.0 walked.1 walked.2 walked.3 (ap Ok c.if-branch.false) in
     reads-state c.args.at given (g.R.Read.remaining c.next.new.reader)
     (with_state c.next.new.self (g.T.Replayed.contents c.next.new.held)) walked.0 walked.1 walked.2
-    c.one_list_of_pieces.ensures.some ended.0 ended.1
+    (is_several c.args.waiting) c.one_list_of_pieces.ensures.some ended.0 ended.1

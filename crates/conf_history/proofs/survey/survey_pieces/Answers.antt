@@ -1,6 +1,7 @@
 -- Each turn performs one piece, up to the first bad one.
 use Rattle.std.proofs.Common.{◌≡◌, rules, ◌≤◌, refl, sym, ap, subst, [], ◌∷◌, ◌++◌}
 use Rattle.std.specs.Prelude.{Ok, None}
+use Rattle.conf_history.specs.Prelude.{is_several}
 use Rattle.conf_history.proofs.Prelude.{err_from_is_err_and, piece_or_rest}
 use Rattle.conf_history.specs.{declared.fault.HistoryFault.TheVariants.Damaged, declared.place.BadPiece.BadPiece}
 use Rattle.conf_history.specs.Walks.{IsBadHere, Stops, with_state}
@@ -66,7 +67,8 @@ returns-in-Ok-false-clause-ok g c =
     let walk = with_state c.step.new.self (g.T.Replayed.contents c.step.new.held) in
     let ended = c.in-Ok-false.ensures.ended given walked.0 walked.1 walked.2 walked.3 (ap Ok c.in-Ok-false.field-0-test) in
     let whole = ended-whole given left walk walked.0 walked.1 walked.2 ended.0 in
-    let reads = surveyed-whole given left walk walked.0 walked.1 walked.2 whole c.accepted-base.result c.accepted.result walked.4
+    let reads = surveyed-whole (is_several c.args.waiting) given left walk walked.0 walked.1 walked.2 whole c.accepted-base.result
+    c.accepted.result walked.4
     c.accepted.ensures.count ended.1 c.findings-findings.result c.findings-findings.ensures in
     (walk.state, reads, g.T.Replayed.keeps c.step.new.held)
 

@@ -1,4 +1,4 @@
-use Rattle.std.proofs.Common.{◌≡◌, ◌⊎◌, inl, inr, ⊎_elim, ℕ, List, [], ◌∷◌, Some, None, OnOk, subst, rules}
+use Rattle.std.proofs.Common.{◌≡◌, ◌⊎◌, inl, inr, ⊎_elim, ℕ, List, [], ◌∷◌, Some, None, OnOk, false, subst, rules}
 use Rattle.conf_journal.proofs.Prelude.{Folder, Sync, RenameNext, SyncFolder, after, Image, IsImage, synced_file, Next, LeavesOnly-weaker}
 use Rattle.conf_journal.specs.{Held.HoldsStore, Store.ReadsAs}
 use Rattle.conf_journal.proofs.{Fails.fails-passed, Fails.fails-then, Stores.finished-leaves}
@@ -43,7 +43,7 @@ returns-clause-fails g c = fails-then c.in_ok-sync_next.ensures.fails c.swap_nex
 
 pub returns-clause-reads : goal.returns-clause-reads
 returns-clause-reads g c h =
-    subst (λ (image : Image). OnOk c.swap_next.result (ReadsAs (g.D.Disk.model.folder c.swap_next.new.disk) image.next None))
+    subst (λ (image : Image). OnOk c.swap_next.result (ReadsAs (g.D.Disk.model.folder c.swap_next.new.disk) image.next None false))
     (c.sync_next.ensures.reads h) (c.swap_next.ensures.reads h)
 
 pub returns-clause-holds : goal.returns-clause-holds

@@ -40,7 +40,7 @@ returns-clause-reads g c h =
     let bytes = c.args.bytes.now in
     OnOk-always c.sync_next.result (c.sync_next.ensures.reads h
     ∙ c.in_ok-append_next.ensures.reads h
-    ∙ ap (λ (image : Image). record { store = image.store; next = file_with_bytes image.next bytes }) (c.in_ok-begin_next.ensures.reads h))
+    ∙ ap (λ (image : Image). record image { next = file_with_bytes image.next bytes }) (c.in_ok-begin_next.ensures.reads h))
 
 pub returns-clause-synced : goal.returns-clause-synced
 returns-clause-synced g c h =

@@ -17,9 +17,9 @@ returns-clause-any_moment g c h =
 pub returns-in_err-rename_next-clause-store : goal.returns-in_err-rename_next-clause-store
 returns-in_err-rename_next-clause-store g c h =
     LeavesOnly-weaker _ _ _ _ _ (returns-in_err-rename_next-clause-any_moment g c h)
-    (after_rename-leaves (g.D.Disk.model.folder c.args.disk.now) (c.requires h))
+    (after_rename-leaves (g.D.Disk.model.folder c.args.disk.now) (g.met.D.Disk.whole c.args.disk.now h) (c.requires h))
 
 pub returns-clause-store : goal.returns-clause-store
 returns-clause-store g c h =
     LeavesOnly-weaker _ _ _ _ _ (returns-clause-any_moment g c h)
-    (after_rename-leaves (g.D.Disk.model.folder c.args.disk.now) (c.requires h))
+    (after_rename-leaves (g.D.Disk.model.folder c.args.disk.now) (g.met.D.Disk.whole c.args.disk.now h) (c.requires h))

@@ -1,14 +1,13 @@
 use Rattle.std.proofs.Common.{[]}
 use Rattle.conf_journal.proofs.Prelude.{Append, Store}
 use Rattle.conf_journal.proofs.{Appends.leaves-with_pending, Reading.appended_store-reads, Reading.performed-reads, Runs.run-call}
-use Rattle.conf_journal.proofs.{Runs.run-grown}
 use Rattle.conf_journal.proofs.store.append_store.Goals as goal
 
 pub returns-clause-leaves : goal.returns-clause-leaves
 returns-clause-leaves g c h =
     let d = g.D.Disk in
     leaves-with_pending d.model c.args.bytes.now _ _ (g.met.D.Disk.whole c.args.disk.now h)
-    (run-grown d tt (run-call d g.met.D.Disk.only_now h [] c.append.ensures.goes))
+    (run-call d g.met.D.Disk.only_now h [] c.append.ensures.goes).leaves
 
 pub returns-clause-reads : goal.returns-clause-reads
 returns-clause-reads g c h =

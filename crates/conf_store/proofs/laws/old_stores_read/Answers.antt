@@ -1,4 +1,4 @@
-use Rattle.std.proofs.Common.{ℕ, ◌+◌, List, [], ◌∷◌, arith}
+use Rattle.std.proofs.Common.{inr, ℕ, ◌+◌, List, [], ◌∷◌, arith}
 use Rattle.conf_store.proofs.Prelude.{All-nil, IsNoRecord, chars, single, Contents, IsRecord, IsBase}
 use Rattle.yaml_data.specs.OwnLimits.{own_limits}
 use Rattle.conf_store.specs.Meaning.{AreRecords, PiecesMean}
@@ -52,7 +52,7 @@ pieces-mean pieces s m =
     }
 
 pub returns : goal.returns
-returns c = λ bytes s m.
+returns c = λ several bytes s m.
     record {
       short = m.short;
       pieces = m.pieces;
@@ -61,5 +61,5 @@ returns c = λ bytes s m.
       cut = no-others bytes m.pieces m.rest m.cut;
       mean = pieces-mean m.pieces s m.mean;
       hole = tt;
-      lost = All-nil IsNoRecord;
+      lost = inr (All-nil IsNoRecord);
     }

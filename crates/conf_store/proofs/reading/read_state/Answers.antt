@@ -1,5 +1,7 @@
 -- What is found in the file is what the read tells of it, and a read changes nothing.
-use Rattle.conf_store.proofs.Prelude.{bytes_under, Store}
+use Rattle.std.proofs.Common.{subst}
+use Rattle.conf_store.proofs.Prelude.{bytes_under, several_waited, Store}
+use Rattle.conf_store.specs.{Holes.is_several, Meaning.FileMeans, Opens.FileRecoversTo, Opens.RefusesOpening}
 use Rattle.conf_store.proofs.{FileLemmas.read-stays, OpenLemmas.found-means, OpenLemmas.refused-nothing}
 use Rattle.conf_store.proofs.reading.read_state.Goals as goal
 
@@ -53,19 +55,26 @@ returns-in-Err-clause-same g c = c.read.ensures.same
 
 pub returns-in-Ok-find_state-clause-found : goal.returns-in-Ok-find_state-clause-found
 returns-in-Ok-find_state-clause-found g c h =
-    (c.in-Ok-find_state.ensures.ok (bytes_under (g.D.Disk.model.folder c.args.disk.now) Store)
-    (c.in-Ok.ensures.content h)).recovers
+    let store = bytes_under (g.D.Disk.model.folder c.args.disk.now) Store in
+    let found = c.in-Ok-find_state.field-0 in
+    subst (λ several. FileRecoversTo several store found.state found.opened.commands found.opened.dropped)
+    (c.noted_on-waiting.ensures h)
+    (c.in-Ok-find_state.ensures.ok store (c.in-Ok.ensures.content h)).recovers
 
 pub returns-in-Ok-find_state-clause-means : goal.returns-in-Ok-find_state-clause-means
 returns-in-Ok-find_state-clause-means g c h =
-    found-means (bytes_under (g.D.Disk.model.folder c.args.disk.now) Store) _ _ _ _
-    (c.in-Ok-find_state.ensures.ok (bytes_under (g.D.Disk.model.folder c.args.disk.now) Store) (c.in-Ok.ensures.content h))
+    let store = bytes_under (g.D.Disk.model.folder c.args.disk.now) Store in
+    subst (λ several. FileMeans several store c.in-Ok-find_state.field-0.state) (c.noted_on-waiting.ensures h)
+    (found-means (is_several c.noted_on-waiting.result) store _ _ _ _ (c.in-Ok-find_state.ensures.ok store (c.in-Ok.ensures.content h)))
 
 pub returns-in-Err-clause-refused : goal.returns-in-Err-clause-refused
-returns-in-Err-clause-refused g c h = c.in-Err.ensures.refused
-    (bytes_under (g.D.Disk.model.folder c.args.disk.now) Store) (c.in-Ok.ensures.content h)
+returns-in-Err-clause-refused g c h =
+    let store = bytes_under (g.D.Disk.model.folder c.args.disk.now) Store in
+    subst (λ several. RefusesOpening c.in-Err.fault several store) (c.noted_on-waiting.ensures h)
+    (c.in-Err.ensures.refused store (c.in-Ok.ensures.content h))
 
 pub returns-in-Err-clause-no_meaning : goal.returns-in-Err-clause-no_meaning
 returns-in-Err-clause-no_meaning g c h =
-    let store = bytes_under (g.D.Disk.model.folder c.args.disk.now) Store in
-    refused-nothing c.bytes_mean_one_state.ensures.refused c.in-Err.fault store (c.in-Err.ensures.refused store (c.in-Ok.ensures.content h))
+    let folder = g.D.Disk.model.folder c.args.disk.now in
+    refused-nothing c.bytes_mean_one_state.ensures.refused c.in-Err.fault (several_waited folder) (bytes_under folder Store)
+    (returns-in-Err-clause-refused g c h)

@@ -2,7 +2,8 @@
 use Rattle.std.proofs.Common.{rules, ◌++◌, ◌+◌, ◌-◌, ◌∙◌, ⊎_elim, ap, length, arith, length-drop, subst, sym}
 use Rattle.std.specs.Prelude.{ℕ, List, drop, slice_range, Result, Ok, Err, IfOk, OnOk}
 use Rattle.conf_store.proofs.Prelude.{Contents, IsState, IfOk-weaker, IfErr-weaker}
-use Rattle.conf_store.specs.{Holes.MayBeLeft, Holes.WasKept, Opens.RecoversTo, Opens.RefusesBytes}
+use Rattle.conf_store.specs.Holes.{MayBeLeft, WasKept, is_several}
+use Rattle.conf_store.specs.{Opens.RecoversTo, Opens.RefusesBytes}
 use Rattle.conf_store.proofs.{HoleLemmas.zero-no-record, KeptLemmas.slice-rest}
 use Rattle.conf_store.proofs.RecoveryLemmas.{all-replayed, left-replayed, next-replayed, none-replayed, unread}
 use Rattle.conf_store.proofs.recovery.replay_records.Goals as goal
@@ -41,18 +42,19 @@ ends_at-requires-clause-room g c =
 pub returns-in-Err-clause-ok : goal.returns-in-Err-clause-ok
 returns-in-Err-clause-ok g c base closes is =
     let records = c.args.records.now in
+    let several = is_several c.args.waiting in
     let before = g.T.Replayed.contents c.records.held in
     let piece = slice_range records c.records.at c.in-Some.end in
     let rest = slice-rest records c.in-Some.end in
     IfOk-weaker c.ends_at.result _ _
     (λ opened left.
-    (let behind : MayBeLeft piece (drop c.in-Some.end records) = subst (MayBeLeft piece) rest left.0 in
+    (let behind : MayBeLeft several piece (drop c.in-Some.end records) = subst (MayBeLeft several piece) rest left.0 in
     let same = c.in-Err.ensures.unread (zero-no-record c.no_zero_read.ensures.bytes piece behind.0) in
-    subst (λ (s : Contents). RecoversTo (base ++ records) s opened.commands opened.dropped) (ap g.T.Replayed.contents (sym same))
-    (subst (λ n. RecoversTo (base ++ records) before n opened.dropped) (sym left.1)
+    subst (λ (s : Contents). RecoversTo several (base ++ records) s opened.commands opened.dropped) (ap g.T.Replayed.contents (sym same))
+    (subst (λ n. RecoversTo several (base ++ records) before n opened.dropped) (sym left.1)
     (left-replayed base (g.T.Replayed.contents c.args.held.now) closes is c.piece_between_closings.ensures.piece records c.records.at
     c.in-Some.end before c.records.commands c.records.invariant.starts c.in-Some.ensures.found c.records.invariant.read
-    c.no_zero_read.ensures.bytes behind opened.dropped
+    c.no_zero_read.ensures.bytes c.one_list_of_pieces.ensures.some several behind opened.dropped
     (left.2 ∙ ap (λ (l : List ℕ). length piece + length l) rest)))))
     c.ends_at.ensures.ok
 
@@ -68,16 +70,17 @@ returns-in-Err-clause-limits g c kept =
 pub returns-in-Err-clause-refused : goal.returns-in-Err-clause-refused
 returns-in-Err-clause-refused g c base closes is =
     let records = c.args.records.now in
+    let several = is_several c.args.waiting in
     let rest = slice-rest records c.in-Some.end in
     let piece = slice_range records c.records.at c.in-Some.end in
     IfErr-weaker c.ends_at.result _ _
     (λ reason. ⊎_elim
-    (λ memory. subst (RefusesBytes (base ++ records)) (sym memory) tt)
-    (λ kept. subst (RefusesBytes (base ++ records)) (sym kept.0)
+    (λ memory. subst (RefusesBytes several (base ++ records)) (sym memory) tt)
+    (λ kept. subst (RefusesBytes several (base ++ records)) (sym kept.0)
     (unread base (g.T.Replayed.contents c.args.held.now) closes is c.piece_between_closings.ensures.piece records c.records.at
     c.in-Some.end (g.T.Replayed.contents c.records.held) c.records.commands c.records.invariant.starts c.in-Some.ensures.found
-    c.records.invariant.read c.one_list_of_pieces.ensures.some c.documents_are_read.ensures.one_record c.in-Err.fault
-    (subst (WasKept piece) rest kept.1) c.in-Err.ensures.refused)))
+    c.records.invariant.read c.one_list_of_pieces.ensures.some c.documents_are_read.ensures.one_record several c.in-Err.fault
+    (subst (WasKept several piece) rest kept.1) c.in-Err.ensures.refused)))
     c.ends_at.ensures.refused
 
 -- ---- all records
@@ -87,6 +90,7 @@ returns-clause-limits g c = c.records.invariant.limits
 
 pub returns-clause-ok : goal.returns-clause-ok
 returns-clause-ok g c base closes is =
-    all-replayed base (g.T.Replayed.contents c.args.held.now) closes is c.piece_between_closings.ensures.rest c.args.records.now
+    all-replayed base (g.T.Replayed.contents c.args.held.now) closes is c.piece_between_closings.ensures.rest (is_several c.args.waiting)
+    c.args.records.now
     c.records.at (g.T.Replayed.contents c.records.held) c.records.commands c.records.invariant.starts c.in_default.ensures.none
     c.records.invariant.read (length c.args.records.now - c.records.at) (length-drop c.records.at c.args.records.now)

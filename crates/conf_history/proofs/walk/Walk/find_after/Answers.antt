@@ -1,5 +1,6 @@
 -- What follows the bad piece is counted.
 use Rattle.std.proofs.Common.{refl, ◌++◌}
+use Rattle.conf_history.specs.Prelude.{is_several}
 use Rattle.conf_history.proofs.Prelude.{concat, err_from_is_err_and, piece_or_rest}
 use Rattle.conf_history.specs.Walks.{with_state}
 use Rattle.conf_history.proofs.SurveyLemmas.{past-piece, surveyed-bad}
@@ -20,6 +21,6 @@ returns-clause-ok g c = λ given s pieces start commands p here base count kept.
     let left = g.R.Read.remaining c.look_behind.new.reader in
     let past = past-piece given mid walk pieces start commands p in
     let follows = c.in_ok-pieces.ensures given (concat pieces ++ piece_or_rest walk.pieces) past.0 past.1 in
-    surveyed-bad given left walk pieces start commands mid c.look_behind.new.pieces
+    surveyed-bad (is_several c.args.waiting) given left walk pieces start commands mid c.look_behind.new.pieces
     (record { piece = c.args.piece; following = c.in_ok-pieces.field-0.pieces; kind = c.in_ok-pieces.field-0.kind })
     p here c.in_ok-pieces.field-0 refl follows c.args.base c.args.count base count kept c.findings.result c.findings.ensures

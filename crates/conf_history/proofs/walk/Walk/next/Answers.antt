@@ -1,6 +1,7 @@
 -- At a bad piece, what follows it says whether a crash may have left it.
 use Rattle.std.proofs.Common.{◌≡◌, rules, refl, inl, inr, sym, ◌∙◌, ap, subst, ◌++◌}
 use Rattle.std.specs.Prelude.{IfErr, Result, Bool}
+use Rattle.conf_history.specs.Prelude.{is_several}
 use Rattle.conf_history.proofs.Prelude.{concat, err_from_is_err_and, piece_or_rest, Contents, IsState}
 use Rattle.conf_history.specs.Walks.{Fails, IsTornBehind, Stops, with_state}
 use Rattle.conf_history.specs.{declared.fault.HistoryFault.HistoryFault, declared.fault.HistoryFault.TheVariants.Damaged}
@@ -18,7 +19,7 @@ returns-in-Err-clause-stops g c given pieces start commands on =
     let fault = c.in-Err.fault in
     let other : (bad : BadPiece) → fault ≡ Damaged bad → ⊥ = search rules in
     fails-stop c.args.at given (g.R.Read.remaining c.step.new.reader) (with_state c.step.new.self (g.T.Replayed.contents c.args.held.now))
-    pieces start commands fault other (c.in-Err.ensures.stops given pieces start commands on)
+    pieces start commands (is_several c.args.waiting) fault other (c.in-Err.ensures.stops given pieces start commands on)
 
 -- ---- a bad piece
 
@@ -40,7 +41,7 @@ returns-in_err-kind-in-Err-Damaged-clause-stops g c given pieces start commands 
     (subst (Stops c.args.at given mid walk pieces start commands) c.in-Err-Damaged.field-0-is
     (c.in-Err-Damaged.ensures.stops given pieces start commands on)) in
     let past = past-piece given mid walk pieces start commands stops.0 in
-    let fails = fails-lacking given c.args.at pieces c.in_err-kind-in-Err-Damaged.field-0.0
+    let fails = fails-lacking (is_several c.args.waiting) given c.args.at pieces c.in_err-kind-in-Err-Damaged.field-0.0
     (c.in_err-kind-in-Err-Damaged.ensures given (concat pieces ++ piece_or_rest walk.pieces) past.0 past.1) in
     let p = err_from_is_err_and c.from_residual.result c.from_residual.ensures.1 in
     rw (p.1, p.2) fails
@@ -57,8 +58,9 @@ returns-in_ok-kind-in-Err-Damaged-clause-stops g c given pieces start commands o
     let past = past-piece given mid walk pieces start commands stops.0 in
     let following = c.in_ok-kind-in-Err-Damaged.field-0 in
     let follows = c.in_ok-kind-in-Err-Damaged.ensures given (concat pieces ++ piece_or_rest walk.pieces) past.0 past.1 in
-    subst (λ (r : Result Bool HistoryFault). IfErr r (Fails c.args.at given pieces)) (sym c.ends_at.ensures)
-    (fails-at c.args.at given mid left walk pieces start commands c.in-Err-Damaged.bad stops c.look_behind.new.pieces following follows
+    subst (λ (r : Result Bool HistoryFault). IfErr r (Fails (is_several c.args.waiting) c.args.at given pieces)) (sym c.ends_at.ensures)
+    (fails-at (is_several c.args.waiting) c.args.at given mid left walk pieces start commands c.in-Err-Damaged.bad stops
+    c.look_behind.new.pieces following follows
     c.no_zero_read.ensures.bytes following.kind refl c.args.at refl)
 
 pub returns-in_ok-kind-in-Err-Damaged-clause-ended : goal.returns-in_ok-kind-in-Err-Damaged-clause-ended
@@ -73,13 +75,16 @@ returns-in_ok-kind-in-Err-Damaged-clause-ended g c given pieces start commands o
     let past = past-piece given mid walk pieces start commands stops.0 in
     let following = c.in_ok-kind-in-Err-Damaged.field-0 in
     let follows = c.in_ok-kind-in-Err-Damaged.ensures given (concat pieces ++ piece_or_rest walk.pieces) past.0 past.1 in
-    let torn = torn-at c.args.at given mid left walk pieces start commands c.in-Err-Damaged.bad stops c.look_behind.new.pieces following
+    let torn = torn-at (is_several c.args.waiting) c.args.at given mid left walk pieces start commands c.in-Err-Damaged.bad stops
+    c.look_behind.new.pieces following
     follows following.kind refl c.args.at refl (sym c.ends_at.ensures ∙ is) in
-    let none = torn-none c.args.at given mid left walk pieces start commands c.in-Err-Damaged.bad stops c.look_behind.new.pieces following
+    let none = torn-none (is_several c.args.waiting) c.args.at given mid left walk pieces start commands c.in-Err-Damaged.bad stops
+    c.look_behind.new.pieces following
     follows c.no_zero_read.ensures.bytes torn.1 in
     let same = ap g.T.Replayed.contents (c.in-Err-Damaged.ensures.unread none) in
-    let behind = torn-followed given mid left walk pieces start commands stops.0 c.look_behind.new.pieces following follows
+    let behind = torn-followed (is_several c.args.waiting) given mid left walk pieces start commands stops.0 c.look_behind.new.pieces
+    following follows
     c.no_zero_read.ensures.bytes torn.1 in (
-      inr (torn.0, subst (λ s. IsTornBehind given left s pieces start commands) (sym same) behind),
+      inr (torn.0, subst (λ s. IsTornBehind (is_several c.args.waiting) given left s pieces start commands) (sym same) behind),
       subst (λ (s : Contents). IsState s) (sym same) c.step.ensures.limits,
     )

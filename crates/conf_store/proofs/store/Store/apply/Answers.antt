@@ -1,7 +1,7 @@
 use Rattle.std.proofs.Common.{◌⊎◌, sym, subst}
 use Rattle.std.specs.Prelude.{[], ◌∷◌, ◌++◌}
 use Rattle.conf_store.proofs.Prelude.{LeavesOnly-joined, command_of}
-use Rattle.conf_store.specs.{Meaning.FileMeans, Durable.AfterPrefix}
+use Rattle.conf_store.specs.{Meaning.ImageMeans, Durable.MeansPrefix}
 use Rattle.conf_store.proofs.HeldLemmas.{prefix-last}
 use Rattle.conf_store.proofs.store.Store.apply.Goals as goal
 
@@ -15,13 +15,13 @@ returns-in-Ok-flush-clause-any_moment g c h off flushed since has =
     let waits = c.in-Ok.ensures.waits h off flushed since has in
     let same = c.flush.ensures.same.state in
     LeavesOnly-joined d.model old.disk mid.disk new.disk
-    (λ image. AfterPrefix flushed since image.store ⊎ FileMeans image.store mid.state)
-    (λ image. AfterPrefix flushed (since ++ command ∷ []) image.store)
-    (λ image. AfterPrefix flushed since image.store ⊎ FileMeans image.store new.state) (c.submit.ensures.any_moment h off flushed since has)
+    (λ image. MeansPrefix flushed since image ⊎ ImageMeans image mid.state)
+    (MeansPrefix flushed (since ++ command ∷ []))
+    (λ image. MeansPrefix flushed since image ⊎ ImageMeans image new.state) (c.submit.ensures.any_moment h off flushed since has)
     (c.flush.ensures.any_moment h c.in-Ok.ensures.ok.0.reopen flushed (since ++ command ∷ []) waits)
-    (λ image is. subst (λ s. AfterPrefix flushed since image.store ⊎ FileMeans image.store s) (sym same) is)
-    (λ image is. subst (λ s. AfterPrefix flushed since image.store ⊎ FileMeans image.store s) (sym same)
-    (prefix-last flushed mid.state since command image.store waits.journal.leads is))
+    (λ image is. subst (λ s. MeansPrefix flushed since image ⊎ ImageMeans image s) (sym same) is)
+    (λ image is. subst (λ s. MeansPrefix flushed since image ⊎ ImageMeans image s) (sym same)
+    (prefix-last image.several flushed mid.state since command image.store waits.journal.leads is))
 
 pub returns-in-Err-flush-clause-any_moment : goal.returns-in-Err-flush-clause-any_moment
 returns-in-Err-flush-clause-any_moment g c h off flushed since has =
@@ -33,10 +33,10 @@ returns-in-Err-flush-clause-any_moment g c h off flushed since has =
     let waits = c.in-Ok.ensures.waits h off flushed since has in
     let same = c.flush.ensures.same.state in
     LeavesOnly-joined d.model old.disk mid.disk new.disk
-    (λ image. AfterPrefix flushed since image.store ⊎ FileMeans image.store mid.state)
-    (λ image. AfterPrefix flushed (since ++ command ∷ []) image.store)
-    (λ image. AfterPrefix flushed since image.store ⊎ FileMeans image.store new.state) (c.submit.ensures.any_moment h off flushed since has)
+    (λ image. MeansPrefix flushed since image ⊎ ImageMeans image mid.state)
+    (MeansPrefix flushed (since ++ command ∷ []))
+    (λ image. MeansPrefix flushed since image ⊎ ImageMeans image new.state) (c.submit.ensures.any_moment h off flushed since has)
     (c.flush.ensures.any_moment h c.in-Ok.ensures.ok.0.reopen flushed (since ++ command ∷ []) waits)
-    (λ image is. subst (λ s. AfterPrefix flushed since image.store ⊎ FileMeans image.store s) (sym same) is)
-    (λ image is. subst (λ s. AfterPrefix flushed since image.store ⊎ FileMeans image.store s) (sym same)
-    (prefix-last flushed mid.state since command image.store waits.journal.leads is))
+    (λ image is. subst (λ s. MeansPrefix flushed since image ⊎ ImageMeans image s) (sym same) is)
+    (λ image is. subst (λ s. MeansPrefix flushed since image ⊎ ImageMeans image s) (sym same)
+    (prefix-last image.several flushed mid.state since command image.store waits.journal.leads is))

@@ -2,7 +2,7 @@
 use Rattle.std.proofs.Common.{◌≡◌, ◌⊎◌, inl, false, Err, refl, sym, ◌∙◌, ap, subst}
 use Rattle.conf_store.proofs.Prelude.{false≢true, IfOk-weaker, IfErr-weaker, on_ok_weaker, chars, bytes_under, Store, LeavesOnly-start}
 use Rattle.conf_store.proofs.Prelude.{file_with_bytes, command_of, BadName, Reopen, Device}
-use Rattle.conf_store.specs.{Imports.RefusesImport, Meaning.FileMeans, Durable.AfterPrefix, Durable.staged_text}
+use Rattle.conf_store.specs.{Imports.RefusesImport, Meaning.ImageMeans, Durable.MeansPrefix, Durable.staged_text}
 use Rattle.conf_store.specs.Calls.{Accepts, RefusesCommand, next_record}
 use Rattle.conf_store.proofs.ImportLemmas.{import-refused, unread-refused, unread-of_state}
 use Rattle.conf_store.proofs.store.Store.import.Goals as goal
@@ -130,5 +130,5 @@ pub returns-in-Err-clause-any_moment : goal.returns-in-Err-clause-any_moment
 returns-in-Err-clause-any_moment g c h off flushed since has =
     let d = g.D.Disk in
     let old = c.args.self.now in
-    LeavesOnly-start d.model old.disk (λ image. AfterPrefix flushed since image.store ⊎ FileMeans image.store old.state)
+    LeavesOnly-start d.model old.disk (λ image. MeansPrefix flushed since image ⊎ ImageMeans image old.state)
     (λ image left. inl (c.needs_reopen.ensures.now h off flushed since has image (g.met.D.Disk.only_now old.disk image h left)))

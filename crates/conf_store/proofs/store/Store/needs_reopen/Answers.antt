@@ -24,7 +24,7 @@ returns-clause-now g c h on flushed since has =
     let held = (c.self.invariant.3 h off).0 in
     subst (λ (s : StoreView g.row.D.Denot). HasFlushed (d.model.folder s.disk) flushed since s.state
     → AllImagesAfterPrefix (d.model.folder s.disk) flushed since) c.self.view_is
-    (held-images c.held_store_is_left.ensures.held c.documents_close.ensures.torn
+    (held-images c.held_store_is_left.ensures.noted c.holes_mean.ensures
     (d.model.folder inside.disk) inside.state inside.size inside.waits held flushed since) has
 
 pub returns-clause-size : goal.returns-clause-size

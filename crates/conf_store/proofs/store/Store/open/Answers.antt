@@ -1,9 +1,10 @@
 use Rattle.std.proofs.Common.{arith, false, ◌≡◌, ◌⊎◌, inl, ⊎_elim, ◌≤◌, Some, Err, refl, sym, ◌∙◌, ap, subst}
 use Rattle.std.specs.Prelude.{ℕ, Option, None, IfSome}
-use Rattle.conf_store.proofs.Prelude.{bytes_under, Image, IsImage, LeavesOnly, Store, Next, LeavesOnly-weaker, LeavesOnly-joined, IsStoreOf}
-use Rattle.conf_store.proofs.Prelude.{store_limit, base_bytes}
+use Rattle.conf_store.proofs.Prelude.{bytes_under, Image, IsImage, LeavesOnly, Store, Next, LeavesOnly-weaker, LeavesOnly-joined}
+use Rattle.conf_store.proofs.Prelude.{LeavesOnly-now}
+use Rattle.conf_store.proofs.Prelude.{IsStoreOf, several_waited, store_limit, base_bytes}
 use Rattle.conf_store.specs.{Durable.IsDurable, Durable.IsStaging, Grown.FileStartsWithBase, Grown.StagedStartsWithBase}
-use Rattle.conf_store.specs.{Staged.staged_length, Meaning.FileMeans, Opens.MeantAtEntry}
+use Rattle.conf_store.specs.{Staged.staged_length, Meaning.ImageMeans, Opens.MeantAtEntry}
 use Rattle.conf_store.specs.Files.{FilesStay, IsOldOrBase, LeavesOldOrBase}
 use Rattle.conf_store.proofs.{GrownLemmas.found-base, HeldLemmas.durable-held, HeldLemmas.held-means, StoreLemmas.quiet-flushed}
 use Rattle.conf_store.proofs.OpenLemmas.{image-meant, loaded-meant, state-meant, found-means, found-durable, failed-later, reads-stays}
@@ -15,15 +16,18 @@ use Rattle.conf_store.proofs.store.Store.open.Goals as goal
 pub returns-in-Err-clause-no_meaning : goal.returns-in-Err-clause-no_meaning
 returns-in-Err-clause-no_meaning g c h =
     refused-nothing c.bytes_mean_one_state.ensures.refused c.in-Err.fault
-    (bytes_under (g.D.Disk.model.folder c.args.disk) Store) (c.in-Err.ensures.refused h)
+    (several_waited (g.D.Disk.model.folder c.args.disk)) (bytes_under (g.D.Disk.model.folder c.args.disk) Store)
+    (c.in-Err.ensures.refused h)
 
 pub returns-in-Err-write_base-clause-refused : goal.returns-in-Err-write_base-clause-refused
 returns-in-Err-write_base-clause-refused g c h =
-    disk-refused c.in-Err-write_base.fault c.from.result (bytes_under (g.D.Disk.model.folder c.args.disk) Store) c.from.ensures
+    disk-refused c.in-Err-write_base.fault c.from.result (several_waited (g.D.Disk.model.folder c.args.disk))
+    (bytes_under (g.D.Disk.model.folder c.args.disk) Store) c.from.ensures
 
 pub returns-in-Err-write_base-clause-no_meaning : goal.returns-in-Err-write_base-clause-no_meaning
 returns-in-Err-write_base-clause-no_meaning g c h =
-    disk-no-meaning c.in-Err-write_base.fault c.from.result (bytes_under (g.D.Disk.model.folder c.args.disk) Store) c.from.ensures
+    disk-no-meaning c.in-Err-write_base.fault c.from.result (several_waited (g.D.Disk.model.folder c.args.disk))
+    (bytes_under (g.D.Disk.model.folder c.args.disk) Store) c.from.ensures
 
 pub returns-in-Err-write_base-clause-cause : goal.returns-in-Err-write_base-clause-cause
 returns-in-Err-write_base-clause-cause g c e =
@@ -39,13 +43,13 @@ returns-in-Err-write_base-clause-any_moment g c h =
     let mid = c.find_store.new.disk in
     let s = c.in-Ok.found.state in
     LeavesOnly-joined d.model old mid c.write_base.new.disk (IsImage (d.model.folder old))
-    (λ image. IsStoreOf (d.model.folder mid) image.store ⊎ FileMeans image.store s) (λ image. MeantAtEntry (d.model.folder old) image.store)
+    (λ image. IsStoreOf (d.model.folder mid) image ⊎ ImageMeans image s) (MeantAtEntry (d.model.folder old))
     (c.find_store.ensures.any_moment h) (c.write_base.ensures.any_moment h) (image-meant (d.model.folder old))
     (λ image. ⊎_elim
-    (loaded-meant c.reading_is_an_image.ensures c.held_store_is_the_only_one.ensures.left (d.model.folder old)
-    (d.model.folder mid) (c.in-Ok.ensures.holds h) image.store)
+    (loaded-meant (d.model.folder old) (d.model.folder mid) (LeavesOnly-now d.model old mid (IsImage (d.model.folder old))
+    (λ t image le is. g.met.D.Disk.counts_now mid t image h le is) (c.find_store.ensures.any_moment h)) image)
     (state-meant c.bytes_mean_one_state.ensures.one
-    c.reading_is_an_image.ensures (d.model.folder old) s _ _ _ (c.in-Ok.ensures.ok h) image.store))
+    c.reading_is_an_image.ensures (d.model.folder old) s _ _ _ (c.in-Ok.ensures.ok h) image))
 
 pub invariant_of-store : goal.invariant_of-store
 invariant_of-store g c =
@@ -65,7 +69,8 @@ invariant_of-store g c =
           | goal.in-Some w ↦
               subst (λ (p : ℕ × ℕ). IsDurable (d.model.folder c.match-size.disk) s p.0) (sym w.size-is)
               (subst (λ (x : g.row.D.Denot). IsDurable (d.model.folder x) s w.in-Some.size) (sym w.disk-is)
-              (found-durable (d.model.folder c.find_store.new.disk) store s c.in-Ok.found.opened.commands
+              (found-durable (d.model.folder c.find_store.new.disk) (several_waited (d.model.folder c.args.disk)) store s
+              c.in-Ok.found.opened.commands
               c.in-Ok.found.opened.dropped w.in-Some.size c.in-Ok.found.size
               (c.in-Ok.ensures.ok h) w.in-Some.is (c.in-Ok.ensures.holds h)))
           | goal.in-None+in-Ok-write_base w ↦
@@ -89,7 +94,8 @@ invariant_of-store g c =
               (subst (λ o. FileStartsWithBase o c.in-Ok.found.base)
               (sym (c.held_store_is_the_only_one.ensures.reads (d.model.folder c.find_store.new.disk) store
               (c.in-Ok.ensures.holds h)))
-              (found-base store s c.in-Ok.found.opened.commands c.in-Ok.found.opened.dropped w.in-Some.size
+              (found-base (several_waited (d.model.folder c.args.disk)) store s c.in-Ok.found.opened.commands
+              c.in-Ok.found.opened.dropped w.in-Some.size
               c.in-Ok.found.size c.in-Ok.found.base
               (c.in-Ok.ensures.ok h) w.in-Some.is (c.in-Ok.ensures.base h))))
           | goal.in-None+in-Ok-write_base w ↦
@@ -112,7 +118,7 @@ returns-clause-any_moment g c h =
     let old = c.args.disk in
     let mid = c.find_store.new.disk in
     let s = c.in-Ok.found.state in
-    let R : Image → Type 0 = λ image. MeantAtEntry (d.model.folder old) image.store in
+    let R : Image → Type 0 = MeantAtEntry (d.model.folder old) in
     elim c.match-size.branch [
       | goal.in-Some w ↦
           subst (λ (x : g.row.D.Denot). LeavesOnly d.model old x R) (sym w.disk-is)
@@ -121,25 +127,26 @@ returns-clause-any_moment g c h =
       | goal.in-None+in-Ok-write_base w ↦
           subst (λ (x : g.row.D.Denot). LeavesOnly d.model old x R) (sym w.disk-is)
           (LeavesOnly-joined d.model old mid w.write_base.new.disk (IsImage (d.model.folder old))
-          (λ image. IsStoreOf (d.model.folder mid) image.store ⊎ FileMeans image.store s) R
+          (λ image. IsStoreOf (d.model.folder mid) image ⊎ ImageMeans image s) R
           (c.find_store.ensures.any_moment h) (w.write_base.ensures.any_moment h) (image-meant (d.model.folder old))
           (λ image. ⊎_elim
-          (loaded-meant c.reading_is_an_image.ensures c.held_store_is_the_only_one.ensures.left (d.model.folder old)
-          (d.model.folder mid) (c.in-Ok.ensures.holds h) image.store)
+          (loaded-meant (d.model.folder old) (d.model.folder mid) (LeavesOnly-now d.model old mid (IsImage (d.model.folder old))
+          (λ t image le is. g.met.D.Disk.counts_now mid t image h le is) (c.find_store.ensures.any_moment h)) image)
           (state-meant c.bytes_mean_one_state.ensures.one
-          c.reading_is_an_image.ensures (d.model.folder old) s _ _ _ (c.in-Ok.ensures.ok h) image.store)))
+          c.reading_is_an_image.ensures (d.model.folder old) s _ _ _ (c.in-Ok.ensures.ok h) image)))
     ]
 
 pub returns-clause-means : goal.returns-clause-means
 returns-clause-means g c h =
-    found-means (bytes_under (g.D.Disk.model.folder c.args.disk) Store) c.in-Ok.found.state
+    found-means (several_waited (g.D.Disk.model.folder c.args.disk)) (bytes_under (g.D.Disk.model.folder c.args.disk) Store)
+    c.in-Ok.found.state
     c.in-Ok.found.opened.commands c.in-Ok.found.opened.dropped c.in-Ok.found.size (c.in-Ok.ensures.ok h)
 
 pub returns-clause-now : goal.returns-clause-now
 returns-clause-now g c h =
     let d = g.D.Disk in
     let s = c.in-Ok.found.state in
-    held-means c.held_store_is_left.ensures.held c.documents_close.ensures.torn
+    held-means c.held_store_is_left.ensures.noted c.holes_mean.ensures
     (d.model.folder c.match-size.disk) s c.match-size.size.0 false ((invariant_of-store g c).3 h refl).0 refl
 
 pub returns-clause-reads : goal.returns-clause-reads
@@ -149,12 +156,14 @@ returns-clause-reads g c h =
     let store = bytes_under (d.model.folder c.args.disk) Store in
     elim c.match-size.branch [
       | goal.in-Some w ↦
-          reads-stays store _ s c.in-Ok.found.opened.commands c.in-Ok.found.opened.dropped w.in-Some.size
+          reads-stays (several_waited (d.model.folder c.args.disk)) store _ s c.in-Ok.found.opened.commands c.in-Ok.found.opened.dropped
+          w.in-Some.size
           c.in-Ok.found.size (c.in-Ok.ensures.ok h) w.in-Some.is
           (subst (λ (x : g.row.D.Denot). bytes_under (d.model.folder x) Store ≡ store) (sym w.disk-is)
           (c.held_store_is_the_only_one.ensures.reads (d.model.folder c.find_store.new.disk) store (c.in-Ok.ensures.holds h)))
       | goal.in-None+in-Ok-write_base w ↦
-          reads-staged store _ s c.in-Ok.found.opened.commands c.in-Ok.found.opened.dropped c.in-Ok.found.size
+          reads-staged (several_waited (d.model.folder c.args.disk)) store _ s c.in-Ok.found.opened.commands c.in-Ok.found.opened.dropped
+          c.in-Ok.found.size
           (c.in-Ok.ensures.ok h) w.in-None.is
           (subst (λ (x : g.row.D.Denot). bytes_under (d.model.folder x) Store ≡ Some (base_bytes s)) (sym w.disk-is)
           (w.in-Ok-write_base.ensures.reads h))
@@ -197,7 +206,8 @@ returns-clause-gone g c h needed =
     let store = bytes_under (d.model.folder c.args.disk) Store in
     elim c.match-size.branch [
       | goal.in-Some w ↦
-          absurd (kept-as-it-is store c.in-Ok.found.state c.in-Ok.found.opened.commands c.in-Ok.found.opened.dropped
+          absurd (kept-as-it-is (several_waited (d.model.folder c.args.disk)) store c.in-Ok.found.state c.in-Ok.found.opened.commands
+          c.in-Ok.found.opened.dropped
           w.in-Some.size c.in-Ok.found.size (c.in-Ok.ensures.ok h) w.in-Some.is needed)
       | goal.in-None+in-Ok-write_base w ↦
           subst (λ (x : g.row.D.Denot). bytes_under (d.model.folder x) Next ≡ None) (sym w.disk-is) (w.in-Ok-write_base.ensures.gone h)
@@ -236,17 +246,19 @@ pub returns-in-Err-write_base-clause-old_or_base : goal.returns-in-Err-write_bas
 returns-in-Err-write_base-clause-old_or_base g c h =
     let d = g.D.Disk in
     let new = c.write_base.new.disk in
-    base-reads d.model c.args.disk c.find_store.new.disk new c.reading_is_an_image.ensures c.held_store_is_the_only_one.ensures.left
-    c.in-Ok.found.state _ _ c.in-Ok.found.size (c.in-Ok.ensures.ok h) c.in-None.is (c.in-Ok.ensures.holds h) (c.write_base.ensures.leaves h)
-    (λ t image le is. g.met.D.Disk.counts_now new t image h le is)
+    base-reads d.model c.args.disk c.find_store.new.disk new c.in-Ok.found.state _ _ c.in-Ok.found.size (c.in-Ok.ensures.ok h)
+    c.in-None.is (c.write_base.ensures.leaves h) c.reading_is_an_image.ensures c.held_store_is_the_only_one.ensures.left
+    (c.in-Ok.ensures.holds h) (λ t image le is. g.met.D.Disk.counts_now new t image h le is)
 
 pub returns-in-Err-write_base-clause-leaves : goal.returns-in-Err-write_base-clause-leaves
 returns-in-Err-write_base-clause-leaves g c h =
     let d = g.D.Disk in
-    base-leaves d.model c.args.disk c.find_store.new.disk c.write_base.new.disk c.reading_is_an_image.ensures
-    c.held_store_is_the_only_one.ensures.left
-    c.in-Ok.found.state _ _ c.in-Ok.found.size (c.in-Ok.ensures.ok h) c.in-None.is (c.in-Ok.ensures.holds h)
-    (c.write_base.ensures.leaves h) (c.find_store.ensures.any_moment h)
+    let mid = c.find_store.new.disk in
+    base-leaves d.model c.args.disk mid c.write_base.new.disk c.in-Ok.found.state _ _ c.in-Ok.found.size
+    (c.in-Ok.ensures.ok h) c.in-None.is (c.write_base.ensures.leaves h)
+    (LeavesOnly-now d.model c.args.disk mid (IsImage (d.model.folder c.args.disk))
+    (λ t image le is. g.met.D.Disk.counts_now mid t image h le is) (c.find_store.ensures.any_moment h))
+    (c.find_store.ensures.any_moment h)
 
 pub returns-clause-whole_stays : goal.returns-clause-whole_stays
 returns-clause-whole_stays g c h none some =
@@ -259,7 +271,7 @@ returns-clause-whole_stays g c h none some =
           (files-stay d.model old mid (λ t image le is. g.met.D.Disk.counts_now mid t image h le is)
           (c.find_store.ensures.reads h) (c.find_store.ensures.any_moment h))
       | goal.in-None+in-Ok-write_base w ↦
-          absurd (not-needed (bytes_under (d.model.folder old) Store) c.in-Ok.found.state _
+          absurd (not-needed (several_waited (d.model.folder old)) (bytes_under (d.model.folder old) Store) c.in-Ok.found.state _
           c.in-Ok.found.opened.dropped c.in-Ok.found.size (c.in-Ok.ensures.ok h) w.in-None.is none some)
     ]
 
@@ -267,17 +279,17 @@ pub returns-clause-old_or_base : goal.returns-clause-old_or_base
 returns-clause-old_or_base g c h =
     let d = g.D.Disk in
     let store = bytes_under (d.model.folder c.args.disk) Store in
+    let note = several_waited (d.model.folder c.args.disk) in
     elim c.match-size.branch [
       | goal.in-Some w ↦
-          subst (λ (x : g.row.D.Denot). IsOldOrBase store (bytes_under (d.model.folder x) Store)) (sym w.disk-is)
+          subst (λ (x : g.row.D.Denot). IsOldOrBase note store (bytes_under (d.model.folder x) Store)) (sym w.disk-is)
           (inl (ap (λ (image : Image). image.store) (c.find_store.ensures.reads h)))
       | goal.in-None+in-Ok-write_base w ↦
-          subst (λ (x : g.row.D.Denot). IsOldOrBase store (bytes_under (d.model.folder x) Store)) (sym w.disk-is)
+          subst (λ (x : g.row.D.Denot). IsOldOrBase note store (bytes_under (d.model.folder x) Store)) (sym w.disk-is)
           (let new = w.write_base.new.disk in
-          base-reads d.model c.args.disk c.find_store.new.disk new c.reading_is_an_image.ensures c.held_store_is_the_only_one.ensures.left
-          c.in-Ok.found.state _ _ c.in-Ok.found.size (c.in-Ok.ensures.ok h) w.in-None.is (c.in-Ok.ensures.holds h)
-          (w.write_base.ensures.leaves h)
-          (λ t image le is. g.met.D.Disk.counts_now new t image h le is))
+          base-reads d.model c.args.disk c.find_store.new.disk new c.in-Ok.found.state _ _ c.in-Ok.found.size (c.in-Ok.ensures.ok h)
+          w.in-None.is (w.write_base.ensures.leaves h) c.reading_is_an_image.ensures c.held_store_is_the_only_one.ensures.left
+          (c.in-Ok.ensures.holds h) (λ t image le is. g.met.D.Disk.counts_now new t image h le is))
     ]
 
 pub returns-clause-leaves : goal.returns-clause-leaves
@@ -290,8 +302,9 @@ returns-clause-leaves g c h =
           (images-old d.model old c.find_store.new.disk (c.find_store.ensures.any_moment h))
       | goal.in-None+in-Ok-write_base w ↦
           subst (λ (x : g.row.D.Denot). LeavesOldOrBase d.model old x) (sym w.disk-is)
-          (base-leaves d.model old c.find_store.new.disk w.write_base.new.disk c.reading_is_an_image.ensures
-          c.held_store_is_the_only_one.ensures.left
-          c.in-Ok.found.state _ _ c.in-Ok.found.size (c.in-Ok.ensures.ok h) w.in-None.is (c.in-Ok.ensures.holds h)
-          (w.write_base.ensures.leaves h) (c.find_store.ensures.any_moment h))
+          (let mid = c.find_store.new.disk in
+          base-leaves d.model old mid w.write_base.new.disk c.in-Ok.found.state _ _ c.in-Ok.found.size (c.in-Ok.ensures.ok h)
+          w.in-None.is (w.write_base.ensures.leaves h) (LeavesOnly-now d.model old mid (IsImage (d.model.folder old))
+          (λ t image le is. g.met.D.Disk.counts_now mid t image h le is) (c.find_store.ensures.any_moment h))
+          (c.find_store.ensures.any_moment h))
     ]

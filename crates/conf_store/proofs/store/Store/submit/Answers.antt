@@ -2,9 +2,9 @@ use Rattle.std.proofs.Common.{rules, arith, ◌≡◌, ◌⊎◌, inl, inr, ⊎_
 use Rattle.std.proofs.Common.{refl, sym, ◌∙◌, ap, subst}
 use Rattle.conf_store.proofs.Prelude.{false≢true, Image, bytes_under, LeavesOnly, Store, store_limit, file_with_bytes, command_of, Reopen}
 use Rattle.conf_store.proofs.Prelude.{Device}
-use Rattle.conf_store.specs.{Stagings.staged_of, Meaning.FileMeans, Grown.FileStartsWithBase, Grown.StagedStartsWithBase}
+use Rattle.conf_store.specs.{Stagings.staged_of, Meaning.ImageMeans, Grown.FileStartsWithBase, Grown.StagedStartsWithBase}
 use Rattle.conf_store.specs.{Staged.staged_length, Staged.with_more, View.StoreView, Accepting.IsAccepted}
-use Rattle.conf_store.specs.Durable.{HasFlushed, AfterPrefix, IsHeld, IsStaging, staged_text}
+use Rattle.conf_store.specs.Durable.{HasFlushed, MeansPrefix, IsHeld, IsStaging, staged_text}
 use Rattle.conf_store.specs.Calls.{outcome, journal_length, next_record, Accepts}
 use Rattle.conf_store.proofs.{RefusalLemmas.refusal-returned, GrownLemmas.file-more, GrownLemmas.staged-base-more}
 use Rattle.conf_store.proofs.StagedLemmas.{staging-more, text-more, length-more, length-least}
@@ -48,11 +48,10 @@ returns-in-Err-clause-any_moment g c h on flushed since has =
     let held = c.self.invariant.3 h c.if-self.false in
     let new = c.accept.new.state in
     subst (λ (s : StoreView g.row.D.Denot). HasFlushed (d.model.folder s.disk) flushed since s.state
-    → LeavesOnly d.model s.disk inside.disk (λ image. AfterPrefix flushed since image.store
-    ⊎ FileMeans image.store new)) c.self.view_is
+    → LeavesOnly d.model s.disk inside.disk (λ image. MeansPrefix flushed since image ⊎ ImageMeans image new)) c.self.view_is
     (λ inner. or-means d.model inside.disk inside.disk flushed new since
-    (start-prefix d.model inside.disk inside.state inside.size inside.waits c.held_store_is_left.ensures.held
-    c.documents_close.ensures.torn (λ image left. g.met.D.Disk.only_now inside.disk image h left) held.0 flushed
+    (start-prefix d.model inside.disk inside.state inside.size inside.waits c.held_store_is_left.ensures.noted
+    c.holes_mean.ensures (λ image left. g.met.D.Disk.only_now inside.disk image h left) held.0 flushed
     since inner)) has
 
 pub returns-in-Err-clause-risen : goal.returns-in-Err-clause-risen
@@ -106,7 +105,9 @@ invariant_of-self-in-Ok-append_store g c =
             subst (λ n. IsHeld (d.model.folder new) c.accept.new.state (inside.size + n) true) (sym long)
                 (append-held (d.model.folder inside.disk)
                 (d.model.folder new) inside.state c.accept.new.state command inside.size longest inside.waits
-                bytes held.0 (omega arith) ok (c.in-Ok-append_store.ensures.holds h (Some held.0.file) held.0.holds)),
+                bytes held.0 (omega arith) ok c.documents_close.ensures.records
+                (ap (λ (image : Image). image.several) (c.in-Ok-append_store.ensures.reads h))
+                (c.in-Ok-append_store.ensures.holds h (Some held.0.file) held.0.holds)),
             subst (λ s. IsStaging (d.model.folder new) c.accept.new.state s) (sym staged)
                 (staging-more (d.model.folder inside.disk)
                 (d.model.folder new) inside.state c.accept.new.state command bytes
@@ -191,10 +192,10 @@ returns-in-Ok-append_store-clause-any_moment g c h on flushed since has =
     let held = c.self.invariant.3 h c.if-self.false in
     subst (λ (s : StoreView g.row.D.Denot). HasFlushed (d.model.folder s.disk) flushed since s.state
     → LeavesOnly d.model s.disk c.append_store.new.disk
-    (λ image. AfterPrefix flushed since image.store ⊎ FileMeans image.store c.accept.new.state)) c.self.view_is
+    (λ image. MeansPrefix flushed since image ⊎ ImageMeans image c.accept.new.state)) c.self.view_is
     (λ inner. append-leaves d.model inside.disk c.append_store.new.disk
     (d.model.folder inside.disk) inside.state c.accept.new.state command inside.size longest inside.waits bytes
-    c.documents_close.ensures.torn held.0 (omega arith) ok flushed since inner
+    c.holes_mean.ensures c.documents_close.ensures.records held.0 (omega arith) ok flushed since inner
     ((c.append_store.ensures.leaves h).held (Some held.0.file) held.0.holds)) has
 
 pub returns-in-Ok-append_store-clause-waits : goal.returns-in-Ok-append_store-clause-waits
@@ -209,7 +210,8 @@ returns-in-Ok-append_store-clause-waits g c h on flushed since has =
     let held = c.self.invariant.3 h c.if-self.false in
     append-flushed (d.model.folder inside.disk)
     (d.model.folder c.append_store.new.disk) inside.state c.accept.new.state command inside.size longest
-    inside.waits bytes held.0 (omega arith) ok
+    inside.waits bytes held.0 (omega arith) ok c.documents_close.ensures.records
+    (ap (λ (image : Image). image.several) (c.in-Ok-append_store.ensures.reads h))
     (c.in-Ok-append_store.ensures.holds h (Some held.0.file) held.0.holds) flushed since
     (subst (λ (s : StoreView g.row.D.Denot). HasFlushed (d.model.folder s.disk) flushed since s.state) (sym c.self.view_is) has)
 
@@ -244,10 +246,10 @@ returns-clause-any_moment g c h on flushed since has =
     let held = c.self.invariant.3 h c.if-self.false in
     subst (λ (s : StoreView g.row.D.Denot). HasFlushed (d.model.folder s.disk) flushed since s.state
     → LeavesOnly d.model s.disk c.append_store.new.disk
-    (λ image. AfterPrefix flushed since image.store ⊎ FileMeans image.store c.accept.new.state)) c.self.view_is
+    (λ image. MeansPrefix flushed since image ⊎ ImageMeans image c.accept.new.state)) c.self.view_is
     (λ inner. append-leaves d.model inside.disk c.append_store.new.disk
     (d.model.folder inside.disk) inside.state c.accept.new.state command inside.size longest inside.waits bytes
-    c.documents_close.ensures.torn held.0 (omega arith) ok flushed since inner
+    c.holes_mean.ensures c.documents_close.ensures.records held.0 (omega arith) ok flushed since inner
     ((c.append_store.ensures.leaves h).held (Some held.0.file) held.0.holds)) has
 
 pub returns-clause-refused : goal.returns-clause-refused

@@ -1,6 +1,7 @@
 use Rattle.std.proofs.Common.{rules, ◌≡◌, [], ◌∷◌, ◌++◌, map, ◌∙◌, ap}
 use Rattle.std.proofs.lemmas.List.{map-append}
-use Rattle.test_disks.specs.Replay.{step_of}
+use Rattle.test_disks.specs.Replay.{step_of, image_of}
+use Rattle.conf_disk.specs.Image.{folder_of_image}
 use Rattle.conf_disk.proofs.Log.{folder_after-pushed, Elapses-pushed}
 use Rattle.test_disks.proofs.memory.MemoryDisk.note.Goals as goal
 
@@ -8,10 +9,12 @@ pub returns-clause-change : goal.returns-clause-change
 returns-clause-change c =
     let old = c.args.self.now.changes.items in
     let pushed : c.push.new.self.items ≡ old ++ c.args.change ∷ [] = search rules in
-    folder_after-pushed (map step_of old) _ (step_of c.args.change) (ap (map step_of) pushed ∙ map-append step_of old (c.args.change ∷ []))
+    folder_after-pushed (folder_of_image (image_of c.args.self.now.start)) (map step_of old) _ (step_of c.args.change)
+    (ap (map step_of) pushed ∙ map-append step_of old (c.args.change ∷ []))
 
 pub returns-clause-time : goal.returns-clause-time
 returns-clause-time c =
     let old = c.args.self.now.changes.items in
     let pushed : c.push.new.self.items ≡ old ++ c.args.change ∷ [] = search rules in
-    Elapses-pushed (map step_of old) _ (step_of c.args.change) (ap (map step_of) pushed ∙ map-append step_of old (c.args.change ∷ []))
+    Elapses-pushed (folder_of_image (image_of c.args.self.now.start)) (map step_of old) _ (step_of c.args.change)
+    (ap (map step_of) pushed ∙ map-append step_of old (c.args.change ∷ []))

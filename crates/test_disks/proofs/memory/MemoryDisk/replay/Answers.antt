@@ -1,9 +1,10 @@
-use Rattle.std.proofs.Common.{◌≡◌, ◌+◌, ◌<◌, length, get_or, take, map, ◌++◌, [], ◌∷◌, List, sym, ◌∙◌, ap, subst, arith}
-use Rattle.std.proofs.lemmas.List.{take_more, map-append}
+use Rattle.std.proofs.Common.{◌≡◌, ◌+◌, ◌<◌, ◌≤◌, length, get_or, take, map, ◌++◌, [], ◌∷◌, List, sym, ◌∙◌, ap, subst, arith}
+use Rattle.std.proofs.lemmas.List.{take_more, take_all, map-append}
 use Rattle.conf_disk.specs.Folder.{after}
-use Rattle.conf_disk.specs.Image.{IsWhole}
-use Rattle.conf_disk.specs.LogLaws.{folder_after-whole}
-use Rattle.test_disks.specs.Replay.{step_of}
+use Rattle.conf_disk.specs.Image.{IsWhole, folder_of_image}
+use Rattle.conf_disk.specs.Log.{folder_after}
+use Rattle.conf_disk.specs.LogLaws.{folder_after-whole, image-whole}
+use Rattle.test_disks.specs.Replay.{step_of, image_of}
 use Rattle.test_disks.specs.declared.folder.Change.{Change}
 use Rattle.conf_disk.proofs.Log.{folder_after-pushed}
 use Rattle.test_disks.proofs.memory.MemoryDisk.replay.Goals as goal
@@ -11,7 +12,8 @@ use Rattle.test_disks.proofs.memory.MemoryDisk.replay.Goals as goal
 -- the folder after some of the changes is whole
 pub apply-requires : goal.apply-requires
 apply-requires c = subst IsWhole (sym c.loop-change.invariant)
-    (folder_after-whole (map step_of (take c.loop-change.change-index c.args.self.now.changes.items)))
+    (folder_after-whole (map step_of (take c.loop-change.change-index c.args.self.now.changes.items)) _
+    (image-whole (image_of c.args.self.now.start)))
 
 pub loop-change-preserved : goal.loop-change-preserved
 loop-change-preserved c =
@@ -26,4 +28,13 @@ loop-change-preserved c =
     let steps : map step_of (take (i + 1) items) ≡ map step_of (take i items) ++ step_of x ∷ [] =
     ap (map step_of) more ∙ map-append step_of (take i items) (x ∷ []) in
     c.in_ok-apply.ensures ∙ ap (after (step_of x)) c.loop-change.invariant
-    ∙ sym (folder_after-pushed (map step_of (take i items)) _ (step_of x) steps)
+    ∙ sym (folder_after-pushed (folder_of_image (image_of c.args.self.now.start)) (map step_of (take i items)) _ (step_of x) steps)
+
+pub returns : goal.returns
+returns c =
+    let items = c.args.self.now.changes.items in
+    let same = c.deref-change-items.ensures.value in
+    let all : length items ≤ c.loop-change.change-index = omega (arith, ap length same, c.loop-change-test.false) in
+    c.loop-change.invariant
+    ∙ ap (λ (l : List Change). folder_after (map step_of l) (folder_of_image (image_of c.args.self.now.start)))
+    (take_all c.loop-change.change-index items all)

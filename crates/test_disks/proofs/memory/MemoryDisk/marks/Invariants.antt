@@ -1,0 +1,10 @@
+use Rattle.std.proofs.Common.{◌≡◌, take, map}
+use Rattle.conf_disk.specs.Image.{folder_of_image}
+use Rattle.conf_disk.specs.Log.{folder_after}
+use Rattle.test_disks.specs.Replay.{step_of, image_of}
+use Rattle.test_disks.specs.Marks.{marks_of}
+use Rattle.test_disks.proofs.memory.MemoryDisk.marks.Given as goal
+
+abbrev pub invariant-loop-change : goal.invariant-loop-change
+invariant-loop-change l =
+    l.marks ≡ marks_of (folder_after (map step_of (take l.change-index l.self.changes.items)) (folder_of_image (image_of l.self.start)))
