@@ -81,7 +81,7 @@ pub fn survey_store<R: Read>(
     reader: &mut R,
     waiting: Waiting,
 ) -> Result<Survey, HistoryFault>
-    ensures ok { IfOk result (λ found. ReadsSurvey
+    ensures ok { IfOk result (λ found. ReadsSurvey (is_several waiting)
         (R.remaining reader.old) (R.remaining reader.new) found.state found.findings) }
     ensures refused { IfErr result (λ fault.
         IfSome (R.remaining reader.old) (λ bytes. RefusesSurvey bytes fault)) }
