@@ -45,26 +45,31 @@ OUTPUT = (3, "confstore: Output\n")
 STOPPED = (ENDED, "")
 
 # The calls of the session over a new folder that change the folder, sync a change, or answer, as docs/DISK.md and
-# docs/STORE.md have them: opening writes a base, each of the three changes appends and syncs a record before its
-# answer, and the end is noted in `store.lock`.
+# docs/STORE.md have them: opening writes a base, the first change is noted in `store.lock`, each of the three changes
+# appends and syncs a record before its answer, and the end is noted.
+OPENING_OF_NEW = [
+    "create store.lock", "fsync store.lock", "fsync folder", "fsync folder", "create next.yaml", "write next.yaml",
+    "fsync next.yaml", "link next.yaml", "unlink next.yaml", "fsync folder", "ftruncate store.lock", "write store.lock",
+]
 CHANGES_OF_NEW = [
-    "create store.lock", "fsync folder", "create next.yaml", "write next.yaml", "fsync next.yaml", "link next.yaml",
-    "unlink next.yaml", "fsync folder",
+    *OPENING_OF_NEW,
     "write store.yaml", "fsync store.yaml", "write output",
     "write store.yaml", "fsync store.yaml", "write output",
     "write output",
     "write store.yaml", "fsync store.yaml", "write output",
     "write output",
     "write output",
-    "write store.lock",
+    "ftruncate store.lock",
 ]
 
 
-# The same of that session in groups: all changes share one sync and one write of answers, and then a checkpoint begins.
+# The same of that session in groups: before the second change waits that is noted, and the device gets the note. All
+# changes share one sync and one write of answers, and then a checkpoint begins.
 CHANGES_IN_A_GROUP = [
-    *CHANGES_OF_NEW[:8],
-    "write store.yaml", "write store.yaml", "write store.yaml", "fsync store.yaml", "write output", "create next.yaml",
-    "write store.lock",
+    *OPENING_OF_NEW,
+    "write store.yaml", "ftruncate store.lock", "fsync store.lock", "write store.yaml", "write store.yaml",
+    "fsync store.yaml", "write output", "create next.yaml",
+    "ftruncate store.lock",
 ]
 
 
@@ -94,17 +99,16 @@ class PlacedCall(Call):
 
     def is_of_note(self) -> bool:
         """Whether the call reads or writes the note in `store.lock`."""
-        return self.name in ("read", "write") and self.file == "store.lock"
+        return self.name in ("read", "write", "ftruncate") and self.file == "store.lock"
 
-    def is_change_next(self) -> bool:
-        """Whether the next call, but for looks and closed handles, appends to `store.yaml` or renames a file to it."""
-        following = next((line for line in self.following if not line.startswith(("statx ", "close "))), "")
-        return following.startswith(("write store.yaml ", "rename "))
+    def is_at_end(self) -> bool:
+        """Whether all is answered, and what follows looks for a store, notes the end, and closes handles."""
+        calls = ("close ", "statx proc ", "statx store.yaml ", "write store.lock ", "ftruncate store.lock ")
+        return all(line.startswith(calls) for line in self.following)
 
     def is_look_at_end(self) -> bool:
         """Whether the call looks for `store.yaml` once all is answered, so that no `store.lock` is left without one."""
-        calls = ("close ", "statx proc ", "statx store.yaml ", "write store.lock ")
-        return self.name == "statx" and all(line.startswith(calls) for line in self.following)
+        return self.name == "statx" and self.is_at_end()
 
     def is_last(self) -> bool:
         """Whether the program does without each call after this one."""
@@ -114,7 +118,7 @@ class PlacedCall(Call):
         """Whether the program does without the call: a handle that is closed, the look whether there is a /proc, the
         mode of `store.lock`, the look for a store at the end, and the note that the device has all bytes."""
         if self.is_of_note():
-            return self.name == "write" and not self.is_change_next()
+            return self.name != "read" and self.is_at_end()
         is_mode_of_lock = (self.name, self.file) == ("fchmod", "store.lock")
         is_look = (self.file == "proc" and self.first) or self.is_look_at_end()
         return self.name == "close" or is_look or is_mode_of_lock
@@ -271,13 +275,13 @@ def try_story(top: str, story: Story, most: int, failures: Failures) -> None:
 
 def is_change(call: PlacedCall) -> bool:
     """Whether a call changes the folder, syncs a change, or answers."""
-    return call.name in ("fsync", "unlink", "create", "link", "rename", "write")
+    return call.name in ("fsync", "unlink", "create", "link", "rename", "write", "ftruncate")
 
 
 def is_cause(line: str, folder: str, call: PlacedCall, kind: Kind) -> bool:
     """Whether a line says why the call failed: of which file or folder, and the reason. Where all later calls fail, it
-    may be any of them. A new file takes the name `store.yaml` by more than one call, and the owner of the folder is
-    looked at for `store.lock`."""
+    may be any of them. A new file takes the name `store.yaml` by more than one call, a call on a file looks at the
+    folder's own path and at the other file first, and the owner of the folder is looked at for `store.lock`."""
     subject, _, reason = line.removesuffix("\n").rpartition(": ")
     if kind.answer == "zero":
         wanted = "nothing was written" if call.is_of_note() else "failed to write whole buffer"
@@ -288,6 +292,8 @@ def is_cause(line: str, folder: str, call: PlacedCall, kind: Kind) -> bool:
     subject_of_call = folder if call.file in ("folder", "proc") else call.file
     others = {"link": "store.yaml", "rename": "store.yaml", "unlink": "store.yaml", "fstat": "store.lock"}
     subjects = {subject_of_call, others.get(call.name, subject_of_call)}
+    if call.name == "statx":
+        subjects |= {"store.yaml", "next.yaml"}
     return line.endswith("\n") and reason == wanted and (kind.later or subject in subjects)
 
 

@@ -55,7 +55,11 @@ NOBODY = "nobody"
 # sticky bit.
 BEGUN = EMPTY + b'---\nat: "1"\nimport: a\ntree:\n  n: "0"\n...\n'
 MARKED = 0o1600
-ON_DEVICE, UNSURE = b"-", b"!"
+
+# What may be noted: that the device has all bytes, or that some may be in memory alone. Each is longer if several
+# changes may have waited for one sync.
+ON_DEVICE = (b"-", b"-\0\0\0")
+UNSURE = (b"-\0", b"-\0\0")
 
 # What the library keeps of a page.
 CLEAN, DIRTY, LOST = range(3)
@@ -123,11 +127,15 @@ class Store:
         self.file = self.folder / "store.yaml"
         self.lock = self.folder / "store.lock"
         self.file.write_bytes(BEGUN)
-        self.lock.write_bytes(ON_DEVICE)
+        self.lock.write_bytes(ON_DEVICE[0])
         self.lock.chmod(MARKED)
 
     def expect(self, what: str, found: object, wanted: object) -> None:
         self.failures.expect(f"{self.name}: {what}", found, wanted)
+
+    def expect_note(self, when: str, wanted: Sequence[bytes]) -> None:
+        note = self.lock.read_bytes()
+        self.expect(f"the note {when}: {note!r}", note in wanted, True)
 
     def run(self, words: Sequence[str] = SINGLE, program: str = PROGRAM, user: str | None = None,
             **faults: str) -> tuple[int, int]:
@@ -169,7 +177,7 @@ class Store:
     def expect_whole(self) -> None:
         """A session goes on; then memory is lost, and all that was acknowledged is there."""
         self.expect("the last session", self.run(), DONE)
-        self.expect("the note in the end", self.lock.read_bytes(), ON_DEVICE)
+        self.expect_note("in the end", ON_DEVICE)
         self.lose_memory()
         self.expect("the store", state_of(self.folder), "state: whole")
         self.expect("missing", missing(self.folder, self.acknowledged), [])
@@ -225,7 +233,7 @@ def with_lost_pages(new: Maker, name: str) -> Store:
     """A store whose third sync failed, which is that of the second change."""
     store = new(name)
     store.expect("the session whose sync fails", store.run(LOST_SYNC="3"), (3, 1))
-    store.expect("the note then", store.lock.read_bytes(), UNSURE)
+    store.expect_note("then", UNSURE)
     return store
 
 
@@ -246,13 +254,13 @@ def opening_of(new: Maker) -> Opening:
     store = with_lost_pages(new, "an opening")
     size = store.file.stat().st_size
     calls = store.calls()
-    create, write, sync, rename = (numbers_of(calls, name, "next.yaml")[0]
+    create, write, sync, rename = (numbers_of(calls, name, "copy.yaml")[0]
                                    for name in ("create", "write", "fsync", "rename"))
     found = Opening(calls, create, write, sync, rename, numbers_of(calls, "fsync", store.folder.name)[-1])
     append = numbers_of(calls, "write", "store.yaml")[0]
-    store.expect("what is written", calls[found.write - 1], f"write next.yaml {size}")
+    store.expect("what is written", calls[found.write - 1], f"write copy.yaml {size}")
     store.expect("the order", create < write < sync < rename < found.sync_folder < append, True)
-    store.expect("the note before an append", calls[append - 2], "write store.lock 1")
+    store.expect("new notes before an append", numbers_of(calls[:append], "ftruncate", "store.lock"), [])
     return found._replace(calls=calls[: append - 1])
 
 
@@ -274,10 +282,10 @@ def try_failed_opening(new: Maker, opening: Opening) -> None:
             held = store.file.read_bytes()
             for _ in range(again):
                 # A new file that was left over is removed first, by one call more.
-                one["FAULT_CALL"] = str(number + (store.folder / "next.yaml").exists())
+                one["FAULT_CALL"] = str(number + (store.folder / "copy.yaml").exists())
                 store.expect("the session", store.run(**one), DEVICE)
                 store.expect("the file", store.file.read_bytes(), held)
-                store.expect("the note", store.lock.read_bytes(), UNSURE)
+                store.expect_note("then", UNSURE)
             one["FAULT_CALL"] = str(number)
             store.expect_whole()
     print(f"  {len(faults)} faults of an opening that makes a new file")
@@ -302,7 +310,7 @@ def try_killed_opening(new: Maker, opening: Opening) -> None:
 
 def try_notes(new: Maker) -> None:
     """A note can't be written: no append is made without one, and without the last one a new file is made again."""
-    first, last = numbers_of(new("the notes of a session").calls(), "write", "store.lock")
+    first, last = numbers_of(new("the notes of a session").calls(), "ftruncate", "store.lock")
     for error in (errno.EIO, errno.ENOSPC):
         for done in ("none", "whole"):
             store = new(f"the note before the append, {error}, {done}")
@@ -311,8 +319,8 @@ def try_notes(new: Maker) -> None:
             store.expect_whole()
         store = new(f"the note at the end, {error}")
         store.expect("the session", store.run(**fault(last, "none", "error", error)), DONE)
-        store.expect("the note", store.lock.read_bytes(), UNSURE)
-        store.expect("new files of the next session", len(numbers_of(store.calls(), "rename", "next.yaml")), 1)
+        store.expect_note("then", UNSURE)
+        store.expect("copies of the next session", len(numbers_of(store.calls(), "rename", "copy.yaml")), 1)
         store.expect_whole()
 
 
@@ -355,9 +363,9 @@ def try_group(top: Path, new: Maker) -> None:
         path.chmod(mode)
     store.lock.unlink()
     store.expect("the session whose sync fails", store.run(LOST_SYNC="4")[0], 3)
-    store.expect("the note then", store.lock.read_bytes(), UNSURE)
+    store.expect_note("then", UNSURE)
     store.expect("the writer's session", store.run(program=program, user=NOBODY), DONE)
-    store.expect("the note of the writer", store.lock.read_bytes(), ON_DEVICE)
+    store.expect_note("of the writer", ON_DEVICE)
     store.expect("the owner of store.lock", store.lock.stat().st_uid, 0)
     store.lose_memory()
     store.expect("missing", missing(store.folder, store.acknowledged), [])

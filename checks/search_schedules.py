@@ -11,12 +11,11 @@ may leave has what was acknowledged, and so has what each run reads. Three thing
 - Each broken variant of the protocol loses something, so the search sees faults of its kind.
 - The protocol loses nothing in any schedule with as many faults and changes as SEARCHES says.
 
-    ./prove && python3 checks/search_schedules.py [--evicted-notes] [--holes] [--no-strace]
+    ./prove && python3 checks/search_schedules.py [--no-strace]
 
 It takes a minute on four processors, and ends after two, unless the machine is slow: a search that is cut off says up to
-how many steps it took all schedules. Without strace (Debian's package), or with --no-strace, the calls are not compared, and a line says so. The other words let happen what
-`docs/DISK.md` assumes not to: a note that is never written, and later reads as it was before; and pages that are kept
-behind ones that are lost. The last line is 'N passed, M failed', and the status is 0 if M is 0.
+how many steps it took all schedules. Without strace (Debian's package), or with --no-strace, the calls are not compared,
+and a line says so. The last line is 'N passed, M failed', and the status is 0 if M is 0.
 """
 
 from __future__ import annotations
@@ -35,10 +34,10 @@ from pathlib import Path
 from typing import NamedTuple, Optional
 
 from lib.failing_system import (
-    DEVICE, FOLDER, NEXT, ON_DEVICE, STORE, UNSURE, Assumptions, Budget, Choices, Content, Failed, File, Handle, Kernel,
-    Killed, Names, Page, System, cut_off, evicted, images_of, tidied,
+    DEVICE, FOLDER, STORE, UNKNOWN, Assumptions, Budget, Choices, Content, Failed, File, Handle, Kernel, Killed, Names,
+    Note, Page, System, cut_off, evicted, images_of, tidied,
 )  # fmt: skip
-from lib.folder_protocol import SAFE, Appended, FolderDisk, Session, Store, meaning
+from lib.folder_protocol import SAFE, SETTLED, Appended, FolderDisk, Session, Store, meaning
 from lib.store_runs import PROGRAM, Failures, need_program
 
 SECONDS = 120
@@ -64,39 +63,39 @@ class SyncAgain(FolderDisk):
 
 
 class NotedBeforeSync(FolderDisk):
-    """`-` is noted before what was appended is synced."""
+    """It is noted that the device has all bytes before what was appended is synced."""
 
     def fsync(self, handle: Handle, name: str) -> None:
         if name == STORE:
-            self.have_noted(ON_DEVICE)
+            self.write_note(Note(True, self.several))
         super().fsync(handle, name)
 
 
 class NotedAtEachEnd(FolderDisk):
-    """`-` is noted at the end of each run."""
+    """The same is noted at the end of each run."""
 
     def release(self) -> None:
-        self.store, self.are_names_safe = Appended(None, SAFE), True
+        self.store, self.names = Appended(None, SAFE), SETTLED
         super().release()
 
 
 class NotedBeforeCopy(FolderDisk):
-    """`-` is noted before the copy is made."""
+    """The same is noted before the copy is made."""
 
-    def put_copy(self, contents: Sequence[Content]) -> None:
-        self.have_noted(ON_DEVICE)
-        super().put_copy(contents)
+    def put_copy(self) -> None:
+        self.write_note(Note(True, self.several))
+        super().put_copy()
 
 
 class NoNote(FolderDisk):
-    """`!` is not noted before an append."""
+    """Nothing is noted before an append."""
 
     def note_append(self) -> None:
         pass
 
 
 class NotedAfterAppend(FolderDisk):
-    """`!` is noted after an append."""
+    """It is noted after an append that bytes may be in memory alone."""
 
     def note_append(self) -> None:
         pass
@@ -104,7 +103,29 @@ class NotedAfterAppend(FolderDisk):
     def append(self, name: str, contents: Sequence[Content]) -> None:
         super().append(name, contents)
         if name == STORE:
-            self.have_noted(UNSURE)
+            super().note_append()
+
+
+class SeveralNotNoted(FolderDisk):
+    """Nothing more is noted before a second append."""
+
+    def note_append(self) -> None:
+        self.have_noted(self.several)
+
+
+class SeveralNotSynced(FolderDisk):
+    """The note that several appends wait is not synced."""
+
+    def sync_note(self) -> None:
+        pass
+
+
+class SeveralForgotten(FolderDisk):
+    """A file that replaces one loses its note before the folder is synced."""
+
+    def rename_next(self) -> None:
+        super().rename_next()
+        self.have_noted(False)
 
 
 class NoFolderSync(FolderDisk):
@@ -117,16 +138,14 @@ class NoFolderSync(FolderDisk):
 class CopyWithoutFolderSync(FolderDisk):
     """The copy is renamed, and the folder is not synced."""
 
-    def put_copy(self, contents: Sequence[Content]) -> None:
-        self.remove_next()
-        self.create_next()
-        self.append(NEXT, contents)
-        self.sync(NEXT)
-        self.rename_next()
+    def put_copy(self) -> None:
+        handle = self.make_copy()
+        self.kernel.place_copy()
+        self.store = Appended(handle, SAFE)
 
 
 class RenameNotNoted(FolderDisk):
-    """`!` is not noted before a rename."""
+    """Nothing is noted before a rename."""
 
     def note_rename(self) -> None:
         pass
@@ -135,26 +154,27 @@ class RenameNotNoted(FolderDisk):
 class CopyNotSynced(FolderDisk):
     """The copy is renamed before it is synced."""
 
-    def put_copy(self, contents: Sequence[Content]) -> None:
-        self.remove_next()
-        self.create_next()
-        self.append(NEXT, contents)
-        self.rename_next()
-        self.sync_folder()
-        self.store = Appended(self.store.handle, SAFE)
+    def make_copy(self) -> Handle:
+        if self.kernel.copy is not None:
+            self.kernel.unlink_copy()
+        handle = self.kernel.create_copy()
+        self.kernel.open(STORE)
+        self.kernel.write(handle, STORE, self.kernel.read(STORE))
+        return handle
 
 
 class NoCopy(FolderDisk):
     """Instead of a copy the file is synced again."""
 
-    def put_copy(self, contents: Sequence[Content]) -> None:
-        self.sync(STORE)
-        self.store = Appended(self.store.handle, SAFE)
+    def put_copy(self) -> None:
+        handle = self.kernel.open(STORE)
+        self.kernel.fsync(handle, STORE)
+        self.store = Appended(handle, SAFE)
 
 
 VARIANTS = [
-    NoSync, SyncAgain, NotedBeforeSync, NotedAtEachEnd, NotedBeforeCopy, NoNote, NotedAfterAppend, NoFolderSync,
-    RenameNotNoted, CopyWithoutFolderSync, CopyNotSynced, NoCopy,
+    NoSync, SyncAgain, NotedBeforeSync, NotedAtEachEnd, NotedBeforeCopy, NoNote, NotedAfterAppend, SeveralNotNoted,
+    SeveralNotSynced, SeveralForgotten, NoFolderSync, RenameNotNoted, CopyWithoutFolderSync, CopyNotSynced, NoCopy,
 ]  # fmt: skip
 
 
@@ -243,17 +263,19 @@ class World(NamedTuple):
         """How many pages a record has. With one, what is behind a hole would be no part of a record."""
         return 2 if self.assumptions.holes else 1
 
-    def trouble(self, contents: Optional[Sequence[Content]], acknowledged: tuple[int, ...]) -> str:
+    def trouble(self, contents: Optional[Sequence[Content]], several: bool, acknowledged: tuple[int, ...]) -> str:
         """What is wrong with a file, if anything is."""
-        said = meaning(contents, self.parts)
+        said = meaning(contents, self.parts, several)
         if said is None:
             return f"a file that opening refuses: {contents}"
         return "" if said[0][: len(acknowledged)] == acknowledged else f"{said[0]}, and {acknowledged} was acknowledged"
 
     def trouble_after_cut(self, node: Node) -> str:
+        noted = {(note or UNKNOWN).several for note in node.system.notes}
         for contents, _ in images_of(node.system, self.assumptions):
-            if found := self.trouble(contents, node.acknowledged):
-                return f"a power cut leaves {found}"
+            for several in noted:
+                if found := self.trouble(contents, several, node.acknowledged):
+                    return f"a power cut leaves {found}"
         return ""
 
     def take(self, node: Node, step: str, choices: Choices) -> tuple[Node, str]:
@@ -264,7 +286,7 @@ class World(NamedTuple):
             disk = self.protocol(kernel, node.run and node.run.disk)
             store = Store(disk, node.run or Session(disk.state(), node.acknowledged), self.parts)
             if step == "run":
-                found = self.trouble(store.open(), node.acknowledged)
+                found = self.trouble(store.open(), disk.several_waited(), node.acknowledged)
             elif step == "end":
                 disk.release()
             elif step != "drop":
@@ -311,7 +333,8 @@ def first_node(bounds: Bounds) -> Node:
         system = System((), (Names(),), None, frozenset([None]), bounds.budget)
     else:
         store = File((Page((), DEVICE),))
-        system = System((store,), (Names(0),), ON_DEVICE, frozenset([ON_DEVICE]), bounds.budget)
+        note = Note(True, False)
+        system = System((store,), (Names(0),), note, frozenset([note]), bounds.budget)
     return Node(system, None, (), 0)
 
 
@@ -425,10 +448,12 @@ def calls_of_program(top: Path, run: Traced) -> list[str]:
             call = "create" if "O_CREAT" in more else "open"
         elif call == "pwrite64":
             call += " " + more.split('"')[1]
+        elif call == "ftruncate":
+            call += " " + more.split(")")[0].strip(", ")
         calls.append(f"{call} {FOLDER if file == f'{top}/store' else os.path.basename(path or file)}")
     first = next((at for at, call in enumerate(calls) if call.startswith("pread64")), 0)
     pairs = zip(calls[first:], ["", *calls[first:]])
-    return [call for call, last in pairs if call != last or not call.startswith("read ")]
+    return [call for call, last in pairs if call != last or not call.startswith("pread64 store.yaml")]
 
 
 def calls_of_model(system: System, run: Traced) -> tuple[list[str], System]:
@@ -469,19 +494,18 @@ def compare_calls(failures: Failures) -> None:
 
 def main() -> int:
     parser = argparse.ArgumentParser()
-    for name in (*Assumptions._fields, "no_strace"):
-        parser.add_argument("--" + name.replace("_", "-"), action="store_true")
-    given = vars(parser.parse_args())
+    parser.add_argument("--no-strace", action="store_true")
+    given = parser.parse_args()
     until = time.monotonic() + SECONDS
     failures = Failures()
-    if given.pop("no_strace") or shutil.which("strace") is None:
+    if given.no_strace or shutil.which("strace") is None:
         print("  not tried: whether the calls of the model are those of the program, which needs strace")
     else:
         need_program()
         compare_calls(failures)
         print(f"  {failures.tried} runs of the program beside the model")
     with ProcessPoolExecutor(os.cpu_count()) as workers:
-        world = World(FolderDisk, Assumptions(**given))
+        world = World(FolderDisk, Assumptions())
         of_variants = until + SLOWNESS
         tries = [workers.submit(search, OF_VARIANTS, World(each, Assumptions()), of_variants) for each in VARIANTS]
         searches = [workers.submit(search, bounds, world, until) for bounds in SEARCHES]

@@ -501,8 +501,8 @@ def damage_is_named_or_harmless(top: str, failures: Failures) -> None:
 
 
 def a_command_is_synced_before_its_answer(top: str, failures: Failures) -> None:
-    """A run notes in `store.lock` that bytes may be in memory alone, appends, syncs, answers, and in the end notes that
-    the device has them."""
+    """A run notes by the length of `store.lock` that bytes may be in memory alone, appends, syncs, answers, and in the
+    end notes that the device has them."""
     if not shutil.which("strace"):
         print("  strace is not installed: the order of the system's calls was not looked at")
         return
@@ -510,17 +510,16 @@ def a_command_is_synced_before_its_answer(top: str, failures: Failures) -> None:
     os.mkdir(folder)
     session(folder, b"")
     trace = os.path.join(top, "trace")
-    calls = "write,pwrite64,writev,fsync,fdatasync"
+    calls = "write,writev,ftruncate,fsync,fdatasync"
     subprocess.run(
         ["strace", "-f", "-e", f"trace={calls}", "-o", trace, PROGRAM, "run", folder],
         input=b"import: a\ntext: x\n...\n", stdout=subprocess.DEVNULL, check=True,
     )
     with open(trace, encoding="utf-8", errors="replace") as source:
-        made = re.findall(r"(\w+)\((\d+)(?:, \"(---\\n(?:at|ok)|[!-]\"))?", source.read())
-    marks = [(name, what) for name, _, what in made if "sync" in name or what]
-    order = ["sync" if "sync" in name else what.strip('-\\n"') or what[0] for name, what in marks]
-    end = order[order.index("!"):] if "!" in order else order
-    failures.expect("the calls of a command", end, ["!", "at", "sync", "ok", "-"])
+        made = re.findall(r"(\w+)\(\d+(?:, (?:\"---\\n(at|ok)|(\d)\)))?", source.read())
+    order = ["sync" if "sync" in name else what or length for name, what, length in made if "sync" in name or what or length]
+    end = order[order.index("2"):] if "2" in order else order
+    failures.expect("the calls of a command", end, ["2", "at", "sync", "ok", "1"])
 
 
 def a_staged_file_is_narrow_before_it_is_written(top: str, failures: Failures) -> None:

@@ -12,10 +12,21 @@ from collections.abc import Callable, Iterator, Sequence
 from itertools import combinations
 from typing import NamedTuple, Optional, Union
 
-STORE, NEXT, LOCK, FOLDER = "store.yaml", "next.yaml", "store.lock", "."
+STORE, NEXT, COPY, LOCK, FOLDER = "store.yaml", "next.yaml", "copy.yaml", "store.lock", "."
 DEVICE, DIRTY, MEMORY = "device", "dirty", "memory"
-# What is noted in `store.lock`.
-ON_DEVICE, UNSURE = "-", "!"
+
+
+class Note(NamedTuple):
+    """What is noted in `store.lock`: whether the device has all bytes of `store.yaml`, and whether several appends may
+    have waited for one sync."""
+
+    on_device: bool
+    several: bool
+
+
+# What stands where nothing is noted, and how long each note is.
+UNKNOWN = Note(False, True)
+LENGTHS = {Note(True, False): 1, Note(False, False): 2, Note(False, True): 3, Note(True, True): 4}
 
 # What a page says: a base with its records; the record of a number, or the closing part of one, which is ~number; or
 # zeros.
@@ -51,22 +62,22 @@ class Budget(NamedTuple):
 
 
 class Assumptions(NamedTuple):
-    """What may happen beside what `docs/DISK.md` assumes of a system."""
+    """Whether a power cut may keep pages that stand behind ones that it loses."""
 
-    evicted_notes: bool = False
-    holes: bool = False
+    holes: bool = True
 
 
 class System(NamedTuple):
-    """Files, stages of names, what `store.lock` reads as and what a power cut may leave of it, and whether a sync of
-    the folder failed after which none helps."""
+    """Files, stages of names, what `store.lock` says, if it is a note, and what a power cut may leave of it, whether a
+    sync of the folder failed after which none helps, and the copy of `store.yaml`, if there is one."""
 
     files: tuple[File, ...]
     stages: tuple[Names, ...]
-    note: Optional[str]
-    notes: frozenset[Optional[str]]
+    note: Optional[Note]
+    notes: frozenset[Optional[Note]]
     budget: Budget
     is_folder_lost: bool = False
+    copy: Optional[int] = None
 
 
 class Killed(Exception):
@@ -120,12 +131,14 @@ class Kernel:
         self.choices, self.assumptions = choices, assumptions
         self.files, self.stages = list(system.files), list(system.stages)
         self.note, self.notes, self.is_folder_lost = system.note, system.notes, system.is_folder_lost
+        self.copy = system.copy
         self.failures, self.kills, self.cuts = system.budget
         self.calls: list[str] = []
 
     def system(self) -> System:
         budget = Budget(self.failures, self.kills, self.cuts)
-        return System(tuple(self.files), tuple(self.stages), self.note, self.notes, budget, self.is_folder_lost)
+        files, stages = tuple(self.files), tuple(self.stages)
+        return System(files, stages, self.note, self.notes, budget, self.is_folder_lost, self.copy)
 
     @property
     def now(self) -> Names:
@@ -230,12 +243,43 @@ class Kernel:
             raise Failed
 
     def read(self, name: str) -> tuple[Content, ...]:
-        self.open(name)
-        self.begin("read", name)
-        self.must()
+        """What a file reads as that was opened."""
         file = self.file_of(name)
         assert file is not None
-        return tuple(page.content for page in self.files[file].pages)
+        contents = tuple(page.content for page in self.files[file].pages)
+        if contents:
+            self.begin("pread64", name)
+            self.must()
+        return contents
+
+    def create_copy(self) -> Handle:
+        self.begin("create", COPY)
+        if self.copy is not None:
+            raise Failed
+        ending = self.end(["done", "failed", "failed when done"])
+        if ending != "failed":
+            self.files.append(File())
+            self.copy = len(self.files) - 1
+        if ending != "done":
+            raise Failed
+        return Handle(len(self.files) - 1, 0)
+
+    def place_copy(self) -> None:
+        self.begin("rename", COPY)
+        ending = self.end(["done", "failed", "failed when done"])
+        if ending != "failed":
+            self.add_stage(Names(self.copy, self.now.next))
+            self.copy = None
+        if ending != "done":
+            raise Failed
+
+    def unlink_copy(self) -> None:
+        self.begin("unlink", COPY)
+        ending = self.end(["done", "failed", "failed when done"])
+        if ending != "failed":
+            self.copy = None
+        if ending != "done":
+            raise Failed
 
     def rename_next(self) -> None:
         self.begin("rename", NEXT)
@@ -261,18 +305,30 @@ class Kernel:
             self.is_folder_lost = len(self.stages) > 1
             raise Failed
 
-    def read_note(self) -> Optional[str]:
+    def read_note(self) -> Optional[Note]:
         self.begin("pread64", LOCK)
         self.must()
         return self.note
 
-    def write_note(self, note: str) -> None:
-        self.begin(f"pwrite64 {note}", LOCK)
+    def write_note(self, note: Note, is_marked: bool) -> None:
+        """Cuts `store.lock` to the length of a note, and writes its byte if it is no note yet."""
+        self.begin(f"ftruncate {LENGTHS[note]}", LOCK)
+        self.put_note(note if is_marked else self.note)
+        if not is_marked:
+            self.begin("pwrite64 -", LOCK)
+            self.put_note(note)
+
+    def put_note(self, note: Optional[Note]) -> None:
         ending = self.end(["done", "failed", "failed when done"])
         if ending != "failed":
             self.note, self.notes = note, self.notes | {note}
         if ending != "done":
             raise Failed
+
+    def sync_note(self) -> None:
+        self.begin("fsync", LOCK)
+        self.must()
+        self.notes = frozenset([self.note])
 
 
 def is_dirty(file: File) -> bool:
@@ -301,7 +357,7 @@ def contents_left(pages: Sequence[Page], assumptions: Assumptions) -> Iterator[t
             yield seen(left[:length], assumptions)
 
 
-# What a power cut leaves under the two names.
+# What a power cut leaves under the two names, and whether it is noted that several appends may have waited.
 Image = tuple[Optional[tuple[Content, ...]], Optional[tuple[Content, ...]]]
 
 
@@ -335,7 +391,7 @@ def tidied(
     """The same with as few files, stages and counts as say it."""
     held = {handle.file: handle for handle in handles if handle}
     named = [file for names in reversed(system.stages) for file in names if file is not None]
-    kept = list(dict.fromkeys([*named, *held]))
+    kept = list(dict.fromkeys([*named, *held, *([] if system.copy is None else [system.copy])]))
     number = {file: at for at, file in enumerate(kept)}
     files: list[File] = []
     for pages, errors, is_told in (system.files[file] for file in kept):
@@ -343,7 +399,8 @@ def tidied(
         is_due = errors != held[at].errors if at in held else not is_told
         files.append(File(settled(pages, parts), int(is_due), is_told))
     stages = [Names(*(None if file is None else number[file] for file in names)) for names in reversed(system.stages)]
-    tidy = system._replace(files=tuple(files), stages=tuple(reversed(list(dict.fromkeys(stages)))))
+    copy = None if system.copy is None else number[system.copy]
+    tidy = system._replace(files=tuple(files), stages=tuple(reversed(list(dict.fromkeys(stages)))), copy=copy)
     return tidy, tuple(handle and Handle(number[handle.file], 0) for handle in handles)
 
 
@@ -365,7 +422,7 @@ def cut_off(system: System, assumptions: Assumptions) -> Iterator[System]:
 
 def evicted(system: System, assumptions: Assumptions) -> Iterator[System]:
     """What the next process may find once memory was short: of a file that no process has open, pages that are in
-    memory alone read as zeros, and its failures are forgotten; and the note may read as an older one."""
+    memory alone read as zeros, and its failures are forgotten."""
     for at, file in enumerate(system.files):
         if (file.errors and not file.is_told) or any(page.where == MEMORY for page in file.pages):
             left = seen([None if page.where == MEMORY else page.content for page in file.pages], assumptions)
@@ -373,6 +430,3 @@ def evicted(system: System, assumptions: Assumptions) -> Iterator[System]:
                 Page(None, DEVICE) if content is None else page for content, page in zip(left, file.pages)
             )
             yield system._replace(files=system.files[:at] + (File(pages),) + system.files[at + 1 :])
-    if assumptions.evicted_notes:
-        for note in system.notes - {system.note}:
-            yield system._replace(note=note)

@@ -1,4 +1,4 @@
-"""The protocol of `FolderDisk` (crates/conf_folder/src/disk.rt) over a model of the system, and the calls of a store.
+"""The protocol of `Run` (crates/conf_protocol) over a model of the system, and the calls of a store.
 
 Each method of `FolderDisk` makes the calls of the one of its name. `Store` makes those of `conf_journal` and
 `conf_store`. `checks/search_schedules.py` compares both with the program.
@@ -9,10 +9,13 @@ from __future__ import annotations
 from collections.abc import Sequence
 from typing import NamedTuple, Optional
 
-from .failing_system import NEXT, ON_DEVICE, STORE, UNSURE, Content, Failed, Handle, Kernel, NotFound
+from .failing_system import NEXT, STORE, COPY, UNKNOWN, Content, Failed, Handle, Kernel, Note
 
 # Where the bytes of a file are, as `Bytes` says.
 SAFE, PENDING, IN_DOUBT = "on the device", "pending", "unsure"
+
+# What is known of the names, as `Names` says.
+SETTLED, CHANGED, RENAMED, BROKEN = "settled", "changed", "renamed", "broken"
 
 
 class Appended(NamedTuple):
@@ -23,45 +26,72 @@ class Appended(NamedTuple):
 
 
 class DiskState(NamedTuple):
-    """What a disk knows. `is_replacing` says whether the `next.yaml` that this run made is to replace a file, and is None
-    if there is none that it made."""
+    """What a disk knows. `is_marked` says whether `store.lock` has the byte of a note."""
 
-    note: Optional[str]
+    note: Optional[Note]
+    is_marked: bool
+    several: bool
     store: Appended
     next: Appended
-    may_change: bool
-    is_replacing: Optional[bool]
-    are_names_safe: bool
+    names: str
 
 
 class FolderDisk:
     def __init__(self, kernel: Kernel, state: Optional[DiskState] = None) -> None:
         self.kernel = kernel
-        if state is None:
-            note = ON_DEVICE if kernel.read_note() == ON_DEVICE else UNSURE
-            where = SAFE if note == ON_DEVICE else IN_DOUBT
-            state = DiskState(note, Appended(None, where), Appended(None, SAFE), True, None, True)
-        self.note, self.store, self.next, self.may_change, self.is_replacing, self.are_names_safe = state
+        self.note, self.is_marked, self.several, self.store, self.next, self.names = state or self.opened()
 
     def state(self) -> DiskState:
-        return DiskState(self.note, self.store, self.next, self.may_change, self.is_replacing, self.are_names_safe)
+        return DiskState(self.note, self.is_marked, self.several, self.store, self.next, self.names)
+
+    def opened(self) -> DiskState:
+        """The disk of a folder in which an earlier run may have ended in any way."""
+        found = self.kernel.read_note()
+        note = found if found is not None and self.kernel.now.store is not None else UNKNOWN
+        closed = Appended(None, IN_DOUBT)
+        if note.on_device:
+            return DiskState(note, found is not None, note.several, Appended(None, SAFE), closed, CHANGED)
+        if note.several:
+            self.kernel.sync_note()
+        if self.kernel.now.store is not None and self.kernel.now.store == self.kernel.now.next:
+            self.kernel.unlink_next()
+        self.kernel.fsync_folder()
+        return DiskState(note, found is not None, note.several, closed, closed, SETTLED)
+
+    def several_waited(self) -> bool:
+        return self.several
 
     def need_change(self) -> None:
-        if not self.may_change:
+        if self.names == BROKEN:
             raise Failed
 
-    def have_noted(self, note: str) -> None:
+    def have_noted(self, several: bool) -> None:
+        note = Note(False, several)
         if self.note != note:
             self.note = None
-            self.need_change()
-            self.kernel.write_note(note)
+            self.write_note(note)
             self.note = note
 
-    def try_to_note(self, note: str) -> None:
-        try:
-            self.have_noted(note)
-        except Failed:
-            pass
+    def write_note(self, note: Note) -> None:
+        self.kernel.write_note(note, self.is_marked)
+        self.is_marked = True
+
+    def note_append(self) -> None:
+        is_next = self.store.where == PENDING and not self.several
+        self.have_noted(self.several or is_next)
+        if is_next:
+            self.sync_note()
+            self.several = True
+
+    def sync_note(self) -> None:
+        self.kernel.sync_note()
+
+    def note_doubt(self) -> None:
+        if self.names != RENAMED:
+            try:
+                self.have_noted(self.several)
+            except Failed:
+                pass
 
     def file(self, name: str) -> Appended:
         return self.store if name == STORE else self.next
@@ -79,72 +109,110 @@ class FolderDisk:
 
     def append(self, name: str, contents: Sequence[Content]) -> None:
         self.need_change()
-        handle = self.take_handle(name)
         if name == STORE:
+            if self.store.where == IN_DOUBT or self.names == RENAMED:
+                raise Failed
             self.note_append()
         where = self.file(name).where
-        self.put_file(name, Appended(None, PENDING if where == SAFE else where))
+        self.put_file(name, Appended(self.file(name).handle, IN_DOUBT))
+        handle = self.take_handle(name)
         self.kernel.write(handle, name, contents)
-        self.put_file(name, Appended(handle, self.file(name).where))
-
-    def note_append(self) -> None:
-        self.have_noted(UNSURE)
+        is_same = where == IN_DOUBT or not contents
+        self.put_file(name, Appended(handle, where if is_same else PENDING))
 
     def sync(self, name: str) -> None:
         self.need_change()
-        try:
-            handle = self.take_handle(name)
-        except NotFound:
+        if self.file(name).where == IN_DOUBT:
+            self.sync_in_doubt(name)
             return
         try:
+            handle = self.take_handle(name)
             self.fsync(handle, name)
         except Failed:
             self.put_file(name, Appended(None, IN_DOUBT))
             if name == STORE:
-                self.try_to_note(UNSURE)
+                self.note_doubt()
             raise
-        where = self.file(name).where
-        self.put_file(name, Appended(handle, SAFE if where == PENDING else where))
+        self.put_file(name, Appended(handle, SAFE))
 
     def fsync(self, handle: Handle, name: str) -> None:
         self.kernel.fsync(handle, name)
 
+    def sync_in_doubt(self, name: str) -> None:
+        if self.kernel.file_of(name) is None:
+            return
+        if name == NEXT or self.names != SETTLED:
+            raise Failed
+        self.have_noted(self.several)
+        self.names = BROKEN
+        self.put_copy()
+        self.names = SETTLED
+
+    def put_copy(self) -> None:
+        """Puts a copy that the device has whole in the place of `store.yaml`."""
+        try:
+            handle = self.make_copy()
+        except Failed:
+            self.try_to_remove_copy()
+            raise
+        self.kernel.place_copy()
+        self.store = Appended(handle, SAFE)
+        self.kernel.fsync_folder()
+
+    def make_copy(self) -> Handle:
+        if self.kernel.copy is not None:
+            self.kernel.unlink_copy()
+        handle = self.kernel.create_copy()
+        self.kernel.open(STORE)
+        if contents := self.kernel.read(STORE):
+            self.kernel.write(handle, COPY, contents)
+        self.kernel.fsync(handle, COPY)
+        return handle
+
+    def try_to_remove_copy(self) -> None:
+        try:
+            if self.kernel.copy is not None:
+                self.kernel.unlink_copy()
+        except Failed:
+            pass
+
+    def change_names(self) -> None:
+        if self.names == SETTLED:
+            self.names = CHANGED
+
     def create_next(self) -> None:
         self.need_change()
-        is_replacing = self.kernel.now.store is not None
-        handle = self.kernel.create_next()
-        self.is_replacing, self.next = is_replacing, Appended(handle, SAFE)
-
-    def rename_next(self) -> None:
-        self.need_change()
-        self.note_rename()
-        self.store = Appended(None, self.store.where)
-        staged, self.next = self.next, Appended(None, self.next.where)
-        self.are_names_safe = False
-        if self.is_replacing:
-            self.kernel.rename_next()
-        else:
-            self.kernel.link_next()
-            self.kernel.unlink_next()
-        self.is_replacing = None
-        self.store = staged
-
-    def note_rename(self) -> None:
-        self.have_noted(UNSURE)
+        self.next = Appended(None, IN_DOUBT)
+        self.change_names()
+        self.next = Appended(self.kernel.create_next(), SAFE)
 
     def remove_next(self) -> None:
         self.need_change()
-        self.next = Appended(None, self.next.where)
+        self.next = Appended(None, IN_DOUBT)
         if self.kernel.now.next is not None:
+            self.change_names()
             self.kernel.unlink_next()
-        self.is_replacing = None
 
-    def remove_unfinished(self) -> None:
-        if self.is_replacing is not None:
-            try:
-                self.kernel.unlink_next()
-            except Failed:
-                pass
+    def rename_next(self) -> None:
+        self.need_change()
+        if self.names == RENAMED:
+            raise Failed
+        self.note_rename()
+        is_replacing = self.kernel.now.store is not None
+        staged = self.next
+        self.store = self.next = Appended(None, IN_DOUBT)
+        if is_replacing:
+            self.names = RENAMED
+            self.kernel.rename_next()
+        else:
+            self.names = BROKEN
+            self.kernel.link_next()
+            self.kernel.unlink_next()
+            self.names = RENAMED
+        self.store, self.several = staged, False
+
+    def note_rename(self) -> None:
+        self.have_noted(self.several)
 
     def sync_folder(self) -> None:
         self.need_change()
@@ -152,38 +220,21 @@ class FolderDisk:
             self.kernel.fsync_folder()
         except Failed:
             self.store = Appended(self.store.handle, IN_DOUBT)
-            self.try_to_note(UNSURE)
+            self.note_doubt()
             raise
-        self.are_names_safe = True
-
-    def put_copy(self, contents: Sequence[Content]) -> None:
-        self.remove_next()
-        self.create_next()
-        self.append(NEXT, contents)
-        self.sync(NEXT)
-        self.rename_next()
-        self.sync_folder()
+        self.names = SETTLED
 
     def read(self, name: str) -> Optional[tuple[Content, ...]]:
-        try:
-            contents = self.kernel.read(name)
-        except NotFound:
+        if self.kernel.file_of(name) is None:
             return None
-        if name == STORE and self.store.where == IN_DOUBT and self.may_change:
-            try:
-                self.put_copy(contents)
-            except Failed:
-                self.remove_unfinished()
-                self.may_change = False
-                raise
-            self.try_to_note(ON_DEVICE)
-        return contents
+        self.kernel.open(name)
+        return self.kernel.read(name)
 
     def release(self) -> None:
-        is_on_device = self.store.where == SAFE and self.are_names_safe
-        if self.may_change and self.note != ON_DEVICE and is_on_device:
+        note = Note(True, self.several)
+        if self.store.where == SAFE and self.names in (SETTLED, CHANGED) and self.note != note:
             try:
-                self.kernel.write_note(ON_DEVICE)
+                self.write_note(note)
             except Failed:
                 pass
 
@@ -205,24 +256,36 @@ def pages_of(record: int, parts: int) -> tuple[int, ...]:
     return (record,) if parts == 1 else (record, ~record)
 
 
-def meaning(contents: Optional[Sequence[Content]], parts: int) -> Optional[tuple[tuple[int, ...], bool]]:
-    """The records that a file says, and whether it ends in a torn one. `None` if opening refuses it: a closed piece
-    that is no record is damage."""
+def meaning(
+    contents: Optional[Sequence[Content]], parts: int, several: bool
+) -> Optional[tuple[tuple[int, ...], bool]]:
+    """The records that a file says, and whether more stands behind them. `None` if opening refuses it: what is no record
+    and has no zeros is damage, and so is anything with a whole record behind it, unless several may have waited."""
     if contents is None:
         return (), True
     if not contents or not isinstance(contents[0], tuple):
         return None
     records, at = list(contents[0]), 1
-    while at < len(contents):
-        record = contents[at]
-        if not isinstance(record, int) or record < 0 or tuple(contents[at : at + parts]) != pages_of(record, parts):
-            break
-        records.append(record)
+    while is_record(contents, at, parts):
+        records.append(contents[at])
         at += parts
-    rest = [content for content in contents[at:] if content is not None]
-    if any(isinstance(content, tuple) or parts == 1 or content < 0 for content in rest):
+    rest = contents[at:]
+    is_damaged = any(isinstance(content, tuple) for content in rest) or (bool(rest) and starts_wrong(rest[0]))
+    if is_damaged or (not several and any(is_record(rest, place, parts) for place in range(len(rest)))):
         return None
-    return tuple(records), at < len(contents)
+    return tuple(records), bool(rest)
+
+
+def is_record(contents: Sequence[Content], at: int, parts: int) -> bool:
+    """Whether a whole record stands at a place."""
+    record = contents[at] if at < len(contents) else None
+    is_first = isinstance(record, int) and record >= 0
+    return is_first and tuple(contents[at : at + parts]) == pages_of(record, parts)
+
+
+def starts_wrong(content: Content) -> bool:
+    """Whether a piece with this first page is no record, and was none before zeros came into it."""
+    return isinstance(content, int) and content < 0
 
 
 class Store:
@@ -242,7 +305,7 @@ class Store:
         self.disk.sync_folder()
         self.disk.sync(STORE)
         contents = self.disk.read(STORE)
-        said = meaning(contents, self.parts)
+        said = meaning(contents, self.parts, self.disk.several_waited())
         if said is not None:
             self.acknowledged, self.is_torn = said
         return contents

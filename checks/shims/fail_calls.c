@@ -161,6 +161,16 @@ int fsync(int handle) {
     return (int)answer(turn, is_made(turn) ? REAL(fsync)(handle) : -1);
 }
 
+// A file gets another length, which is logged as the size. The C library has the call under two names.
+int ftruncate64(int handle, off64_t length) {
+    enum turn turn = next_turn("ftruncate", name_of(handle), (size_t)length);
+    return (int)answer(turn, is_made(turn) ? REAL(ftruncate64)(handle, length) : -1);
+}
+
+int ftruncate(int handle, off_t length) {
+    return ftruncate64(handle, length);
+}
+
 int fchmod(int handle, mode_t mode) {
     enum turn turn = next_turn("fchmod", name_of(handle), 0);
     return (int)answer(turn, is_made(turn) ? REAL(fchmod)(handle, mode) : -1);

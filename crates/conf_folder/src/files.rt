@@ -1,16 +1,16 @@
 // The files of a folder: their names and paths, and what a disk does with one of them.
 ghost use Rattle.std.specs.Prelude.{◌≡◌, ◌⊎◌, IfErr};
 
-use crate::known::KnownFile;
 use crate::{FolderError, FolderFault};
-use conf_disk::{Content, Name};
 use conf_files::{OWNER_ALONE, OpenFolder, Subject, look, take_after};
+use conf_protocol::Place;
+use conf_system::FileName;
 use std::alloc::{AllocError, Global};
 use std::fs::{File, Metadata, OpenOptions};
-use std::io::{ErrorKind, Read};
+use std::io;
+use std::io::ErrorKind;
 use std::os::unix::fs::OpenOptionsExt;
 use std::rt::Files;
-use std::{fs, io};
 
 /// The name of the file that a store is read from.
 const STORE_FILE: &str = "store.yaml";
@@ -27,11 +27,20 @@ const LOCK_FILE: &str = "store.lock";
 /// The file that runs lock, where a call on it fails.
 pub(crate) const LOCK: Subject = Subject::Named(LOCK_FILE);
 
-/// The file under a name, where a call on it fails.
-pub(crate) fn subject_of(name: Name) -> Subject {
-    match name {
-        Name::Store => STORE,
-        Name::Next => Subject::Named(NEXT_FILE),
+/// `next.yaml`, where a call on it fails.
+const NEXT: Subject = Subject::Named(NEXT_FILE);
+
+/// The name of the copy of `store.yaml` that takes its place after a failed sync.
+const COPY_FILE: &str = "copy.yaml";
+
+/// What a call of a disk failed on.
+pub(crate) fn subject_of(place: Place) -> Subject {
+    match place {
+        Place::File(FileName::Store) => STORE,
+        Place::File(FileName::Next) => NEXT,
+        Place::File(FileName::Copy) => Subject::Named(COPY_FILE),
+        Place::Lock => LOCK,
+        Place::Folder => Subject::Given,
     }
 }
 
@@ -39,8 +48,9 @@ pub(crate) fn subject_of(name: Name) -> Subject {
 #[derive(Drop)]
 pub(crate) struct Paths {
     pub(crate) lock: String,
-    pub(crate) store: String,
-    pub(crate) next: String,
+    store: String,
+    next: String,
+    copy: String,
 }
 
 impl Paths {
@@ -48,7 +58,22 @@ impl Paths {
         let lock = folder.path_of(alloc, LOCK_FILE)?;
         let store = store_path(alloc, folder)?;
         let next = folder.path_of(alloc, NEXT_FILE)?;
-        Ok(Paths { lock, store, next })
+        let copy = folder.path_of(alloc, COPY_FILE)?;
+        Ok(Paths {
+            lock,
+            store,
+            next,
+            copy,
+        })
+    }
+
+    /// The path of a file.
+    pub(crate) fn of(&self, name: FileName) -> &str {
+        match name {
+            FileName::Store => self.store.as_str(),
+            FileName::Next => self.next.as_str(),
+            FileName::Copy => self.copy.as_str(),
+        }
     }
 }
 
@@ -86,27 +111,8 @@ pub(crate) fn look_at_files<R: Files<File = File>>(
         (error.fault ≡ FolderFault.Device) ⊎ (error.fault ≡ FolderFault.OutOfMemory)) }
 {
     let store = STORE.blame(look(rt, paths.store.as_str()))?;
-    subject_of(Name::Next).blame(look(rt, paths.next.as_str()))?;
+    NEXT.blame(look(rt, paths.next.as_str()))?;
     Ok(store)
-}
-
-/// The bytes of a file, and what is known of it then; or `TooLong` if it has more than `max`.
-pub(crate) fn file_content(
-    alloc: Global,
-    file: File,
-    max: u64,
-) -> io::Result<(Content, Option<KnownFile>)> {
-    let found = file.metadata()?;
-    if found.len() > max {
-        return Ok((Content::TooLong, None));
-    }
-    let mut bytes = Vec::new(alloc);
-    file.take(max.saturating_add(1)).read_to_end(&mut bytes)?;
-    let length = bytes.len() as u64;
-    if length > max {
-        return Ok((Content::TooLong, None));
-    }
-    Ok((Content::Bytes(bytes), Some(KnownFile::new(&found, length))))
 }
 
 /// Makes an empty file under a path, for appending. If it is to take after a file, nobody but its owner has access
@@ -126,42 +132,7 @@ pub(crate) fn create_staged<R: Files<File = File>>(
     Ok(file)
 }
 
-/// What the new `next.yaml` is to do when it is renamed.
-#[derive(Clone, Copy, PartialEq, Eq)]
-pub(crate) enum Replacing {
-    /// It takes the place of the `store.yaml` that was there when it was made.
-    Store,
-    /// It takes a name that is free: no `store.yaml` was there.
-    Nothing,
-}
-
-/// Renames a file. It takes the place of the one that is there, or takes a name that is free.
-pub(crate) fn rename<R: Files<File = File>>(
-    rt: &R,
-    replacing: Replacing,
-    from: &str,
-    to: &str,
-) -> io::Result<()> {
-    match replacing {
-        Replacing::Store => fs::rename(rt, from, to),
-        Replacing::Nothing => take_free_name(rt, from, to),
-    }
-}
-
-/// Gives the file at a path another name, which has to be free, and removes the old one. A file system that has no hard
-/// links is only asked whether the name is free.
-fn take_free_name<R: Files<File = File>>(rt: &R, path: &str, free: &str) -> io::Result<()> {
-    match fs::hard_link(rt, path, free) {
-        Ok(()) => fs::remove_file(rt, path),
-        Err(error) if has_no_links(&error) => match look(rt, free)? {
-            Some(_) => { Err(io::Error::new(ErrorKind::AlreadyExists, "it is there after all")) }
-            None => fs::rename(rt, path, free),
-        },
-        Err(error) => Err(error),
-    }
-}
-
 /// Whether an error says that the file system has no hard links.
-fn has_no_links(error: &io::Error) -> bool {
+pub(crate) fn has_no_links(error: &io::Error) -> bool {
     error.kind() == ErrorKind::PermissionDenied || error.kind() == ErrorKind::Unsupported
 }

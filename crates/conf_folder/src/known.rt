@@ -22,9 +22,9 @@ impl KnownFile {
         }
     }
 
-    /// The file with more bytes at its end.
-    pub(crate) fn longer(self, bytes: &[u8]) -> Option<KnownFile> {
-        let length = self.length.checked_add(bytes.len() as u64)?;
+    /// The file with so many more bytes at its end.
+    pub(crate) fn longer(self, count: usize) -> Option<KnownFile> {
+        let length = self.length.checked_add(count as u64)?;
         Some(KnownFile { length, ..self })
     }
 

@@ -14,6 +14,7 @@
 mod disk;
 mod fault;
 mod files;
+mod host;
 mod known;
 mod lock;
 mod making;

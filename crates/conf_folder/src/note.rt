@@ -1,48 +1,72 @@
-// The note in `store.lock` on whether the device has the bytes of `store.yaml`.
+// The note in `store.lock` on the bytes of `store.yaml`.
+use conf_system::Note;
 use std::fs::File;
 use std::io;
 use std::io::ErrorKind;
 use std::os::unix::fs::FileExt;
 
-/// What a run notes of the bytes of `store.yaml`. It is one byte at the start of `store.lock`, and need not be synced:
-/// a crash of the machine, which may lose it, also takes away what was in memory alone.
-#[derive(Clone, Copy, PartialEq, Eq)]
-pub(crate) enum Note {
-    /// `-`: the device has them.
-    OnDevice,
-    /// `!`: some may be in memory alone, or not under their name, since a run appended or renamed, or a sync failed. So
-    /// it is where nothing is noted.
-    Unsure,
+/// The first byte of a note. What it says is in the length of the file, since that is in no page that memory could
+/// lose.
+const MARK: u8 = b'-';
+
+/// How many bytes are read to tell a note from others.
+const MOST: usize = 5;
+
+/// What stands where no run of this version has noted anything: the worst.
+const UNKNOWN: Note = Note {
+    on_device: false,
+    several: true,
+};
+
+/// What was found in a `store.lock`.
+#[derive(Clone, Copy)]
+pub(crate) struct Found {
+    pub(crate) note: Note,
+    /// Whether its first byte is that of a note.
+    pub(crate) is_marked: bool,
 }
 
-impl Note {
-    /// What is noted in an open `store.lock`. More than one byte is no note, and is cut off.
-    ///
-    /// # Errors
-    /// If the system refuses to read or to cut.
-    pub(crate) fn read(lock: &File) -> io::Result<Note> {
-        let mut bytes = [0_u8; 2];
-        match lock.read_at(&mut bytes, 0)? {
-            1 if bytes[0] == b'-' => return Ok(Note::OnDevice),
-            0 | 1 => {}
-            _ => lock.set_len(0)?,
-        }
-        Ok(Note::Unsure)
-    }
+/// What is noted in an open `store.lock`.
+///
+/// # Errors
+/// If the system refuses to read.
+pub(crate) fn read_note(lock: &File) -> io::Result<Found> {
+    let mut bytes = [0_u8; MOST];
+    let length = lock.read_at(&mut bytes, 0)?;
+    let is_marked = length > 0 && bytes[0] == MARK;
+    let note = if is_marked { note_of(length) } else { UNKNOWN };
+    Ok(Found { note, is_marked })
+}
 
-    /// Notes this in an open `store.lock`.
-    ///
-    /// # Errors
-    /// If the system refuses to write.
-    pub(crate) fn write(self, lock: &File) -> io::Result<()> {
-        let byte = match self {
-            Note::OnDevice => b"-",
-            Note::Unsure => b"!",
-        };
-        match lock.write_at(byte, 0) {
-            Ok(1) => Ok(()),
-            Ok(_) => Err(io::Error::new(ErrorKind::WriteZero, "nothing was written")),
-            Err(error) => Err(error),
-        }
+/// What a note of this length says.
+fn note_of(length: usize) -> Note {
+    let (on_device, several) = match length {
+        1 => (true, false),
+        2 => (false, false),
+        4 => (true, true),
+        _ => return UNKNOWN,
+    };
+    Note { on_device, several }
+}
+
+/// How long the note is that says this.
+pub(crate) fn note_length(note: Note) -> u64 {
+    match (note.on_device, note.several) {
+        (true, false) => 1,
+        (false, false) => 2,
+        (false, true) => 3,
+        (true, true) => 4,
+    }
+}
+
+/// Writes the first byte of a note into an open `store.lock`.
+///
+/// # Errors
+/// If the system refuses.
+pub(crate) fn mark(lock: &File) -> io::Result<()> {
+    match lock.write_at(&[MARK], 0) {
+        Ok(1) => Ok(()),
+        Ok(_) => Err(io::Error::new(ErrorKind::WriteZero, "nothing was written")),
+        Err(error) => Err(error),
     }
 }

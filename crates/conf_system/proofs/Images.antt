@@ -1,7 +1,7 @@
 -- What a crash leaves of a machine, before and after a call.
 use Rattle.std.proofs.Common.{◌≡◌, inl, inr, ℕ, zero, suc, List, [], ◌∷◌, get_or, set, take}
 use Rattle.std.specs.Prelude.{option_map}
-use Rattle.std.proofs.Common.{◌⊎◌, Option, Some, None, refl, ap, subst, arith}
+use Rattle.std.proofs.Common.{◌⊎◌, Option, Some, None, Bool, refl, ap, subst, arith}
 use Rattle.std.proofs.lemmas.List.{set-get_or}
 use Rattle.std.proofs.lemmas.List.Elements.{Contains-append_right}
 use Rattle.conf_disk.specs.Image.{Image}
@@ -9,7 +9,7 @@ use Rattle.conf_system.specs.declared.system.FileName.{FileName}
 use Rattle.conf_system.specs.declared.system.FileName.TheVariants.{Store, Next, Copy}
 use Rattle.conf_system.specs.Machine.{Version, Held, Machine, empty_held, version_bytes, version_at, with_now, with_file}
 use Rattle.conf_system.specs.Machine.{with_version, with_pending, synced, failed_sync, Call, Write, Sync}
-use Rattle.conf_system.specs.Machine.{SyncFolder, after, failing}
+use Rattle.conf_system.specs.Machine.{SyncFolder, WriteRest, after, failing, apart, noted_by_write}
 use Rattle.conf_system.specs.Crash.{IsLeftAt, CrashLeaves, image_now}
 use Rattle.conf_system.proofs.Torn.{TearsInto, TearsInto-appended_first, TearsInto-synced, TearsInto-failed, LeftInto-now}
 use Rattle.conf_system.proofs.Torn.{set-into, IsTorn-whole}
@@ -23,6 +23,19 @@ IsLeftAt-into less more None (Some bytes) into left = absurd left
 IsLeftAt-into less more (Some id) None into left = absurd left
 IsLeftAt-into less more (Some id) (Some bytes) into left = into id bytes left
 
+-- what is left of a machine that is the same but for what a crash leaves nothing of
+again : {m : Machine} {image : Image} {copy : Option Version} {noted : Option ℕ → Bool} → CrashLeaves m image
+    → CrashLeaves (record m { copy = copy; noted = noted }) image
+again left = record {
+  stage = left.stage;
+  among = left.among;
+  store = left.store;
+  next = left.next;
+  note = left.note;
+  noted = left.noted;
+  several = left.several;
+}
+
 with_file-into : (m : Machine) (place : Option ℕ) (image : Image) (less more : Version → Version)
     → ((version : Version) → TearsInto (less version) (more version))
     → CrashLeaves (with_file m place (with_now less)) image → CrashLeaves (with_file m place (with_now more)) image
@@ -31,7 +44,10 @@ with_file-into m (Some id) image less more into left = record {
   stage = left.stage;
   among = left.among;
   store = IsLeftAt-into (set m.files id old) (set m.files id new) left.stage.store image.store each left.store;
-  next = IsLeftAt-into (set m.files id old) (set m.files id new) left.stage.next image.next each left.next;
+  next = IsLeftAt-into (set m.files id old) (set m.files id new) (apart left.stage.store left.stage.next) image.next each left.next;
+  note = left.note;
+  noted = left.noted;
+  several = left.several;
 }
   where
     old : Held
@@ -50,7 +66,8 @@ with_version-into : (m : Machine) (name : FileName) (image : Image) (less more :
 with_version-into m Store image less more into left = with_file-into m m.now.store image less more into left
 with_version-into m Next image less more into left = with_file-into m m.now.next image less more into left
 with_version-into m Copy image less more into left =
-    record { stage = left.stage; among = left.among; store = left.store; next = left.next }
+    again {m = m} {image = image} {copy = option_map more m.copy} {noted = m.noted}
+    (again {m = with_version m Copy less} {image = image} {copy = m.copy} {noted = m.noted} left)
 
 with_file-same : (m : Machine) (place : Option ℕ) → with_file m place (with_now (λ version. version)) ≡ m
 with_file-same m None = refl
@@ -67,7 +84,7 @@ with_version-less m Next image change into left =
     subst (λ (x : Machine). CrashLeaves x image) (with_file-same m m.now.next)
     (with_file-into m m.now.next image change (λ version. version) into left)
 with_version-less m Copy image change into left =
-    record { stage = left.stage; among = left.among; store = left.store; next = left.next }
+    again {m = with_version m Copy change} {image = image} {copy = m.copy} {noted = m.noted} left
 
 pub syncs-less : (name : FileName) (m : Machine) (image : Image) → CrashLeaves (after (Sync name) m) image → CrashLeaves m image
 syncs-less name m image left = with_version-less m name image synced TearsInto-synced left
@@ -75,6 +92,12 @@ syncs-less name m image left = with_version-less m name image synced TearsInto-s
 pub calls-no_other : (k : ℕ) (call : Call) (m : Machine) (image : Image) → CrashLeaves (failing k call m) image
     → CrashLeaves m image ⊎ CrashLeaves (after call m) image
 calls-no_other k (Write name bytes) m image left =
+    let less = with_version m name (with_pending (take k bytes)) in
+    let more = with_version m name (with_pending bytes) in
+    inr (again {m = more} {image = image} {copy = more.copy} {noted = noted_by_write name bytes m}
+    (with_version-into m name image (with_pending (take k bytes)) (with_pending bytes) (TearsInto-appended_first k bytes)
+    (again {m = after (Write name (take k bytes)) m} {image = image} {copy = less.copy} {noted = less.noted} left)))
+calls-no_other k (WriteRest name bytes) m image left =
     inr (with_version-into m name image (with_pending (take k bytes)) (with_pending bytes) (TearsInto-appended_first k bytes) left)
 calls-no_other k (Sync name) m image left = inl (with_version-less m name image failed_sync TearsInto-failed left)
 calls-no_other k SyncFolder m image left = inl left
@@ -95,5 +118,8 @@ reading-left m = record {
   stage = m.now;
   among = Contains-append_right m.earlier (m.now ∷ []) m.now (0, omega arith, refl);
   store = IsLeftAt-now m.files m.now.store;
-  next = IsLeftAt-now m.files m.now.next;
+  next = IsLeftAt-now m.files (apart m.now.store m.now.next);
+  note = m.note;
+  noted = Contains-append_right m.notes (m.note ∷ []) m.note (0, omega arith, refl);
+  several = refl;
 }

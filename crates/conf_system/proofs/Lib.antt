@@ -1,5 +1,6 @@
 pub mod Torn
 pub mod Images
 pub mod Stops
-pub mod Sound
 pub mod Steps
+pub mod Sound
+pub mod Crashes

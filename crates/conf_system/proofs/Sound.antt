@@ -8,13 +8,14 @@ use Rattle.std.proofs.lemmas.List.{append-nil, length-map, length-set, get_or_pa
 use Rattle.std.proofs.lemmas.List.Elements.{All-contains, All-push, All-nil, All-weaker, All-set, All-get_or, All-map}
 use Rattle.std.proofs.lemmas.List.Elements.{Contains-append_right}
 use Rattle.conf_disk.specs.Folder.{Stage}
-use Rattle.conf_disk.specs.Image.{IsMade}
+use Rattle.conf_disk.specs.Image.{IsMade, IsApartFrom}
 use Rattle.conf_system.specs.declared.system.FileName.{FileName}
 use Rattle.conf_system.specs.declared.system.FileName.TheVariants.{Store, Next, Copy}
 use Rattle.conf_system.specs.Machine.{Version, Held, Machine, empty_held, version_bytes, version_at, stages, with_now, with_file}
 use Rattle.conf_system.specs.Machine.{with_version, with_pending, synced, failed_sync, replaced, settled, Call, CreateNext, CreateCopy}
 use Rattle.conf_system.specs.Machine.{Write, Sync, RenameNext, LinkNext, UnlinkNext, PlaceCopy, UnlinkCopy, SyncFolder, WriteNote}
-use Rattle.conf_system.specs.Machine.{MayBeCalled, after, failing}
+use Rattle.conf_system.specs.Machine.{MayBeCalled, after, failing, SyncNote, WriteRest, apart}
+use Rattle.conf_system.proofs.Steps.{apart-same, apart-none, apart-itself, made-other}
 use Rattle.conf_system.specs.Crash.{IsFront, IsSound}
 
 -- the names of a stage lead to files of so many
@@ -51,6 +52,7 @@ set-sound m id change fronts sound = record {
   stages = stages-more (length m.files) (length (set m.files id (change (get_or m.files id empty_held)))) (stages m)
       (omega (arith, length-set m.files id (change (get_or m.files id empty_held)))) sound.stages;
   fronts = All-set HasFronts m.files id (change (get_or m.files id empty_held)) fronts sound.fronts;
+  staged = sound.staged;
 }
 
 -- what has a front of a version's bytes has one of them after a change
@@ -71,7 +73,7 @@ with_version-sound : (m : Machine) (name : FileName) (change : Version → Versi
     → IsSound (with_version m name change)
 with_version-sound m Store change keeps sound = with_file-sound m m.now.store change keeps sound
 with_version-sound m Next change keeps sound = with_file-sound m m.now.next change keeps sound
-with_version-sound m Copy change keeps sound = record { stages = sound.stages; fronts = sound.fronts }
+with_version-sound m Copy change keeps sound = record { stages = sound.stages; fronts = sound.fronts; staged = sound.staged }
 
 pending-keeps : (bytes : List ℕ) → KeepsFronts (with_pending bytes)
 pending-keeps bytes version front is =
@@ -110,55 +112,86 @@ place-sound m (Some id) (Some version) same sound =
     set-sound m id (replaced (Some version))
     (replaced-fronts version (get_or m.files id empty_held) equal (fronts-at m.files id sound.fronts)) sound
 
--- with a new stage
-staged-sound : (m : Machine) (stage : Stage) → IsNamed (length m.files) stage → IsSound m
+-- where no file is staged, none was the store
+all-apart : (m : Machine) (staged : Option ℕ) (xs : List Stage) → staged ≡ None → All (IsNamed (length m.files)) xs
+    → All (λ stage. IsApartFrom staged stage.store) xs
+all-apart m None xs none named = All-weaker (IsNamed (length m.files)) (λ stage. IsApartFrom None stage.store) (λ stage is. tt) xs named
+all-apart m (Some id) xs none named = cc
+
+-- with a new stage, in which no file is staged
+staged-sound : (m : Machine) (stage : Stage) → IsNamed (length m.files) stage → apart stage.store stage.next ≡ None → IsSound m
     → IsSound (record m { earlier = stages m; now = stage })
-staged-sound m stage named sound = record {
-  stages = All-push (IsNamed (length m.files)) (stages m) stage sound.stages named;
-  fronts = sound.fronts;
-}
+staged-sound m stage named none sound =
+    let all = All-push (IsNamed (length m.files)) (stages m) stage sound.stages named in
+    record { stages = all; fronts = sound.fronts; staged = all-apart m (apart stage.store stage.next) (stages m ++ stage ∷ []) none all }
+
+made-apart : (n : ℕ) (store : Option ℕ) → IsMade n store → IsApartFrom (Some n) store
+made-apart n None is = λ same. cc
+made-apart n (Some id) is = λ same. absurd (let equal : id ≡ n = cc in omega (arith, is, equal))
 
 created-sound : (m : Machine) → IsSound m → IsSound (after CreateNext m)
 created-sound m sound =
     let n = length m.files in
     let more = length (m.files ++ empty_held ∷ []) in
     let longer : more ≡ n + 1 = length-append m.files (empty_held ∷ []) in
+    let now : Stage = record { store = m.now.store; next = Some n } in
+    let named = now-named m sound in
+    let other = apart-same m.now.store (Some n) (made-other n m.now.store named.0) in
     record {
-      stages = All-push (IsNamed more) (stages m) (record { store = m.now.store; next = Some n })
+      stages = All-push (IsNamed more) (stages m) now
           (stages-more n more (stages m) (omega (arith, longer)) sound.stages)
-          (made-more n more m.now.store (omega (arith, longer)) (now-named m sound).0, omega (arith, longer));
+          (made-more n more m.now.store (omega (arith, longer)) named.0, omega (arith, longer));
       fronts = All-push HasFronts m.files empty_held sound.fronts (All-nil (IsFront []));
+      staged = subst (λ (staged : Option ℕ). All (λ stage. IsApartFrom staged stage.store) (stages m ++ now ∷ [])) (sym other)
+          (All-push (λ stage. IsApartFrom (Some n) stage.store) (stages m) now
+          (All-weaker (IsNamed n) (λ stage. IsApartFrom (Some n) stage.store) (λ stage is. made-apart n stage.store is.0) (stages m)
+          sound.stages) (made-apart n m.now.store named.0));
     }
 
 settled-sound : (m : Machine) → IsSound m → IsSound (after SyncFolder m)
 settled-sound m sound =
     let same : length (map settled m.files) ≡ length m.files = length-map m.files settled in
+    let staged = apart m.now.store m.now.next in
     record {
       stages = All-push (IsNamed (length (map settled m.files))) [] m.now (All-nil (IsNamed (length (map settled m.files))))
           (subst (λ (n : ℕ). IsNamed n m.now) (sym same) (now-named m sound));
       fronts = All-map HasFronts settled m.files
           (All-weaker HasFronts (λ file. HasFronts (settled file)) (λ file is. All-nil (IsFront (version_bytes file.now))) m.files
           sound.fronts);
+      staged = All-push (λ stage. IsApartFrom staged stage.store) [] m.now (All-nil (λ stage. IsApartFrom staged stage.store))
+          (All-contains (λ stage. IsApartFrom staged stage.store) (stages m) m.now sound.staged
+          (Contains-append_right m.earlier (m.now ∷ []) m.now (0, omega arith, refl)));
     }
 
 pub call-sound : (call : Call) (m : Machine) → IsSound m → MayBeCalled call m → IsSound (after call m)
 call-sound CreateNext m sound may = created-sound m sound
-call-sound CreateCopy m sound may = record { stages = sound.stages; fronts = sound.fronts }
-call-sound (Write name bytes) m sound may = with_version-sound m name (with_pending bytes) (pending-keeps bytes) sound
+call-sound CreateCopy m sound may = record { stages = sound.stages; fronts = sound.fronts; staged = sound.staged }
+call-sound (Write name bytes) m sound may =
+    let written = with_version-sound m name (with_pending bytes) (pending-keeps bytes) sound in
+    record { stages = written.stages; fronts = written.fronts; staged = written.staged }
+call-sound (WriteRest name bytes) m sound may = with_version-sound m name (with_pending bytes) (pending-keeps bytes) sound
 call-sound (Sync name) m sound may = with_version-sound m name synced synced-keeps sound
-call-sound RenameNext m sound may = staged-sound m (record { store = m.now.next; next = None }) ((now-named m sound).1, tt) sound
+call-sound RenameNext m sound may =
+    let renamed =
+    staged-sound m (record { store = m.now.next; next = None }) ((now-named m sound).1, tt) (apart-none m.now.next) sound in
+    record { stages = renamed.stages; fronts = renamed.fronts; staged = renamed.staged }
 call-sound LinkNext m sound may =
-    staged-sound m (record { store = m.now.next; next = m.now.next }) ((now-named m sound).1, (now-named m sound).1) sound
-call-sound UnlinkNext m sound may = staged-sound m (record { store = m.now.store; next = None }) ((now-named m sound).0, tt) sound
+    let linked = staged-sound m (record { store = m.now.next; next = m.now.next })
+    ((now-named m sound).1, (now-named m sound).1) (apart-itself m.now.next) sound in
+    record { stages = linked.stages; fronts = linked.fronts; staged = linked.staged }
+call-sound UnlinkNext m sound may =
+    staged-sound m (record { store = m.now.store; next = None }) ((now-named m sound).0, tt) (apart-none m.now.store) sound
 call-sound PlaceCopy m sound may =
     let placed = place-sound m m.now.store m.copy may.1 sound in
-    record { stages = placed.stages; fronts = placed.fronts }
-call-sound UnlinkCopy m sound may = record { stages = sound.stages; fronts = sound.fronts }
+    record { stages = placed.stages; fronts = placed.fronts; staged = placed.staged }
+call-sound UnlinkCopy m sound may = record { stages = sound.stages; fronts = sound.fronts; staged = sound.staged }
 call-sound SyncFolder m sound may = settled-sound m sound
-call-sound (WriteNote on_device) m sound may = record { stages = sound.stages; fronts = sound.fronts }
+call-sound SyncNote m sound may = record { stages = sound.stages; fronts = sound.fronts; staged = sound.staged }
+call-sound (WriteNote note) m sound may = record { stages = sound.stages; fronts = sound.fronts; staged = sound.staged }
 
 pub failure-sound : (k : ℕ) (call : Call) (m : Machine) → IsSound m → MayBeCalled call m → IsSound (failing k call m)
 failure-sound k (Write name bytes) m sound may = call-sound (Write name (take k bytes)) m sound may
+failure-sound k (WriteRest name bytes) m sound may = call-sound (WriteRest name (take k bytes)) m sound may
 failure-sound k (Sync name) m sound may = with_version-sound m name failed_sync failed-keeps sound
 failure-sound k SyncFolder m sound may = sound
 failure-sound zero call m sound may = sound

@@ -7,9 +7,12 @@ use Rattle.std.proofs.lemmas.List.Elements.{All-contains, Contains-append_right}
 use Rattle.conf_disk.specs.Folder.{Stage}
 use Rattle.conf_disk.specs.Image.{Image}
 use Rattle.conf_system.specs.declared.system.FileName.TheVariants.{Store}
-use Rattle.conf_system.specs.Machine.{Version, Held, Machine, empty_held, version_bytes, version_at, stages, bytes_under}
-use Rattle.conf_system.specs.Crash.{IsWorn, IsTorn, IsLeftOf, IsLeftAt, CrashLeaves, IsOnDevice, image_now, files_machine, machine_of}
-use Rattle.conf_system.proofs.Torn.{IsWorn-none, the_only}
+use Rattle.conf_system.specs.declared.system.Note.{Note}
+use Rattle.conf_system.specs.Machine.{Version, Held, Machine, empty_held, version_bytes, version_at, stages, bytes_under, apart}
+use Rattle.conf_disk.specs.Image.{IsWorn}
+use Rattle.conf_disk.proofs.Worn.{IsWorn-none}
+use Rattle.conf_system.specs.Crash.{IsTorn, IsLeftOf, IsLeftAt, CrashLeaves, IsOnDevice, image_now, files_machine, machine_of}
+use Rattle.conf_system.proofs.Torn.{the_only}
 use Rattle.conf_system.proofs.Images.{reading-left}
 
 -- a file in one version, of which the device has all bytes
@@ -45,52 +48,66 @@ device-left m id image on left =
     has : (stage : Stage) → Contains (stages m) stage → stage.store ≡ Some id
     has stage among = All-contains (λ s. s.store ≡ Some id) (stages m) stage on.stages among
 
-files-whole : (store next : Option (List ℕ)) (copy : Option Version) (noted : Bool) (id : ℕ)
-    → IsWhole (get_or (files_machine store next copy noted).files id empty_held)
-files-whole None None copy noted id = record { alone = refl; whole = refl }
-files-whole (Some s) None copy noted zero = record { alone = refl; whole = refl }
-files-whole (Some s) None copy noted (suc id) = record { alone = refl; whole = refl }
-files-whole None (Some n) copy noted zero = record { alone = refl; whole = refl }
-files-whole None (Some n) copy noted (suc id) = record { alone = refl; whole = refl }
-files-whole (Some s) (Some n) copy noted zero = record { alone = refl; whole = refl }
-files-whole (Some s) (Some n) copy noted (suc zero) = record { alone = refl; whole = refl }
-files-whole (Some s) (Some n) copy noted (suc (suc id)) = record { alone = refl; whole = refl }
+files-whole : (store next : Option (List ℕ)) (copy : Option Version) (note : Note) (id : ℕ)
+    → IsWhole (get_or (files_machine store next copy note).files id empty_held)
+files-whole None None copy note id = record { alone = refl; whole = refl }
+files-whole (Some s) None copy note zero = record { alone = refl; whole = refl }
+files-whole (Some s) None copy note (suc id) = record { alone = refl; whole = refl }
+files-whole None (Some n) copy note zero = record { alone = refl; whole = refl }
+files-whole None (Some n) copy note (suc id) = record { alone = refl; whole = refl }
+files-whole (Some s) (Some n) copy note zero = record { alone = refl; whole = refl }
+files-whole (Some s) (Some n) copy note (suc zero) = record { alone = refl; whole = refl }
+files-whole (Some s) (Some n) copy note (suc (suc id)) = record { alone = refl; whole = refl }
 
-files-settled : (store next : Option (List ℕ)) (copy : Option Version) (noted : Bool) → (files_machine store next copy noted).earlier ≡ []
-files-settled None None copy noted = refl
-files-settled (Some s) None copy noted = refl
-files-settled None (Some n) copy noted = refl
-files-settled (Some s) (Some n) copy noted = refl
+files-settled : (store next : Option (List ℕ)) (copy : Option Version) (note : Note) → (files_machine store next copy note).earlier ≡ []
+files-settled None None copy note = refl
+files-settled (Some s) None copy note = refl
+files-settled None (Some n) copy note = refl
+files-settled (Some s) (Some n) copy note = refl
 
-files-read : (store next : Option (List ℕ)) (copy : Option Version) (noted : Bool)
-    → image_now (files_machine store next copy noted) ≡ record { store = store; next = next }
-files-read None None copy noted = refl
-files-read (Some s) None copy noted = λ i. record { store = Some (append-nil s i); next = None }
-files-read None (Some n) copy noted = λ i. record { store = None; next = Some (append-nil n i) }
-files-read (Some s) (Some n) copy noted = λ i. record { store = Some (append-nil s i); next = Some (append-nil n i) }
+files-read : (store next : Option (List ℕ)) (copy : Option Version) (note : Note)
+    → image_now (files_machine store next copy note) ≡ record { store = store; next = next; several = note.several }
+files-read None None copy note = refl
+files-read (Some s) None copy note = λ i. record { store = Some (append-nil s i); next = None; several = note.several }
+files-read None (Some n) copy note = λ i. record { store = None; next = Some (append-nil n i); several = note.several }
+files-read (Some s) (Some n) copy note =
+    λ i. record { store = Some (append-nil s i); next = Some (append-nil n i); several = note.several }
 
 -- where the names are settled, and each file is whole, a crash leaves what reads see
-settled-left : (m : Machine) (image : Image) → m.earlier ≡ [] → ((id : ℕ) → IsWhole (get_or m.files id empty_held))
+settled-left : (m : Machine) (image : Image) → m.earlier ≡ [] → m.notes ≡ [] → ((id : ℕ) → IsWhole (get_or m.files id empty_held))
     → CrashLeaves m image → image ≡ image_now m
-settled-left m image settled whole left =
+settled-left m image settled silent whole left =
     let same : left.stage ≡ m.now =
     the_only left.stage m.now (subst (λ (earlier : List Stage). Contains (earlier ++ m.now ∷ []) left.stage) settled left.among) in
     let store = place-left m.files m.now.store image.store (λ id is. whole id)
     (subst (λ (stage : Stage). IsLeftAt m.files stage.store image.store) same left.store) in
-    let next = place-left m.files m.now.next image.next (λ id is. whole id)
-    (subst (λ (stage : Stage). IsLeftAt m.files stage.next image.next) same left.next) in
-    λ i. record { store = store i; next = next i }
+    let next = place-left m.files (apart m.now.store m.now.next) image.next (λ id is. whole id)
+    (subst (λ (stage : Stage). IsLeftAt m.files (apart stage.store stage.next) image.next) same left.next) in
+    let note : left.note ≡ m.note =
+    the_only left.note m.note (subst (λ (notes : List Note). Contains (notes ++ m.note ∷ []) left.note) silent left.noted) in
+    let several = left.several ∙ ap (λ (n : Note). n.several) note in
+    λ i. record { store = store i; next = next i; several = several i }
 
-pub image-stays : (image later : Image) (copy : Option Version) (noted : Bool)
-    → CrashLeaves (machine_of image copy noted) later ↔ (later ≡ image)
-image-stays image later copy noted = (
-  λ left. settled-left m later (files-settled image.store image.next copy noted) (files-whole image.store image.next copy noted) left
+files-silent : (store next : Option (List ℕ)) (copy : Option Version) (note : Note) → (files_machine store next copy note).notes ≡ []
+files-silent None None copy note = refl
+files-silent (Some s) None copy note = refl
+files-silent None (Some n) copy note = refl
+files-silent (Some s) (Some n) copy note = refl
+
+pub image-stays : (image later : Image) (copy : Option Version) (on_device : Bool)
+    → CrashLeaves (machine_of image copy on_device) later ↔ (later ≡ image)
+image-stays image later copy on_device = (
+  λ left. settled-left m later (files-settled image.store image.next copy note) (files-silent image.store image.next copy note)
+      (files-whole image.store image.next copy note) left
       ∙ reads,
   λ same. subst (λ (i : Image). CrashLeaves m i) (reads ∙ sym same) (reading-left m),
 )
   where
     m : Machine
-    m = machine_of image copy noted
+    m = machine_of image copy on_device
 
-    reads : image_now (machine_of image copy noted) ≡ image
-    reads = files-read image.store image.next copy noted
+    note : Note
+    note = record { on_device = on_device; several = image.several }
+
+    reads : image_now (machine_of image copy on_device) ≡ image
+    reads = files-read image.store image.next copy note

@@ -1,37 +1,14 @@
 -- What is left of one file, and of a file whose name may lead to several.
-use Rattle.std.proofs.Common.{◌≡◌, ⊎_elim, inl, inr, ℕ, zero, suc, ◌+◌, ◌≤◌, List, [], ◌∷◌, ◌++◌, length, get_or, set, take, drop}
+use Rattle.std.proofs.Common.{◌≡◌, ⊎_elim, inl, inr, ℕ, zero, suc, ◌+◌, ◌<◌, ◌≤◌, List, [], ◌∷◌, ◌++◌, length, get_or, set, take, drop}
 use Rattle.std.proofs.Common.{replicate, Contains, Bool, true, false, refl, ◌∙◌, ap, subst, arith, append_assoc}
 use Rattle.std.proofs.Common.{take-append-drop}
 use Rattle.std.proofs.lemmas.List.{append-nil}
 use Rattle.std.proofs.lemmas.List.Elements.{All-contains, All-push, All-nil, Contains-append_left, Contains-append_right}
 use Rattle.std.proofs.lemmas.List.Elements.{Contains-append_cases}
 use Rattle.conf_system.specs.Machine.{Version, Held, version_bytes, with_pending, synced, failed_sync, with_now, empty_held}
-use Rattle.conf_system.specs.Crash.{IsWorn, IsTorn, IsLeftOf}
-
-IsWorn-whole : (bytes : List ℕ) → IsWorn bytes bytes
-IsWorn-whole [] = tt
-IsWorn-whole (byte ∷ bytes) = (inl refl, IsWorn-whole bytes)
-
-IsWorn-appended : (pending more left : List ℕ) → IsWorn pending left → IsWorn (pending ++ more) left
-IsWorn-appended [] more [] worn = tt
-IsWorn-appended [] more (first ∷ left) worn = absurd worn
-IsWorn-appended (byte ∷ pending) more [] worn = tt
-IsWorn-appended (byte ∷ pending) more (first ∷ left) worn = (worn.0, IsWorn-appended pending more left worn.1)
-
--- a prefix and zeros are what may be left
-pub IsWorn-prefix : (pending : List ℕ) (keep count : ℕ) → keep + count ≤ length pending
-    → IsWorn pending (take keep pending ++ replicate count 0)
-IsWorn-prefix [] zero zero le = tt
-IsWorn-prefix [] zero (suc count) le = absurd (omega (arith, le))
-IsWorn-prefix [] (suc keep) count le = absurd (omega (arith, le))
-IsWorn-prefix (byte ∷ pending) zero zero le = tt
-IsWorn-prefix (byte ∷ pending) zero (suc count) le = (inr refl, IsWorn-prefix pending zero count (omega (arith, le)))
-IsWorn-prefix (byte ∷ pending) (suc keep) count le = (inl refl, IsWorn-prefix pending keep count (omega (arith, le)))
-
--- where nothing is pending, nothing is left of it
-pub IsWorn-none : (left : List ℕ) → IsWorn [] left → left ≡ []
-IsWorn-none [] worn = refl
-IsWorn-none (first ∷ left) worn = absurd worn
+use Rattle.conf_disk.specs.Image.{IsWorn}
+use Rattle.conf_disk.proofs.Worn.{IsWorn-whole, IsWorn-more, IsWorn-none}
+use Rattle.conf_system.specs.Crash.{IsTorn, IsLeftOf}
 
 -- what reads see may be left
 pub IsTorn-whole : (version : Version) → IsTorn version (version_bytes version)
@@ -54,7 +31,7 @@ TearsInto-appended_first k bytes version torn_bytes torn = record {
   worn = subst (λ (pending : List ℕ). IsWorn pending torn.left)
       (append_assoc version.pending (take k bytes) (drop k bytes)
       ∙ ap (λ (l : List ℕ). version.pending ++ l) (take-append-drop k bytes))
-      (IsWorn-appended (version.pending ++ take k bytes) (drop k bytes) torn.left torn.worn);
+      (IsWorn-more (version.pending ++ take k bytes) (drop k bytes) torn.left torn.worn);
   is = torn.is;
 }
 
@@ -107,3 +84,14 @@ set-into (file ∷ files) zero zero less more into bytes left = into bytes left
 set-into (file ∷ files) zero (suc place) less more into bytes left = left
 set-into (file ∷ files) (suc id) zero less more into bytes left = left
 set-into (file ∷ files) (suc id) (suc place) less more into bytes left = set-into files id place less more into bytes left
+
+lasting : (device pending bytes : List ℕ) (failed : Bool) → 0 < length pending
+    → synced (with_pending bytes (failed_sync (record { device = device; pending = pending; failed = failed })))
+    ≡ with_pending bytes (failed_sync (record { device = device; pending = pending; failed = failed }))
+lasting device [] bytes failed some = absurd (omega (arith, some))
+lasting device (byte ∷ pending) bytes failed some = refl
+
+-- after a failed sync none says anything
+pub failed-last : (version : Version) (bytes : List ℕ) → 0 < length version.pending
+    → synced (with_pending bytes (failed_sync version)) ≡ with_pending bytes (failed_sync version)
+failed-last version bytes some = lasting version.device version.pending bytes version.failed some

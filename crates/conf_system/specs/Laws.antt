@@ -1,5 +1,5 @@
 -- Facts about the machine that hold whatever system keeps it.
-use Rattle.std.specs.Prelude.{◌≡◌, ◌⊎◌, ◌↔◌, ℕ, ◌+◌, ◌≤◌, List, ◌++◌, length, take, replicate, Option, Bool}
+use Rattle.std.specs.Prelude.{◌≡◌, ◌⊎◌, ◌↔◌, ℕ, ◌+◌, ◌<◌, ◌≤◌, List, ◌++◌, length, take, replicate, Option, Bool}
 use Rattle.conf_disk.specs.Image.{Image}
 use Rattle.conf_system.specs.declared.system.FileName.{FileName}
 use Rattle.conf_system.specs.declared.system.FileName.TheVariants.{Store}
@@ -23,12 +23,12 @@ DeviceIsLeft = (m : Machine) (id : ℕ) (image : Image) → IsOnDevice m id → 
 
 -- what a crash left is what is read then
 abbrev pub ImagesRead : Type 0
-ImagesRead = (image : Image) (copy : Option Version) (noted : Bool) → image_now (machine_of image copy noted) ≡ image
+ImagesRead = (image : Image) (copy : Option Version) (on_device : Bool) → image_now (machine_of image copy on_device) ≡ image
 
 -- and every later crash leaves it
 abbrev pub ImagesAreStable : Type 0
-ImagesAreStable = (image later : Image) (copy : Option Version) (noted : Bool)
-    → CrashLeaves (machine_of image copy noted) later ↔ (later ≡ image)
+ImagesAreStable = (image later : Image) (copy : Option Version) (on_device : Bool)
+    → CrashLeaves (machine_of image copy on_device) later ↔ (later ≡ image)
 
 -- a crash within a call leaves nothing that a crash before or after the call doesn't
 abbrev pub CallsLeaveNoOther : Type 0
@@ -39,9 +39,9 @@ CallsLeaveNoOther = (k : ℕ) (call : Call) (m : Machine) (image : Image) → Cr
 abbrev pub SyncsLeaveLess : Type 0
 SyncsLeaveLess = (name : FileName) (m : Machine) (image : Image) → CrashLeaves (after (Sync name) m) image → CrashLeaves m image
 
--- once a sync of a file failed, no later one makes anything sure
+-- once a sync of a file failed that had pending bytes, no later one makes anything sure
 abbrev pub FailedSyncsLast : Type 0
-FailedSyncsLast = (version : Version) (bytes : List ℕ)
+FailedSyncsLast = (version : Version) (bytes : List ℕ) → 0 < length version.pending
     → synced (with_pending bytes (failed_sync version)) ≡ with_pending bytes (failed_sync version)
 
 -- a call leaves a sound machine sound, whether it is done or fails

@@ -1,8 +1,13 @@
 -- What the kernel and the device hold of one folder, and what a call of the system makes of it.
 use Rattle.std.specs.Prelude.{◌≡◌, ◌≢◌, ℕ, zero, suc, List, [], ◌∷◌, ◌++◌, length, get_or, set, map, take, Option, Some, None}
 use Rattle.std.specs.Prelude.{IsSome, option_map, Bool, true, false, if◌then◌else◌}
-use Rattle.conf_disk.specs.Folder.{Stage}
+use Rattle.std.specs.Prelude.{min, drop, ◌&&◌}
+use Rattle.conf_disk.specs.Folder.{File, Stage, noted_at, noted_but}
+use Rattle.std.specs.Prelude.{◌||◌, ◌==◌}
 use Rattle.conf_system.specs.declared.system.FileName.{FileName}
+use Rattle.conf_system.specs.declared.system.Linking.{Linking}
+use Rattle.conf_system.specs.declared.system.Linking.TheVariants.{Linked, Unsupported}
+use Rattle.conf_system.specs.declared.system.Note.{Note}
 use Rattle.conf_system.specs.declared.system.FileName.TheVariants.{Store, Next, Copy}
 
 -- One file of the system (an inode): the bytes that the device surely has, those after them, which may be in memory
@@ -19,13 +24,17 @@ pub record Held : Type 0 where
   pub now : Version
 
 -- Each file that was ever made; which file has each name, at each stage since the last sync of the folder but for the
--- last one, oldest first, and now; the copy of `store.yaml` that is being made; and whether `store.lock` reads `-`.
+-- last one, oldest first, and now; the copy of `store.yaml` that is being made; what `store.lock` says, and what a crash
+-- may have it say instead, since it was not synced; and for which `store.yaml`, by its place among the files, a run goes
+-- by the note that several appends to it may have waited for one sync.
 pub record Machine : Type 0 where
   pub files : List Held
   pub earlier : List Stage
   pub now : Stage
   pub copy : Option Version
-  pub noted : Bool
+  pub note : Note
+  pub notes : List Note
+  pub noted : Option ℕ → Bool
 
 abbrev pub empty_version : Version
 empty_version = record { device = []; pending = []; failed = false }
@@ -59,11 +68,44 @@ under m Copy = m.copy
 abbrev pub bytes_under : Machine → FileName → Option (List ℕ)
 bytes_under m name = option_map version_bytes (under m name)
 
+-- of so many bytes the device is sure, whichever version a crash leaves
+abbrev pub sure_count : ℕ → List Version → ℕ
+sure_count count [] = count
+sure_count count (version ∷ versions) = min (length version.device) (sure_count count versions)
+
+-- a file whose first bytes, so many, are synced
+abbrev pub cut_at : ℕ → List ℕ → File
+cut_at count bytes = record { synced = take count bytes; pending = drop count bytes }
+
+-- the file as one of a disk
+abbrev pub file_of : Held → File
+file_of file = cut_at (sure_count (length file.now.device) file.earlier) (version_bytes file.now)
+
+-- what a crash may have `store.lock` say
+abbrev pub notes_of : Machine → List Note
+notes_of m = m.notes ++ m.note ∷ []
+
+-- whether all of these say that several appends may have waited
+abbrev pub all_several : List Note → Bool
+all_several [] = true
+all_several (note ∷ notes) = note.several && all_several notes
+
+-- whether both names lead to one file, as after a link
+abbrev pub are_linked : Option ℕ → Option ℕ → Bool
+are_linked None next = false
+are_linked (Some store) None = false
+are_linked (Some store) (Some next) = store == next
+
+-- where the staged file is: of two names that lead to one file, `store.yaml` alone has it
+abbrev pub apart : Option ℕ → Option ℕ → Option ℕ
+apart store next = if are_linked store next then None else next
+
 -- the calls that change something
 pub data Call : Type 0 where
   CreateNext : Call
   CreateCopy : Call
   Write : (name : FileName) (bytes : List ℕ) → Call
+  WriteRest : (name : FileName) (bytes : List ℕ) → Call
   Sync : (name : FileName) → Call
   RenameNext : Call
   LinkNext : Call
@@ -71,7 +113,8 @@ pub data Call : Type 0 where
   PlaceCopy : Call
   UnlinkCopy : Call
   SyncFolder : Call
-  WriteNote : (on_device : Bool) → Call
+  WriteNote : (note : Note) → Call
+  SyncNote : Call
 
 -- What a caller ensures before a call. Only a copy of what `store.yaml` reads as takes its name. Where both names lead to
 -- one file, as after a link, a rename of one to the other does nothing, so it isn't made.
@@ -79,15 +122,17 @@ abbrev pub MayBeCalled : Call → Machine → Type 0
 MayBeCalled CreateNext m = m.now.next ≡ None
 MayBeCalled CreateCopy m = m.copy ≡ None
 MayBeCalled (Write name bytes) m = IsSome (under m name)
+MayBeCalled (WriteRest name bytes) m = IsSome (under m name)
 MayBeCalled (Sync name) m = IsSome (under m name)
-MayBeCalled RenameNext m = IsSome m.now.next × (m.now.store ≢ m.now.next)
+MayBeCalled RenameNext m = IsSome m.now.next × (are_linked m.now.store m.now.next ≡ false)
 MayBeCalled LinkNext m = IsSome m.now.next × (m.now.store ≡ None)
 MayBeCalled UnlinkNext m = IsSome m.now.next
 MayBeCalled PlaceCopy m =
-    IsSome m.copy × (bytes_under m Copy ≡ bytes_under m Store) × (m.now.store ≢ m.now.next)
+    IsSome m.copy × (bytes_under m Copy ≡ bytes_under m Store) × (are_linked m.now.store m.now.next ≡ false)
 MayBeCalled UnlinkCopy m = IsSome m.copy
 MayBeCalled SyncFolder m = Unit {0}
-MayBeCalled (WriteNote on_device) m = Unit {0}
+MayBeCalled (WriteNote note) m = Unit {0}
+MayBeCalled SyncNote m = Unit {0}
 
 -- with more bytes at its end
 abbrev pub with_pending : List ℕ → Version → Version
@@ -97,9 +142,14 @@ with_pending bytes version = record version { pending = version.pending ++ bytes
 abbrev pub synced : Version → Version
 synced version = if version.failed then version else record version { device = version_bytes version; pending = [] }
 
--- after a sync that failed
+-- whether there are any of these
+abbrev pub is_any : {X : Type 0} → List X → Bool
+is_any [] = false
+is_any (x ∷ xs) = true
+
+-- after a sync that failed: if any bytes were pending, no later sync of the file says anything
 abbrev pub failed_sync : Version → Version
-failed_sync version = record version { failed = true }
+failed_sync version = record version { failed = is_any version.pending || version.failed }
 
 -- a version takes the file's name
 abbrev pub replaced : Option Version → Held → Held
@@ -123,31 +173,55 @@ with_copy m copy = record m { copy = copy }
 abbrev pub with_stage : Machine → List Held → Stage → Machine
 with_stage m files stage = record m { files = files; earlier = stages m; now = stage }
 
+-- the staged file is `store.yaml`, of which nothing is noted
+abbrev pub with_renamed : Machine → Stage → Machine
+with_renamed m stage = record (with_stage m m.files stage) { noted = noted_but m.now.next m.noted }
+
 abbrev pub with_version : Machine → FileName → (Version → Version) → Machine
 with_version m Store change = with_file m m.now.store (with_now change)
 with_version m Next change = with_file m m.now.next (with_now change)
 with_version m Copy change = with_copy m (option_map change m.copy)
+
+-- For which files it is noted, once bytes are written. The first byte behind pending ones of `store.yaml` counts, if all
+-- that a crash may have `store.lock` say is that several appends may have waited.
+abbrev pub noted_by_write : FileName → List ℕ → Machine → Option ℕ → Bool
+noted_by_write Store (byte ∷ bytes) m =
+    if all_several (notes_of m) then noted_at (map file_of m.files) m.now.store m.noted else m.noted
+noted_by_write name bytes m = m.noted
 
 -- after a call that returned Ok
 abbrev pub after : Call → Machine → Machine
 after CreateNext m =
     with_stage m (m.files ++ empty_held ∷ []) (record { store = m.now.store; next = Some (length m.files) })
 after CreateCopy m = with_copy m (Some empty_version)
-after (Write name bytes) m = with_version m name (with_pending bytes)
+after (Write name bytes) m =
+    record (with_version m name (with_pending bytes)) { noted = noted_by_write name bytes m }
+after (WriteRest name bytes) m = with_version m name (with_pending bytes)
 after (Sync name) m = with_version m name synced
-after RenameNext m = with_stage m m.files (record { store = m.now.next; next = None })
-after LinkNext m = with_stage m m.files (record { store = m.now.next; next = m.now.next })
+after RenameNext m = with_renamed m (record { store = m.now.next; next = None })
+after LinkNext m = with_renamed m (record { store = m.now.next; next = m.now.next })
 after UnlinkNext m = with_stage m m.files (record { store = m.now.store; next = None })
 after PlaceCopy m = with_copy (with_file m m.now.store (replaced m.copy)) None
 after UnlinkCopy m = with_copy m None
 after SyncFolder m = record m { files = map settled m.files; earlier = [] }
-after (WriteNote on_device) m = record m { noted = on_device }
+after (WriteNote note) m = record m { note = note; notes = m.notes ++ m.note ∷ [] }
+after SyncNote m = record m { notes = [] }
+
+-- after a link: where the file system has none, nothing is done
+abbrev pub after_linking : Linking → Machine → Machine
+after_linking Linked m = after LinkNext m
+after_linking Unsupported m = m
 
 -- After a call that failed. Of a write a prefix may be there. Of another call at 0 nothing is done, and from 1 on all; but
 -- of a sync nothing more is sure.
 abbrev pub failing : ℕ → Call → Machine → Machine
 failing k (Write name bytes) m = after (Write name (take k bytes)) m
+failing k (WriteRest name bytes) m = after (WriteRest name (take k bytes)) m
 failing k (Sync name) m = with_version m name failed_sync
 failing k SyncFolder m = m
 failing zero call m = m
 failing (suc k) call m = after call m
+
+-- after the note was read, by which the run goes
+abbrev pub after_reading : Note → Machine → Machine
+after_reading note m = record m { noted = λ place. note.several }

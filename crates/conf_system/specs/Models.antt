@@ -1,7 +1,8 @@
 -- A system, by what contracts see of it, and how a call of it goes.
 use Rattle.std.specs.Prelude.{◌≡◌, ◌⊎◌, ℕ, ◌≤◌, List, length, take, drop, Result, MatchResult}
-use Rattle.conf_system.specs.declared.system.FileName.{FileName}
-use Rattle.conf_system.specs.Machine.{Machine, Call, Write, after, failing}
+use Rattle.conf_system.specs.declared.system.Linking.{Linking}
+use Rattle.conf_system.specs.declared.system.Note.{Note}
+use Rattle.conf_system.specs.Machine.{Machine, Call, LinkNext, after, after_linking, after_reading, failing}
 
 pub record SystemModel (S : Type 0) : Type 1 where
   -- whether the system is one that the clauses speak of; no call changes it
@@ -26,17 +27,35 @@ pub record Goes {S E : Type 0} (model : SystemModel S) (call : Call)
       (λ _. (k : ℕ) × (model.machine new ≡ failing k call (model.machine old)))
   pub time : model.honest → Passes model old new (λ m. m ≡ model.machine new)
 
+-- nothing was changed
+pub record Stays {S : Type 0} (model : SystemModel S) (old new : S) : Type 0 where
+  pub same : model.machine new ≡ model.machine old
+  pub time : Passes model old new (λ m. m ≡ model.machine new)
+
+-- how a link goes
+pub record Links {S E : Type 0} (model : SystemModel S) (old : S) (result : Result Linking E) (new : S) : Type 0 where
+  pub change : model.honest → MatchResult result (λ linking. model.machine new ≡ after_linking linking (model.machine old))
+      (λ _. (k : ℕ) × (model.machine new ≡ failing k LinkNext (model.machine old)))
+  pub time : model.honest → Passes model old new (λ m. m ≡ model.machine new)
+
+-- how the note is read: from then on the run goes by it
+pub record ReadsNote {S E : Type 0} (model : SystemModel S) (old : S) (result : Result Note E) (new : S) : Type 0 where
+  pub change : model.honest → MatchResult result
+      (λ note. (note ≡ (model.machine old).note) × (model.machine new ≡ after_reading note (model.machine old)))
+      (λ _. model.machine new ≡ model.machine old)
+  pub time : model.honest → Passes model old new (λ m. m ≡ model.machine new)
+
 -- so many of the bytes were written from old to new, and at each moment between so many of them or fewer
-pub record Wrote {S : Type 0} (model : SystemModel S) (name : FileName) (bytes : List ℕ) (count : ℕ) (old new : S) : Type 0 where
+pub record Wrote {S : Type 0} (model : SystemModel S) (call : List ℕ → Call) (bytes : List ℕ) (count : ℕ) (old new : S) : Type 0 where
   pub within : count ≤ length bytes
-  pub change : model.machine new ≡ after (Write name (take count bytes)) (model.machine old)
+  pub change : model.machine new ≡ after (call (take count bytes)) (model.machine old)
   pub time : Passes model old new
-      (λ m. (k : ℕ) × (k ≤ count) × (m ≡ after (Write name (take k bytes)) (model.machine old)))
+      (λ m. (k : ℕ) × (k ≤ count) × (m ≡ after (call (take k bytes)) (model.machine old)))
 
 -- how a write goes: it may be short, and one that fails may have written some
-abbrev pub Writes : {S E : Type 0} → SystemModel S → FileName → List ℕ → S → Result ℕ E → S → Type 0
-Writes model name bytes old result new = model.honest → MatchResult result
-    (λ count. Wrote model name bytes count old new) (λ _. (count : ℕ) × Wrote model name bytes count old new)
+abbrev pub Writes : {S E : Type 0} → SystemModel S → (List ℕ → Call) → List ℕ → S → Result ℕ E → S → Type 0
+Writes model call bytes old result new = model.honest → MatchResult result
+    (λ count. Wrote model call bytes count old new) (λ _. (count : ℕ) × Wrote model call bytes count old new)
 
 -- A read fills the front of a buffer from a place of the bytes on. It may be short, and is empty only at their end or
 -- if the buffer is.

@@ -2,8 +2,9 @@
 ghost use Rattle.conf_system.specs.Laws.{PrefixesAreLeft, ReadingIsLeft, DeviceIsLeft, ImagesRead, ImagesAreStable};
 ghost use Rattle.conf_system.specs.Laws.{CallsLeaveNoOther, SyncsLeaveLess, FailedSyncsLast, CallsKeepSound};
 ghost use Rattle.conf_system.specs.Laws.{FailuresKeepSound};
-ghost use Rattle.conf_system.specs.Folders.{StoreWritesAreAppends, NextWritesAreAppends, SyncsAreSteps, CreatesAreSteps};
-ghost use Rattle.conf_system.specs.Folders.{RenamesAreSteps, RemovesAreSteps, FolderSyncsAreSteps};
+ghost use Rattle.conf_system.specs.Folders.{StoreWritesAreAppends, NextWritesAreAppends, SyncsAreSteps};
+ghost use Rattle.conf_system.specs.Folders.{NextSyncsAreSteps, CreatesAreSteps, RenamesAreSteps, LinksAreSteps};
+ghost use Rattle.conf_system.specs.Folders.{UnlinksAreNone, RemovesAreSteps, FolderSyncsAreSteps, CrashesAreImages};
 
 /// A law: a crash may leave any prefix of a file's pending bytes, and any number of zeros after it that fits.
 pub fn prefixes_are_left()
@@ -36,7 +37,7 @@ pub fn syncs_leave_less()
     ensures { SyncsLeaveLess }
 {}
 
-/// A law: once a sync of a file has failed, no later one makes anything sure.
+/// A law: once a sync of a file has failed that had pending bytes, no later one makes anything sure.
 pub fn failed_syncs_last()
     ensures { FailedSyncsLast }
 {}
@@ -55,8 +56,17 @@ pub fn calls_are_steps()
     ensures store_writes { StoreWritesAreAppends }
     ensures next_writes { NextWritesAreAppends }
     ensures syncs { SyncsAreSteps }
+    ensures next_syncs { NextSyncsAreSteps }
     ensures creates { CreatesAreSteps }
     ensures renames { RenamesAreSteps }
+    ensures links { LinksAreSteps }
+    ensures unlinks { UnlinksAreNone }
     ensures removes { RemovesAreSteps }
     ensures folder_syncs { FolderSyncsAreSteps }
+{}
+
+/// A law: what a crash leaves of a sound machine is an image of the folder of [`Disk`](conf_disk::Disk), if it leaves
+/// the note by which the run goes.
+pub fn crashes_are_images()
+    ensures { CrashesAreImages }
 {}

@@ -12,7 +12,8 @@ mod laws;
 mod system;
 
 pub use laws::{
-    calls_are_steps, calls_keep_machines_sound, calls_leave_no_other_image, failed_syncs_last,
-    images_are_stable, on_the_device_is_left, prefixes_are_left, reading_is_left, syncs_leave_less,
+    calls_are_steps, calls_keep_machines_sound, calls_leave_no_other_image, crashes_are_images,
+    failed_syncs_last, images_are_stable, on_the_device_is_left, prefixes_are_left,
+    reading_is_left, syncs_leave_less,
 };
-pub use system::{FileName, System};
+pub use system::{FileName, Linking, Note, System};

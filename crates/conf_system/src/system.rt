@@ -1,10 +1,10 @@
 // The trait: what each call of the system is trusted to do.
 ghost use Rattle.std.specs.Prelude.{◌≡◌, ◌≤◌, ℕ, List, length, Some, IsSome, IfOk, option_map};
-ghost use Rattle.conf_system.specs.Machine.{Machine, CreateNext, CreateCopy, Write, Sync, RenameNext, LinkNext};
-ghost use Rattle.conf_system.specs.Machine.{UnlinkNext, PlaceCopy, UnlinkCopy, SyncFolder, WriteNote, MayBeCalled};
-ghost use Rattle.conf_system.specs.Machine.{under, bytes_under};
+ghost use Rattle.conf_system.specs.Machine.{Machine, CreateNext, CreateCopy, Write, WriteRest, Sync, RenameNext, LinkNext};
+ghost use Rattle.conf_system.specs.Machine.{UnlinkNext, PlaceCopy, UnlinkCopy, SyncFolder, WriteNote, SyncNote};
+ghost use Rattle.conf_system.specs.Machine.{MayBeCalled, under, bytes_under, are_linked};
 ghost use Rattle.conf_system.specs.Crash.{IsSound};
-ghost use Rattle.conf_system.specs.Models.{SystemModel, Goes, Writes, Fills};
+ghost use Rattle.conf_system.specs.Models.{SystemModel, Goes, Links, ReadsNote, Stays, Writes, Fills};
 
 use std::io;
 
@@ -17,6 +17,24 @@ pub enum FileName {
     Next,
     /// The copy of `store.yaml` that is to take its place, since a sync of it failed.
     Copy,
+}
+
+/// What `store.lock` says of `store.yaml`.
+#[derive(Clone, Copy, Debug, PartialEq, Eq)]
+pub struct Note {
+    /// The device has all of its bytes.
+    pub on_device: bool,
+    /// Several appends to it may have waited for one sync.
+    pub several: bool,
+}
+
+/// What came of a link.
+#[derive(Clone, Copy, Debug, PartialEq, Eq)]
+pub enum Linking {
+    /// The file has the other name too.
+    Linked,
+    /// The file system has no links: nothing was done.
+    Unsupported,
 }
 
 /// Single calls of the system on one folder, in which nobody else writes.
@@ -34,6 +52,18 @@ pub trait System {
     fn look(&self, name: FileName) -> io::Result<Option<u64>>
         ensures { model.honest → IfOk result (λ found.
             found ≡ option_map length (bytes_under (model.machine self.now) name)) };
+
+    /// Whether both names lead to one file: `lstat(2)` of each.
+    fn are_linked(&self) -> io::Result<bool>
+        ensures { model.honest → IfOk result (λ linked.
+            linked ≡ are_linked (model.machine self.now).now.store (model.machine self.now).now.next) };
+
+    /// Opens the file under a name for [`read_at`](System::read_at), and returns its length: `open(2)`. `None` if there
+    /// is none.
+    fn open(&mut self, name: FileName) -> io::Result<Option<u64>>
+        ensures found { model.honest → IfOk result (λ found.
+            found ≡ option_map length (bytes_under (model.machine self.old) name)) }
+        ensures stays { model.honest → Stays model self.old self.new };
 
     /// Reads the file under a name from a place on into a buffer, and returns how many bytes it has read: `pread(2)`.
     /// The bytes are those that were written, on the device or not.
@@ -57,7 +87,12 @@ pub trait System {
     /// with `O_APPEND`. They are pending until the file is synced. A call that fails may have added some.
     fn write(&mut self, name: FileName, bytes: &[u8]) -> io::Result<usize>
         requires { model.honest → MayBeCalled (Write name bytes.now) (model.machine self.old) }
-        ensures { Writes model name bytes.now self.old result self.new };
+        ensures { Writes model (Write name) bytes.now self.old result self.new };
+
+    /// Goes on with an append of which [`write`](System::write) has added some bytes, in the same way.
+    fn write_rest(&mut self, name: FileName, bytes: &[u8]) -> io::Result<usize>
+        requires { model.honest → MayBeCalled (WriteRest name bytes.now) (model.machine self.old) }
+        ensures { Writes model (WriteRest name) bytes.now self.old result self.new };
 
     /// Puts the bytes of the file under a name on the device: `fsync(2)`. After one that failed the device may lack any
     /// that were pending, whatever a later one returns.
@@ -71,9 +106,9 @@ pub trait System {
         ensures { Goes model RenameNext self.old result self.new };
 
     /// Gives `next.yaml` the name `store.yaml` too, where that is free: `link(2)`.
-    fn link_next(&mut self) -> io::Result<()>
+    fn link_next(&mut self) -> io::Result<Linking>
         requires { model.honest → MayBeCalled LinkNext (model.machine self.old) }
-        ensures { Goes model LinkNext self.old result self.new };
+        ensures { Links model self.old result self.new };
 
     /// Removes the name `next.yaml`: `unlink(2)`.
     fn unlink_next(&mut self) -> io::Result<()>
@@ -95,13 +130,18 @@ pub trait System {
     fn sync_folder(&mut self) -> io::Result<()>
         ensures { Goes model SyncFolder self.old result self.new };
 
-    /// Has `store.lock` read `-`, or something else: `pwrite(2)` of one byte at its start. It is not synced.
-    fn write_note(&mut self, on_device: bool) -> io::Result<()>
-        ensures { Goes model (WriteNote on_device) self.old result self.new };
+    /// Has `store.lock` say this, in its length: `ftruncate(2)`, and then `pwrite(2)` of its first byte if it was no
+    /// note. It is not synced.
+    fn write_note(&mut self, note: Note) -> io::Result<()>
+        ensures { Goes model (WriteNote note) self.old result self.new };
 
-    /// Whether `store.lock` reads `-`: `pread(2)`.
-    fn read_note(&self) -> io::Result<bool>
-        ensures { model.honest → IfOk result (λ noted. noted ≡ (model.machine self.now).noted) };
+    /// Puts what `store.lock` says on the device: `fsync(2)`.
+    fn sync_note(&mut self) -> io::Result<()>
+        ensures { Goes model SyncNote self.old result self.new };
+
+    /// Reads what `store.lock` says: `pread(2)`. From then on the run goes by it.
+    fn read_note(&mut self) -> io::Result<Note>
+        ensures { ReadsNote model self.old result self.new };
 
     /// This moment is one of those since an earlier one.
     ghost holds_now: { (system : Self) (t : ℕ) → model.honest → t ≤ model.moment system

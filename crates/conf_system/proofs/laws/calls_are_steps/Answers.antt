@@ -1,4 +1,5 @@
 use Rattle.conf_system.proofs.Steps.{store_write-appends, next_write-appends, sync-steps, create-steps, rename-steps, remove-steps}
+use Rattle.conf_system.proofs.Steps.{next_sync-steps, link-steps, unlink-none}
 use Rattle.conf_system.proofs.Steps.{folder_sync-steps}
 use Rattle.conf_system.proofs.laws.calls_are_steps.Goals as goal
 
@@ -16,6 +17,15 @@ returns-clause-creates c = create-steps
 
 pub returns-clause-renames : goal.returns-clause-renames
 returns-clause-renames c = rename-steps
+
+pub returns-clause-next_syncs : goal.returns-clause-next_syncs
+returns-clause-next_syncs c = next_sync-steps
+
+pub returns-clause-links : goal.returns-clause-links
+returns-clause-links c = link-steps
+
+pub returns-clause-unlinks : goal.returns-clause-unlinks
+returns-clause-unlinks c = unlink-none
 
 pub returns-clause-removes : goal.returns-clause-removes
 returns-clause-removes c = remove-steps

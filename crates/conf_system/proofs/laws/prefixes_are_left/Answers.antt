@@ -1,5 +1,5 @@
 use Rattle.std.proofs.Common.{refl}
-use Rattle.conf_system.proofs.Torn.{IsWorn-prefix}
+use Rattle.conf_disk.proofs.Worn.{IsWorn-prefix}
 use Rattle.conf_system.proofs.laws.prefixes_are_left.Goals as goal
 
 pub returns : goal.returns
