@@ -52,6 +52,7 @@ LINES = [
     ("checkpoint --wa", "checkpoint --wait"),
     ("check --exp", "check --explain"),
     ("format -i --dro", "format -i --drop-comments"),
+    ("check --kee", "check --keep-comments"),
 ]
 
 

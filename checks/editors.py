@@ -49,6 +49,8 @@ LINES: list[Line] = [
 # Lines that explain one of these, and are none for VS Code, whose tasks run in a terminal.
 EXPLAINING = ["5 | a:1: b", "12 | name: Input", "   | ^", "help: drop one, or give it another key", "help: close it"]
 
+VIM = os.path.join(TOP, "clients", "editors", "yaml.vim")
+
 # How long anything here may take, in seconds.
 PATIENCE = 60
 
@@ -98,7 +100,7 @@ def lines_of(top: str, failures: Failures) -> list[Line]:
 
 def by_vim(top: str, lines: Sequence[Line]) -> list[Place]:
     """What Vim reads of the lines."""
-    settings = block_of("vim").replace("setlocal", "set")
+    settings = read_file(VIM).decode().replace("setlocal", "set")
     write_file(os.path.join(top, "settings.vim"), settings.encode())
     write_file(os.path.join(top, "lines"), "".join(f"{line}\n" for line, _ in lines).encode())
     entry = "[bufname(v:val.bufnr), v:val.lnum, v:val.col, v:val.text]"
@@ -109,6 +111,29 @@ def by_vim(top: str, lines: Sequence[Line]) -> list[Place]:
     subprocess.run(words, cwd=top, stdin=subprocess.DEVNULL, capture_output=True, check=False, timeout=PATIENCE)
     found = json.loads(read_file(os.path.join(top, "found")))
     return [(name, line, column, text.strip()) for name, line, column, text in found]
+
+
+# Texts that Vim writes, each with what is in the file then: a text that is refused stays.
+WRITTEN = [
+    (b"# all\na:   b   # one\nc: [d]\n", b"# all\na: b # one\nc:\n  - d\n"),
+    (b"a: [1,,2]\nb:   c\n", b"a: [1,,2]\nb:   c\n"),
+    (b"a: b\n", b"a: b\n"),
+    (b"a: {}\n\n\n", b"a: {}\n"),
+]
+
+
+def written_by_vim(top: str, text: bytes) -> bytes:
+    """What is in a file that Vim opens and writes again, with the program on the PATH."""
+    write_file(os.path.join(top, "written.yaml"), text)
+    where = os.path.dirname(os.path.abspath(PROGRAM)) + os.pathsep + os.environ["PATH"]
+    words = ["vim", "-N", "-u", "NONE", "-i", "NONE", "-es", "written.yaml"]
+    for command in (f"source {VIM}", "write", "qa!"):
+        words += ["-c", command]
+    subprocess.run(
+        words, cwd=top, env={**os.environ, "PATH": where}, stdin=subprocess.DEVNULL, capture_output=True, check=False,
+        timeout=PATIENCE,
+    )  # fmt: skip
+    return read_file(os.path.join(top, "written.yaml"))
 
 
 # Writes the file, the line and the column of each message that `compile` finds.
@@ -172,6 +197,8 @@ def try_editors(top: str, failures: Failures) -> None:
     failures.expect("VS Code, lines that explain", by_code(EXPLAINING), [None] * len(EXPLAINING))
     if shutil.which("vim"):
         failures.expect("Vim", by_vim(top, lines), wanted)
+        for text, kept in WRITTEN:
+            failures.expect(f"Vim writes {text!r}", written_by_vim(top, text), kept)
     else:
         print("left out: Vim")
     if shutil.which("emacs"):

@@ -17,8 +17,8 @@ _confstore_options() {
     get) echo '--raw --no-newline --json --plain --default --at --help' ;;
     keys | exists) echo '--at --help' ;;
     log) echo '--values --hide --yaml --at --help' ;;
-    format) echo '-i --in-place --drop-comments --check --explain --help' ;;
-    check) echo '--explain --help' ;;
+    format) echo '-i --in-place --keep-comments --drop-comments --check --explain --help' ;;
+    check) echo '--keep-comments --explain --help' ;;
     *) echo '--help' ;;
     esac
 }

@@ -88,5 +88,6 @@ complete -c confstore -n '__fish_seen_subcommand_from log' -l hide -x -d 'Hide t
 complete -c confstore -n '__fish_seen_subcommand_from log' -l yaml -d 'Write the records as they stand'
 complete -c confstore -n '__fish_seen_subcommand_from format check' -F
 complete -c confstore -n '__fish_seen_subcommand_from format' -s i -l in-place -d 'Replace each file that would change'
+complete -c confstore -n '__fish_seen_subcommand_from format check' -l keep-comments -d 'Keep the comments of each text'
 complete -c confstore -n '__fish_seen_subcommand_from format' -l drop-comments -d 'Replace files with comments too'
 complete -c confstore -n '__fish_seen_subcommand_from format' -l check -d 'Name each file that would change'

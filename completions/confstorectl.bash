@@ -24,8 +24,8 @@ _confstorectl_options() {
     run) echo '--group --checkpoint-after --wait --help' ;;
     backup) echo '--wait --help' ;;
     salvage) echo '--wait --help' ;;
-    format) echo '--in-place --drop-comments --check --explain --help' ;;
-    check) echo '--explain --help' ;;
+    format) echo '--in-place --drop-comments --keep-comments --check --explain --help' ;;
+    check) echo '--keep-comments --explain --help' ;;
     *) echo '--socket --wait --help' ;;
     esac
 }

@@ -222,10 +222,14 @@ complete -c confstorectl -n '__confstorectl_is format' -l in-place \
     -d 'Replaces each FILE that would change by its text in the one style; also `-i`'
 complete -c confstorectl -n '__confstorectl_is format' -l drop-comments \
     -d 'Replaces a FILE with comments too, which are lost'
+complete -c confstorectl -n '__confstorectl_is format' -l keep-comments \
+    -d 'Keeps the comments of each text; of `check`, wants them so'
 complete -c confstorectl -n '__confstorectl_is format' -l check \
     -d 'Changes nothing, and names each FILE that would change'
 complete -c confstorectl -n '__confstorectl_is format' -l explain \
     -d 'Shows the line at fault of a refused text, and says what to do'
+complete -c confstorectl -n '__confstorectl_is check' -l keep-comments \
+    -d 'Keeps the comments of each text; of `check`, wants them so'
 complete -c confstorectl -n '__confstorectl_is check' -l explain \
     -d 'Shows the line at fault of a refused text, and says what to do'
 complete -c confstorectl -n '__confstorectl_at 0 import set delete copy rename edit batch checkpoint export names keys get exists render log verify watch init run backup salvage' \

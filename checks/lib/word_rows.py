@@ -57,7 +57,9 @@ class Word:
         return {**FILES, **self.made, "S/store.yaml": self.store}
 
 
-FILES = {"S/store.yaml": STORE, "FILE": b"port:   80\nhost: [a]\n", "VALUE": b"81"}
+FILES = {
+    "S/store.yaml": STORE, "FILE": b"port:   80\nhost: [a]\n", "VALUE": b"81", "NOTES": b"# all\na:   b # one\n",
+}  # fmt: skip
 
 WORDS = [
     Word("get S web", TEXT),
@@ -97,6 +99,14 @@ WORDS = [
     Word("backup S NEW", made={"NEW/store.yaml": STORE}),
     Word("format -i FILE", made={"FILE": b'port: "80"\nhost:\n  - a\n'}, file="FILE"),
     Word("check FILE", b"FILE:1: S4 the text first differs from the one style here\n", status=1, file="FILE"),
+    Word("format --keep-comments NOTES", b"# all\na: b # one\n", file="NOTES"),
+    Word("format --check --keep-comments NOTES", b"NOTES\n", status=1, file="NOTES"),
+    Word("format -i --keep-comments NOTES", made={"NOTES": b"# all\na: b # one\n"}, file="NOTES"),
+    Word(
+        "check --keep-comments NOTES", b"NOTES:2: S4 the text first differs from the one style here\n", status=1,
+        file="NOTES",
+    ),  # fmt: skip
+    Word("import S mail - --explain", store=STORE + IMPORT, input=b"a:   b\n", file="-"),
 ]
 
 

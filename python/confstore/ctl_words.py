@@ -112,6 +112,7 @@ CHECKPOINT_AFTER = Option(
 )
 IN_PLACE = Option("--in-place", "Replaces each FILE that would change by its text in the one style; also `-i`")
 DROP_COMMENTS = Option("--drop-comments", "Replaces a FILE with comments too, which are lost")
+KEEP_COMMENTS = Option("--keep-comments", "Keeps the comments of each text; of `check`, wants them so")
 CHECK_ONLY = Option("--check", "Changes nothing, and names each FILE that would change")
 
 FOLDER = Argument("FOLDER", "The store's folder")
@@ -476,11 +477,11 @@ SALVAGE = Word(
 FORMAT_TEXT = Word(
     "format",
     "Writes the tree of a YAML text in the one style",
-    (IN_PLACE, DROP_COMMENTS, CHECK_ONLY, EXPLAIN),
+    (IN_PLACE, DROP_COMMENTS, KEEP_COMMENTS, CHECK_ONLY, EXPLAIN),
     (FILES,),
     (
         "It needs no store. One FILE, or standard input, is written to standard output. More of them need `--in-place`"
-        " or `--check`. With `--check` the status is 1 where a FILE would change.",
+        " or `--check`. With `--check` the status is 1 where a FILE would change. Comments stay with `--keep-comments`.",
     ),
     (
         "confstorectl format < web.yaml",
@@ -491,7 +492,7 @@ FORMAT_TEXT = Word(
 CHECK_TEXT = Word(
     "check",
     "Writes where YAML texts depart from the one style",
-    (EXPLAIN,),
+    (KEEP_COMMENTS, EXPLAIN),
     (FILES,),
     ("It needs no store. Each finding is one line, and the status is 1 then. confstore(1) has the rules.",),
     ("confstorectl check web.yaml",),

@@ -22,6 +22,7 @@ use Rattle.conf_words.specs.declared.invocation.Comments.{Comments}
 use Rattle.conf_words.specs.declared.invocation.Formatting.{Formatting}
 use Rattle.conf_words.specs.declared.invocation.Formatting.TheVariants as formatting
 use Rattle.conf_words.specs.declared.invocation.LogForm.{LogForm as AskedLog}
+use Rattle.conf_words.specs.declared.invocation.Style.{Style}
 use Rattle.conf_words.specs.declared.invocation.LogForm.TheVariants as asked
 use Rattle.conf_words.specs.declared.invocation.Value.{Value}
 use Rattle.conf_words.specs.declared.invocation.Value.TheVariants.{Text, Yaml, File}
@@ -299,18 +300,21 @@ module _ {W D F P : Type 0} (world : WorldModel W D F P) (disk : DiskModel D) (r
 
   of-formatting : (formatting : Formatting) (paths : List (List ℕ)) (old new : Around W) (status : Status)
       → FormatsAll world remaining formatting paths old new status → Steady old.world new.world
-  of-formatting formatting.Write [] old new status does = same old.world new.world does.1
-  of-formatting formatting.Write (path ∷ paths) old new status does =
+  of-formatting (formatting.Write style) [] old new status does = same old.world new.world does.1
+  of-formatting (formatting.Write style) (path ∷ paths) old new status does =
       of-text path does.read old.world new.world old.input new.input does.takes
   of-formatting (formatting.InPlace comments) paths old new status does =
       of-restyles comments paths Done old.world new.world status does.does
-  of-formatting formatting.Check [] old new status does = of-reports Name (codes "-" ∷ []) Done old new status does
-  of-formatting formatting.Check (path ∷ paths) old new status does = of-reports Name (path ∷ paths) Done old new status does
+  of-formatting (formatting.Check style) [] old new status does =
+      of-reports (Name style) (codes "-" ∷ []) Done old new status does
+  of-formatting (formatting.Check style) (path ∷ paths) old new status does =
+      of-reports (Name style) (path ∷ paths) Done old new status does
 
-  of-checking : (paths : List (List ℕ)) (old new : Around W) (status : Status)
-      → ChecksAll world remaining paths old new status → Steady old.world new.world
-  of-checking [] old new status does = same old.world new.world does.1
-  of-checking (path ∷ paths) old new status does = of-reports Findings (path ∷ paths) Done old new status does
+  of-checking : (style : Style) (paths : List (List ℕ)) (old new : Around W) (status : Status)
+      → ChecksAll world remaining style paths old new status → Steady old.world new.world
+  of-checking style [] old new status does = same old.world new.world does.1
+  of-checking style (path ∷ paths) old new status does =
+      of-reports (Findings style) (path ∷ paths) Done old new status does
 
   -- ---- all words
 
@@ -349,7 +353,7 @@ module _ {W D F P : Type 0} (world : WorldModel W D F P) (disk : DiskModel D) (r
   effect (Format formatting files reporting) old new status does not_new = nothing None (of-formatting formatting _ old new status does)
   effect (Salvage folder new_folder) old new status does not_new = cc
   effect (Backup folder new_folder) old new status does not_new = cc
-  effect (Check files reporting) old new status does not_new = nothing None (of-checking _ old new status does)
+  effect (Check style files reporting) old new status does not_new = nothing None (of-checking style _ old new status does)
 
   -- what is done to one folder leaves another as it was
   beside : (path : List ℕ) (old new : W) {status : Status} {folder : Option (List ℕ)} {call : Option (Call disk)}
@@ -404,8 +408,8 @@ module _ {W D F P : Type 0} (world : WorldModel W D F P) (disk : DiskModel D) (r
       beside path old.world new.world (effect (Verify folder) old new status does refl) is_other image is
   spares path (Format formatting files reporting) old new status does is_other image is =
       beside path old.world new.world (effect (Format formatting files reporting) old new status does refl) is_other image is
-  spares path (Check files reporting) old new status does is_other image is =
-      beside path old.world new.world (effect (Check files reporting) old new status does refl) is_other image is
+  spares path (Check style files reporting) old new status does is_other image is =
+      beside path old.world new.world (effect (Check style files reporting) old new status does refl) is_other image is
 
   -- ---- a new store
 

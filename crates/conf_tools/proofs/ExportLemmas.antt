@@ -1,6 +1,6 @@
 -- What an export finds, whether the store was opened or its file was read.
 use Rattle.std.proofs.Common.{◌≡◌, ◌≤◌, ◌⊎◌, ℕ, List, Ok, Err, inl, inr, refl, sym, ap, subst, arith, ⊎_elim}
-use Rattle.std.specs.Prelude.{Option, Some, None, Result, IfOk, IfErr, OnOk, Vec}
+use Rattle.std.specs.Prelude.{Option, Some, None, Result, IfOk, IfErr, OnErr, OnOk, Vec}
 use Rattle.conf_tools.proofs.Prelude.{Folder, Reads, Tells, bytes_under, Image, IsImage, image_now, ReadingIsAnImage, DiskModel, LeavesOnly}
 use Rattle.conf_tools.proofs.Prelude.{Content, Bytes, Missing, Store, LeavesOnly-joined, LeavesOnly-now, LeavesOnly-start}
 use Rattle.conf_tools.proofs.Prelude.{LeavesOnly-weaker, store_limit, Contents, StoreFault, HasFailed, tree_named, FileMeans, empty_state}
@@ -13,13 +13,20 @@ use Rattle.conf_words.specs.declared.invocation.TreeForm.{TreeForm}
 use Rattle.conf_tools.specs.declared.stores.StoreToolFault.TheVariants.{Folder as InFolder}
 use Rattle.conf_tools.specs.declared.stores.StoreToolFault.TheVariants.{Condition as OnCondition}
 use Rattle.conf_tools.specs.{Dropped.HasNoRest, Dropped.TellsDroppedOf, Stores.OpensOn, declared.stores.StoreToolFault.StoreToolFault}
-use Rattle.conf_tools.specs.Exports.{Finds, HasNoTextIn, HasText, IsTextIn, IsTextOf, IsTextOfFound, LacksText, disk_back}
+use Rattle.conf_tools.specs.Exports.{Finds, HasNoTextIn, HasText, IsTextIn, IsTextOf, IsTextOfFound, LacksText, LastsOrTells, TellsExport}
+use Rattle.conf_tools.specs.Exports.{TellsReadAlone, disk_back, read_alone_line}
 use Rattle.conf_tools.specs.declared.stores.StoreToolFault.TheVariants.{Open, Session, Export, Refused, StoreExists}
 
 -- a failure is still one after further calls
 failed-on : (before now later : ℕ) → HasFailed before now → now ≤ later → HasFailed before later
 failed-on before now later (inl more) le = inl (omega (arith, more, le))
 failed-on before now later (inr spent) le = inr spent
+
+-- what a file that was read as it stands tells
+pub alone-told : {R F E : Type 0} (hears : E → List ℕ → E → Type 0) (from to : E) (r : Result R F)
+    → OnOk r (hears from read_alone_line to) → OnErr r (to ≡ from) → TellsExport hears from to
+alone-told hears from to (Ok done) told untold = inr told
+alone-told hears from to (Err fault) told untold = inl (inl untold)
 
 -- ---- a file that was read
 
@@ -211,16 +218,20 @@ module _ {D : Type 0} (model : DiskModel D) where
     refused-before name (Ok found) lacks = tt
     refused-before name (Err (new, fault)) lacks = lacks-before name new fault lacks
 
-    pub dropped-before : {X E : Type 0} (hears : E → List ℕ → E → Type 0) (from to : E)
-        (r : Result (D × X) (D × StoreToolFault)) → model.honest
-        → OnOk r (HasFailed (model.failure_count mid) (model.failure_count (disk_back r))
-        ⊎ TellsDroppedOf hears (bytes_under (model.folder mid) Store) from to)
-        → OnOk r (HasFailed (model.failure_count old) (model.failure_count (disk_back r))
-        ⊎ TellsDroppedOf hears (bytes_under (model.folder old) Store) from to)
-    dropped-before hears from to (Ok (new, x)) h told =
-        ⊎_elim (λ failed. inl (failed-before new failed))
-        (λ tells. inr (subst (λ file. TellsDroppedOf hears file from to) (same-file h) tells)) told
-    dropped-before hears from to (Err refused) h told = tt
+    pub lasting-before : {X E : Type 0} (bytes : X → List ℕ) (form : TreeForm) (name : List ℕ)
+        (hears : E → List ℕ → E → Type 0) (from to : E) (r : Result (D × X) (D × StoreToolFault)) → model.honest
+        → IfOk r (λ found. LastsOrTells hears model form mid found.0 name (bytes found.1) from to)
+        → IfOk r (λ found. LastsOrTells hears model form old found.0 name (bytes found.1) from to)
+    lasting-before bytes form name hears from to (Ok (new, x)) h lasts =
+        ⊎_elim (λ kept. inl (kept.0, subst (λ file. TellsDroppedOf hears file from to) (same-file h) kept.1))
+        (λ alone. inr (failed-before new alone.0, alone.1)) lasts
+    lasting-before bytes form name hears from to (Err refused) h lasts = tt
+
+    pub quiet-before : {E : Type 0} (hears : E → List ℕ → E → Type 0) (from to : E) (new : D)
+        → (to ≡ from) ⊎ TellsReadAlone hears (model.failure_count mid) (model.failure_count new) from to
+        → (to ≡ from) ⊎ TellsReadAlone hears (model.failure_count old) (model.failure_count new) from to
+    quiet-before hears from to new quiet =
+        ⊎_elim (λ same. inl same) (λ alone. inr (failed-before new alone.0, alone.1)) quiet
 
     pub no-rest-before : model.honest → HasNoRest (bytes_under (model.folder old) Store)
         → HasNoRest (bytes_under (model.folder mid) Store)
@@ -301,13 +312,22 @@ module _ {D : Type 0} (model : DiskModel D) where
     refused-since name (Ok found) risen same lacks = tt
     refused-since name (Err (new, fault)) risen same lacks = lacks-since name new fault risen same lacks
 
-    -- the device has failed
-    pub dropped-since : {X : Type 0} (told : Type 0) (r : Result (D × X) (D × StoreToolFault))
-        → model.failure_count mid ≤ model.failure_count (disk_back r)
-        → OnOk r (HasFailed (model.failure_count old) (model.failure_count (disk_back r)) ⊎ told)
-    dropped-since told (Ok (new, x)) risen =
-        inl (failed-on (model.failure_count old) (model.failure_count mid) (model.failure_count new) failed risen)
-    dropped-since told (Err refused) risen = tt
+    -- what was read lasts as far as was told, since the device has failed
+    pub lasting-since : {X E : Type 0} (bytes : X → List ℕ) (form : TreeForm) (name : List ℕ)
+        (hears : E → List ℕ → E → Type 0) (from to : E) (r : Result (D × X) (D × StoreToolFault))
+        → model.failure_count mid ≤ model.failure_count (disk_back r) → OnOk r (hears from read_alone_line to)
+        → IfOk r (λ found. LastsOrTells hears model form old found.0 name (bytes found.1) from to)
+    lasting-since bytes form name hears from to (Ok (new, x)) risen told =
+        inr (failed-on (model.failure_count old) (model.failure_count mid) (model.failure_count new) failed risen, told)
+    lasting-since bytes form name hears from to (Err refused) risen told = tt
+
+    pub quiet-since : {X E : Type 0} (hears : E → List ℕ → E → Type 0) (from to : E)
+        (r : Result (D × X) (D × StoreToolFault)) → model.failure_count mid ≤ model.failure_count (disk_back r)
+        → OnOk r (hears from read_alone_line to) → OnErr r (to ≡ from)
+        → (to ≡ from) ⊎ TellsReadAlone hears (model.failure_count old) (model.failure_count (disk_back r)) from to
+    quiet-since hears from to (Ok (new, x)) risen told untold =
+        inr (failed-on (model.failure_count old) (model.failure_count mid) (model.failure_count new) failed risen, told)
+    quiet-since hears from to (Err refused) risen told untold = inl untold
 
   -- a crash while the file is read leaves no more than one before
   pub leaves-since : (old mid : D) → LeavesOnly model old mid (λ image. MeantAtEntry (model.folder old) image.store)

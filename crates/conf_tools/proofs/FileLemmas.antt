@@ -9,10 +9,8 @@ use Rattle.yaml_events.specs.declared.read_fault.ReadFault.{ReadFault}
 use Rattle.yaml_style.specs.declared.finding.Finding.{Finding}
 use Rattle.yaml_docs.specs.Reading.{RefusesBytes}
 use Rattle.yaml_tree.specs.Reading.{Refuses}
-use Rattle.conf_words.specs.declared.invocation.Comments.TheVariants.{Dropped}
-use Rattle.conf_tools.specs.{Tools.Stops, declared.texts.ToolFault.ToolFault}
-use Rattle.conf_tools.specs.FileTexts.{Adds, StopsInFile, StopsRestyling, file_line, file_report}
-use Rattle.conf_tools.specs.declared.texts.ToolFault.TheVariants.{Input, Output, Read, Comments}
+use Rattle.conf_tools.specs.FileTexts.{Adds, StopsInFile, file_line, file_report}
+use Rattle.conf_tools.specs.declared.texts.ToolFault.TheVariants.{Read}
 
 -- ---- bytes that are known
 
@@ -51,14 +49,6 @@ refused_stream bytes KeyTwice refuses = absurd refuses
 refused_stream bytes TooDeep refuses = absurd refuses
 refused_stream bytes LargeInStyle refuses = absurd refuses
 refused_stream bytes OutOfMemory refuses = tt
-
--- where comments are dropped, a text that has none to take its place is refused, and nothing was written
-pub stops_unwritten : (bytes : List ℕ) (held : Option (List ℕ)) (fault : ToolFault) → StopsRestyling Dropped bytes fault
-    → Stops bytes held held fault
-stops_unwritten bytes held Input stops = stops
-stops_unwritten bytes held Output stops = absurd stops
-stops_unwritten bytes held (Read fault) stops = (stops, Keeps-refl held)
-stops_unwritten bytes held (Comments place) stops = cc (stops.0)
 
 -- ---- the lines of a file
 

@@ -12,5 +12,6 @@ pub mod FoundLemmas
 pub mod DroppedLemmas
 pub mod HeldLemmas
 pub mod FileLemmas
+pub mod StyleLemmas
 pub mod OutcomeLemmas
 mod MadeLemmas

@@ -8,13 +8,24 @@ use Rattle.conf_tools.specs.{TextWords.status_of_report, declared.outcome.Ending
 use Rattle.conf_tools.specs.{declared.outcome.Ending.TheVariants.Told, declared.outcome.Outcome.Outcome, declared.program.Status.Status}
 use Rattle.conf_tools.specs.{declared.program.Status.TheVariants.Done, declared.program.Status.TheVariants.Device, declared.tail.Tail.Tail}
 use Rattle.conf_tools.specs.{declared.texts.ToolFault.ToolFault}
-use Rattle.conf_tools.specs.Outcomes.{EndsWriting, LeavesText, SilentIfDone, SilentReport, TellsOnlyTold, TellsOutcome, TellsSession}
-use Rattle.conf_tools.specs.Outcomes.{TellsUnperformed, status_of_outcome}
-use Rattle.conf_tools.specs.declared.texts.ToolFault.TheVariants.{Input, Output, Read, Comments}
+use Rattle.conf_tools.specs.Losses.{SetTells, TellsLoss, TellsLossIfAsked, TellsLossIfDone}
+use Rattle.conf_tools.specs.Outcomes.{EndsWriting, LeavesImport, SilentIfDone, SilentReport, TellsIfDone, TellsOnlyTold, TellsOutcome}
+use Rattle.conf_tools.specs.Outcomes.{TellsSession, TellsUnperformed, status_of_outcome}
+use Rattle.conf_tools.specs.Styles.{TellsLeftOut, TellsLeftOutOf}
+use Rattle.conf_tools.specs.{Tools.Taken, declared.change_words.Meaning.Meaning, declared.changes.Change.Change}
+use Rattle.conf_tools.specs.{declared.reporter.Origin.Origin, declared.reporter.Origin.TheVariants.Named}
+use Rattle.conf_tools.specs.declared.reporter.Origin.TheVariants.{Input}
+use Rattle.conf_tools.specs.declared.change_words.Meaning.TheVariants as means
+use Rattle.conf_words.specs.declared.invocation.Reporting.{Reporting}
+use Rattle.conf_words.specs.declared.invocation.Reporting.TheVariants.{Brief, Explained}
+use Rattle.conf_words.specs.declared.invocation.Style.{Style}
+use Rattle.conf_words.specs.declared.invocation.Style.TheVariants.{Bare, WithComments}
+use Rattle.conf_tools.specs.declared.texts.ToolFault.TheVariants.{Output, Read, Comments}
+use Rattle.conf_tools.specs.declared.texts.ToolFault.TheVariants.{Input as NoInput}
 use Rattle.conf_tools.specs.declared.outcome.Outcome.TheVariants as ends
 
 counts : (fault : ToolFault) → 0 < code_of (status_of fault)
-counts Input = omega arith
+counts NoInput = omega arith
 counts Output = omega arith
 counts (Read fault) = omega arith
 counts (Comments place) = omega arith
@@ -73,12 +84,6 @@ module _ {E : Type 0} where
   report_then (Ok status) old mid new silent same = λ zero. same ∙ silent zero
   report_then (Err fault) old mid new silent same = tt
 
-  -- nothing was told twice
-  pub both_silent : {T : Type 0} (ended : Result T ToolFault) (old mid new : E)
-      → OnOk ended (mid ≡ old) → OnOk ended (new ≡ mid) → OnOk ended (new ≡ old)
-  both_silent (Ok done) old mid new first second = second ∙ first
-  both_silent (Err fault) old mid new first second = tt
-
   -- one more file
   pub worst_silently : (one other : Status) (old mid new : E)
       → SilentIfDone one old mid → SilentIfDone other mid new → SilentIfDone (worst one other) old new
@@ -86,11 +91,72 @@ module _ {E : Type 0} where
       let both = both_done one other zero in second both.1 ∙ first both.0
 
   module _ (hears : E → List ℕ → E → Type 0) where
-    -- what opening dropped was told, and then perhaps what is wrong with a text
-    pub text_left : (ending : Ending) (old mid new : E)
-        → TellsDropped hears old mid → TellsOnlyTold ending mid new → LeavesText hears old ending new
-    text_left (Of outcome) old mid new told same = subst (TellsDropped hears old) (sym same) told
-    text_left (Told status) old mid new told failed = λ zero. absurd (failed zero)
+    -- the comments of a text are some
+    any_left_out : (bytes : List ℕ) (old new : E) → TellsLeftOutOf hears bytes old new → TellsLeftOut hears old new
+    any_left_out bytes old new (inl same) = inl same
+    any_left_out bytes old new (inr (count, counts, told)) = inr (count, told)
+
+    -- what opening dropped was told, and then perhaps what is wrong with a text, or how many comments were left out
+    pub import_left : (ending : Ending) (old mid new : E)
+        → TellsDropped hears old mid → TellsOnlyTold hears ending mid new → LeavesImport hears old ending new
+    import_left (Of outcome) old mid new told only = (mid, told, only)
+    import_left (Told status) old mid new told failed = λ zero. absurd (failed zero)
+
+    -- what was asked for was told
+    pub asked_left_out : (reporting : Reporting) (bytes : List ℕ) (old new : E)
+        → TellsLossIfAsked hears reporting bytes old new → TellsLeftOut hears old new
+    asked_left_out Brief bytes old new same = inl same
+    asked_left_out Explained bytes old new told = any_left_out bytes old new told
+
+    -- what a value's text tells
+    pub set_left_out : (reporting : Reporting) (meaning : Meaning) (change : Result Change ToolFault) (bytes : List ℕ)
+        (old mid new : E) → OnOk change (mid ≡ old) → SetTells hears reporting meaning change bytes mid new
+        → OnOk change (TellsLeftOut hears old new)
+    set_left_out reporting means.Text (Ok change) bytes old mid new same told = inl (told ∙ same)
+    set_left_out reporting means.Yaml (Ok change) bytes old mid new same told =
+        subst (λ before. TellsLeftOut hears before new) same (asked_left_out reporting bytes mid new told)
+    set_left_out reporting meaning (Err fault) bytes old mid new same told = tt
+
+    -- nothing is told, or nothing more
+    pub silent_left_out : {T : Type 0} (ended : Result T ToolFault) (old new : E)
+        → OnOk ended (new ≡ old) → OnOk ended (TellsLeftOut hears old new)
+    silent_left_out (Ok done) old new same = inl same
+    silent_left_out (Err fault) old new same = tt
+
+    pub left_out_then : {T : Type 0} (ended : Result T ToolFault) (old mid new : E)
+        → OnOk ended (TellsLeftOut hears old mid) → OnOk ended (new ≡ mid) → OnOk ended (TellsLeftOut hears old new)
+    left_out_then (Ok done) old mid new told same = subst (TellsLeftOut hears old) (sym same) told
+    left_out_then (Err fault) old mid new told same = tt
+
+    -- what `format` tells of a text that it wrote
+    pub loss_if_done : (ended : Result (Unit {0}) ToolFault) (origin : Origin) (style : Style) (bytes : List ℕ)
+        (status : Status) (old mid new : E) → status ≡ status_after ended → OnOk ended (mid ≡ old)
+        → OnOk ended (TellsLoss hears origin style bytes mid new)
+        → code_of status ≡ 0 → TellsLoss hears origin style bytes old new
+    loss_if_done (Ok done) origin style bytes status old mid new is same told zero =
+        subst (λ before. TellsLoss hears origin style bytes before new) same told
+    loss_if_done (Err fault) origin style bytes status old mid new is same told zero =
+        absurd (never_done fault status is zero)
+
+    -- of the input nothing is told
+    pub input_silently : (style : Style) (read : Taken) (status : Status) (old new : E)
+        → TellsLossIfDone hears Input style read status old new → SilentIfDone status old new
+    input_silently style (Ok bytes) status old new told = told
+    input_silently style (Err fault) status old new told = λ zero. absurd (told zero)
+
+    -- of a text, and nothing more
+    loss_told : (origin : Origin) (style : Style) (bytes : List ℕ) (old new : E)
+        → TellsLoss hears origin style bytes old new → TellsLeftOut hears old new
+    loss_told Input style bytes old new told = inl told
+    loss_told (Named file) Bare bytes old new told = any_left_out bytes old new told
+    loss_told (Named file) WithComments bytes old new told = inl told
+
+    pub loss_then : (origin : Origin) (style : Style) (read : Taken) (status : Status) (old mid new : E)
+        → TellsLossIfDone hears origin style read status old mid → SilentIfDone status mid new
+        → TellsIfDone hears status old new
+    loss_then origin style (Ok bytes) status old mid new told same = λ zero.
+        subst (TellsLeftOut hears old) (sym (same zero)) (loss_told origin style bytes.items old mid (told zero))
+    loss_then origin style (Err fault) status old mid new told same = λ zero. absurd (told zero)
 
     -- what opening dropped was told, and then what a session did not perform
     pub session_told : {A F : Type 0} (tail : Tail) (ended : Result (A × Tally) F) (old mid new : E) → TellsDropped hears old mid

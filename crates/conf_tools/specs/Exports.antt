@@ -1,9 +1,11 @@
 -- What an export finds, and in which state.
-use Rattle.std.specs.Prelude.{◌≡◌, ◌≢◌, ◌⊎◌, ℕ, List, Option, Result, Ok, Err, encode_utf8_all}
-use Rattle.conf_tools.specs.Prelude.{Tree, Tells, bytes_under, DiskModel, Store, store_limit, Contents, StoreFault}
-use Rattle.conf_tools.specs.Prelude.{HasFailed, tree_named, IsNewBase, FileMeans, RefusesOpening, TreeForm}
+use Rattle.std.specs.Prelude.{◌≡◌, ◌≢◌, ◌⊎◌, ℕ, List, Option, Result, Ok, Err, codes, encode_utf8_all}
+use Rattle.conf_tools.specs.Prelude.{Tree, Folder, Tells, bytes_under, Image, IsImage, DiskModel, Store, store_limit}
+use Rattle.conf_tools.specs.Prelude.{Contents, StoreFault, AllImagesMean, HasFailed, tree_named, IsNewBase, FileMeans}
+use Rattle.conf_tools.specs.Prelude.{RefusesOpening, TreeForm}
 use Rattle.conf_disk.specs.declared.disk.Content.{Content}
 use Rattle.conf_state.specs.declared.fault.StoreFault.TheVariants.{OutOfMemory}
+use Rattle.conf_tools.specs.Dropped.{TellsDropped, TellsDroppedOf}
 use Rattle.conf_tools.specs.{Reads.tree_text, declared.stores.StoreToolFault.StoreToolFault}
 use Rattle.conf_tools.specs.declared.stores.StoreToolFault.TheVariants.{Open, Export}
 use Rattle.conf_store.specs.declared.fault.OpenFault.TheVariants as OpenFaults
@@ -75,3 +77,37 @@ LacksText model old new name (Open fault) =
     × (fault ≡ OpenFaults.Device → HasFailed (model.failure_count old) (model.failure_count new))
 LacksText model old new name (Export fault) = HasNoText model old new name fault
 LacksText model old new name fault = ⊥
+
+-- ---- what is on the device, and what is told
+
+-- whatever a crash leaves of the folder, `store.yaml` is as it reads now
+abbrev pub CrashKeepsStore : Folder → Type 0
+CrashKeepsStore folder = (image : Image) → IsImage folder image → image.store ≡ bytes_under folder Store
+
+-- whatever a crash leaves of the folder means a state that has this text under the name
+pub record CrashKeepsText (folder : Folder) (form : TreeForm) (name bytes : List ℕ) : Type 0 where
+  pub state : Contents
+  pub images : AllImagesMean folder state
+  pub exports : IsTextOf form state name bytes
+
+-- the line for a file that was read as it stands
+abbrev pub read_alone_line : List ℕ
+read_alone_line =
+    codes "confstore: store.yaml was only read, not put on the device: a crash may undo its last commands\n"
+
+module _ {E : Type 0} (hears : E → List ℕ → E → Type 0) where
+  -- at most what opening dropped was told, or that the file was read as it stands
+  abbrev pub TellsExport : E → E → Type 0
+  TellsExport old new = TellsDropped hears old new ⊎ hears old read_alone_line new
+
+  -- the device failed, and it was told that the file was read as it stands
+  abbrev pub TellsReadAlone : ℕ → ℕ → E → E → Type 0
+  TellsReadAlone before now old new = HasFailed before now × hears old read_alone_line new
+
+  -- No crash takes back the text that was exported, and what opening dropped was told; or it was told that the file was
+  -- read as it stands, since the device failed.
+  abbrev pub LastsOrTells : {D : Type 0} → DiskModel D → TreeForm → D → D → List ℕ → List ℕ → E → E → Type 0
+  LastsOrTells model form old new name bytes before now =
+      (CrashKeepsText (model.folder new) form name bytes
+      × TellsDroppedOf hears (bytes_under (model.folder old) Store) before now)
+      ⊎ TellsReadAlone (model.failure_count old) (model.failure_count new) before now

@@ -1,39 +1,41 @@
 -- What a tool has written for the text of a file that was named.
 use Rattle.std.specs.Prelude.{◌≡◌, ◌≢◌, ℕ, Bool, true, false, List, [], ◌∷◌, ◌++◌, Option, length, codes, decimal}
-use Rattle.std.specs.Prelude.{encode_utf8_all, string_bytes}
-use Rattle.conf_tools.specs.Prelude.{Appends, Keeps, style_text, Tree, IsRead, Refuses, config_limits, HasComment}
-use Rattle.conf_tools.specs.Prelude.{HasNoComment, IsChecked, name_of, Finding, Comments}
+use Rattle.std.specs.Prelude.{string_bytes}
+use Rattle.conf_tools.specs.Prelude.{Appends, Keeps, Refuses, config_limits, HasComment, HasNoComment, name_of, Finding}
+use Rattle.conf_tools.specs.Prelude.{Comments, Style}
 use Rattle.yaml_events.specs.declared.read_fault.ReadFault.{ReadFault}
 use Rattle.yaml_style.specs.declared.finding.Rule.{Rule}
 use Rattle.yaml_style.specs.declared.finding.Rule.TheVariants.{TrailingWhitespace, LineEnd, LongLine, NotInStyle}
-use Rattle.conf_words.specs.declared.invocation.Comments.TheVariants.{Refused, Dropped}
+use Rattle.conf_words.specs.declared.invocation.Comments.TheVariants.{Refused, Dropped, Kept}
+use Rattle.conf_tools.specs.Styles.{IsCheckedIn, IsStyled, style_of}
 use Rattle.conf_tools.specs.declared.texts.ToolFault.TheVariants.{Comments as HasComments}
 use Rattle.conf_tools.specs.{Tools.GivesTree, declared.file_texts.Restyled.Restyled, declared.texts.ToolFault.ToolFault}
 use Rattle.conf_tools.specs.declared.file_texts.Restyled.TheVariants.{Same, Changed}
 use Rattle.conf_tools.specs.declared.texts.ToolFault.TheVariants.{Input, Output, Read}
 
--- ---- the one style
+-- ---- the text in a style
 
--- what a text is in the one style, given that style's text of its tree: the same bytes, or others
+-- what bytes are in a style, given their text in it: the same bytes, or others
 abbrev pub IsRestyled : List ℕ → List ℕ → Restyled → Type 0
 IsRestyled bytes styled Same = bytes ≡ styled
 IsRestyled bytes styled (Changed text) = (string_bytes text ≡ styled) × (bytes ≢ styled)
 
--- another text may take the place of this one: it has no comment, or comments are dropped
+-- another text may take the place of this one: it has no comment, or comments are dropped, or kept
 abbrev pub MayLose : Comments → List ℕ → Type 0
 MayLose Dropped bytes = Unit {0}
+MayLose Kept bytes = Unit {0}
 MayLose Refused bytes = HasNoComment bytes
 
--- the same where the other text is the one style's, if that is another one
+-- the same where the other text is that in the style, if that is another one
 abbrev pub MayBecome : Comments → List ℕ → Restyled → Type 0
 MayBecome comments bytes Same = Unit {0}
 MayBecome comments bytes (Changed text) = MayLose comments bytes
 
--- the bytes give a tree, and this is what they are in the one style, which may take their place
+-- this is what bytes are in the style, which may take their place
 pub record Restyles (comments : Comments) (bytes : List ℕ) (restyled : Restyled) : Type 0 where
-  pub tree : Tree
-  pub reads : IsRead bytes config_limits tree
-  pub styled : IsRestyled bytes (encode_utf8_all (style_text tree)) restyled
+  pub text : List ℕ
+  pub is : IsStyled (style_of comments) bytes text
+  pub styled : IsRestyled bytes text restyled
   pub loses : MayBecome comments bytes restyled
 
 -- why there is nothing that may take the place of a text: it is refused, or it has a comment, and is to have none
@@ -48,16 +50,16 @@ abbrev pub name_line : List ℕ → Bool → List ℕ
 name_line file false = []
 name_line file true = file ++ codes "\n"
 
--- whether a text is another one in the one style
+-- whether a text is another one in a style
 abbrev pub Differs : List ℕ → List ℕ → Bool → Type 0
 Differs bytes styled false = bytes ≡ styled
 Differs bytes styled true = bytes ≢ styled
 
--- the bytes give a tree, and the file's name was written if they are other ones in the one style
-pub record Lists (file bytes : List ℕ) (held written : Option (List ℕ)) (changes : Bool) : Type 0 where
-  pub tree : Tree
-  pub reads : IsRead bytes config_limits tree
-  pub differs : Differs bytes (encode_utf8_all (style_text tree)) changes
+-- the file's name was written if its bytes are other ones in a style
+pub record Lists (style : Style) (file bytes : List ℕ) (held written : Option (List ℕ)) (changes : Bool) : Type 0 where
+  pub text : List ℕ
+  pub is : IsStyled style bytes text
+  pub differs : Differs bytes text changes
   pub writes : Appends held written (name_line file changes)
 
 -- ---- findings
@@ -80,10 +82,10 @@ abbrev pub file_report : List ℕ → List Finding → List ℕ
 file_report file [] = []
 file_report file (f ∷ fs) = file_line file f ++ file_report file fs
 
--- the bytes give a tree, and the lines of their findings were written; count is their number
-pub record ChecksFile (file bytes : List ℕ) (held written : Option (List ℕ)) (count : ℕ) : Type 0 where
+-- the lines of the findings of bytes were written; count is their number
+pub record ChecksFile (style : Style) (file bytes : List ℕ) (held written : Option (List ℕ)) (count : ℕ) : Type 0 where
   pub found : List Finding
-  pub checked : IsChecked bytes found
+  pub checked : IsCheckedIn style bytes found
   pub counts : count ≡ length found
   pub writes : Appends held written (file_report file found)
 

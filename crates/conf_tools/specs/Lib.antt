@@ -11,12 +11,14 @@ pub mod ProgramCalls
 pub mod Exports
 pub mod Dropped
 pub mod Reads
+pub mod Styles
 pub mod Surveys
 pub mod ReadingStatuses
 pub mod Worlds
 pub mod StoreWords
 pub mod TextWords
 pub mod LogWords
+pub mod Losses
 pub mod Performs
 pub mod FaultLines
 pub mod Listening

@@ -4,7 +4,8 @@ use Rattle.conf_tools.specs.Prelude.{Tally, Invocation, Init, Import, Set, Delet
 use Rattle.conf_tools.specs.Prelude.{Export, Names, Get, Exists, Log, Verify, Salvage, Backup, Format, Check, Unparsed}
 use Rattle.conf_tools.specs.Prelude.{Shown, Wrong}
 use Rattle.conf_words.specs.declared.unparsed.Unparsed.TheVariants.{OutOfMemory as NoMemory}
-use Rattle.conf_tools.specs.{Dropped.TellsDropped, Listening.fault_line, ReadingStatuses.status_of_reading}
+use Rattle.conf_tools.specs.{Dropped.TellsDropped, Exports.TellsExport, Listening.fault_line}
+use Rattle.conf_tools.specs.{ReadingStatuses.status_of_reading, Styles.TellsLeftOut}
 use Rattle.conf_tools.specs.{Tails.TellsRest, Tails.end_of_rest, declared.outcome.Ending.Ending}
 use Rattle.conf_tools.specs.{declared.outcome.Ending.TheVariants.Of, declared.outcome.Ending.TheVariants.Told}
 use Rattle.conf_tools.specs.{declared.outcome.Outcome.Outcome, declared.program.Status.Status, declared.tail.Tail.Tail}
@@ -81,17 +82,22 @@ abbrev pub SilentReport : {E : Type 0} → Result Status ToolFault → E → E �
 SilentReport (Ok status) old new = SilentIfDone status old new
 SilentReport (Err fault) old new = Unit {0}
 
--- Nothing was told of what is still to be told; or what went wrong was told, and the status is not 0.
-abbrev pub TellsOnlyTold : {E : Type 0} → Ending → E → E → Type 0
-TellsOnlyTold (Of outcome) old new = new ≡ old
-TellsOnlyTold (Told status) old new = code_of status ≡ 0 → ⊥
-
 -- what went wrong is still to be told
 abbrev pub IsUntold : Ending → Type 0
 IsUntold (Of outcome) = Unit {0}
 IsUntold (Told status) = ⊥
 
 module _ {E : Type 0} (hears : E → List ℕ → E → Type 0) where
+  -- where the status is 0, at most how many comments were left out was told
+  abbrev pub TellsIfDone : Status → E → E → Type 0
+  TellsIfDone status old new = code_of status ≡ 0 → TellsLeftOut hears old new
+
+  -- At most how many comments were left out was told, and what is still to be told was not; or what went wrong was told,
+  -- and the status is not 0.
+  abbrev pub TellsOnlyTold : Ending → E → E → Type 0
+  TellsOnlyTold (Of outcome) old new = TellsLeftOut hears old new
+  TellsOnlyTold (Told status) old new = code_of status ≡ 0 → ⊥
+
   -- nothing was told so far, not even what went wrong
   abbrev pub LeavesAll : E → Ending → E → Type 0
   LeavesAll old ending new = IsUntold ending × (new ≡ old)
@@ -100,24 +106,35 @@ module _ {E : Type 0} (hears : E → List ℕ → E → Type 0) where
   abbrev pub LeavesOpened : E → Ending → E → Type 0
   LeavesOpened old ending new = IsUntold ending × TellsDropped hears old new
 
-  -- the same, or what is wrong with a text was told
-  abbrev pub LeavesText : E → Ending → E → Type 0
-  LeavesText old (Of outcome) new = TellsDropped hears old new
-  LeavesText old (Told status) new = SilentIfDone status old new
+  -- the same, and then at most how many comments were left out; or what is wrong with a text was told
+  abbrev pub LeavesImport : E → Ending → E → Type 0
+  LeavesImport old (Of outcome) new = (opened : E) × TellsDropped hears old opened × TellsLeftOut hears opened new
+  LeavesImport old (Told status) new = SilentIfDone status old new
+
+  -- the same, first of the comments
+  abbrev pub LeavesSet : E → Ending → E → Type 0
+  LeavesSet old (Of outcome) new = (read : E) × TellsLeftOut hears old read × TellsDropped hears read new
+  LeavesSet old (Told status) new = SilentIfDone status old new
+
+  -- what is wrong with a text was told
+  abbrev pub LeavesTold : (Status → E → E → Type 0) → E → Ending → E → Type 0
+  LeavesTold tells old (Of outcome) new = ⊥
+  LeavesTold tells old (Told status) new = tells status old new
 
   -- What a word leaves to be told at its end. One that reads the file of a store has told nothing so far. One that opens a
-  -- store may have told what opening dropped, and a session what it did not perform. One on texts has told what is wrong
-  -- with a text; where the status is 0, nothing.
+  -- store may have told what opening dropped, an export that it read the file as it stands, and a session what it did not
+  -- perform. One on texts has told what is wrong with a text. Where the status is 0, one that leaves comments out may have
+  -- told how many, and nothing else is told.
   abbrev pub Leaves : Invocation → E → Ending → E → Type 0
   Leaves (Init folder) old ending new = LeavesOpened old ending new
-  Leaves (Import folder name file absent conditions reporting) old ending new = LeavesText old ending new
-  Leaves (Set folder name pointer value conditions reporting) old ending new = LeavesText old ending new
+  Leaves (Import folder name file absent conditions reporting) old ending new = LeavesImport old ending new
+  Leaves (Set folder name pointer value conditions reporting) old ending new = LeavesSet old ending new
   Leaves (Delete folder name pointer conditions) old ending new = LeavesOpened old ending new
   Leaves (Copy folder name to conditions) old ending new = LeavesOpened old ending new
   Leaves (Rename folder name to conditions) old ending new = LeavesOpened old ending new
   Leaves (Checkpoint folder) old ending new = LeavesOpened old ending new
   Leaves (Run folder grouping) old ending new = IsUntold ending × TellsSession hears old new
-  Leaves (Export folder name form) old ending new = LeavesOpened old ending new
+  Leaves (Export folder name form) old ending new = IsUntold ending × TellsExport hears old new
   Leaves (Names folder at form) old ending new = LeavesAll old ending new
   Leaves (Get folder name pointer at absent form) old ending new = LeavesAll old ending new
   Leaves (Exists folder name pointer at) old ending new = LeavesAll old ending new
@@ -125,8 +142,8 @@ module _ {E : Type 0} (hears : E → List ℕ → E → Type 0) where
   Leaves (Verify folder) old ending new = LeavesAll old ending new
   Leaves (Salvage folder new_folder) old ending new = LeavesAll old ending new
   Leaves (Backup folder new_folder) old ending new = LeavesAll old ending new
-  Leaves (Format formatting files reporting) old ending new = LeavesText old ending new
-  Leaves (Check files reporting) old ending new = LeavesText old ending new
+  Leaves (Format formatting files reporting) old ending new = LeavesTold TellsIfDone old ending new
+  Leaves (Check style files reporting) old ending new = LeavesTold SilentIfDone old ending new
 
 -- What a run tells: first what its word does (`leaves`), and then its ending, of which the status is that of the run. Only
 -- where a device failed does more follow, which says why.

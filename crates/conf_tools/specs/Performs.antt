@@ -2,7 +2,7 @@
 use Rattle.std.specs.Prelude.{◌≡◌, ℕ, List, [], ◌∷◌, map, Option, Some, None, Result, Ok, Err, codes}
 use Rattle.conf_tools.specs.Prelude.{chars, DiskModel, After, Asked, Comments, Conditions, Invocation}
 use Rattle.conf_tools.specs.Prelude.{Init, Import, Set, Delete, Copy, Rename, Checkpoint, Run, Export, Names, Get}
-use Rattle.conf_tools.specs.Prelude.{Exists, Log, Verify, Salvage, Backup, Format, Check, Value}
+use Rattle.conf_tools.specs.Prelude.{Exists, Log, Verify, Salvage, Backup, Format, Check, Style, Value}
 use Rattle.conf_words.specs.declared.invocation.Grouping.{Grouping as AskedGrouping}
 use Rattle.conf_words.specs.declared.invocation.MissingStore.{MissingStore}
 use Rattle.conf_words.specs.declared.invocation.Formatting.{Formatting}
@@ -37,17 +37,17 @@ access_of missing.Made = Making
 
 -- ---- the input alone
 
--- the input was written in the one style, or why not
-pub record FormatsText (given left held written : Option (List ℕ)) (status : Status) : Type 0 where
+-- the input was written in a style, or why not
+pub record FormatsText (style : Style) (given left held written : Option (List ℕ)) (status : Status) : Type 0 where
   pub read : Taken
   pub takes : IsTaken read given left
-  pub writes : FormatsRead read held written status
+  pub writes : FormatsRead style read held written status
 
 -- the findings of the input were written, or why not
-pub record ChecksText (given left held written : Option (List ℕ)) (status : Status) : Type 0 where
+pub record ChecksText (style : Style) (given left held written : Option (List ℕ)) (status : Status) : Type 0 where
   pub read : Taken
   pub takes : IsTaken read given left
-  pub writes : ChecksRead read held written status
+  pub writes : ChecksRead style read held written status
 
 -- ---- the words
 
@@ -117,20 +117,21 @@ module _ {W D F P : Type 0} (world : WorldModel W D F P) (remaining : F → Opti
 
   -- `format`
   abbrev pub FormatsAll : Formatting → List (List ℕ) → Around W → Around W → Status → Type 0
-  FormatsAll formatting.Write [] old new status =
-      FormatsText old.input new.input old.output new.output status × (new.world ≡ old.world)
-  FormatsAll formatting.Write (file ∷ files) old new status = FormatsFile world remaining file old new status
+  FormatsAll (formatting.Write style) [] old new status =
+      FormatsText style old.input new.input old.output new.output status × (new.world ≡ old.world)
+  FormatsAll (formatting.Write style) (file ∷ files) old new status = FormatsFile world remaining style file old new status
   FormatsAll (formatting.InPlace comments) files old new status = Restyles comments files old new status
-  FormatsAll formatting.Check [] old new status =
-      ReportsOnAll world remaining Name (codes "-" ∷ []) Done old new status
-  FormatsAll formatting.Check (file ∷ files) old new status =
-      ReportsOnAll world remaining Name (file ∷ files) Done old new status
+  FormatsAll (formatting.Check style) [] old new status =
+      ReportsOnAll world remaining (Name style) (codes "-" ∷ []) Done old new status
+  FormatsAll (formatting.Check style) (file ∷ files) old new status =
+      ReportsOnAll world remaining (Name style) (file ∷ files) Done old new status
 
   -- `check`
-  abbrev pub ChecksAll : List (List ℕ) → Around W → Around W → Status → Type 0
-  ChecksAll [] old new status =
-      ChecksText old.input new.input old.output new.output status × (new.world ≡ old.world)
-  ChecksAll (file ∷ files) old new status = ReportsOnAll world remaining Findings (file ∷ files) Done old new status
+  abbrev pub ChecksAll : Style → List (List ℕ) → Around W → Around W → Status → Type 0
+  ChecksAll style [] old new status =
+      ChecksText style old.input new.input old.output new.output status × (new.world ≡ old.world)
+  ChecksAll style (file ∷ files) old new status =
+      ReportsOnAll world remaining (Findings style) (file ∷ files) Done old new status
 
 -- ---- all words
 
@@ -176,5 +177,5 @@ module _ {W D F P : Type 0} (world : WorldModel W D F P) (disk : DiskModel D) (r
       BacksUpStore world disk remaining folder.now new_folder.now old.world new.world status × LeavesStreams old new
   Performs (Format formatting files reporting) old new status =
       FormatsAll world remaining formatting (map (λ file. file.now) files.items) old new status
-  Performs (Check files reporting) old new status =
-      ChecksAll world remaining (map (λ file. file.now) files.items) old new status
+  Performs (Check style files reporting) old new status =
+      ChecksAll world remaining style (map (λ file. file.now) files.items) old new status

@@ -46,6 +46,8 @@ pub use Rattle.conf_words.specs.declared.invocation.Invocation.TheVariants.{Chec
 pub use Rattle.conf_words.specs.declared.invocation.Invocation.TheVariants.{Log, Verify, Salvage, Backup, Format, Check}
 pub use Rattle.conf_words.specs.declared.invocation.MissingValue.{MissingValue}
 pub use Rattle.conf_words.specs.declared.invocation.NamesForm.{NamesForm}
+pub use Rattle.conf_words.specs.declared.invocation.Reporting.{Reporting}
+pub use Rattle.conf_words.specs.declared.invocation.Style.{Style}
 pub use Rattle.conf_words.specs.declared.invocation.TreeForm.{TreeForm}
 pub use Rattle.conf_words.specs.declared.invocation.Value.{Value}
 pub use Rattle.conf_words.specs.declared.invocation.ValueForm.{ValueForm}

@@ -3,7 +3,7 @@ use Rattle.std.specs.Prelude.{◌≡◌, ◌≢◌, ◌⊎◌, ◌<◌, ◌≤�
 use Rattle.std.specs.Prelude.{Option, Some, None, Result, Ok, Err, IfOk, IfErr, IsErrAnd, OnOk, codes, encode_utf8_all}
 use Rattle.std.specs.Prelude.{string_bytes}
 use Rattle.conf_tools.specs.Prelude.{chars, IsUtf8, ReplaceFault, command_of, delete_at, set_at, single, text_of}
-use Rattle.conf_tools.specs.Prelude.{Comments, Value, IsFirstFault, own_limits, config_limits, TooLong, NotUtf8}
+use Rattle.conf_tools.specs.Prelude.{Comments, Style, Value, IsFirstFault, own_limits, config_limits, TooLong, NotUtf8}
 use Rattle.conf_tools.specs.Prelude.{OutOfMemory, Tree, text, IsRead, Refuses}
 use Rattle.std.specs.Str.Lossy.{utf8_valid_len}
 use Rattle.conf_words.specs.Escapes.{escaped}
@@ -180,38 +180,42 @@ IsAlteration alteration.Delete name pointer = IsDelete name pointer
 IsAlteration (alteration.Copy from) name pointer = IsCopy from.now name
 IsAlteration (alteration.Rename from) name pointer = IsRename from.now name
 
--- ---- texts in the one style, and findings
+-- ---- texts in a style, and findings
 
--- the text was written in the one style, or why not
-pub record SaysStyled (result : Result (Unit {0}) ToolFault) (bytes : List ℕ) (held written : Option (List ℕ)) : Type 0 where
-  pub done : OnOk result (Formats bytes held written)
+-- the text was written in a style, or why not
+pub record SaysStyled (style : Style) (result : Result (Unit {0}) ToolFault) (bytes : List ℕ) (held written : Option (List ℕ))
+    : Type 0 where
+  pub done : OnOk result (Formats style bytes held written)
   pub stops : IfErr result (Stops bytes held written)
 
 -- the same of a text that was read; where none was, nothing was written
-abbrev pub FormatsRead : Taken → Option (List ℕ) → Option (List ℕ) → Status → Type 0
-FormatsRead (Ok bytes) held written status =
-    (result : Result (Unit {0}) ToolFault) × SaysStyled result bytes.items held written × (status ≡ status_after result)
-FormatsRead (Err fault) held written status = (written ≡ held) × (status ≡ status_of fault)
+abbrev pub FormatsRead : Style → Taken → Option (List ℕ) → Option (List ℕ) → Status → Type 0
+FormatsRead style (Ok bytes) held written status =
+    (result : Result (Unit {0}) ToolFault) × SaysStyled style result bytes.items held written
+    × (status ≡ status_after result)
+FormatsRead style (Err fault) held written status = (written ≡ held) × (status ≡ status_of fault)
 
 -- the findings of the text were written, or why not
-pub record SaysChecked (result : Result ℕ ToolFault) (bytes : List ℕ) (held written : Option (List ℕ)) : Type 0 where
-  pub done : IfOk result (Checks bytes held written)
+pub record SaysChecked (style : Style) (result : Result ℕ ToolFault) (bytes : List ℕ) (held written : Option (List ℕ))
+    : Type 0 where
+  pub done : IfOk result (Checks style bytes held written)
   pub stops : IfErr result (Stops bytes held written)
 
 -- the same of a text that was read
-abbrev pub ChecksRead : Taken → Option (List ℕ) → Option (List ℕ) → Status → Type 0
-ChecksRead (Ok bytes) held written status =
-    (result : Result ℕ ToolFault) × SaysChecked result bytes.items held written × (status ≡ status_after_check result)
-ChecksRead (Err fault) held written status = (written ≡ held) × (status ≡ status_of fault)
+abbrev pub ChecksRead : Style → Taken → Option (List ℕ) → Option (List ℕ) → Status → Type 0
+ChecksRead style (Ok bytes) held written status =
+    (result : Result ℕ ToolFault) × SaysChecked style result bytes.items held written
+    × (status ≡ status_after_check result)
+ChecksRead style (Err fault) held written status = (written ≡ held) × (status ≡ status_of fault)
 
 -- what a report on a file says, whose name is shown so
 abbrev pub SaysReport : Report → List ℕ → Result Status ToolFault → List ℕ → Option (List ℕ) → Option (List ℕ) → Type 0
-SaysReport Findings name (Ok status) bytes held written =
-    (count : ℕ) × ChecksFile name bytes held written count × (status ≡ status_of_count count)
-SaysReport Findings name (Err fault) bytes held written = StopsInFile bytes held written fault
-SaysReport Name name (Ok status) bytes held written =
-    (changes : Bool) × Lists name bytes held written changes × (status ≡ status_of_change changes)
-SaysReport Name name (Err fault) bytes held written = Stops bytes held written fault
+SaysReport (Findings style) name (Ok status) bytes held written =
+    (count : ℕ) × ChecksFile style name bytes held written count × (status ≡ status_of_count count)
+SaysReport (Findings style) name (Err fault) bytes held written = StopsInFile bytes held written fault
+SaysReport (Name style) name (Ok status) bytes held written =
+    (changes : Bool) × Lists style name bytes held written changes × (status ≡ status_of_change changes)
+SaysReport (Name style) name (Err fault) bytes held written = Stops bytes held written fault
 
 -- the same of a text that was read
 abbrev pub ReportsOnRead : Report → List ℕ → Taken → Result Status ToolFault → Option (List ℕ) → Option (List ℕ) → Type 0
@@ -238,11 +242,11 @@ IfSo true first second = first
 IfSo false first second = second
 
 module _ {W D F P : Type 0} (world : WorldModel W D F P) (remaining : F → Option (List ℕ)) where
-  -- the text of the file, or the input for `-`, was written in the one style
-  pub record FormatsFile (path : List ℕ) (old new : Around W) (status : Status) : Type 0 where
+  -- the text of the file, or the input for `-`, was written in a style
+  pub record FormatsFile (style : Style) (path : List ℕ) (old new : Around W) (status : Status) : Type 0 where
     pub read : Taken
     pub takes : TakesText world remaining path read old.world new.world old.input new.input
-    pub writes : FormatsRead read old.output new.output status
+    pub writes : FormatsRead style read old.output new.output status
 
   -- a report on one file, or on the input for `-`
   pub record ReportsOn (report : Report) (path : List ℕ) (old new : Around W) (result : Result Status ToolFault)
@@ -274,7 +278,7 @@ replaced_or_not (Err replacing.Device) = Err Output
 replaced_or_not (Err replacing.OutOfMemory) = Err (Read OutOfMemory)
 
 module _ {W D F P : Type 0} (world : WorldModel W D F P) where
-  -- a text that is another one in the one style is put in the place of its file
+  -- a text that is another one in the style is put in the place of its file
   abbrev pub ReplacesAt : P → Result Restyled ToolFault → W → W → Result (Unit {0}) ToolFault → Type 0
   ReplacesAt place (Ok Same) old new result = (new ≡ old) × (result ≡ Ok tt)
   ReplacesAt place (Ok (Changed styled)) old new result =
@@ -288,7 +292,8 @@ pub record SaysRestyled (comments : Comments) (bytes : List ℕ) (restyled : Res
   pub stops : IfErr restyled (StopsRestyling comments bytes)
 
 module _ {W D F P : Type 0} (world : WorldModel W D F P) where
-  -- What was made of a file of which this was read. If it has comments, it was replaced only where these are dropped.
+  -- What was made of a file of which this was read. If it has comments, it was replaced only where these are dropped or
+  -- kept.
   abbrev pub ReplacesRead : Comments → P → Taken → W → W → Status → Type 0
   ReplacesRead comments place (Ok bytes) old new status =
       (restyled : Result Restyled ToolFault) × SaysRestyled comments bytes.items restyled
@@ -304,7 +309,7 @@ module _ {W D F P : Type 0} (world : WorldModel W D F P) (remaining : F → Opti
       (read : Taken) × (left : Option (List ℕ)) × IsTaken read (remaining file) left
       × ReplacesRead world comments place read old new status
 
-  -- one file, which is replaced if its text is another one in the one style
+  -- one file, which is replaced if its text is another one in the style
   pub record RestylesFile (comments : Comments) (path : List ℕ) (old new : W) (status : Status) : Type 0 where
     pub found : Result (F × P) ReplaceFault
     pub seen : W

@@ -1,9 +1,10 @@
 -- What a tool has read from its reader, and what it has written to its writer. The bytes of a reader or a writer are
 -- known, or nothing is said of them (`None`).
 use Rattle.std.specs.Prelude.{◌≡◌, ◌⊎◌, ℕ, ◌+◌, ◌<◌, ◌≤◌, List, [], ◌∷◌, ◌++◌, Option, Result, Vec, IfOk, IfErr, length}
-use Rattle.std.specs.Prelude.{codes, decimal, encode_utf8_all}
-use Rattle.conf_tools.specs.Prelude.{Global, Consumes, IsAtEnd, Keeps, Appends, style_text, Tree, IsRead, Refuses}
-use Rattle.conf_tools.specs.Prelude.{OutOfMemory, IsChecked, config_limits, name_of, Finding}
+use Rattle.std.specs.Prelude.{codes, decimal}
+use Rattle.conf_tools.specs.Prelude.{Global, Consumes, IsAtEnd, Keeps, Appends, Tree, IsRead, Refuses, OutOfMemory}
+use Rattle.conf_tools.specs.Prelude.{config_limits, name_of, Finding, Style}
+use Rattle.conf_tools.specs.Styles.{IsCheckedIn, IsStyled}
 use Rattle.conf_tools.specs.declared.texts.ToolFault.{ToolFault}
 use Rattle.conf_tools.specs.declared.texts.ToolFault.TheVariants.{Input, Output, Read, Comments}
 
@@ -42,11 +43,11 @@ pub record IsTaken (read : Taken) (given left : Option (List ℕ)) : Type 0 wher
 abbrev pub GivesTree : List ℕ → Type 0
 GivesTree bytes = (tree : Tree) × IsRead bytes config_limits tree
 
--- the bytes give a tree, and its text in the one style was written
-pub record Formats (bytes : List ℕ) (held written : Option (List ℕ)) : Type 0 where
-  pub tree : Tree
-  pub reads : IsRead bytes config_limits tree
-  pub writes : Appends held written (encode_utf8_all (style_text tree))
+-- what the bytes are in a style was written
+pub record Formats (style : Style) (bytes : List ℕ) (held written : Option (List ℕ)) : Type 0 where
+  pub text : List ℕ
+  pub is : IsStyled style bytes text
+  pub writes : Appends held written text
 
 -- the line for a finding: the rule's name, a space, and the number of the line
 abbrev pub report_line : Finding → List ℕ
@@ -57,10 +58,10 @@ abbrev pub report : List Finding → List ℕ
 report [] = []
 report (f ∷ fs) = report_line f ++ report fs
 
--- the bytes give a tree, and the lines of their findings were written; count is their number
-pub record Checks (bytes : List ℕ) (held written : Option (List ℕ)) (count : ℕ) : Type 0 where
+-- the lines of the findings of bytes were written; count is their number
+pub record Checks (style : Style) (bytes : List ℕ) (held written : Option (List ℕ)) (count : ℕ) : Type 0 where
   pub found : List Finding
-  pub checked : IsChecked bytes found
+  pub checked : IsCheckedIn style bytes found
   pub counts : count ≡ length found
   pub writes : Appends held written (report found)
 

@@ -4,9 +4,11 @@ ghost use Rattle.conf_tools.specs.Prelude.{IsUtf8, chars, config_limits, tree_of
 ghost use Rattle.yaml_grammar.specs.Trees.{text as one_text};
 ghost use Rattle.conf_tools.specs.Dropped.{TellsDropped};
 ghost use Rattle.conf_tools.specs.Exports.{disk_handed_back};
-ghost use Rattle.conf_tools.specs.Outcomes.{LeavesText, TellsOnlyTold, status_of_ending, status_of_outcome};
+ghost use Rattle.conf_tools.specs.Losses.{ImportTells, SetTells, TellsLossIfAsked};
+ghost use Rattle.conf_tools.specs.Outcomes.{LeavesImport, LeavesSet, TellsOnlyTold, status_of_ending, status_of_outcome};
 ghost use Rattle.conf_tools.specs.Performs.{ChangesByWords, ChangesIf, ImportsBytes, ImportsRead, Sets, access_of};
 ghost use Rattle.conf_tools.specs.StoreWords.{ChangesInFolder, Inits, MakesInFolder, status_at_end};
+ghost use Rattle.conf_tools.specs.Styles.{TellsLeftOut};
 ghost use Rattle.conf_tools.specs.TextWords.{IsAlteration, IsImport, IsNoText, IsSet, RefusesText, SetsAt, SetsBytes, SetsMeant, SetsPlain, SetsRead, SetsText, SetsWord};
 
 use crate::asking::conditions_at;
@@ -17,13 +19,14 @@ use crate::outcome::{Ending, Outcome};
 use crate::program::{Status, status_of};
 use crate::reporter::{Origin, Reporter};
 use crate::stores::StoreToolFault;
+use crate::styles::tell_left_out;
 use crate::texts::{MOST_INPUT, ToolFault, read_text};
 use crate::world::{Access, World};
 use conf_conditions::Condition;
 use conf_state::{Command, StoreFault};
-use conf_words::{Conditions, MissingStore, STANDARD_INPUT, Value};
+use conf_words::{Conditions, MissingStore, Reporting, STANDARD_INPUT, Value};
 use std::alloc::{AllocError, Global};
-use std::io::{Read, Write};
+use std::io::Read;
 use yaml_tree::{Config, Limits, ReadFault, Text, Tree, read_one};
 
 /// What a refused YAML text is named by that the words give as a value.
@@ -138,7 +141,7 @@ pub(crate) fn import_text<A: World, E: Listener>(
     ensures imports { ImportsRead A.model A.Disk.model asked.entry.conditions (access_of asked.entry.missing)
         asked.entry.folder.now asked.entry.name.now read world.old world.new
         (status_of_ending result) }
-    ensures leaves { LeavesText E.hears errors.old result errors.new }
+    ensures leaves { LeavesImport E.hears errors.old result errors.new }
 {
     match read {
         Ok(text) => import_bytes(world, reporter, asked, &text, errors),
@@ -161,7 +164,7 @@ fn import_bytes<A: World, E: Listener>(
     ensures imports { ImportsBytes A.model A.Disk.model asked.entry.conditions (access_of asked.entry.missing)
         asked.entry.folder.now asked.entry.name.now text.now world.old world.new
         (status_of_ending result) }
-    ensures leaves { LeavesText E.hears errors.old result errors.new }
+    ensures leaves { LeavesImport E.hears errors.old result errors.new }
 {
     let place = Target {
         folder: asked.folder,
@@ -199,8 +202,9 @@ fn import_of<'t>(alloc: Global, name: &str, text: &'t [u8]) -> Result<Change<'t>
     })
 }
 
-/// Writes why a text is refused, if an import of it ended so, under the name of its file.
-fn tell_import<E: Write>(
+/// Writes why a text is refused, if an import of it ended so, under the name of its file. If it was done, and reports
+/// explain, how many comments were left out is told.
+fn tell_import<E: Listener>(
     reporter: Reporter,
     errors: &mut E,
     file: &str,
@@ -208,14 +212,29 @@ fn tell_import<E: Write>(
     ended: Outcome<'static>,
 ) -> Ending<'static>
     ensures status { status_of_ending result ≡ status_of_outcome ended.entry }
-    ensures tells { TellsOnlyTold result errors.old errors.new }
+    ensures tells { TellsOnlyTold E.hears result errors.old errors.new }
+    ensures loss { ImportTells E.hears reporter.reporting ended.entry text.now errors.old errors.new }
 {
     match ended {
+        Outcome::Done => {
+            tell_loss(reporter, errors, text);
+            Ending::Of(Outcome::Done)
+        }
         Outcome::Store(StoreToolFault::Refused(StoreFault::Read(fault))) => {
             reporter.tell_fault(errors, Origin::Named(file), text, ToolFault::Read(fault));
             Ending::Told(Status::Refused)
         }
         ended => Ending::Of(ended),
+    }
+}
+
+/// Tells how many comments a text has, which are left out of its tree, if reports explain.
+fn tell_loss<E: Listener>(reporter: Reporter, errors: &mut E, text: &[u8])
+    ensures { TellsLossIfAsked E.hears reporter.reporting text.now errors.old errors.new }
+{
+    match reporter.reporting {
+        Reporting::Brief => {}
+        Reporting::Explained => tell_left_out(reporter.alloc, errors, text),
     }
 }
 
@@ -232,7 +251,7 @@ pub(crate) fn set_at<A: World, R: Read, E: Listener>(
     ensures sets { Sets A.model A.Disk.model A.File.remaining place.entry.folder.now place.entry.name.now
         place.entry.pointer.now value.entry place.entry.conditions world.old world.new
         (R.remaining input.old) (R.remaining input.new) (status_of_ending result) }
-    ensures leaves { LeavesText E.hears errors.old result errors.new }
+    ensures leaves { LeavesSet E.hears errors.old result errors.new }
 {
     match set_of(world, reporter, place, value, input, errors) {
         Ok(change) => {
@@ -244,11 +263,11 @@ pub(crate) fn set_at<A: World, R: Read, E: Listener>(
 }
 
 /// The change that sets a value, which may be given by a file or by `input`, at a place of a configuration. If there is
-/// none, why is written.
+/// none, why is written. If reports explain, how many comments of a YAML text were left out is told.
 ///
 /// # Errors
 /// `Input` if the value can't be read, `Read` if it is refused, and memory that runs out.
-fn set_of<A: World, R: Read, E: Write>(
+fn set_of<A: World, R: Read, E: Listener>(
     world: &mut A,
     reporter: Reporter,
     place: Target<'_>,
@@ -258,7 +277,7 @@ fn set_of<A: World, R: Read, E: Write>(
 ) -> Result<Change<'static>, ToolFault>
     ensures sets { IsSet A.model A.File.remaining place.entry.name.now place.entry.pointer.now value.entry result
         world.old world.new (R.remaining input.old) (R.remaining input.new) }
-    ensures silent { OnOk result (errors.new ≡ errors.old) }
+    ensures told { OnOk result (TellsLeftOut E.hears errors.old errors.new) }
 {
     match value {
         Value::Text(text) => {
@@ -282,7 +301,7 @@ fn set_of<A: World, R: Read, E: Write>(
 }
 
 /// The change that sets what the bytes of a source are, if they were read.
-fn set_read<E: Write>(
+fn set_read<E: Listener>(
     reporter: Reporter,
     place: Target<'_>,
     source: Source<'_>,
@@ -290,7 +309,7 @@ fn set_read<E: Write>(
     errors: &mut E,
 ) -> Result<Change<'static>, ToolFault>
     ensures sets { SetsRead source.entry.meaning place.entry.name.now place.entry.pointer.now read result }
-    ensures silent { OnOk result (errors.new ≡ errors.old) }
+    ensures told { OnOk result (TellsLeftOut E.hears errors.old errors.new) }
 {
     match read {
         Ok(bytes) => {
@@ -302,12 +321,32 @@ fn set_read<E: Write>(
                 &bytes,
             );
             reporter.tell(errors, Origin::Named(source.file), &bytes, &change);
+            tell_loss_of(reporter, errors, source.meaning, &bytes, &change);
             change
         }
         Err(fault) => {
             reporter.tell_fault(errors, source.unread, b"", fault);
             Err(fault)
         }
+    }
+}
+
+/// Tells how many comments were left out of the bytes that a change sets, if they are a YAML text and reports explain.
+fn tell_loss_of<E: Listener>(
+    reporter: Reporter,
+    errors: &mut E,
+    meaning: Meaning,
+    bytes: &[u8],
+    change: &Result<Change<'static>, ToolFault>,
+)
+    ensures { SetTells E.hears reporter.reporting meaning change.now bytes.now errors.old errors.new }
+{
+    match change {
+        Ok(_) => match meaning {
+            Meaning::Text => {}
+            Meaning::Yaml => tell_loss(reporter, errors, bytes),
+        },
+        Err(_) => {}
     }
 }
 
@@ -363,7 +402,7 @@ fn plain_text(bytes: &[u8]) -> Result<&str, ToolFault>
 }
 
 /// The change that sets what a word gives as a YAML text, or `input` if the word is `-`.
-fn set_word<R: Read, E: Write>(
+fn set_word<R: Read, E: Listener>(
     reporter: Reporter,
     place: Target<'_>,
     word: &str,
@@ -372,7 +411,7 @@ fn set_word<R: Read, E: Write>(
 ) -> Result<Change<'static>, ToolFault>
     ensures sets { SetsWord place.entry.name.now place.entry.pointer.now word.now result
         (R.remaining input.old) (R.remaining input.new) }
-    ensures silent { OnOk result (errors.new ≡ errors.old) }
+    ensures told { OnOk result (TellsLeftOut E.hears errors.old errors.new) }
 {
     if word == STANDARD_INPUT {
         let read = read_text(reporter.alloc, input);
@@ -385,6 +424,7 @@ fn set_word<R: Read, E: Write>(
     }
     let change = set_yaml(reporter.alloc, place.name, place.pointer, word.as_bytes());
     reporter.tell(errors, Origin::Named(VALUE), word.as_bytes(), &change);
+    tell_loss_of(reporter, errors, Meaning::Yaml, word.as_bytes(), &change);
     change
 }
 

@@ -1,5 +1,5 @@
 // What is said of the bytes after the last whole record of a store's file, which opening it drops.
-ghost use Rattle.std.specs.Prelude.{◌≡◌, IfErr, IfOk, OnOk};
+ghost use Rattle.std.specs.Prelude.{◌≡◌, IfErr, IfOk, OnErr, OnOk};
 ghost use Rattle.conf_tools.specs.Prelude.{bytes_under};
 ghost use Rattle.conf_tools.specs.Dropped.{HasNoRest, TellsCount, TellsDropped, TellsDroppedOf, dropped_bytes_line};
 ghost use Rattle.conf_tools.specs.Stores.{CannotOpen, OpensOn};
@@ -24,6 +24,7 @@ pub(crate) fn open_told<D: Disk + Drop, E: Listener>(
     ensures refused { IfErr result (λ r.
         CannotOpen D.model disk r.0 r.1) }
     ensures told { TellsDropped E.hears errors.old errors.new }
+    ensures untold { OnErr result (errors.new ≡ errors.old) }
     ensures dropped { D.model.honest → OnOk result
         (TellsDroppedOf E.hears (bytes_under (D.model.folder disk) Name.Store) errors.old errors.new) }
     ensures quiet { D.model.honest → HasNoRest (bytes_under (D.model.folder disk) Name.Store)

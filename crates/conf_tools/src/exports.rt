@@ -1,9 +1,9 @@
 // The text of one configuration of a store, over any disk.
-ghost use Rattle.std.specs.Prelude.{◌≡◌, ◌≤◌, ◌⊎◌, IfOk, IfErr, Ok, Err, OnOk, string_bytes};
-ghost use Rattle.conf_tools.specs.Prelude.{chars, Reads, bytes_under, LeavesOnly, store_limit, HasFailed, tree_named};
+ghost use Rattle.std.specs.Prelude.{◌≡◌, ◌≤◌, ◌⊎◌, IfOk, IfErr, Ok, Err, OnErr, OnOk, string_bytes};
+ghost use Rattle.conf_tools.specs.Prelude.{chars, Reads, bytes_under, LeavesOnly, store_limit, tree_named};
 ghost use Rattle.conf_tools.specs.Prelude.{FilesStay, MeantAtEntry};
-ghost use Rattle.conf_tools.specs.Dropped.{HasNoRest, TellsDropped, TellsDroppedOf};
-ghost use Rattle.conf_tools.specs.Exports.{HasNoTextIn, HasText, IsTextIn, IsTextOf, IsTextOfFound, LacksText, disk_back};
+ghost use Rattle.conf_tools.specs.Dropped.{HasNoRest};
+ghost use Rattle.conf_tools.specs.Exports.{CrashKeepsStore, HasNoTextIn, HasText, IsTextIn, IsTextOf, IsTextOfFound, LacksText, LastsOrTells, TellsExport, TellsReadAlone, disk_back, read_alone_line};
 ghost use Rattle.conf_tools.specs.Reads.{tree_found, tree_or};
 
 use crate::dropped::open_told;
@@ -12,7 +12,7 @@ use crate::reads::{config_of, tree_text};
 use crate::stores::StoreToolFault;
 use conf_disk::{Content, Disk, DiskFault, Name, reading_is_an_image};
 use conf_history::config_in;
-use conf_journal::{STORE_LIMIT, load};
+use conf_journal::{STORE_LIMIT, held_store_is_the_only_one, load};
 use conf_state::StoreFault;
 use conf_store::{OpenFault, Store};
 use conf_words::TreeForm;
@@ -40,16 +40,18 @@ fn text_of<D: Disk>(
     }
 }
 
-/// The configuration under a name, written in a form, from what `store.yaml` on `disk` means. No file changes.
+/// The configuration under a name, written in a form, from what `store.yaml` on `disk` means. No file changes. One
+/// line to `errors` says that the file was read as it stands.
 ///
 /// # Errors
 /// The disk is returned with the fault: `Open` if the file can't be read or means nothing, and `Export` as
-/// [`export_text`] says.
-fn read_text<D: Disk + Drop>(
+/// [`export_text`] says. Nothing is told.
+fn read_text<D: Disk + Drop, E: Listener>(
     alloc: Global,
     disk: D,
     name: &str,
     form: TreeForm,
+    errors: &mut E,
 ) -> Result<(D, String), (D, StoreToolFault)>
     ensures ok { IfOk result (λ r. HasText D.model form disk r.0
         (chars name.now) (string_bytes r.1)) }
@@ -58,11 +60,18 @@ fn read_text<D: Disk + Drop>(
     ensures same { D.model.honest → D.model.folder (disk_back result) ≡ D.model.folder disk }
     ensures stays { D.model.honest → FilesStay D.model disk (disk_back result) }
     ensures risen { D.model.failure_count disk ≤ D.model.failure_count (disk_back result) }
+    ensures told { OnOk result (E.hears errors.old read_alone_line errors.new) }
+    ensures untold { OnErr result (errors.new ≡ errors.old) }
 {
     let mut disk = disk;
     match disk.read(alloc, Name::Store, STORE_LIMIT) {
         Ok(content) => match text_in(alloc, content, name, form) {
-            Ok(text) => Ok((disk, text)),
+            Ok(text) => {
+                errors.tell(
+                    "confstore: store.yaml was only read, not put on the device: a crash may undo its last commands\n",
+                );
+                Ok((disk, text))
+            }
             Err(fault) => Err((disk, fault)),
         },
         Err(DiskFault::Device) => Err((disk, StoreToolFault::Open(OpenFault::Device))),
@@ -147,17 +156,17 @@ fn open_text<D: Disk + Drop, E: Listener>(
         (chars name.now) r.1) }
     ensures crashes { D.model.honest → LeavesOnly D.model disk (disk_back result)
         (λ image. MeantAtEntry (D.model.folder disk) image.store) }
-    ensures told { TellsDropped E.hears errors.old errors.new }
-    ensures dropped { D.model.honest → OnOk result
-        (HasFailed (D.model.failure_count disk) (D.model.failure_count (disk_back result))
-        ⊎ TellsDroppedOf E.hears (bytes_under (D.model.folder disk) Name.Store) errors.old errors.new) }
+    ensures told { TellsExport E.hears errors.old errors.new }
+    ensures lasting { D.model.honest → IfOk result (λ r. LastsOrTells E.hears D.model form disk r.0
+        (chars name.now) (string_bytes r.1) errors.old errors.new) }
     ensures quiet { D.model.honest → HasNoRest (bytes_under (D.model.folder disk) Name.Store)
-        → errors.new ≡ errors.old }
+        → (errors.new ≡ errors.old) ⊎ TellsReadAlone E.hears (D.model.failure_count disk)
+        (D.model.failure_count (disk_back result)) errors.old errors.new }
 {
     reading_is_an_image();
     let store = match open_told(alloc, disk, errors) {
         Ok(store) => store,
-        Err((disk, OpenFault::Device)) => return read_text(alloc, disk, name, form),
+        Err((disk, OpenFault::Device)) => return read_text(alloc, disk, name, form, errors),
         Err((disk, fault)) => return Err((disk, StoreToolFault::Open(fault))),
     };
     let exported = text_of(alloc, &store, name, form);
@@ -181,19 +190,20 @@ fn export_read<D: Disk + Drop, E: Listener>(
     form: TreeForm,
     errors: &mut E,
 ) -> Result<(D, String), (D, StoreToolFault)>
-    requires { D.model.honest → Reads (D.model.folder disk) Name.Store store_limit content }
+    requires content { D.model.honest → Reads (D.model.folder disk) Name.Store store_limit content }
+    requires synced { D.model.honest → CrashKeepsStore (D.model.folder disk) }
     ensures ok { IfOk result (λ r. HasText D.model form disk r.0
         (chars name.now) (string_bytes r.1)) }
     ensures refused { IfErr result (λ r. LacksText D.model disk r.0
         (chars name.now) r.1) }
     ensures crashes { D.model.honest → LeavesOnly D.model disk (disk_back result)
         (λ image. MeantAtEntry (D.model.folder disk) image.store) }
-    ensures told { TellsDropped E.hears errors.old errors.new }
-    ensures dropped { D.model.honest → OnOk result
-        (HasFailed (D.model.failure_count disk) (D.model.failure_count (disk_back result))
-        ⊎ TellsDroppedOf E.hears (bytes_under (D.model.folder disk) Name.Store) errors.old errors.new) }
+    ensures told { TellsExport E.hears errors.old errors.new }
+    ensures lasting { D.model.honest → IfOk result (λ r. LastsOrTells E.hears D.model form disk r.0
+        (chars name.now) (string_bytes r.1) errors.old errors.new) }
     ensures quiet { D.model.honest → HasNoRest (bytes_under (D.model.folder disk) Name.Store)
-        → errors.new ≡ errors.old }
+        → (errors.new ≡ errors.old) ⊎ TellsReadAlone E.hears (D.model.failure_count disk)
+        (D.model.failure_count (disk_back result)) errors.old errors.new }
 {
     let Content::Bytes(bytes) = content else {
         return open_text(alloc, disk, name, form, errors);
@@ -218,7 +228,7 @@ fn export_read<D: Disk + Drop, E: Listener>(
 ///
 /// If the device fails at that, `store.yaml` is read as it stands, and nothing more is written or synced. So the
 /// configuration can be had from a folder that can't be written. But a crash may take back the last commands that were
-/// read so.
+/// read so, as one line to `errors` says.
 ///
 /// Whatever this returns, a crash at any moment leaves a `store.yaml` that means what it might have meant before.
 ///
@@ -239,19 +249,21 @@ pub fn export_text<D: Disk + Drop, E: Listener>(
     // No crash loses a command that was accepted.
     ensures crashes { D.model.honest → LeavesOnly D.model disk (disk_back result)
         (λ image. MeantAtEntry (D.model.folder disk) image.store) }
-    ensures told { TellsDropped E.hears errors.old errors.new }
-    // The line says how many bytes followed the last whole record of the file, if the device didn't fail.
-    ensures dropped { D.model.honest → OnOk result
-        (HasFailed (D.model.failure_count disk) (D.model.failure_count (disk_back result))
-        ⊎ TellsDroppedOf E.hears (bytes_under (D.model.folder disk) Name.Store) errors.old errors.new) }
-    // Nothing is told if no bytes are dropped.
+    ensures told { TellsExport E.hears errors.old errors.new }
+    // No crash takes back what was exported, and the line says how many bytes followed the last whole record of the
+    // file. Or the device failed, and the line says that.
+    ensures lasting { D.model.honest → IfOk result (λ r. LastsOrTells E.hears D.model form disk r.0
+        (chars name.now) (string_bytes r.1) errors.old errors.new) }
+    // Nothing is told if no bytes are dropped, and the device didn't fail.
     ensures quiet { D.model.honest → HasNoRest (bytes_under (D.model.folder disk) Name.Store)
-        → errors.new ≡ errors.old }
+        → (errors.new ≡ errors.old) ⊎ TellsReadAlone E.hears (D.model.failure_count disk)
+        (D.model.failure_count (disk_back result)) errors.old errors.new }
 {
+    held_store_is_the_only_one();
     let mut disk = disk;
     match load(alloc, &mut disk) {
         Ok(content) => export_read(alloc, disk, content, name, form, errors),
-        Err(DiskFault::Device) => read_text(alloc, disk, name, form),
+        Err(DiskFault::Device) => read_text(alloc, disk, name, form, errors),
         Err(DiskFault::OutOfMemory) => Err((disk, StoreToolFault::Open(OpenFault::OutOfMemory))),
     }
 }

@@ -4,16 +4,17 @@ ghost use Rattle.conf_tools.specs.Prelude.{Appends, Keeps, HasNoComment};
 ghost use Rattle.conf_tools.specs.FileTexts.{Adds, ChecksFile, Lists, MayLose, Restyles, StopsInFile, StopsRestyling, file_line, file_report, name_line, words_of};
 ghost use Rattle.conf_tools.specs.Tools.{Stops};
 
+use crate::styles::{findings_in, style_of, styled_text};
 use crate::texts::{ToolFault, write_whole};
-use conf_words::Comments;
+use conf_words::{Comments, Style};
 use itoa::Buffer;
 use std::alloc::{AllocError, Global};
 use std::io::Write;
 use yaml_refusals::first_comment;
-use yaml_style::{Finding, Rule, check};
-use yaml_tree::{Limits, ReadFault, format_one};
+use yaml_style::{Finding, Rule};
+use yaml_tree::ReadFault;
 
-/// What a text is in the one style.
+/// What a text is in a style.
 #[derive(Debug, PartialEq, Eq, Drop)]
 pub enum Restyled {
     /// The text itself.
@@ -22,7 +23,8 @@ pub enum Restyled {
     Changed(String),
 }
 
-/// Returns what the tree of a text is in the one style. Where that is another text, comments are lost.
+/// Returns what a text is in the one style, with its comments if these are to be kept. Else they are lost where that is
+/// another text.
 ///
 /// # Errors
 ///
@@ -32,7 +34,7 @@ pub fn restyle(alloc: Global, text: &[u8], comments: Comments) -> Result<Restyle
     ensures ok { IfOk result (Restyles comments text.now) }
     ensures stops { IfErr result (StopsRestyling comments text.now) }
 {
-    let styled = match format_one(alloc, text, &Limits::CONFIGURATION) {
+    let styled = match styled_text(alloc, text, style_of(comments)) {
         Ok(styled) => styled,
         Err(fault) => return Err(ToolFault::Read(fault)),
     };
@@ -51,7 +53,7 @@ fn allow_loss(alloc: Global, text: &[u8], comments: Comments) -> Result<(), Tool
     ensures stops { IfErr result (StopsRestyling comments text.now) }
 {
     match comments {
-        Comments::Dropped => Ok(()),
+        Comments::Dropped | Comments::Kept => Ok(()),
         Comments::Refused => refuse_comments(alloc, text),
     }
 }
@@ -68,8 +70,7 @@ fn refuse_comments(alloc: Global, text: &[u8]) -> Result<(), ToolFault>
     }
 }
 
-/// Returns whether the tree of a text has another text in the one style. If so, it writes the file's name and a line
-/// feed to `writer`.
+/// Returns whether a text is another one in a style. If so, it writes the file's name and a line feed to `writer`.
 ///
 /// # Errors
 ///
@@ -79,18 +80,22 @@ pub fn list_changed<W: Write>(
     alloc: Global,
     file: &str,
     text: &[u8],
+    style: Style,
     writer: &mut W,
 ) -> Result<bool, ToolFault>
-    ensures ok { IfOk result (Lists file.now text.now
+    ensures ok { IfOk result (Lists style file.now text.now
         (W.contents writer.old) (W.contents writer.new)) }
     ensures stops { IfErr result (Stops text.now (W.contents writer.old) (W.contents writer.new)) }
 {
-    match restyle(alloc, text, Comments::Dropped) {
-        Ok(Restyled::Same) => Ok(false),
-        Ok(Restyled::Changed(_)) => match write_name(alloc, writer, file) {
-            Ok(()) => Ok(true),
-            Err(fault) => Err(fault),
-        },
+    let styled = match styled_text(alloc, text, style) {
+        Ok(styled) => styled,
+        Err(fault) => return Err(ToolFault::Read(fault)),
+    };
+    if styled.as_bytes() == text {
+        return Ok(false);
+    }
+    match write_name(alloc, writer, file) {
+        Ok(()) => Ok(true),
         Err(fault) => Err(fault),
     }
 }
@@ -109,9 +114,10 @@ fn write_name<W: Write>(alloc: Global, writer: &mut W, file: &str) -> Result<(),
     write_whole(writer, &line)
 }
 
-/// Writes a line to `writer` for each finding of a text, in the order of [`check`]. The line has the file's name, a
-/// colon, the number of the line, from 1, a colon and a space, the rule's name, a space, and words for the rule, as
-/// `web.yaml:3: S1 the line ends in a space or TAB`. Returns how many findings there are.
+/// Writes a line to `writer` for each finding of a text that is compared with what it is in a style, in the order of
+/// [`check`](yaml_style::check). The line has the file's name, a colon, the number of the line, from 1, a colon and a
+/// space, the rule's name, a space, and words for the rule, as `web.yaml:3: S1 the line ends in a space or TAB`.
+/// Returns how many findings there are.
 ///
 /// # Errors
 ///
@@ -122,14 +128,15 @@ pub fn check_file<W: Write>(
     alloc: Global,
     file: &str,
     text: &[u8],
+    style: Style,
     writer: &mut W,
 ) -> Result<u64, ToolFault>
-    ensures ok { IfOk result (ChecksFile file.now text.now
+    ensures ok { IfOk result (ChecksFile style file.now text.now
         (W.contents writer.old) (W.contents writer.new)) }
     ensures stops { IfErr result (StopsInFile text.now
         (W.contents writer.old) (W.contents writer.new)) }
 {
-    let findings = match check(alloc, text) {
+    let findings = match findings_in(alloc, text, style) {
         Ok(findings) => findings,
         Err(refused) => return Err(ToolFault::Read(refused)),
     };

@@ -1,18 +1,21 @@
 // What `format` and `check` do with files and standard input.
 ghost use Rattle.std.specs.Prelude.{◌≡◌, Err, OnOk, map};
-ghost use Rattle.conf_tools.specs.Outcomes.{SilentIfDone, SilentReport};
+ghost use Rattle.conf_tools.specs.Outcomes.{SilentIfDone, SilentReport, TellsIfDone};
 ghost use Rattle.conf_tools.specs.Performs.{ChecksAll, ChecksText, FormatsAll, FormatsText};
 ghost use Rattle.conf_tools.specs.Statuses.{status_of, worst};
+ghost use Rattle.conf_tools.specs.Losses.{TellsLoss, TellsLossIfDone};
 ghost use Rattle.conf_tools.specs.TextWords.{ChecksRead, FormatsFile, FormatsRead, ReplacesAt, ReplacesRead, ReportsOn, ReportsOnAll, ReportsOnRead, RestylesAll, RestylesFile, SaysReport, TakesText, replaced_or_not, shown_name, status_after, status_after_check, status_of_change, status_of_count, status_of_report, stops_all, unopened};
 ghost use Rattle.conf_tools.specs.Worlds.{around};
 
 use crate::file_texts::{Restyled, check_file, list_changed, restyle};
+use crate::listener::Listener;
 use crate::program::{Status, status_of};
 use crate::reporter::{Origin, Reporter, write_cause};
+use crate::styles::tell_left_out;
 use crate::texts::{ToolFault, check_text, format_text, read_text};
 use crate::world::World;
 use conf_files::ReplaceFault;
-use conf_words::{Comments, Formatting, STANDARD_INPUT, escaped};
+use conf_words::{Comments, Formatting, STANDARD_INPUT, Style, escaped};
 use std::alloc::{AllocError, Global};
 use std::io::{Read, Write};
 use yaml_refusals::first_comment;
@@ -20,15 +23,16 @@ use yaml_refusals::first_comment;
 /// What `format --check` and `check` write of a file.
 #[derive(Clone, Copy, Debug, PartialEq, Eq)]
 pub enum Report {
-    /// A line for each of its findings.
-    Findings,
-    /// Its name, if its text is another one in the one style.
-    Name,
+    /// A line for each of its findings, where its text is compared with what it is in this style.
+    Findings { style: Style },
+    /// Its name, if its text is another one in this style.
+    Name { style: Style },
 }
 
-/// Writes the texts of files in the one style, or that of `input` if there are none. The first file alone is written to
-/// `output`; any number are replaced, or named where they would change.
-pub(crate) fn format_files<A: World, R: Read, W: Write, E: Write>(
+/// Writes the texts of files in a style, or that of `input` if there are none. The first file alone is written to
+/// `output`; any number are replaced, or named where they would change. Of a file that is written without its comments
+/// it is told how many it has.
+pub(crate) fn format_files<A: World, R: Read, W: Write, E: Listener>(
     world: &mut A,
     reporter: Reporter,
     formatting: Formatting,
@@ -40,51 +44,48 @@ pub(crate) fn format_files<A: World, R: Read, W: Write, E: Write>(
     ensures formats { FormatsAll A.model A.File.remaining formatting (map (λ file. file.now) files.now)
         (around world.old (R.remaining input.old) (W.contents output.old))
         (around world.new (R.remaining input.new) (W.contents output.new)) result }
-    ensures silent { SilentIfDone result errors.old errors.new }
+    ensures told { TellsIfDone E.hears result errors.old errors.new }
 {
     match (formatting, files) {
-        (Formatting::Write, []) => format_input(reporter, input, output, errors),
-        (Formatting::Write, [file, ..]) => {
-            format_file(world, reporter, file, input, output, errors)
+        (Formatting::Write { style }, []) => format_input(reporter, style, input, output, errors),
+        (Formatting::Write { style }, [file, ..]) => {
+            format_file(world, reporter, style, file, input, output, errors)
         }
         (Formatting::InPlace { comments }, files) => {
             replace_files(world, reporter, comments, files, errors)
         }
-        (Formatting::Check, []) => {
-            let files = [STANDARD_INPUT];
-            try_files(world, reporter, Report::Name, &files, input, output, errors)
+        (Formatting::Check { style }, []) => {
+            let (report, files) = (Report::Name { style }, [STANDARD_INPUT]);
+            try_files(world, reporter, report, &files, input, output, errors)
         }
-        (Formatting::Check, files) => {
-            try_files(world, reporter, Report::Name, files, input, output, errors)
+        (Formatting::Check { style }, files) => {
+            let report = Report::Name { style };
+            try_files(world, reporter, report, files, input, output, errors)
         }
     }
 }
 
-/// Writes where the texts of files depart from the one style, or that of `input` if there are none.
+/// Writes where the texts of files depart from a style, or that of `input` if there are none.
 pub(crate) fn check_files<A: World, R: Read, W: Write, E: Write>(
     world: &mut A,
     reporter: Reporter,
+    style: Style,
     files: &[&str],
     input: &mut R,
     output: &mut W,
     errors: &mut E,
 ) -> Status
-    ensures checks { ChecksAll A.model A.File.remaining (map (λ file. file.now) files.now)
+    ensures checks { ChecksAll A.model A.File.remaining style (map (λ file. file.now) files.now)
         (around world.old (R.remaining input.old) (W.contents output.old))
         (around world.new (R.remaining input.new) (W.contents output.new)) result }
     ensures silent { SilentIfDone result errors.old errors.new }
 {
     match files {
-        [] => check_input(reporter, input, output, errors),
-        files => try_files(
-            world,
-            reporter,
-            Report::Findings,
-            files,
-            input,
-            output,
-            errors,
-        ),
+        [] => check_input(reporter, style, input, output, errors),
+        files => {
+            let report = Report::Findings { style };
+            try_files(world, reporter, report, files, input, output, errors)
+        }
     }
 }
 
@@ -155,56 +156,61 @@ fn tell_cause_at<A: World, E: Write>(
     tell_cause(world, alloc, file, errors);
 }
 
-/// Writes the text of `input` in the one style.
-fn format_input<R: Read, W: Write, E: Write>(
+/// Writes the text of `input` in a style.
+fn format_input<R: Read, W: Write, E: Listener>(
     reporter: Reporter,
+    style: Style,
     input: &mut R,
     output: &mut W,
     errors: &mut E,
 ) -> Status
-    ensures formats { FormatsText (R.remaining input.old) (R.remaining input.new)
+    ensures formats { FormatsText style (R.remaining input.old) (R.remaining input.new)
         (W.contents output.old) (W.contents output.new) result }
     ensures silent { SilentIfDone result errors.old errors.new }
 {
     let read = read_text(reporter.alloc, input);
-    format_read(reporter, Origin::Input, read, output, errors)
+    format_read(reporter, Origin::Input, style, read, output, errors)
 }
 
-/// Writes the text of a file, or of `input` for `-`, in the one style.
-fn format_file<A: World, R: Read, W: Write, E: Write>(
+/// Writes the text of a file, or of `input` for `-`, in a style, and tells how many comments are left out.
+fn format_file<A: World, R: Read, W: Write, E: Listener>(
     world: &mut A,
     reporter: Reporter,
+    style: Style,
     file: &str,
     input: &mut R,
     output: &mut W,
     errors: &mut E,
 ) -> Status
-    ensures formats { FormatsFile A.model A.File.remaining file.now
+    ensures formats { FormatsFile A.model A.File.remaining style file.now
         (around world.old (R.remaining input.old) (W.contents output.old))
         (around world.new (R.remaining input.new) (W.contents output.new)) result }
-    ensures silent { SilentIfDone result errors.old errors.new }
+    ensures told { TellsIfDone E.hears result errors.old errors.new }
 {
     let read = read_named(world, reporter.alloc, file, input);
-    let status = format_read(reporter, Origin::Named(file), read, output, errors);
+    let status = format_read(reporter, Origin::Named(file), style, read, output, errors);
     tell_cause_at(world, reporter.alloc, file, status, errors);
     status
 }
 
-/// Writes a text that was read in the one style, or why it was not read.
-fn format_read<W: Write, E: Write>(
+/// Writes a text that was read in a style, or why it was not read. Of a text that is named, and is written without its
+/// comments, it tells how many these are.
+fn format_read<W: Write, E: Listener>(
     reporter: Reporter,
     origin: Origin<'_>,
+    style: Style,
     read: Result<Vec<u8>, ToolFault>,
     output: &mut W,
     errors: &mut E,
 ) -> Status
-    ensures formats { FormatsRead read (W.contents output.old) (W.contents output.new) result }
-    ensures silent { SilentIfDone result errors.old errors.new }
+    ensures formats { FormatsRead style read (W.contents output.old) (W.contents output.new) result }
+    ensures told { TellsLossIfDone E.hears origin.entry style read result errors.old errors.new }
 {
     match read {
         Ok(text) => {
-            let ended = format_text(reporter.alloc, &text, output);
+            let ended = format_text(reporter.alloc, &text, style, output);
             tell_written(reporter, errors, origin, &text, &ended);
+            tell_loss(reporter.alloc, errors, origin, style, &text, &ended);
             status_after(ended)
         }
         Err(fault) => {
@@ -232,6 +238,40 @@ fn tell_written<T, E: Write>(
     }
 }
 
+/// Tells how many comments a text has that is named, if it was written without them.
+fn tell_loss<E: Listener>(
+    alloc: Global,
+    errors: &mut E,
+    origin: Origin<'_>,
+    style: Style,
+    text: &[u8],
+    ended: &Result<(), ToolFault>,
+)
+    ensures { OnOk ended.now (TellsLoss E.hears origin.entry style text.now errors.old errors.new) }
+{
+    match ended {
+        Ok(()) => tell_loss_of(alloc, errors, origin, style, text),
+        Err(_) => {}
+    }
+}
+
+/// Tells how many comments a text has that is named, and is written without them.
+fn tell_loss_of<E: Listener>(
+    alloc: Global,
+    errors: &mut E,
+    origin: Origin<'_>,
+    style: Style,
+    text: &[u8],
+)
+    ensures { TellsLoss E.hears origin.entry style text.now errors.old errors.new }
+{
+    match (origin, style) {
+        (Origin::Input, _) => {}
+        (Origin::Named(_), Style::Bare) => tell_left_out(alloc, errors, text),
+        (Origin::Named(_), Style::WithComments) => {}
+    }
+}
+
 /// The status of what was done with a text.
 fn status_after(ended: Result<(), ToolFault>) -> Status
     ensures { result ≡ status_after ended }
@@ -242,34 +282,36 @@ fn status_after(ended: Result<(), ToolFault>) -> Status
     }
 }
 
-/// Writes where the text of `input` departs from the one style.
+/// Writes where the text of `input` departs from a style.
 fn check_input<R: Read, W: Write, E: Write>(
     reporter: Reporter,
+    style: Style,
     input: &mut R,
     output: &mut W,
     errors: &mut E,
 ) -> Status
-    ensures checks { ChecksText (R.remaining input.old) (R.remaining input.new)
+    ensures checks { ChecksText style (R.remaining input.old) (R.remaining input.new)
         (W.contents output.old) (W.contents output.new) result }
     ensures silent { SilentIfDone result errors.old errors.new }
 {
     let read = read_text(reporter.alloc, input);
-    check_read(reporter, read, output, errors)
+    check_read(reporter, style, read, output, errors)
 }
 
-/// Writes where a text that was read of standard input departs from the one style, or why it was not read.
+/// Writes where a text that was read of standard input departs from a style, or why it was not read.
 fn check_read<W: Write, E: Write>(
     reporter: Reporter,
+    style: Style,
     read: Result<Vec<u8>, ToolFault>,
     output: &mut W,
     errors: &mut E,
 ) -> Status
-    ensures checks { ChecksRead read (W.contents output.old) (W.contents output.new) result }
+    ensures checks { ChecksRead style read (W.contents output.old) (W.contents output.new) result }
     ensures silent { SilentIfDone result errors.old errors.new }
 {
     match read {
         Ok(text) => {
-            let ended = check_text(reporter.alloc, &text, output);
+            let ended = check_text(reporter.alloc, &text, style, output);
             reporter.tell(errors, Origin::Input, &text, &ended);
             status_after_check(ended)
         }
@@ -312,7 +354,7 @@ fn status_of_change(is_other: bool) -> Status
     }
 }
 
-/// Replaces each file whose text is another one in the one style.
+/// Replaces each file whose text is another one in the style.
 fn replace_files<A: World, E: Write>(
     world: &mut A,
     reporter: Reporter,
@@ -334,7 +376,7 @@ fn replace_files<A: World, E: Write>(
     status
 }
 
-/// Replaces a file by its text in the one style, if that is another one. Writes why it is not read or replaced.
+/// Replaces a file by its text in the style, if that is another one. Writes why it is not read or replaced.
 fn restyle_file<A: World, E: Write>(
     world: &mut A,
     reporter: Reporter,
@@ -350,7 +392,7 @@ fn restyle_file<A: World, E: Write>(
     status
 }
 
-/// Replaces a file by its text in the one style, if that is another one.
+/// Replaces a file by its text in the style, if that is another one.
 fn restyle_opened<A: World, E: Write>(
     world: &mut A,
     reporter: Reporter,
@@ -374,7 +416,7 @@ fn restyle_opened<A: World, E: Write>(
     }
 }
 
-/// Puts a text that was read, in the one style, in the place of its file, or writes why it was not read.
+/// Puts a text that was read, in the style, in the place of its file, or writes why it was not read.
 fn replace_read<A: World, E: Write>(
     world: &mut A,
     reporter: Reporter,
@@ -401,7 +443,7 @@ fn replace_read<A: World, E: Write>(
     }
 }
 
-/// Puts a text that is another one in the one style in the place of its file.
+/// Puts a text that is another one in the style in the place of its file.
 fn replace_by<A: World>(
     world: &mut A,
     alloc: Global,
@@ -534,7 +576,8 @@ fn report_on_read<W: Write, E: Write>(
     }
 }
 
-/// Writes where a text that was named has comments, if it has: it is not replaced without being asked to.
+/// Writes where a text that was named has comments, if it has and they are not kept: it is not replaced without being
+/// asked to.
 fn tell_comments<E: Write>(
     reporter: Reporter,
     errors: &mut E,
@@ -546,7 +589,9 @@ fn tell_comments<E: Write>(
     ensures { SilentReport ended.now errors.old errors.new }
 {
     match (report, ended) {
-        (Report::Name, Ok(Status::Found)) => tell_first_comment(reporter, errors, file, text),
+        (Report::Name { style: Style::Bare }, Ok(Status::Found)) => tell_first_comment(
+            reporter, errors, file, text,
+        ),
         _ => {}
     }
 }
@@ -586,11 +631,11 @@ fn report_under<W: Write>(
         (W.contents output.old) (W.contents output.new) }
 {
     match report {
-        Report::Findings => match check_file(alloc, name, text, output) {
+        Report::Findings { style } => match check_file(alloc, name, text, style, output) {
             Ok(count) => Ok(status_of_count(count)),
             Err(fault) => Err(fault),
         },
-        Report::Name => match list_changed(alloc, name, text, output) {
+        Report::Name { style } => match list_changed(alloc, name, text, style, output) {
             Ok(is_other) => Ok(status_of_change(is_other)),
             Err(fault) => Err(fault),
         },

@@ -1,14 +1,13 @@
 //! What the program `confstore` does, over any streams and any [`World`] of folders and files: [`perform`] does what an
 //! invocation asks for, and returns the status. [`Host`] is the world of the system.
 //!
-//! The tools are there without the words, too. [`read_text`] reads a text. [`format_text`] writes its tree in the one
-//! style, and [`check_text`] reports where it departs from that. For the text of a file that was named, [`restyle`]
-//! returns what it is in the one style, [`list_changed`] writes the name if that is another text, and [`check_file`]
-//! reports as
-//! `FILE:LINE: S1`. [`run_store`] performs a session of commands, and [`export_text`] gives the text of one
-//! configuration. [`change_store`] makes a single change, and [`make_store`] an empty store. The store may be on any
-//! disk. Each of these tells a [`Listener`] how many bytes opening dropped. [`calls_hold`] says what these calls keep
-//! over any crashes.
+//! The tools are there without the words, too. [`read_text`] reads a text. [`format_text`] writes it in a style: its
+//! tree in the one style, with or without its comments. [`check_text`] reports where it departs from that. For the text
+//! of a file that was named, [`restyle`] returns what it is in the style, [`list_changed`] writes the name if that is
+//! another text, and [`check_file`] reports as `FILE:LINE: S1`. [`run_store`] performs a session of commands, and
+//! [`export_text`] gives the text of one configuration. [`change_store`] makes a single change, and [`make_store`] an
+//! empty store. The store may be on any disk. Each of these tells a [`Listener`] how many bytes opening dropped.
+//! [`calls_hold`] says what these calls keep over any crashes.
 #![tactic(auto)]
 
 mod asking;
@@ -35,6 +34,7 @@ mod report;
 mod reporter;
 mod rest;
 mod stores;
+mod styles;
 mod surveys;
 mod tail;
 mod texts;

@@ -1,7 +1,6 @@
 // What the program does for an invocation.
 ghost use Rattle.std.specs.Prelude.{◌≡◌, ◌⊎◌};
-ghost use Rattle.conf_tools.specs.Dropped.{TellsDropped};
-ghost use Rattle.conf_tools.specs.Exports.{disk_back};
+ghost use Rattle.conf_tools.specs.Exports.{TellsExport, disk_back};
 ghost use Rattle.conf_tools.specs.Outcomes.{EndsWriting, Leaves, RefusesWords, Tells, TellsNoMemory, TellsSession, TellsUnparsed, TellsUnperformed, status_of_ending, status_of_outcome};
 ghost use Rattle.conf_tools.specs.Performs.{Performs, grouping_of};
 ghost use Rattle.conf_tools.specs.Statuses.{ShowsUnparsed, code_of, status_of, status_of_store};
@@ -274,9 +273,14 @@ fn perform_word<'w, A: World, R: Read, W: Write, E: Listener>(
             let status = format_files(world, reporter, formatting, &files, input, output, errors);
             Ending::Told(status)
         }
-        Invocation::Check { files, reporting } => {
+        Invocation::Check {
+            style,
+            files,
+            reporting,
+        } => {
             let reporter = reporter_of(world, alloc, reporting);
-            Ending::Told(check_files(world, reporter, &files, input, output, errors))
+            let status = check_files(world, reporter, style, &files, input, output, errors);
+            Ending::Told(status)
         }
     }
 }
@@ -356,7 +360,7 @@ fn grouping_of(asked: conf_words::Grouping) -> Grouping
 }
 
 /// Writes the configuration under a name, from the store in a folder, in the one style. The disk is given back before
-/// anything is written, so that no other run waits for whoever reads the output.
+/// anything is written to `output`, so that no other run waits for whoever reads it.
 fn export_folder<A: World, W: Write, E: Listener>(
     world: &mut A,
     alloc: Global,
@@ -368,7 +372,7 @@ fn export_folder<A: World, W: Write, E: Listener>(
 ) -> Outcome<'static>
     ensures exports { ExportsFromFolder A.model A.Disk.model form folder.now name.now world.old world.new
         (W.contents output.old) (W.contents output.new) (status_of_outcome result) }
-    ensures told { TellsDropped E.hears errors.old errors.new }
+    ensures told { TellsExport E.hears errors.old errors.new }
 {
     match world.open(alloc, Access::Reading, folder) {
         Ok(disk) => {

@@ -81,7 +81,7 @@ impl Reporter {
             errors,
             text,
             Some(place),
-            "--drop-comments replaces the file, and its comments are lost",
+            "--keep-comments keeps them; --drop-comments replaces the file, and they are lost",
         );
     }
 

@@ -5,15 +5,16 @@ ghost use Rattle.conf_tools.specs.Tools.{Checks, Formats, IsTaken, Stops};
 
 use crate::input::read_up_to;
 use crate::report::report;
+use crate::styles::{findings_in, styled_text};
 use conf_state::StoreFault;
+use conf_words::Style;
 use std::alloc::{AllocError, Global};
 use std::error::Error;
 use std::fmt;
 use std::fmt::{Display, Formatter};
 use std::io::{Read, Write};
 use yaml_refusals::Place;
-use yaml_style::check;
-use yaml_tree::{Limits, ReadFault, format_one};
+use yaml_tree::{Limits, ReadFault};
 
 /// The most bytes that are read: one more than a text may have, by which a text that is too long is found.
 pub(crate) const MOST_INPUT: usize = Limits::CONFIGURATION.bytes as usize + 1;
@@ -83,17 +84,22 @@ pub fn read_text<R: Read>(alloc: Global, reader: &mut R) -> Result<Vec<u8>, Tool
     read_up_to(alloc, reader, MOST_INPUT)
 }
 
-/// Writes the tree of a text in the one style to `writer`.
+/// Writes a text in a style to `writer`.
 ///
 /// # Errors
 ///
 /// - [`ToolFault::Read`] if the text is refused, or memory runs out. Nothing is written.
 /// - [`ToolFault::Output`] if the writer fails. Some of the text may be written.
-pub fn format_text<W: Write>(alloc: Global, text: &[u8], writer: &mut W) -> Result<(), ToolFault>
-    ensures ok { OnOk result (Formats text.now (W.contents writer.old) (W.contents writer.new)) }
+pub fn format_text<W: Write>(
+    alloc: Global,
+    text: &[u8],
+    style: Style,
+    writer: &mut W,
+) -> Result<(), ToolFault>
+    ensures ok { OnOk result (Formats style text.now (W.contents writer.old) (W.contents writer.new)) }
     ensures stops { IfErr result (Stops text.now (W.contents writer.old) (W.contents writer.new)) }
 {
-    let styled = match format_one(alloc, text, &Limits::CONFIGURATION) {
+    let styled = match styled_text(alloc, text, style) {
         Ok(styled) => styled,
         Err(fault) => return Err(ToolFault::Read(fault)),
     };
@@ -101,19 +107,25 @@ pub fn format_text<W: Write>(alloc: Global, text: &[u8], writer: &mut W) -> Resu
     Ok(())
 }
 
-/// Writes a line to `writer` for each finding of a text, in the order of [`check`]. The line has the rule's name, a
-/// space, and the number of the line, from 1. Returns how many findings there are. The lines are held in memory and
-/// written at once. They have at most some 50 MB, since a text has at most two findings more than bytes.
+/// Writes a line to `writer` for each finding of a text that is compared with what it is in a style, in the order of
+/// [`check`](yaml_style::check). The line has the rule's name, a space, and the number of the line, from 1. Returns how
+/// many findings there are. The lines are held in memory and written at once. They have at most some 50 MB, since a
+/// text has at most two findings more than bytes.
 ///
 /// # Errors
 ///
 /// - [`ToolFault::Read`] if the text is refused, or memory runs out. Nothing is written.
 /// - [`ToolFault::Output`] if the writer fails. Some of the lines may be written.
-pub fn check_text<W: Write>(alloc: Global, text: &[u8], writer: &mut W) -> Result<u64, ToolFault>
-    ensures ok { IfOk result (Checks text.now (W.contents writer.old) (W.contents writer.new)) }
+pub fn check_text<W: Write>(
+    alloc: Global,
+    text: &[u8],
+    style: Style,
+    writer: &mut W,
+) -> Result<u64, ToolFault>
+    ensures ok { IfOk result (Checks style text.now (W.contents writer.old) (W.contents writer.new)) }
     ensures stops { IfErr result (Stops text.now (W.contents writer.old) (W.contents writer.new)) }
 {
-    let findings = match check(alloc, text) {
+    let findings = match findings_in(alloc, text, style) {
         Ok(findings) => findings,
         Err(refused) => return Err(ToolFault::Read(refused)),
     };

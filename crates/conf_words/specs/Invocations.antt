@@ -7,9 +7,9 @@ use Rattle.conf_words.specs.declared.invocation.Formatting.TheVariants.{Write, I
 
 -- Files of these names may be formatted so: at most one is written, and standard input is not replaced.
 abbrev pub FilesFit : Formatting → List (List ℕ) → Type 0
-FilesFit Write files = length files ≤ 1
+FilesFit (Write style) files = length files ≤ 1
 FilesFit (InPlace comments) files = (1 ≤ length files) × All (λ file. file ≢ codes "-") files
-FilesFit Check files = Unit {0}
+FilesFit (Check style) files = Unit {0}
 
 -- The files of `format` fit what it does with them. Nothing is said of other invocations.
 abbrev pub HasFittingFiles : Invocation → Type 0

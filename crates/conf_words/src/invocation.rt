@@ -115,14 +115,15 @@ pub enum Invocation<'w> {
         folder: &'w str,
         new: &'w str,
     },
-    /// Writes the texts of the files in the one style, or that of standard input if there are none.
+    /// Writes the texts of the files in a style, or that of standard input if there are none.
     Format {
         formatting: Formatting,
         files: Vec<&'w str>,
         reporting: Reporting,
     },
-    /// Writes where the texts of the files depart from the one style, or that of standard input if there are none.
+    /// Writes where the texts of the files depart from a style, or that of standard input if there are none.
     Check {
+        style: Style,
         files: Vec<&'w str>,
         reporting: Reporting,
     },
@@ -233,11 +234,20 @@ pub enum LogForm<'w> {
 #[derive(Clone, Copy, Debug, PartialEq, Eq)]
 pub enum Formatting {
     /// It writes the text of one to standard output. There is at most one.
-    Write,
+    Write { style: Style },
     /// It replaces each that would change. There is at least one, and none is [`STANDARD_INPUT`].
     InPlace { comments: Comments },
     /// It names each that would change.
-    Check,
+    Check { style: Style },
+}
+
+/// What a text is formatted to, and compared with.
+#[derive(Clone, Copy, Debug, PartialEq, Eq)]
+pub enum Style {
+    /// Its tree in the one style, which has no comments.
+    Bare,
+    /// The same with the comments of the text.
+    WithComments,
 }
 
 /// What is done where the folder has no store.
@@ -249,13 +259,15 @@ pub enum MissingStore {
     Made,
 }
 
-/// What is done with a file that has comments, which its text in the one style has not.
+/// What is done with a file that has comments.
 #[derive(Clone, Copy, Debug, PartialEq, Eq)]
 pub enum Comments {
     /// The file is refused, and stays as it is.
     Refused,
     /// The file is replaced, and its comments are lost.
     Dropped,
+    /// The file is replaced, and its comments are kept.
+    Kept,
 }
 
 /// How much is said of a text that is refused.

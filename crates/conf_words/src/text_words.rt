@@ -3,7 +3,7 @@ ghost use Rattle.std.specs.Prelude.{IfNone, IfOk, map};
 ghost use Rattle.conf_words.specs.Invocations.{FilesFit, HasFittingFiles};
 
 use crate::arguments::{Argument, EXPLAIN_ARGUMENT, FILE, Form, Relation, reporting_of};
-use crate::invocation::{Comments, Formatting, Invocation, STANDARD_INPUT};
+use crate::invocation::{Comments, Formatting, Invocation, STANDARD_INPUT, Style};
 use crate::listing::Listing;
 use crate::refusal::{OTHER, refused};
 use crate::unparsed::Unparsed;
@@ -38,6 +38,12 @@ pub(crate) const FORMAT: Listing = Listing {
             relation: Relation::Needs(IN_PLACE),
         },
         Argument {
+            name: KEEP_COMMENTS,
+            help: "Keeps the comments of each text",
+            form: Form::Flag,
+            relation: Relation::Excludes(&[DROP_COMMENTS]),
+        },
+        Argument {
             name: ONLY_CHECK,
             help: "Changes nothing, and names each FILE that would change",
             form: Form::Flag,
@@ -48,11 +54,15 @@ pub(crate) const FORMAT: Listing = Listing {
     ],
     help: "\
 One FILE, or standard input, is written to standard output. More FILEs need -i or --check. Each FILE
-is tried, and the status is the worst. Comments and quotes are not kept, and `3` is written `\"3\"`.
+is tried, and the status is the worst. Quotes are not kept, and `3` is written `\"3\"`.
 
-With -i a FILE that stands in the one style is not touched. Another is replaced whole: where the power
-fails, it is the old one or the new one. It keeps its mode, and its owner where the system allows it.
-A FILE with comments is refused, as `web.yaml:3:13: Comments`, unless --drop-comments is given.
+Comments are left out, and a line on standard error says how many of a FILE are. With --keep-comments
+they stay: behind the same value, or on a line of their own before the same key or element.
+
+With -i a FILE that is right already is not touched. Another is replaced whole: where the power fails,
+it is the old one or the new one. It keeps its mode, and its owner where the system allows it. A FILE
+with comments is refused, as `web.yaml:3:13: Comments`, unless --keep-comments or --drop-comments is
+given.
 
 A FILE that is refused is left as it is, and reported on standard error, as
 `web.yaml:501:1: KeyTwice \"key250\" (first at 17:1)`. With --explain, or where standard error is a
@@ -63,7 +73,7 @@ With --check the status is 1 where a FILE would change.
 
 Examples:
   confstore format < web.yaml
-  confstore format -i *.yaml
+  confstore format -i --keep-comments *.yaml
   confstore format --check *.yaml",
 };
 
@@ -72,6 +82,9 @@ const IN_PLACE: &str = "in-place";
 
 /// The word of `format` that has files replaced that have comments. It needs [`IN_PLACE`].
 const DROP_COMMENTS: &str = "drop-comments";
+
+/// The word of `format` and `check` by which comments stay. It excludes [`DROP_COMMENTS`].
+const KEEP_COMMENTS: &str = "keep-comments";
 
 /// The word of `format` that has the files named that would change.
 const ONLY_CHECK: &str = "check";
@@ -98,14 +111,16 @@ fn why_not(formatting: Formatting, files: &[&str]) -> Option<&'static str>
     ensures { IfNone result (FilesFit formatting (map (λ file. file.now) files.now)) }
 {
     match formatting {
-        Formatting::Write => (files.len() > 1).then_some("more than one FILE needs -i or --check"),
+        Formatting::Write { .. } => {
+            (files.len() > 1).then_some("more than one FILE needs -i or --check")
+        }
         Formatting::InPlace { .. } if files.is_empty() => Some(OTHER),
         Formatting::InPlace { .. } => {
             files
                 .contains(&STANDARD_INPUT)
                 .then_some("standard input can't be replaced")
         }
-        Formatting::Check => None,
+        Formatting::Check { .. } => None,
     }
 }
 
@@ -115,23 +130,47 @@ fn formatting_of(words: &ArgMatches<'_>) -> Formatting {
             comments: comments_of(words),
         }
     } else if words.get_flag(ONLY_CHECK) {
-        Formatting::Check
+        Formatting::Check {
+            style: style_of(words),
+        }
     } else {
-        Formatting::Write
+        Formatting::Write {
+            style: style_of(words),
+        }
     }
 }
 
 fn comments_of(words: &ArgMatches<'_>) -> Comments {
-    if words.get_flag(DROP_COMMENTS) {
+    if words.get_flag(KEEP_COMMENTS) {
+        Comments::Kept
+    } else if words.get_flag(DROP_COMMENTS) {
         Comments::Dropped
     } else {
         Comments::Refused
     }
 }
 
+/// What texts are formatted to, and compared with.
+fn style_of(words: &ArgMatches<'_>) -> Style {
+    if words.get_flag(KEEP_COMMENTS) {
+        Style::WithComments
+    } else {
+        Style::Bare
+    }
+}
+
 pub(crate) const CHECK: Listing = Listing {
     about: "Writes where YAML texts depart from the one style",
-    arguments: &[EXPLAIN_ARGUMENT, FILES_ARGUMENT],
+    arguments: &[
+        Argument {
+            name: KEEP_COMMENTS,
+            help: "Has nothing against comments that stand as `format --keep-comments` writes them",
+            form: Form::Flag,
+            relation: Relation::Free,
+        },
+        EXPLAIN_ARGUMENT,
+        FILES_ARGUMENT,
+    ],
     help: "\
 Each finding is one line: of a FILE as `web.yaml:3: S1 the line ends in a space or TAB`, and of
 standard input without a FILE as `S1 3`, the rule and the number of the line, from 1.
@@ -139,7 +178,8 @@ standard input without a FILE as `S1 3`, the rule and the number of the line, fr
   S2  the line ends in CR LF or CR, or it is the last line and has no break
   S3  the line has more than 120 characters
   S4  the text is not what `confstore format` writes for it, and first differs from that on this line
-The one style keeps no comments and no quotes, and `3` is written `\"3\"` in it.
+The one style keeps no comments and no quotes, and `3` is written `\"3\"` in it. With --keep-comments
+S4 compares the text with what `confstore format --keep-comments` writes.
 
 A FILE that is refused is reported on standard error, as
 `web.yaml:501:1: KeyTwice \"key250\" (first at 17:1)`. With --explain, or where standard error is a
@@ -159,6 +199,7 @@ pub(crate) fn check_invocation<'w>(
     ensures { IfOk result HasFittingFiles }
 {
     Ok(Invocation::Check {
+        style: style_of(words),
         files: Vec::from_slice(alloc, files_of(words))?,
         reporting: reporting_of(words),
     })

@@ -138,7 +138,7 @@ impl Sink for CountedComparison<'_> {
 }
 
 /// What is left of a text after the longest prefix that it shares with what is written, and whether that is all of it.
-fn compare<'a>(text: &'a str, written: &str) -> (&'a str, bool)
+pub(crate) fn compare<'a>(text: &'a str, written: &str) -> (&'a str, bool)
     ensures { (chars result.0.now, result.1)
         ≡ comparison_after (chars text.now) true (chars written.now) }
 {

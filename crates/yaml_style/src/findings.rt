@@ -3,9 +3,9 @@ ghost use Rattle.std.specs.Prelude.{◌≡◌, ℕ, ◌≤◌, ◌<◌, ◌↔�
 ghost use Rattle.yaml_style.specs.Prelude.{position_or_len, chars, is_empty, config_limits, Refuses};
 ghost use Rattle.yaml_style.specs.Checking.{IsChecked};
 ghost use Rattle.yaml_style.specs.Comparing.{comparison_after};
-ghost use Rattle.yaml_style.specs.Findings.{style_line, with_style};
+ghost use Rattle.yaml_style.specs.Findings.{findings, style_line, with_style};
 
-use crate::comparison::{Comparison, CountedComparison};
+use crate::comparison::{Comparison, CountedComparison, compare};
 use crate::lines::{break_count, line_findings};
 use crate::{Finding, Rule};
 use std::alloc::{AllocError, Global};
@@ -37,6 +37,19 @@ pub fn check(alloc: Global, bytes: &[u8]) -> Result<Vec<Finding>, ReadFault>
     }
     let mut findings = line_findings(alloc, text)?;
     insert_style(&mut findings, style_line(text, &written.comparison))?;
+    Ok(findings)
+}
+
+/// The findings of a text as [`check`] has them, where it is compared with another text than that of its tree in the
+/// one style. It fails only if memory runs out.
+pub fn check_beside(alloc: Global, text: &str, wanted: &str) -> Result<Vec<Finding>, AllocError>
+    requires { length text.now ≤ config_limits.bytes }
+    ensures { IfOk result (λ found. found.items ≡ findings (chars text.now) (chars wanted.now)) }
+{
+    let (rest, agrees) = compare(text, wanted);
+    let written = Comparison { rest, agrees };
+    let mut findings = line_findings(alloc, text)?;
+    insert_style(&mut findings, style_line(text, &written))?;
     Ok(findings)
 }
 

@@ -1,4 +1,4 @@
-//! Where a text departs from the one style: a list of findings, each with its rule and its line.
+//! Where a text departs from the one style, or from another text: a list of findings, each with its rule and its line.
 #![tactic(auto)]
 
 mod comparison;
@@ -7,4 +7,4 @@ mod findings;
 mod lines;
 
 pub use finding::{Finding, Rule};
-pub use findings::check;
+pub use findings::{check, check_beside};

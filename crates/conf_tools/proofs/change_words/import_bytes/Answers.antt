@@ -1,8 +1,8 @@
 -- The change was made, and then it is told whether the text was refused.
-use Rattle.std.proofs.Common.{[], subst}
+use Rattle.std.proofs.Common.{[], inl, refl, subst}
 use Rattle.std.specs.Prelude.{Ok}
 use Rattle.conf_tools.specs.{Outcomes.status_of_outcome, Performs.ChangesIf, declared.world.Access.Access}
-use Rattle.conf_tools.proofs.OutcomeLemmas.{text_left}
+use Rattle.conf_tools.proofs.OutcomeLemmas.{import_left}
 use Rattle.conf_tools.proofs.change_words.import_bytes.Goals as goal
 
 pub returns-in-Ok-clause-imports : goal.returns-in-Ok-clause-imports
@@ -16,5 +16,8 @@ returns-in-Ok-clause-imports g c = rw c.tell_import.ensures.status (record {
 
 pub returns-in-Ok-clause-leaves : goal.returns-in-Ok-clause-leaves
 returns-in-Ok-clause-leaves g c =
-    text_left g.E.Listener.hears c.tell_import.result c.args.errors.now c.change_if-ended.new.errors c.tell_import.new.errors
+    import_left g.E.Listener.hears c.tell_import.result c.args.errors.now c.change_if-ended.new.errors c.tell_import.new.errors
     c.change_if-ended.ensures.told c.tell_import.ensures.tells
+
+pub returns-in-Err-clause-leaves : goal.returns-in-Err-clause-leaves
+returns-in-Err-clause-leaves g c = (c.args.errors.now, inl refl, inl refl)

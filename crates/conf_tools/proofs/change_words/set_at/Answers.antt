@@ -1,7 +1,6 @@
 -- The change was made ready, and made.
-use Rattle.std.proofs.Common.{refl, subst}
+use Rattle.std.proofs.Common.{refl}
 use Rattle.std.specs.Prelude.{Ok, Err}
-use Rattle.conf_tools.specs.Dropped.{TellsDropped}
 use Rattle.conf_tools.proofs.OutcomeLemmas.{never_done}
 use Rattle.conf_tools.proofs.change_words.set_at.Goals as goal
 
@@ -14,9 +13,7 @@ returns-in-Ok-clause-sets g c = record {
 }
 
 pub returns-in-Ok-clause-leaves : goal.returns-in-Ok-clause-leaves
-returns-in-Ok-clause-leaves g c =
-    subst (λ (before : g.row.E.Denot). TellsDropped g.E.Listener.hears before c.change_if.new.errors)
-    c.in-Ok.ensures.silent c.change_if.ensures.told
+returns-in-Ok-clause-leaves g c = (c.set_of.new.errors, c.in-Ok.ensures.told, c.change_if.ensures.told)
 
 pub returns-in-Err-clause-sets : goal.returns-in-Err-clause-sets
 returns-in-Err-clause-sets g c = record {

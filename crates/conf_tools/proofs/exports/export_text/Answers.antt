@@ -1,16 +1,28 @@
 -- The file was read, which changed nothing; or the device failed at that.
-use Rattle.std.proofs.Common.{◌≡◌, ◌∙◌, Err, inl, ap, sym, subst, string_bytes}
-use Rattle.std.specs.Prelude.{OnOk}
-use Rattle.conf_tools.proofs.Prelude.{chars, Tells, Image, store_limit}
+use Rattle.std.proofs.Common.{◌≡◌, ◌∙◌, Err, inl, refl, ap, sym, subst, string_bytes}
+use Rattle.std.specs.Prelude.{OnOk, option_map}
+use Rattle.conf_disk.specs.Image.{synced_file}
+use Rattle.conf_journal.specs.Held.{HoldsStore}
+use Rattle.conf_tools.proofs.Prelude.{chars, Tells, bytes_under, Image, Store, store_limit}
 use Rattle.conf_tools.specs.Exports.{disk_back}
-use Rattle.conf_tools.proofs.ExportLemmas.{dropped-before, dropped-since, leaves-both, leaves-meant, leaves-since, no-rest-before}
-use Rattle.conf_tools.proofs.ExportLemmas.{refused-before, refused-since, text-before, text-since}
+use Rattle.conf_tools.proofs.ExportLemmas.{alone-told, lasting-before, lasting-since, leaves-both, leaves-meant, leaves-since}
+use Rattle.conf_tools.proofs.ExportLemmas.{no-rest-before, quiet-before, quiet-since, refused-before, refused-since}
+use Rattle.conf_tools.proofs.ExportLemmas.{text-before, text-since}
 use Rattle.conf_tools.proofs.exports.export_text.Goals as goal
 
-pub export_read-requires : goal.export_read-requires
-export_read-requires g c h =
+pub export_read-requires-clause-content : goal.export_read-requires-clause-content
+export_read-requires-clause-content g c h =
     subst (λ file. Tells file store_limit c.in-Ok.content) (sym (ap (λ (image : Image). image.store) (c.load.ensures.reads h)))
     (c.in-Ok.ensures.content h)
+
+pub export_read-requires-clause-synced : goal.export_read-requires-clause-synced
+export_read-requires-clause-synced g c h image is =
+    let d = g.D.Disk in
+    let mid = d.model.folder c.load.new.disk in
+    let file = bytes_under (d.model.folder c.args.disk) Store in
+    let holds = subst (λ r. OnOk r (HoldsStore mid (option_map synced_file file))) c.in-Ok.is (c.load.ensures.holds h) in
+    c.held_store_is_the_only_one.ensures.left mid file image.store holds (record { image = image; is = is; same = refl })
+    ∙ sym (ap (λ (image : Image). image.store) (c.load.ensures.reads h))
 
 pub returns-in-Ok-clause-ok : goal.returns-in-Ok-clause-ok
 returns-in-Ok-clause-ok g c =
@@ -37,14 +49,15 @@ returns-in-Ok-clause-crashes g c h =
     (λ t image le is. g.met.D.Disk.counts_now mid t image h le is) (c.load.ensures.any_moment h)
     (c.export_read.ensures.crashes h)
 
-pub returns-in-Ok-clause-dropped : goal.returns-in-Ok-clause-dropped
-returns-in-Ok-clause-dropped g c h =
+pub returns-in-Ok-clause-lasting : goal.returns-in-Ok-clause-lasting
+returns-in-Ok-clause-lasting g c h =
     let d = g.D.Disk in
     let mid = c.load.new.disk in
     let steady = subst (λ r. OnOk r (d.model.failure_count mid ≡ d.model.failure_count c.args.disk)) c.in-Ok.is
     c.load.ensures.failures.steady in
-    dropped-before d.model c.args.disk mid steady (λ h. c.load.ensures.reads h) g.E.Listener.hears c.args.errors.now
-    c.export_read.new.errors c.export_read.result h (c.export_read.ensures.dropped h)
+    lasting-before d.model c.args.disk mid steady (λ h. c.load.ensures.reads h) string_bytes c.args.form
+    (chars c.args.name.now) g.E.Listener.hears c.args.errors.now c.export_read.new.errors c.export_read.result h
+    (c.export_read.ensures.lasting h)
 
 pub returns-in-Ok-clause-quiet : goal.returns-in-Ok-clause-quiet
 returns-in-Ok-clause-quiet g c h none =
@@ -52,7 +65,9 @@ returns-in-Ok-clause-quiet g c h none =
     let mid = c.load.new.disk in
     let steady = subst (λ r. OnOk r (d.model.failure_count mid ≡ d.model.failure_count c.args.disk)) c.in-Ok.is
     c.load.ensures.failures.steady in
-    c.export_read.ensures.quiet h (no-rest-before d.model c.args.disk mid steady (λ h. c.load.ensures.reads h) h none)
+    quiet-before d.model c.args.disk mid steady (λ h. c.load.ensures.reads h) g.E.Listener.hears c.args.errors.now
+    c.export_read.new.errors (disk_back c.export_read.result)
+    (c.export_read.ensures.quiet h (no-rest-before d.model c.args.disk mid steady (λ h. c.load.ensures.reads h) h none))
 
 -- ---- the device failed
 
@@ -76,11 +91,26 @@ returns-in-Err-Device-clause-crashes g c h =
     leaves-since g.D.Disk.model c.args.disk mid (leaves-meant g.D.Disk.model c.args.disk mid (c.load.ensures.any_moment h))
     (λ t image le is. g.met.D.Disk.counts_now mid t image h le is) _ (c.read_text.ensures.stays h)
 
-pub returns-in-Err-Device-clause-dropped : goal.returns-in-Err-Device-clause-dropped
-returns-in-Err-Device-clause-dropped g c h =
+pub returns-in-Err-Device-clause-told : goal.returns-in-Err-Device-clause-told
+returns-in-Err-Device-clause-told g c =
+    let read = c.read_text in
+    alone-told g.E.Listener.hears c.args.errors.now read.new.errors read.result read.ensures.told read.ensures.untold
+
+pub returns-in-Err-Device-clause-lasting : goal.returns-in-Err-Device-clause-lasting
+returns-in-Err-Device-clause-lasting g c h =
     let failed = c.load.ensures.failures.device (c.in-Err-Device.is ∙ ap Err c.in-Err-Device.field-0-is) in
-    dropped-since g.D.Disk.model c.args.disk c.load.new.disk failed
-    (λ h. inl (ap (λ (image : Image). image.store) (c.load.ensures.reads h))) _ c.read_text.result c.read_text.ensures.risen
+    let read = c.read_text in
+    lasting-since g.D.Disk.model c.args.disk c.load.new.disk failed
+    (λ h. inl (ap (λ (image : Image). image.store) (c.load.ensures.reads h))) string_bytes c.args.form
+    (chars c.args.name.now) g.E.Listener.hears c.args.errors.now read.new.errors read.result read.ensures.risen read.ensures.told
+
+pub returns-in-Err-Device-clause-quiet : goal.returns-in-Err-Device-clause-quiet
+returns-in-Err-Device-clause-quiet g c h none =
+    let failed = c.load.ensures.failures.device (c.in-Err-Device.is ∙ ap Err c.in-Err-Device.field-0-is) in
+    let read = c.read_text in
+    quiet-since g.D.Disk.model c.args.disk c.load.new.disk failed
+    (λ h. inl (ap (λ (image : Image). image.store) (c.load.ensures.reads h))) g.E.Listener.hears c.args.errors.now
+    read.new.errors read.result read.ensures.risen read.ensures.told read.ensures.untold
 
 -- ---- there was no memory for the file
 

@@ -1,8 +1,10 @@
 -- The store was opened, or its file was read after the device failed.
-use Rattle.std.proofs.Common.{refl, sym, subst, string_bytes}
+use Rattle.std.proofs.Common.{◌≡◌, ◌⊎◌, inl, refl, sym, subst, string_bytes}
+use Rattle.std.specs.Prelude.{IfOk}
 use Rattle.conf_tools.proofs.Prelude.{chars, LeavesOnly, MeantAtEntry, OpenFault}
-use Rattle.conf_tools.specs.{Exports.HasNoText, Exports.HasText, Stores.CannotOpen}
-use Rattle.conf_tools.proofs.ExportLemmas.{dropped-since, leaves-since, opened-finds, refused-since, text-since}
+use Rattle.conf_tools.specs.{Exports.HasNoText, Exports.HasText, Exports.LastsOrTells, Exports.TellsExport, Exports.TellsReadAlone}
+use Rattle.conf_tools.specs.{Exports.disk_back, Stores.CannotOpen}
+use Rattle.conf_tools.proofs.ExportLemmas.{alone-told, lasting-since, leaves-since, opened-finds, quiet-since, refused-since, text-since}
 use Rattle.conf_tools.proofs.exports.open_text.Goals as goal
 
 pub returns-in-Err-default-Device-clause-ok : goal.returns-in-Err-default-Device-clause-ok
@@ -32,14 +34,65 @@ returns-in-Err-default-Device-clause-crashes g c h =
     leaves-since d.model c.args.disk failed.disk (cannot.at_any_moment h)
     (λ t image le is. g.met.D.Disk.counts_now failed.disk t image h le is) _ (c.read_text.ensures.stays h)
 
-pub returns-in-Err-default-Device-clause-dropped : goal.returns-in-Err-default-Device-clause-dropped
-returns-in-Err-default-Device-clause-dropped g c h =
+pub returns-in-Err-default-Device-clause-told : goal.returns-in-Err-default-Device-clause-told
+returns-in-Err-default-Device-clause-told g c =
+    let hears = g.E.Listener.hears in
+    let read = c.read_text in
+    subst (λ (before : g.row.E.Denot). TellsExport hears before read.new.errors) c.in-Err-default-Device.ensures.untold
+    (alone-told hears c.open_told.new.errors read.new.errors read.result read.ensures.told read.ensures.untold)
+
+pub returns-in-Err-default-Device-clause-lasting : goal.returns-in-Err-default-Device-clause-lasting
+returns-in-Err-default-Device-clause-lasting g c h =
     let d = g.D.Disk in
+    let hears = g.E.Listener.hears in
+    let read = c.read_text in
     let failed = c.in-Err-default-Device in
     let cannot = subst (λ (fault : OpenFault). CannotOpen d.model c.args.disk failed.disk fault) failed.field-0-1-is
     failed.ensures.refused in
-    dropped-since d.model c.args.disk failed.disk (cannot.cause refl) (λ h. cannot.old_or_base h) _ c.read_text.result
-    c.read_text.ensures.risen
+    subst (λ (before : g.row.E.Denot). IfOk read.result (λ r. LastsOrTells hears d.model c.args.form c.args.disk r.0
+    (chars c.args.name.now) (string_bytes r.1) before read.new.errors)) failed.ensures.untold
+    (lasting-since d.model c.args.disk failed.disk (cannot.cause refl) (λ h. cannot.old_or_base h) string_bytes c.args.form
+    (chars c.args.name.now) hears c.open_told.new.errors read.new.errors read.result read.ensures.risen read.ensures.told)
+
+pub returns-in-Err-default-Device-clause-quiet : goal.returns-in-Err-default-Device-clause-quiet
+returns-in-Err-default-Device-clause-quiet g c h none =
+    let d = g.D.Disk in
+    let hears = g.E.Listener.hears in
+    let read = c.read_text in
+    let failed = c.in-Err-default-Device in
+    let cannot = subst (λ (fault : OpenFault). CannotOpen d.model c.args.disk failed.disk fault) failed.field-0-1-is
+    failed.ensures.refused in
+    subst (λ (before : g.row.E.Denot). (read.new.errors ≡ before) ⊎ TellsReadAlone hears (d.model.failure_count c.args.disk)
+    (d.model.failure_count (disk_back read.result)) before read.new.errors) failed.ensures.untold
+    (quiet-since d.model c.args.disk failed.disk (cannot.cause refl) (λ h. cannot.old_or_base h) hears c.open_told.new.errors
+    read.new.errors read.result read.ensures.risen read.ensures.told read.ensures.untold)
+
+pub returns-in-Ok-exported-clause-told : goal.returns-in-Ok-exported-clause-told
+returns-in-Ok-exported-clause-told g c = inl c.open_told.ensures.told
+
+pub returns-in-Err-exported-clause-told : goal.returns-in-Err-exported-clause-told
+returns-in-Err-exported-clause-told g c = inl c.open_told.ensures.told
+
+pub returns-in-Ok-exported-clause-lasting : goal.returns-in-Ok-exported-clause-lasting
+returns-in-Ok-exported-clause-lasting g c h =
+    let d = g.D.Disk in
+    let text = c.in-Ok-exported.text in
+    subst (λ (disk : g.row.D.Denot). LastsOrTells g.E.Listener.hears d.model c.args.form c.args.disk disk
+    (chars c.args.name.now) (string_bytes text) c.args.errors.now c.open_told.new.errors) (sym c.close-disk.ensures)
+    (inl (
+      record {
+        state = c.in-Ok.store.state;
+        images = c.in-Ok.ensures.opens.images h;
+        exports = c.in-Ok-exported.ensures.ok;
+      },
+      c.in-Ok.ensures.dropped h,
+    ))
+
+pub returns-in-Ok-exported-clause-quiet : goal.returns-in-Ok-exported-clause-quiet
+returns-in-Ok-exported-clause-quiet g c h none = inl (c.open_told.ensures.quiet h none)
+
+pub returns-in-Err-exported-clause-quiet : goal.returns-in-Err-exported-clause-quiet
+returns-in-Err-exported-clause-quiet g c h none = inl (c.open_told.ensures.quiet h none)
 
 pub returns-in-Ok-exported-clause-ok : goal.returns-in-Ok-exported-clause-ok
 returns-in-Ok-exported-clause-ok g c =

@@ -1,0 +1,44 @@
+-- What is told of the comments of a text that are left out.
+use Rattle.std.specs.Prelude.{◌≡◌, ℕ, List, Result, Ok, Err}
+use Rattle.conf_tools.specs.Prelude.{Reporting, Style}
+use Rattle.conf_words.specs.declared.invocation.Reporting.TheVariants.{Brief, Explained}
+use Rattle.conf_words.specs.declared.invocation.Style.TheVariants.{Bare, WithComments}
+use Rattle.conf_tools.specs.{Statuses.code_of, Styles.TellsLeftOutOf, Tools.Taken, declared.changes.Change.Change}
+use Rattle.conf_tools.specs.{declared.change_words.Meaning.Meaning, declared.outcome.Outcome.Outcome}
+use Rattle.conf_tools.specs.{declared.program.Status.Status, declared.reporter.Origin.Origin}
+use Rattle.conf_tools.specs.{declared.reporter.Origin.TheVariants.Input, declared.reporter.Origin.TheVariants.Named}
+use Rattle.conf_tools.specs.declared.texts.ToolFault.{ToolFault}
+use Rattle.conf_tools.specs.declared.change_words.Meaning.TheVariants as means
+use Rattle.conf_tools.specs.declared.outcome.Outcome.TheVariants as ends
+
+module _ {E : Type 0} (hears : E → List ℕ → E → Type 0) where
+  -- ---- `format`
+
+  -- of a text that is named, and written without its comments, it is told how many these are; of others nothing
+  abbrev pub TellsLoss : Origin → Style → List ℕ → E → E → Type 0
+  TellsLoss Input style bytes old new = new ≡ old
+  TellsLoss (Named file) Bare bytes old new = TellsLeftOutOf hears bytes old new
+  TellsLoss (Named file) WithComments bytes old new = new ≡ old
+
+  -- the same where the status is 0, of a text that was read
+  abbrev pub TellsLossIfDone : Origin → Style → Taken → Status → E → E → Type 0
+  TellsLossIfDone origin style (Ok bytes) status old new = code_of status ≡ 0 → TellsLoss origin style bytes.items old new
+  TellsLossIfDone origin style (Err fault) status old new = code_of status ≡ 0 → ⊥
+
+  -- ---- `import` and `set`
+
+  -- how many comments the text has is told where reports explain
+  abbrev pub TellsLossIfAsked : Reporting → List ℕ → E → E → Type 0
+  TellsLossIfAsked Brief bytes old new = new ≡ old
+  TellsLossIfAsked Explained bytes old new = TellsLeftOutOf hears bytes old new
+
+  -- the same of an import that ended so, where it was done
+  abbrev pub ImportTells : Reporting → Outcome → List ℕ → E → E → Type 0
+  ImportTells reporting ends.Done bytes old new = TellsLossIfAsked reporting bytes old new
+  ImportTells reporting outcome bytes old new = Unit {0}
+
+  -- the same of a change that sets what the bytes are, if they give one
+  abbrev pub SetTells : Reporting → Meaning → Result Change ToolFault → List ℕ → E → E → Type 0
+  SetTells reporting means.Yaml (Ok change) bytes old new = TellsLossIfAsked reporting bytes old new
+  SetTells reporting means.Text (Ok change) bytes old new = new ≡ old
+  SetTells reporting meaning (Err fault) bytes old new = new ≡ old
