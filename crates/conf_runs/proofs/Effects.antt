@@ -417,14 +417,14 @@ module _ {W D F P : Type 0} (world : WorldModel W D F P) (disk : DiskModel D) (r
   pub data Backed (path : List ℕ) (old new : W) (status : Status) : Option (Deed disk) → Type 0 where
     none_made : Steady old new → Backed path old new status None
     made_there : (found opened : W) (given left : Option (List ℕ)) (first : D) (result : Result D (D × SalvageFault))
-        (made : IfOk result (λ made. BacksUp given left (disk.folder first) (disk.folder made)))
-        (survives : LeavesOldOrCopy disk given left first (copied_disk result))
+        (made : IfOk result (λ made. BacksUp false given left (disk.folder first) (disk.folder made)))
+        (survives : LeavesOldOrCopy false disk given left first (copied_disk result))
         → Steady old found → world.opened New path found (Ok first) opened
         → IsDiskOf disk leaves path found first (copied_disk result) new → status ≡ status_after_backup result
         → Backed path old new status (Some (copies given left first result made survives))
     saved_there : (found opened : W) (given left : Option (List ℕ)) (first : D) (result : Result (D × Surveyed) (D × SalvageFault))
-        (made : IfOk result (λ saved. Saves given left (disk.folder first) (disk.folder saved.0) saved.1))
-        (survives : LeavesOldOrSaved disk given left first (saved_disk result)) (held written : Option (List ℕ))
+        (made : IfOk result (λ saved. Saves false given left (disk.folder first) (disk.folder saved.0) saved.1))
+        (survives : LeavesOldOrSaved false disk given left first (saved_disk result)) (held written : Option (List ℕ))
         → Steady old found → world.opened New path found (Ok first) opened
         → IsDiskOf disk leaves path found first (saved_disk result) new → WritesFindings result held written status
         → Backed path old new status (Some (saves given left first result made survives))

@@ -1,7 +1,7 @@
 -- What runs of the program keep, one run after the other.
 use Rattle.std.proofs.Common.{◌≡◌, ◌≢◌, ◌≤◌, ◌⊎◌, inl, inr, ℕ, List, [], ◌∷◌, take, Option, None, Some, Result, Ok}
-use Rattle.std.proofs.Common.{Err, IfOk, true, refl, sym, ap, ◌∙◌, subst, arith}
-use Rattle.conf_disk.specs.Folder.{bytes_under}
+use Rattle.std.proofs.Common.{Err, IfOk, Bool, true, false, refl, sym, ap, ◌∙◌, subst, arith}
+use Rattle.conf_disk.specs.Folder.{bytes_under, several_waited}
 use Rattle.conf_disk.specs.Image.{Image, IsImage, image_now}
 use Rattle.conf_disk.specs.Laws.{ReadingIsAnImage}
 use Rattle.conf_disk.specs.Models.{DiskModel}
@@ -18,7 +18,7 @@ use Rattle.conf_state.specs.States.{Contents}
 use Rattle.conf_state.specs.Steps.{after}
 use Rattle.conf_record.specs.Documents.{BasesAreRead, BasesClose, BasesFit}
 use Rattle.conf_state.specs.BaseTexts.{base_bytes}
-use Rattle.conf_store.specs.Meaning.{FileMeans, empty_state}
+use Rattle.conf_store.specs.Meaning.{FileMeans, ImageMeans, empty_state}
 use Rattle.conf_store.proofs.StoreLemmas.{base-file-means, base-of}
 use Rattle.conf_store.specs.Opens.{OneMeaning}
 use Rattle.conf_words.specs.declared.invocation.Invocation.{Invocation}
@@ -42,9 +42,10 @@ use Rattle.conf_runs.proofs.Effects.{Backed, Effect, Fits, backed, effect, made_
 use Rattle.conf_runs.proofs.Effects.{salvaged, saved_there, spares}
 
 -- a file means one state at most
-file-one : OneMeaning → (file : Option (List ℕ)) (s t : Contents) → FileMeans file s → FileMeans file t → s ≡ t
-file-one one None s t a b = a ∙ sym b
-file-one one (Some bytes) s t a b = one bytes s t a b
+file-one : OneMeaning → (several : Bool) (file : Option (List ℕ)) (s t : Contents) → FileMeans several file s
+    → FileMeans several file t → s ≡ t
+file-one one several None s t a b = a ∙ sym b
+file-one one several (Some bytes) s t a b = one bytes several several s t a b
 
 some-one : (one other : List ℕ) → Some one ≡ Some other → one ≡ other
 some-one one other is = cc
@@ -65,40 +66,40 @@ module _ {W D F P : Type 0} (world : WorldModel W D F P) (disk : DiskModel D) (r
   abbrev Leaves : Ending → Option (Deed disk) → W → W → Image → Type 0
   Leaves = LeavesAfter world disk remaining honest leaves path
 
-  -- the file means the state of the store that a deed makes
-  record IsNew (deed : Deed disk) (file : Option (List ℕ)) : Type 0 where
+  -- the image means the state of the store that a deed makes
+  record IsNew (deed : Deed disk) (image : Image) : Type 0 where
     state : Contents
     makes : MakesStore world disk remaining honest leaves path (Some deed) state
-    means : FileMeans file state
+    means : ImageMeans image state
 
   -- A deed that makes a store. A crash at any moment of it leaves an old store or the new one, and the new one where the
   -- status is Done. It performs no commands.
   record MakesNew (status : Status) (deed : Deed disk) : Type 0 where
     later : disk.moment (first_disk disk deed) ≤ disk.moment (last_disk disk deed)
     either : (image : Image) → disk.left (last_disk disk deed) (disk.moment (first_disk disk deed)) image
-        → IsStoreOf (disk.folder (first_disk disk deed)) image.store ⊎ IsNew deed image.store
-    done : status ≡ Done → (image : Image) → IsImage (disk.folder (last_disk disk deed)) image → IsNew deed image.store
+        → IsStoreOf (disk.folder (first_disk disk deed)) image ⊎ IsNew deed image
+    done : status ≡ Done → (image : Image) → IsImage (disk.folder (last_disk disk deed)) image → IsNew deed image
     no_commands : accepted_in world disk remaining honest leaves path (Some deed) ≡ []
     none_acknowledged : acknowledged world disk remaining honest leaves path status (Some deed) ≡ 0
     not_kept : status ≢ Done → IsMade world disk remaining honest leaves path status (Some deed)
 
   is-copied : (given left : Option (List ℕ)) (first : D) (result : Result D (D × SalvageFault))
-      (made : IfOk result (λ made. BacksUp given left (disk.folder first) (disk.folder made)))
-      (survives : LeavesOldOrCopy disk given left first (copied_disk result)) (file : Option (List ℕ))
-      → IsStoreOf (disk.folder first) file ⊎ IsCopied given left file
-      → IsStoreOf (disk.folder first) file ⊎ IsNew (copies given left first result made survives) file
-  is-copied given left first result made survives file (inl old) = inl old
-  is-copied given left first result made survives file (inr copied) = inr (record {
+      (made : IfOk result (λ made. BacksUp false given left (disk.folder first) (disk.folder made)))
+      (survives : LeavesOldOrCopy false disk given left first (copied_disk result)) (image : Image)
+      → IsStoreOf (disk.folder first) image ⊎ IsCopied false given left image.store
+      → IsStoreOf (disk.folder first) image ⊎ IsNew (copies given left first result made survives) image
+  is-copied given left first result made survives image (inl old) = inl old
+  is-copied given left first result made survives image (inr copied) = inr (record {
     state = copied.reads.s;
     makes = record { copy = copied.copy; reads = copied.reads; is = refl };
-    means = subst (λ (f : Option (List ℕ)). FileMeans f copied.reads.s) (sym copied.is) copied.reads.means;
+    means = subst (λ (f : Option (List ℕ)). FileMeans image.several f copied.reads.s) (sym copied.is) (copied.reads.means image.several);
   })
 
   copy-done : (status : Status) (given left : Option (List ℕ)) (first : D) (result : Result D (D × SalvageFault))
-      (made : IfOk result (λ made. BacksUp given left (disk.folder first) (disk.folder made)))
-      (survives : LeavesOldOrCopy disk given left first (copied_disk result)) → status ≡ status_after_backup result → status ≡ Done
+      (made : IfOk result (λ made. BacksUp false given left (disk.folder first) (disk.folder made)))
+      (survives : LeavesOldOrCopy false disk given left first (copied_disk result)) → status ≡ status_after_backup result → status ≡ Done
       → (image : Image) → IsImage (disk.folder (copied_disk result)) image
-      → IsNew (copies given left first result made survives) image.store
+      → IsNew (copies given left first result made survives) image
   copy-done status given left first (Ok new) made survives ends done image is = record {
     state = made.reads.s;
     makes = record { copy = made.copy; reads = made.reads; is = refl };
@@ -107,12 +108,12 @@ module _ {W D F P : Type 0} (world : WorldModel W D F P) (disk : DiskModel D) (r
   copy-done status given left first (Err refused) made survives ends done image is = absurd (not-backed-up refused.1 (sym done ∙ ends))
 
   makes-copy : (status : Status) (given left : Option (List ℕ)) (first : D) (result : Result D (D × SalvageFault))
-      (made : IfOk result (λ made. BacksUp given left (disk.folder first) (disk.folder made)))
-      (survives : LeavesOldOrCopy disk given left first (copied_disk result)) → status ≡ status_after_backup result
+      (made : IfOk result (λ made. BacksUp false given left (disk.folder first) (disk.folder made)))
+      (survives : LeavesOldOrCopy false disk given left first (copied_disk result)) → status ≡ status_after_backup result
       → MakesNew status (copies given left first result made survives)
   makes-copy status given left first result made survives ends = record {
     later = survives.later;
-    either = λ image was. is-copied given left first result made survives image.store (survives.each image was);
+    either = λ image was. is-copied given left first result made survives image (survives.each image was);
     done = copy-done status given left first result made survives ends;
     no_commands = refl;
     none_acknowledged = refl;
@@ -120,23 +121,23 @@ module _ {W D F P : Type 0} (world : WorldModel W D F P) (disk : DiskModel D) (r
   }
 
   is-saved : (given left : Option (List ℕ)) (first : D) (result : Result (D × Findings) (D × SalvageFault))
-      (made : IfOk result (λ saved. Saves given left (disk.folder first) (disk.folder saved.0) saved.1))
-      (survives : LeavesOldOrSaved disk given left first (saved_disk result)) (file : Option (List ℕ))
-      → IsStoreOf (disk.folder first) file ⊎ IsSaved given left file
-      → IsStoreOf (disk.folder first) file ⊎ IsNew (saves given left first result made survives) file
-  is-saved given left first result made survives file (inl old) = inl old
-  is-saved given left first result made survives file (inr saved) = inr (record {
+      (made : IfOk result (λ saved. Saves false given left (disk.folder first) (disk.folder saved.0) saved.1))
+      (survives : LeavesOldOrSaved false disk given left first (saved_disk result)) (image : Image)
+      → IsStoreOf (disk.folder first) image ⊎ IsSaved false given left image.store
+      → IsStoreOf (disk.folder first) image ⊎ IsNew (saves given left first result made survives) image
+  is-saved given left first result made survives image (inl old) = inl old
+  is-saved given left first result made survives image (inr saved) = inr (record {
     state = saved.s;
     makes = record { findings = saved.findings; reads = saved.reads };
     means = base-file-means saved.s (base_bytes saved.s)
-        (base-of read close fit saved.s (base_bytes saved.s) saved.reads.kept refl) file saved.is;
+        (base-of read close fit saved.s (base_bytes saved.s) saved.reads.kept refl) image saved.is;
   })
 
   salvage-done : (status : Status) (held written : Option (List ℕ)) (given left : Option (List ℕ)) (first : D)
       (result : Result (D × Findings) (D × SalvageFault))
-      (made : IfOk result (λ saved. Saves given left (disk.folder first) (disk.folder saved.0) saved.1))
-      (survives : LeavesOldOrSaved disk given left first (saved_disk result)) → WritesFindings result held written status → status ≡ Done
-      → (image : Image) → IsImage (disk.folder (saved_disk result)) image → IsNew (saves given left first result made survives) image.store
+      (made : IfOk result (λ saved. Saves false given left (disk.folder first) (disk.folder saved.0) saved.1))
+      (survives : LeavesOldOrSaved false disk given left first (saved_disk result)) → WritesFindings result held written status → status ≡ Done
+      → (image : Image) → IsImage (disk.folder (saved_disk result)) image → IsNew (saves given left first result made survives) image
   salvage-done status held written given left first (Ok saved) made survives writes done image is = record {
     state = made.s;
     makes = record { findings = saved.1; reads = made.reads };
@@ -147,12 +148,12 @@ module _ {W D F P : Type 0} (world : WorldModel W D F P) (disk : DiskModel D) (r
 
   makes-saved : (status : Status) (held written : Option (List ℕ)) (given left : Option (List ℕ)) (first : D)
       (result : Result (D × Findings) (D × SalvageFault))
-      (made : IfOk result (λ saved. Saves given left (disk.folder first) (disk.folder saved.0) saved.1))
-      (survives : LeavesOldOrSaved disk given left first (saved_disk result)) → WritesFindings result held written status
+      (made : IfOk result (λ saved. Saves false given left (disk.folder first) (disk.folder saved.0) saved.1))
+      (survives : LeavesOldOrSaved false disk given left first (saved_disk result)) → WritesFindings result held written status
       → MakesNew status (saves given left first result made survives)
   makes-saved status held written given left first result made survives writes = record {
     later = survives.later;
-    either = λ image was. is-saved given left first result made survives image.store (survives.each image was);
+    either = λ image was. is-saved given left first result made survives image (survives.each image was);
     done = salvage-done status held written given left first result made survives writes;
     no_commands = refl;
     none_acknowledged = refl;
@@ -321,19 +322,19 @@ module _ {W D F P : Type 0} (world : WorldModel W D F P) (disk : DiskModel D) (r
   led-on from between to (commands kept) others step rest = (between, step, rest)
   led-on from between to (new_store state) others step rest = (step.0, subst (λ (s : Contents). Leads s others to) step.1 rest)
 
-  -- What is kept of a run: it leads from a state of which Held holds to the state that the file means.
-  record KeptRun (Held : Contents → Type 0) (event : Run) (file : Option (List ℕ)) : Type 0 where
+  -- What is kept of a run: it leads from a state of which Held holds to the state that the image means.
+  record KeptRun (Held : Contents → Type 0) (event : Run) (image : Image) : Type 0 where
     kept : Kept
     of : KeptOf world disk remaining honest leaves path event kept
     from : Contents
     stood : Held from
     to : Contents
     leads : Step from kept to
-    means : FileMeans file to
+    means : ImageMeans image to
 
   -- whatever is left means a state of which Held holds
   abbrev Stands : (Image → Type 0) → (Contents → Type 0) → Type 0
-  Stands left Held = (image : Image) → left image → (s : Contents) × Held s × FileMeans image.store s
+  Stands left Held = (image : Image) → left image → (s : Contents) × Held s × ImageMeans image s
 
   returns : (ending : Ending) → ending ≡ returned → ending_of_call ending ≡ program.returned
   returns ending is = ap ending_of_call is
@@ -342,8 +343,8 @@ module _ {W D F P : Type 0} (world : WorldModel W D F P) (disk : DiskModel D) (r
   kept-new : (Held : Contents → Type 0) (event : Run) (deed : Deed disk) → deed_in world disk remaining honest leaves path event ≡ Some deed
       → ((image : Image) → IsImage (disk.folder (first_disk disk deed)) image → leaves event.old.world path image)
       → bytes_under (disk.folder (first_disk disk deed)) Store ≡ None → Stands (leaves event.old.world path) Held
-      → (file : Option (List ℕ)) → IsNew deed file → KeptRun Held event file
-  kept-new Held event deed is found none stands file new =
+      → (image : Image) → IsNew deed image → KeptRun Held event image
+  kept-new Held event deed is found none stands image new =
       let folder = disk.folder (first_disk disk deed) in
       let entry = stands (image_now folder) (found (image_now folder) (reads_one folder)) in
       record {
@@ -352,7 +353,7 @@ module _ {W D F P : Type 0} (world : WorldModel W D F P) (disk : DiskModel D) (r
         from = entry.0;
         stood = entry.1;
         to = new.state;
-        leads = (subst (λ (f : Option (List ℕ)). FileMeans f entry.0) none entry.2, refl);
+        leads = (subst (λ (f : Option (List ℕ)). FileMeans (several_waited folder) f entry.0) none entry.2, refl);
         means = new.means;
       }
 
@@ -361,9 +362,9 @@ module _ {W D F P : Type 0} (world : WorldModel W D F P) (disk : DiskModel D) (r
       → deed_in world disk remaining honest leaves path event ≡ Some deed → (event.ending ≡ returned → event.status ≢ Done)
       → ((image : Image) → IsImage (disk.folder (first_disk disk deed)) image → leaves event.old.world path image)
       → bytes_under (disk.folder (first_disk disk deed)) Store ≡ None → Stands (leaves event.old.world path) Held
-      → (file : Option (List ℕ)) → IsStoreOf (disk.folder (first_disk disk deed)) file ⊎ IsNew deed file → KeptRun Held event file
-  kept-either Held event deed makes is not_done found none stands file (inl old) =
-      let entry = stands old.image (found old.image old.is) in
+      → (image : Image) → IsStoreOf (disk.folder (first_disk disk deed)) image ⊎ IsNew deed image → KeptRun Held event image
+  kept-either Held event deed makes is not_done found none stands image (inl old) =
+      let entry = stands old.left (found old.left old.is) in
       record {
         kept = commands [];
         of = kept-of event (Some deed) [] is (record {
@@ -376,20 +377,21 @@ module _ {W D F P : Type 0} (world : WorldModel W D F P) (disk : DiskModel D) (r
         stood = entry.1;
         to = entry.0;
         leads = refl;
-        means = subst (λ (f : Option (List ℕ)). FileMeans f entry.0) old.same entry.2;
+        means = subst (λ (b : Bool). FileMeans b image.store entry.0) old.noted
+            (subst (λ (f : Option (List ℕ)). FileMeans old.left.several f entry.0) old.same entry.2);
       }
-  kept-either Held event deed makes is not_done found none stands file (inr new) = kept-new Held event deed is found none stands file new
+  kept-either Held event deed makes is not_done found none stands image (inr new) = kept-new Held event deed is found none stands image new
 
   kept-returned : (Held : Contents → Type 0) (event : Run) (status : Status) → event.status ≡ status
       → (deed : Deed disk) → MakesNew event.status deed
       → deed_in world disk remaining honest leaves path event ≡ Some deed
       → ((image : Image) → IsImage (disk.folder (first_disk disk deed)) image → leaves event.old.world path image)
       → bytes_under (disk.folder (first_disk disk deed)) Store ≡ None → Stands (leaves event.old.world path) Held
-      → (image : Image) → IsImage (disk.folder (last_disk disk deed)) image → KeptRun Held event image.store
+      → (image : Image) → IsImage (disk.folder (last_disk disk deed)) image → KeptRun Held event image
   kept-returned Held event Done ended deed makes is found none stands image now =
-      kept-new Held event deed is found none stands image.store (makes.done ended image now)
+      kept-new Held event deed is found none stands image (makes.done ended image now)
   kept-returned Held event status ended deed makes is found none stands image now =
-      kept-either Held event deed makes is (λ _ done. cc) found none stands image.store
+      kept-either Held event deed makes is (λ _ done. cc) found none stands image
       (makes.either image (counts (last_disk disk deed) (disk.moment (first_disk disk deed)) image makes.later now))
 
   kept-fresh : (Held : Contents → Type 0) (event : Run) (ending : Ending) → event.ending ≡ ending → (deed : Deed disk)
@@ -398,20 +400,20 @@ module _ {W D F P : Type 0} (world : WorldModel W D F P) (disk : DiskModel D) (r
       → ((image : Image) → IsImage (disk.folder (first_disk disk deed)) image → leaves event.old.world path image)
       → bytes_under (disk.folder (first_disk disk deed)) Store ≡ None → Stands (leaves event.old.world path) Held
       → (image : Image) → program.MayLeave disk (ending_of_call ending) (first_disk disk deed)
-      (last_disk disk deed) image → KeptRun Held event image.store
+      (last_disk disk deed) image → KeptRun Held event image
   kept-fresh Held event returned ended deed makes is found none stands image may =
       kept-returned Held event event.status refl deed makes is found none stands image may
   kept-fresh Held event cut_off ended deed makes is found none stands image may =
       kept-either Held event deed makes is (λ other. absurd (cut-off-returned (sym ended ∙ other))) found none stands
-      image.store (makes.either image may)
+      image (makes.either image may)
   kept-fresh Held event not_begun ended deed makes is found none stands image may =
       kept-either Held event deed makes is (λ other. absurd (not-begun-returned (sym ended ∙ other))) found none
-      stands image.store (makes.either image may)
+      stands image (makes.either image may)
 
   kept-at : (Held : Contents → Type 0) (event : Run) (deed : Option (Deed disk))
       → deed_in world disk remaining honest leaves path event ≡ deed
       → At event.ending event.old.world event.new.world event.status deed → Stands (leaves event.old.world path) Held
-      → (image : Image) → Leaves event.ending deed event.old.world event.new.world image → KeptRun Held event image.store
+      → (image : Image) → Leaves event.ending deed event.old.world event.new.world image → KeptRun Held event image
   kept-at Held event None is (quiet steady) stands image left =
       let here = stands image (steady image left) in record {
         kept = commands [];
@@ -434,7 +436,7 @@ module _ {W D F P : Type 0} (world : WorldModel W D F P) (disk : DiskModel D) (r
           is = λ _. made event.status call fits;
         });
         from = got.start;
-        stood = subst Held (file-one one got.began.entry.store entry.0 got.start entry.2 got.began.means) entry.1;
+        stood = subst Held (file-one one got.began.entry.several got.began.entry.store entry.0 got.start entry.2 got.began.means) entry.1;
         to = got.state;
         leads = got.leads;
         means = got.means;
@@ -449,25 +451,25 @@ module _ {W D F P : Type 0} (world : WorldModel W D F P) (disk : DiskModel D) (r
       image (may image remains)
 
   kept-run : (Held : Contents → Type 0) (event : Run) → Stands (leaves event.old.world path) Held
-      → (image : Image) → MayLeave world disk remaining honest leaves path event image → KeptRun Held event image.store
+      → (image : Image) → MayLeave world disk remaining honest leaves path event image → KeptRun Held event image
   kept-run Held event stands image left =
       kept-at Held event (deed_in world disk remaining honest leaves path event) refl
       (at event.invocation event.place event.ending event.old event.new event.status event.does) stands image left
 
   -- ---- all runs
 
-  record KeptOfAll (Held : Contents → Type 0) (events : List Run) (file : Option (List ℕ)) : Type 0 where
+  record KeptOfAll (Held : Contents → Type 0) (events : List Run) (image : Image) : Type 0 where
     kept : List Kept
     each : EachKept world disk remaining honest leaves path events kept
     from : Contents
     stood : Held from
     to : Contents
     leads : Leads from kept to
-    means : FileMeans file to
+    means : ImageMeans image to
 
   kept-runs : (events : List Run) (Held : Contents → Type 0) (before behind : Image → Type 0) → Stands before Held
       → AreRuns world disk remaining honest leaves path before events behind → (image : Image) → behind image
-      → KeptOfAll Held events image.store
+      → KeptOfAll Held events image
   kept-runs [] Held before behind stands fewer image is =
       let here = stands image (fewer image is) in
       record { kept = []; each = tt; from = here.0; stood = here.1; to = here.0; leads = refl; means = here.2 }
@@ -489,9 +491,9 @@ module _ {W D F P : Type 0} (world : WorldModel W D F P) (disk : DiskModel D) (r
       }
 
   pub runs-hold : (first last : W) (events : List Run)
-      → ((image : Image) → leaves first path image → (state : Contents) × FileMeans image.store state)
+      → ((image : Image) → leaves first path image → (state : Contents) × ImageMeans image state)
       → AreRuns world disk remaining honest leaves path (leaves first path) events (leaves last path)
-      → (image : Image) → leaves last path image → Holds world disk remaining honest leaves path first events image.store
+      → (image : Image) → leaves last path image → Holds world disk remaining honest leaves path first events image
   runs-hold first last events means are image is =
       let stands : Stands (leaves first path) (MeantBy world disk remaining honest leaves path first) =
       λ image was. let meant = means image was in

@@ -13,7 +13,7 @@ use Rattle.conf_history.specs.declared.survey.Findings.{Findings}
 use Rattle.conf_state.specs.Commands.{Command}
 use Rattle.conf_state.specs.States.{Contents}
 use Rattle.conf_state.specs.Steps.{after}
-use Rattle.conf_store.specs.Meaning.{FileMeans, empty_state}
+use Rattle.conf_store.specs.Meaning.{ImageMeans, empty_state}
 use Rattle.conf_words.specs.declared.invocation.Conditions.{Conditions}
 use Rattle.conf_words.specs.declared.invocation.Invocation.{Invocation}
 use Rattle.conf_words.specs.declared.invocation.TreeForm.{TreeForm}
@@ -156,11 +156,11 @@ module _ {D : Type 0} (disk : DiskModel D) where
   pub data Deed : Type 0 where
     calls : (call : Call disk) → Deed
     copies : (given left : Option (List ℕ)) (first : D) (result : Result D (D × SalvageFault))
-        → IfOk result (λ made. BacksUp given left (disk.folder first) (disk.folder made))
-        → LeavesOldOrCopy disk given left first (copied_disk result) → Deed
+        → IfOk result (λ made. BacksUp false given left (disk.folder first) (disk.folder made))
+        → LeavesOldOrCopy false disk given left first (copied_disk result) → Deed
     saves : (given left : Option (List ℕ)) (first : D) (result : Result (D × Findings) (D × SalvageFault))
-        → IfOk result (λ saved. Saves given left (disk.folder first) (disk.folder saved.0) saved.1)
-        → LeavesOldOrSaved disk given left first (saved_disk result) → Deed
+        → IfOk result (λ saved. Saves false given left (disk.folder first) (disk.folder saved.0) saved.1)
+        → LeavesOldOrSaved false disk given left first (saved_disk result) → Deed
 
   -- the disk before it
   abbrev pub first_disk : Deed → D
@@ -324,13 +324,13 @@ module _ {W D F P : Type 0} (world : WorldModel W D F P) (disk : DiskModel D) (r
   -- a state that the base and the records mean that a file gave
   pub record IsRead (given left : Option (List ℕ)) (state : Contents) : Type 0 where
     pub copy : List ℕ
-    pub reads : ReadsCopy given left copy
+    pub reads : ReadsCopy false given left copy
     pub is : state ≡ reads.s
 
   -- the state that stands before the first bad piece of what a file gave
   pub record IsSurveyed (given left : Option (List ℕ)) (state : Contents) : Type 0 where
     pub findings : Findings
-    pub reads : ReadsSurvey given left state findings
+    pub reads : ReadsSurvey false given left state findings
 
   -- the store that a run made has this state
   abbrev pub MakesStore : Option (Deed disk) → Contents → Type 0
@@ -352,22 +352,22 @@ module _ {W D F P : Type 0} (world : WorldModel W D F P) (disk : DiskModel D) (r
   pub record MeantBy (now : W) (state : Contents) : Type 0 where
     pub entry : Image
     pub is : leaves now path entry
-    pub means : FileMeans entry.store state
+    pub means : ImageMeans entry state
 
-  -- the file means what was kept of each run makes of a state that the folder might mean before them
-  pub record Holds (first : W) (events : List Event) (file : Option (List ℕ)) : Type 0 where
+  -- the image means what was kept of each run makes of a state that the folder might mean before them
+  pub record Holds (first : W) (events : List Event) (image : Image) : Type 0 where
     pub start : Contents
     pub began : MeantBy first start
     pub kept : List Kept
     pub each : EachKept events kept
     pub state : Contents
     pub leads : Leads start kept state
-    pub means : FileMeans file state
+    pub means : ImageMeans image state
 
   -- Where each image of the folder means a state before the runs, each image of it holds after them what was kept. The
   -- states of the images may differ.
   abbrev pub RunsHold : Type 0
   RunsHold = KeepsFolders world disk leaves → (first last : W) (events : List Event)
-      → ((image : Image) → leaves first path image → (state : Contents) × FileMeans image.store state)
+      → ((image : Image) → leaves first path image → (state : Contents) × ImageMeans image state)
       → AreRuns (leaves first path) events (leaves last path)
-      → (image : Image) → leaves last path image → Holds first events image.store
+      → (image : Image) → leaves last path image → Holds first events image

@@ -1,8 +1,8 @@
 -- What calls of the program keep, one call after the other.
 use Rattle.std.proofs.Common.{◌≡◌, ◌≤◌, ℕ, Bool, true, false, if◌then◌else◌, List, [], ◌∷◌, ◌++◌, length, take, Option, None, Some, Result}
 use Rattle.std.proofs.Common.{Ok, Err, refl, sym, ap, ◌∙◌, subst, ⊎_elim, arith}
-use Rattle.conf_tools.proofs.Prelude.{bytes_under, Image, IsImage, image_now, ReadingIsAnImage, DiskModel, LeavesOnly, Store, Command}
-use Rattle.conf_tools.proofs.Prelude.{Contents, after, and_then, AfterPrefix, FileMeans, MeantAtEntry, OneMeaning, SessionFault, Tally}
+use Rattle.conf_tools.proofs.Prelude.{bytes_under, several_waited, Image, IsImage, image_now, ReadingIsAnImage, DiskModel, LeavesOnly, Store, Command}
+use Rattle.conf_tools.proofs.Prelude.{Contents, after, and_then, FileMeans, FolderMeans, ImageMeans, MeansPrefix, MeantAtEntry, OneMeaning, SessionFault, Tally}
 use Rattle.conf_tools.proofs.Prelude.{Streams}
 use Rattle.conf_state.proofs.RunLaws.{after-append}
 use Rattle.conf_store.specs.Lives.{all_commands}
@@ -15,9 +15,10 @@ use Rattle.conf_tools.specs.ProgramCalls.{running}
 use Rattle.conf_tools.specs.declared.stores.StoreToolFault.TheVariants.{Open, Session, Export, Refused, StoreExists}
 
 -- a file means one state at most
-file-one : OneMeaning → (file : Option (List ℕ)) (s t : Contents) → FileMeans file s → FileMeans file t → s ≡ t
-file-one one None s t a b = a ∙ sym b
-file-one one (Some bytes) s t a b = one bytes s t a b
+file-one : OneMeaning → (several : Bool) (file : Option (List ℕ)) (s t : Contents) → FileMeans several file s
+    → FileMeans several file t → s ≡ t
+file-one one several None s t a b = a ∙ sym b
+file-one one several (Some bytes) s t a b = one bytes several several s t a b
 
 -- the first commands lead to a state, and the others on from there
 led-on : (from between to : Contents) (first others : List Command) → after from first ≡ Ok between
@@ -25,25 +26,25 @@ led-on : (from between to : Contents) (first others : List Command) → after fr
 led-on from between to first others one two = after-append from first others
     ∙ ap (λ r. and_then r (λ (s : Contents). after s others)) one ∙ two
 
--- What is kept of a call: it leads from a state of which P holds to the state that the file means.
-record Kept (P : Contents → Type 0) (ending : Ending) (accepted : List Command) (answered : ℕ) (file : Option (List ℕ)) : Type 0 where
+-- What is kept of a call: it leads from a state of which P holds to the state that the image means.
+record Kept (P : Contents → Type 0) (ending : Ending) (accepted : List Command) (answered : ℕ) (image : Image) : Type 0 where
   kept : List Command
   of : KeptOf ending accepted answered kept
   from : Contents
   holds : P from
   to : Contents
   leads : after from kept ≡ Ok to
-  means : FileMeans file to
+  means : ImageMeans image to
 
 -- a call that was cut off owes no answer
 none-owed : (answered count : ℕ) → cut_off ≡ returned → answered ≤ count
 none-owed answered count is = cc
 
 kept-prefix : (P : Contents → Type 0) (ending : Ending) (s : Contents) (accepted : List Command) (answered : ℕ)
-    (file : Option (List ℕ)) → P s
-    → (after-prefix : AfterPrefix s accepted file) → (ending ≡ returned → answered ≤ after-prefix.count)
-    → Kept P ending accepted answered file
-kept-prefix P ending s accepted answered file holds prefix enough = record {
+    (image : Image) → P s
+    → (after-prefix : MeansPrefix s accepted image) → (ending ≡ returned → answered ≤ after-prefix.count)
+    → Kept P ending accepted answered image
+kept-prefix P ending s accepted answered image holds prefix enough = record {
   kept = take prefix.count accepted;
   of = record { count = prefix.count; are = refl; all_answered = enough };
   from = s;
@@ -59,17 +60,17 @@ module _ {D : Type 0} (model : DiskModel D)
     → model.left disk t image) where
   -- whatever a crash leaves of the disk means a state of which P holds
   abbrev Stands : D → (Contents → Type 0) → Type 0
-  Stands disk P = (image : Image) → IsImage (model.folder disk) image → (s : Contents) × P s × FileMeans image.store s
+  Stands disk P = (image : Image) → IsImage (model.folder disk) image → (s : Contents) × P s × ImageMeans image s
 
   -- so does what is read
-  reads : (P : Contents → Type 0) (disk : D) (s : Contents) → Stands disk P → FileMeans (bytes_under (model.folder disk) Store) s → P s
+  reads : (P : Contents → Type 0) (disk : D) (s : Contents) → Stands disk P → FolderMeans (model.folder disk) s → P s
   reads P disk s stands means =
       let now = stands (image_now (model.folder disk)) (reading (model.folder disk)) in
-      subst P (file-one one (bytes_under (model.folder disk) Store) now.0 s now.2 means) now.1
+      subst P (file-one one (several_waited (model.folder disk)) (bytes_under (model.folder disk) Store) now.0 s now.2 means) now.1
 
   -- what was meant at entry: nothing is kept
   kept-entry : (P : Contents → Type 0) (old : D) (ending : Ending) (accepted : List Command) (answered : ℕ) (image : Image) → Stands old P
-      → (ending ≡ returned → answered ≤ 0) → MeantAtEntry (model.folder old) image.store → Kept P ending accepted answered image.store
+      → (ending ≡ returned → answered ≤ 0) → MeantAtEntry (model.folder old) image → Kept P ending accepted answered image
   kept-entry P old ending accepted answered image stands none meant =
       let entry = stands meant.entry meant.is in record {
         kept = [];
@@ -83,8 +84,8 @@ module _ {D : Type 0} (model : DiskModel D)
 
   -- a call that accepts nothing
   kept-unchanged : (P : Contents → Type 0) (old new : D) (ending : Ending) (image : Image) → Stands old P
-      → LeavesOnly model old new (λ image. MeantAtEntry (model.folder old) image.store) → MayLeave model ending old new image
-      → Kept P ending [] 0 image.store
+      → LeavesOnly model old new (MeantAtEntry (model.folder old)) → MayLeave model ending old new image
+      → Kept P ending [] 0 image
   kept-unchanged P old new returned image stands leaves is =
       kept-entry P old returned [] 0 image stands (λ _. omega arith)
       (leaves.each image (counts new (model.moment old) image leaves.later is))
@@ -95,42 +96,42 @@ module _ {D : Type 0} (model : DiskModel D)
   kept-session : (P : Contents → Type 0) (io : Streams) (grouping : Grouping) (old new : D)
       (result : Result Tally SessionFault) (ending : Ending) (image : Image) → Stands old P
       → (keeps : KeepsAnswered model io grouping old new result) → MayLeave model ending old new image
-      → Kept P ending keeps.work.accepted keeps.work.answered image.store
+      → Kept P ending keeps.work.accepted keeps.work.answered image
   kept-session P io grouping old new result returned image stands keeps is =
       let s = keeps.start.state in
       let least = keeps.returned image is in
-      kept-prefix P returned s keeps.work.accepted keeps.work.answered image.store (reads P old s stands keeps.opens.means)
+      kept-prefix P returned s keeps.work.accepted keeps.work.answered image (reads P old s stands keeps.opens.means)
       (record { count = least.count; state = least.state; leads = least.leads; means = least.means }) (λ _. least.enough)
   kept-session P io grouping old new result cut_off image stands keeps is =
       let s = keeps.start.state in
       ⊎_elim
       (λ was. kept-entry P old cut_off keeps.work.accepted keeps.work.answered image stands
       (none-owed keeps.work.answered 0) (keeps.while_opening.each image was))
-      (λ now. kept-prefix P cut_off s keeps.work.accepted keeps.work.answered image.store
+      (λ now. kept-prefix P cut_off s keeps.work.accepted keeps.work.answered image
       (reads P old s stands keeps.opens.means) now (none-owed keeps.work.answered now.count))
       (keeps.once_open.before (model.moment old) image keeps.while_opening.later is)
 
   -- a change
   kept-change : (P : Contents → Type 0) (change : Change) (old new : D) (is_done : Bool) (ending : Ending) (image : Image) → Stands old P
       → (keeps : KeepsChange model old change new is_done) → MayLeave model ending old new image
-      → Kept P ending keeps.accepted (if is_done then length keeps.accepted else 0) image.store
+      → Kept P ending keeps.accepted (if is_done then length keeps.accepted else 0) image
   kept-change P change old new is_done returned image stands keeps is =
       let least = keeps.returned image is in
-      kept-prefix P returned keeps.start keeps.accepted (if is_done then length keeps.accepted else 0) image.store
+      kept-prefix P returned keeps.start keeps.accepted (if is_done then length keeps.accepted else 0) image
       (reads P old keeps.start stands keeps.means)
       (record { count = least.count; state = least.state; leads = least.leads; means = least.means }) (λ _. least.enough)
   kept-change P change old new is_done cut_off image stands keeps is =
       let owed = if is_done then length keeps.accepted else 0 in
       ⊎_elim
       (λ was. kept-entry P old cut_off keeps.accepted owed image stands (none-owed owed 0) (keeps.while_opening.each image was))
-      (λ now. kept-prefix P cut_off keeps.start keeps.accepted owed image.store
+      (λ now. kept-prefix P cut_off keeps.start keeps.accepted owed image
       (reads P old keeps.start stands keeps.means) now (none-owed owed now.count))
       (keeps.once_open.before (model.moment old) image keeps.while_opening.later is)
 
   -- any call
   kept-call : (P : Contents → Type 0) (ending : Ending) (call : Call model) (image : Image) → Stands (disk_before model call) P
       → MayLeave model ending (disk_before model call) (disk_behind model call) image
-      → Kept P ending (accepted model call) (answered model call) image.store
+      → Kept P ending (accepted model call) (answered model call) image
   kept-call P ending (running io grouping old (Ok (new, tally)) keeps) image stands is =
       kept-session P io grouping old new (Ok tally) ending image stands keeps is
   kept-call P ending (running io grouping old (Err (new, Session fault)) keeps) image stands is =
@@ -184,17 +185,17 @@ module _ {D : Type 0} (model : DiskModel D)
       }
 
   -- What is kept of all calls, from a state of which P holds.
-  record KeptOfAll (P : Contents → Type 0) (events : List (Event model)) (file : Option (List ℕ)) : Type 0 where
+  record KeptOfAll (P : Contents → Type 0) (events : List (Event model)) (image : Image) : Type 0 where
     kept : List (List Command)
     each : EachKept model events kept
     from : Contents
     holds : P from
     to : Contents
     leads : after from (all_commands kept) ≡ Ok to
-    means : FileMeans file to
+    means : ImageMeans image to
 
   kept-calls : (events : List (Event model)) (P : Contents → Type 0) (first last : D) → Stands first P → AreCalls model first events last
-      → (image : Image) → IsImage (model.folder last) image → KeptOfAll P events image.store
+      → (image : Image) → IsImage (model.folder last) image → KeptOfAll P events image
   kept-calls [] P first last stands same image is =
       let here = stands image (subst (λ (disk : D). IsImage (model.folder disk) image) same is) in
       record { kept = []; each = tt; from = here.0; holds = here.1; to = here.0; leads = refl; means = here.2 }

@@ -5,8 +5,8 @@ use Rattle.std.specs.Prelude.{Option, Ok}
 use Rattle.conf_tools.proofs.Prelude.{false≢true, Folder, Image, IsImage, DiskModel, LeavesOnly, TimeGoesOn, LeavesOnly-joined}
 use Rattle.conf_tools.proofs.Prelude.{LeavesOnly-now, LeavesOnly-weaker, command_of, import_as, single, text_of, Contents, after}
 use Rattle.conf_tools.proofs.Prelude.{StoreFault, EmptyBatch, BadName, NoConfig, Path, Read, TooDeep, ConfigLarge, StoreFull, RecordLong}
-use Rattle.conf_tools.proofs.Prelude.{JournalLong, CountFull, Reopen, Device, OutOfMemory, room_for, journal_length, outcome, AfterPrefix}
-use Rattle.conf_tools.proofs.Prelude.{AllImagesMean, NothingWaits, FileMeans, StoreView, MeantAtEntry, image-meant}
+use Rattle.conf_tools.proofs.Prelude.{JournalLong, CountFull, Reopen, Device, OutOfMemory, room_for, journal_length, outcome, MeansPrefix}
+use Rattle.conf_tools.proofs.Prelude.{AllImagesMean, NothingWaits, ImageMeans, StoreView, MeantAtEntry, image-meant}
 use Rattle.std.proofs.Math.Seq.{take-length}
 use Rattle.conf_state.specs.Commands.{Command as GivenCommand}
 use Rattle.conf_store.proofs.FileLemmas.{read-stays}
@@ -98,9 +98,9 @@ is-device OutOfMemory = inr (λ e. cc)
 
 -- the state before some commands, or after them, is the one after a prefix of them
 one-of-prefix : (before end : Contents) (commands : List GivenCommand) → after before commands ≡ Ok end
-    → (file : Option (List ℕ)) → MeansOneOf before end file → AfterPrefix before commands file
-one-of-prefix before end commands leads file (inl means) = record { count = 0; state = before; leads = refl; means = means }
-one-of-prefix before end commands leads file (inr means) = record {
+    → (image : Image) → MeansOneOf before end image → MeansPrefix before commands image
+one-of-prefix before end commands leads image (inl means) = record { count = 0; state = before; leads = refl; means = means }
+one-of-prefix before end commands leads image (inr means) = record {
   count = length commands;
   state = end;
   leads = ap (after before) (take-length commands) ∙ leads;
@@ -109,21 +109,21 @@ one-of-prefix before end commands leads file (inr means) = record {
 
 -- what a crash leaves of a command, where nothing waited
 pub command-leaves : NothingWaits → {D : Type 0} (model : DiskModel D) (old new : StoreView D)
-    → LeavesOnly model old.disk new.disk (λ image. AfterPrefix old.state [] image.store ⊎ FileMeans image.store new.state)
-    → LeavesOnly model old.disk new.disk (λ image. MeansOneOf old.state new.state image.store)
+    → LeavesOnly model old.disk new.disk (λ image. MeansPrefix old.state [] image ⊎ ImageMeans image new.state)
+    → LeavesOnly model old.disk new.disk (MeansOneOf old.state new.state)
 command-leaves nothing model old new leaves =
-    LeavesOnly-weaker model old.disk new.disk (λ image. AfterPrefix old.state [] image.store
-    ⊎ FileMeans image.store new.state) (λ image. MeansOneOf old.state new.state image.store)
-    leaves (λ image one. ⊎_elim (λ prefix. inl (nothing old.state image.store prefix)) (λ means. inr means) one)
+    LeavesOnly-weaker model old.disk new.disk (λ image. MeansPrefix old.state [] image ⊎ ImageMeans image new.state)
+    (MeansOneOf old.state new.state)
+    leaves (λ image one. ⊎_elim (λ prefix. inl (nothing image.several old.state image.store prefix)) (λ means. inr means) one)
 
 -- and of a checkpoint
 pub checkpoint-leaves : NothingWaits → {D : Type 0} (model : DiskModel D) (old new : StoreView D)
-    → LeavesOnly model old.disk new.disk (λ image. AfterPrefix old.state [] image.store)
-    → LeavesOnly model old.disk new.disk (λ image. MeansOneOf old.state new.state image.store)
+    → LeavesOnly model old.disk new.disk (MeansPrefix old.state [])
+    → LeavesOnly model old.disk new.disk (MeansOneOf old.state new.state)
 checkpoint-leaves nothing model old new leaves =
-    LeavesOnly-weaker model old.disk new.disk (λ image. AfterPrefix old.state [] image.store)
-    (λ image. MeansOneOf old.state new.state image.store)
-    leaves (λ image prefix. inl (nothing old.state image.store prefix))
+    LeavesOnly-weaker model old.disk new.disk (MeansPrefix old.state [])
+    (MeansOneOf old.state new.state)
+    leaves (λ image prefix. inl (nothing image.several old.state image.store prefix))
 
 -- a store that needn't be opened again never says that it has to be
 pub never-reopen : (before : Bool) (fault : StoreFault) → before ≡ false → (fault ≡ Reopen → before ≡ true) → fault ≢ Reopen
@@ -134,24 +134,24 @@ pub looked-leaves : {D : Type 0} (model : DiskModel D) (old mid new : D)
     → ((t : ℕ) (image : Image) → t ≤ model.moment mid → IsImage (model.folder mid) image → model.left mid t image)
     → ((image : Image) → model.left old (model.moment old) image → IsImage (model.folder old) image)
     → TimeGoesOn model old mid → model.folder mid ≡ model.folder old
-    → LeavesOnly model mid new (λ image. MeantAtEntry (model.folder mid) image.store)
-    → LeavesOnly model old new (λ image. MeantAtEntry (model.folder old) image.store)
+    → LeavesOnly model mid new (MeantAtEntry (model.folder mid))
+    → LeavesOnly model old new (MeantAtEntry (model.folder old))
 looked-leaves model old mid new counts only time same leaves =
     LeavesOnly-joined model old mid new (IsImage (model.folder old))
-    (λ image. MeantAtEntry (model.folder mid) image.store) (λ image. MeantAtEntry (model.folder old) image.store)
+    (MeantAtEntry (model.folder mid)) (MeantAtEntry (model.folder old))
     (read-stays model old mid counts only time same).any_moment leaves
     (λ image is. image-meant (model.folder old) image is)
-    (λ image meant. subst (λ (f : Folder). MeantAtEntry f image.store) same meant)
+    (λ image meant. subst (λ (f : Folder). MeantAtEntry f image) same meant)
 
 module _ {D : Type 0} (model : DiskModel D)
     (old : D) (opened closed : StoreView D) (opens : OpensOn model old opened) (change : Change)
-    (leaves : LeavesOnly model opened.disk closed.disk (λ image. MeansOneOf opened.state closed.state image.store)) where
+    (leaves : LeavesOnly model opened.disk closed.disk (MeansOneOf opened.state closed.state)) where
   once-open : (commands : List GivenCommand) → after opened.state commands ≡ Ok closed.state
-      → LeavesOnly model opened.disk closed.disk (λ image. AfterPrefix opened.state commands image.store)
+      → LeavesOnly model opened.disk closed.disk (MeansPrefix opened.state commands)
   once-open commands leads =
-      LeavesOnly-weaker model opened.disk closed.disk (λ image. MeansOneOf opened.state closed.state image.store)
-      (λ image. AfterPrefix opened.state commands image.store)
-      leaves (λ image. one-of-prefix opened.state closed.state commands leads image.store)
+      LeavesOnly-weaker model opened.disk closed.disk (MeansOneOf opened.state closed.state)
+      (MeansPrefix opened.state commands)
+      leaves (λ image. one-of-prefix opened.state closed.state commands leads image)
 
   -- a change that was made is on the disk
   pub keeps-made : StepsNeedRoom → Makes opened change closed → model.honest → AllImagesMean (model.folder closed.disk) closed.state
@@ -191,7 +191,7 @@ module _ {D : Type 0} (model : DiskModel D)
     once_open = once-open commands leads;
     returned = λ image is.
         (let prefix = LeavesOnly-now model opened.disk closed.disk
-        (λ image. AfterPrefix opened.state commands image.store) counts (once-open commands leads) image is in
+        (MeansPrefix opened.state commands) counts (once-open commands leads) image is in
         record { count = prefix.count; enough = omega arith; state = prefix.state; leads = prefix.leads; means = prefix.means });
   }
 

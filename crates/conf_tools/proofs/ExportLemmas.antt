@@ -1,14 +1,14 @@
 -- What an export finds, whether the store was opened or its file was read.
-use Rattle.std.proofs.Common.{◌≡◌, ◌≤◌, ◌⊎◌, ℕ, List, Ok, Err, inl, inr, refl, sym, ap, subst, arith, ⊎_elim}
+use Rattle.std.proofs.Common.{◌≡◌, ◌≤◌, ◌⊎◌, ℕ, Bool, true, false, List, Ok, Err, inl, inr, refl, sym, ap, subst, arith, ⊎_elim}
 use Rattle.std.specs.Prelude.{Option, Some, None, Result, IfOk, IfErr, OnErr, OnOk, Vec}
-use Rattle.conf_tools.proofs.Prelude.{Folder, Reads, Tells, bytes_under, Image, IsImage, image_now, ReadingIsAnImage, DiskModel, LeavesOnly}
+use Rattle.conf_tools.proofs.Prelude.{Folder, Reads, Tells, bytes_under, several_waited, Image, IsImage, image_now, ReadingIsAnImage, DiskModel, LeavesOnly}
 use Rattle.conf_tools.proofs.Prelude.{Content, Bytes, Missing, Store, LeavesOnly-joined, LeavesOnly-now, LeavesOnly-start}
-use Rattle.conf_tools.proofs.Prelude.{LeavesOnly-weaker, store_limit, Contents, StoreFault, HasFailed, tree_named, FileMeans, empty_state}
+use Rattle.conf_tools.proofs.Prelude.{LeavesOnly-weaker, store_limit, Contents, StoreFault, HasFailed, tree_named, FileMeans, FolderMeans, ImageMeans, empty_state, WholeIsMeant}
 use Rattle.conf_tools.proofs.Prelude.{MeantAtEntry, RecoversTo, RefusesBytes, RefusesOpening, StoreView, OpenFault, image-meant, not-read}
 use Rattle.std.specs.declared.alloc.Global.{Global}
 use Rattle.conf_state.specs.declared.fault.StoreFault.TheVariants.{OutOfMemory as OutOfMemoryHere}
 use Rattle.conf_store.specs.Files.{FilesStay, IsNewBase, IsOldOrBase}
-use Rattle.conf_store.proofs.RecoveryLemmas.{recovers-means}
+use Rattle.conf_store.proofs.{HoleLemmas.noted-means, RecoveryLemmas.recovers-means}
 use Rattle.conf_words.specs.declared.invocation.TreeForm.{TreeForm}
 use Rattle.conf_tools.specs.declared.stores.StoreToolFault.TheVariants.{Folder as InFolder}
 use Rattle.conf_tools.specs.declared.stores.StoreToolFault.TheVariants.{Condition as OnCondition}
@@ -31,23 +31,36 @@ alone-told hears from to (Err fault) told untold = inl (inl untold)
 -- ---- a file that was read
 
 -- bytes that were read mean what the file means
-pub bytes-mean : (file : Option (List ℕ)) (read : Vec ℕ Global) (state : Contents) (records dropped : ℕ)
-    → Tells file store_limit (Bytes read) → RecoversTo read.items state records dropped → FileMeans file state
-bytes-mean None read state records dropped tells recovers = absurd tells
-bytes-mean (Some bytes) read state records dropped tells recovers = recovers-means bytes state records dropped
-    (subst (λ b. RecoversTo b state records dropped) tells.0 recovers) tells.1
+pub bytes-mean : (several : Bool) (file : Option (List ℕ)) (read : Vec ℕ Global) (state : Contents) (records dropped : ℕ)
+    → Tells file store_limit (Bytes read) → RecoversTo several read.items state records dropped → FileMeans several file state
+bytes-mean several None read state records dropped tells recovers = absurd tells
+bytes-mean several (Some bytes) read state records dropped tells recovers = recovers-means several bytes state records dropped
+    (subst (λ b. RecoversTo several b state records dropped) tells.0 recovers) tells.1
+
+-- bytes of which none are dropped mean it whatever the note
+pub whole-bytes-mean : WholeIsMeant → (several other : Bool) (file : Option (List ℕ)) (read : Vec ℕ Global) (state : Contents)
+    (records : ℕ) → Tells file store_limit (Bytes read) → RecoversTo several read.items state records 0 → FileMeans other file state
+whole-bytes-mean law several other None read state records tells recovers = absurd tells
+whole-bytes-mean law several other (Some bytes) read state records tells recovers = law several other bytes state records tells.1
+    (subst (λ b. RecoversTo several b state records 0) tells.0 recovers)
+
+-- what a file means, it means also where it is noted that several commands may have waited
+file-noted : (several : Bool) (file : Option (List ℕ)) (state : Contents) → FileMeans several file state → FileMeans true file state
+file-noted several None state means = means
+file-noted true (Some bytes) state means = means
+file-noted false (Some bytes) state means = noted-means bytes state means
 
 -- a missing file means the empty state
-pub missing-means : (file : Option (List ℕ)) → Tells file store_limit Missing → FileMeans file empty_state
-missing-means None tells = refl
-missing-means (Some bytes) tells = absurd tells
+pub missing-means : (several : Bool) (file : Option (List ℕ)) → Tells file store_limit Missing → FileMeans several file empty_state
+missing-means several None tells = refl
+missing-means several (Some bytes) tells = absurd tells
 
 -- why the bytes of a file were refused
-pub bytes-none : (content : Content) (read : Vec ℕ Global) (name : List ℕ) (fault : OpenFault) → content ≡ Bytes read
-    → RefusesBytes read.items fault → HasNoTextIn content name (Open fault)
-bytes-none content read name fault is refused = (
-  λ file tells. not-read file read fault (subst (λ (content : Content). Tells file store_limit content) is tells) refused,
-  λ device. subst (RefusesBytes read.items) device refused,
+pub bytes-none : (several : Bool) (content : Content) (read : Vec ℕ Global) (name : List ℕ) (fault : OpenFault) → content ≡ Bytes read
+    → RefusesBytes several read.items fault → HasNoTextIn several content name (Open fault)
+bytes-none several content read name fault is refused = (
+  λ file tells. not-read several file read fault (subst (λ (content : Content). Tells file store_limit content) is tells) refused,
+  λ device. subst (RefusesBytes several read.items) device refused,
 )
 
 -- what was found under a name in a state is its own
@@ -57,13 +70,13 @@ pub found-named : {X : Type 0} (bytes : X → List ℕ) (form : TreeForm) (state
 found-named bytes form state name (Ok text) found = record { tree = found.0; named = found.1; is = found.2 }
 found-named bytes form state name (Err fault) found = tt
 
-module _ (content : Content) (name : List ℕ) (state : Contents)
-    (means : (file : Option (List ℕ)) → Tells file store_limit content → FileMeans file state) where
+module _ (several : Bool) (content : Content) (name : List ℕ) (state : Contents)
+    (means : (file : Option (List ℕ)) → Tells file store_limit content → FileMeans several file state) where
   -- the text of a configuration that was found
   pub exports-text : {X : Type 0} (bytes : X → List ℕ) (form : TreeForm) (exported : Result X StoreFault)
       (r : Result X StoreToolFault) → IfOk r (λ text. exported ≡ Ok text)
       → IfOk exported (λ text. IsTextOf form state name (bytes text))
-      → IfOk r (λ text. IsTextIn form content name (bytes text))
+      → IfOk r (λ text. IsTextIn several form content name (bytes text))
   exports-text bytes form exported (Ok text) told exports = record {
     state = state;
     means = means;
@@ -75,10 +88,10 @@ module _ (content : Content) (name : List ℕ) (state : Contents)
   pub exports-none : {X : Type 0} (exported : Result X StoreFault) (r : Result X StoreToolFault)
       → IfErr r (λ fault. (of : StoreFault) × (exported ≡ Err of) × (fault ≡ Export of))
       → IfErr exported (λ fault. (fault ≡ OutOfMemoryHere) ⊎ (tree_named state name ≡ Err fault))
-      → IfErr r (HasNoTextIn content name)
+      → IfErr r (HasNoTextIn several content name)
   exports-none exported (Ok text) told why = tt
   exports-none exported (Err fault) told why =
-      subst (HasNoTextIn content name) (sym told.2) (
+      subst (HasNoTextIn several content name) (sym told.2) (
         state,
         means,
         subst (λ r. IfErr r (λ fault. (fault ≡ OutOfMemoryHere) ⊎ (tree_named state name ≡ Err fault))) told.1 why,
@@ -94,80 +107,89 @@ module _ {D : Type 0} (model : DiskModel D) where
 
   -- the state that was read from a folder that stays as it is
   pub read-finds : (old new : D) (state : Contents) → (model.honest → model.folder new ≡ model.folder old)
-      → (model.honest → FileMeans (bytes_under (model.folder old) Store) state)
+      → (model.honest → FolderMeans (model.folder old) state)
       → Finds model old new state
   read-finds old new state same means = record {
-    at_end = λ h. subst (λ (f : Folder). FileMeans (bytes_under f Store) state) (sym (same h)) (means h);
+    at_end = λ h. subst (λ (f : Folder). FolderMeans f state) (sym (same h)) (means h);
     at_start = λ h. inl (means h);
   }
 
   -- the text in a file that was read, which stays as it is
-  pub text-read : {X : Type 0} (bytes : X → List ℕ) (form : TreeForm) (old new : D) (name : List ℕ) (content : Content) (text : X)
+  pub text-read : {X : Type 0} (bytes : X → List ℕ) (form : TreeForm) (old new : D) (name : List ℕ) (several : Bool)
+      (content : Content) (text : X) → (model.honest → several ≡ several_waited (model.folder old))
       → (model.honest → model.folder new ≡ model.folder old)
       → (model.honest → Reads (model.folder old) Store store_limit content)
-      → IsTextIn form content name (bytes text) → HasText model form old new name (bytes text)
-  text-read bytes form old new name content text same reads is = record {
+      → IsTextIn several form content name (bytes text) → HasText model form old new name (bytes text)
+  text-read bytes form old new name several content text note same reads is = record {
     state = is.state;
-    finds = read-finds old new is.state same (λ h. is.means (bytes_under (model.folder old) Store) (reads h));
+    finds = read-finds old new is.state same (λ h. subst (λ (b : Bool). FileMeans b (bytes_under (model.folder old) Store) is.state)
+        (note h) (is.means (bytes_under (model.folder old) Store) (reads h)));
     exports = is.exports;
   }
 
   -- or why it has none
-  pub lacks-read : (old new : D) (name : List ℕ) (content : Content) (fault : StoreToolFault)
+  pub lacks-read : (old new : D) (name : List ℕ) (several : Bool) (content : Content) (fault : StoreToolFault)
+      → (model.honest → several ≡ several_waited (model.folder old))
       → (model.honest → model.folder new ≡ model.folder old)
       → (model.honest → Reads (model.folder old) Store store_limit content)
-      → HasNoTextIn content name fault → LacksText model old new name fault
-  lacks-read old new name content (InFolder fault) same reads none = absurd none
-  lacks-read old new name content (Open fault) same reads none = (
-    λ h. subst (λ (f : Folder). RefusesOpening fault (bytes_under f Store)) (sym (same h))
-        (none.0 (bytes_under (model.folder old) Store) (reads h)),
+      → HasNoTextIn several content name fault → LacksText model old new name fault
+  lacks-read old new name several content (InFolder fault) note same reads none = absurd none
+  lacks-read old new name several content (Open fault) note same reads none = (
+    λ h. subst (λ (f : Folder). RefusesOpening fault (several_waited f) (bytes_under f Store)) (sym (same h))
+        (subst (λ (b : Bool). RefusesOpening fault b (bytes_under (model.folder old) Store)) (note h)
+        (none.0 (bytes_under (model.folder old) Store) (reads h))),
     λ device. absurd (none.1 device),
   )
-  lacks-read old new name content (Session fault) same reads none = absurd none
-  lacks-read old new name content (Export fault) same reads none = record {
+  lacks-read old new name several content (Session fault) note same reads none = absurd none
+  lacks-read old new name several content (Export fault) note same reads none = record {
     state = none.0;
-    finds = read-finds old new none.0 same (λ h. none.1 (bytes_under (model.folder old) Store) (reads h));
+    finds = read-finds old new none.0 same (λ h. subst (λ (b : Bool). FileMeans b (bytes_under (model.folder old) Store) none.0)
+        (note h) (none.1 (bytes_under (model.folder old) Store) (reads h)));
     why = none.2;
   }
-  lacks-read old new name content (OnCondition fault) same reads none = absurd none
-  lacks-read old new name content (Refused fault) same reads none = absurd none
-  lacks-read old new name content StoreExists same reads none = absurd none
+  lacks-read old new name several content (OnCondition fault) note same reads none = absurd none
+  lacks-read old new name several content (Refused fault) note same reads none = absurd none
+  lacks-read old new name several content StoreExists note same reads none = absurd none
 
   -- the state of a file that was read as these bytes
-  pub bytes-find : (disk : D) (read : Vec ℕ Global) (state : Contents) (records dropped : ℕ)
+  pub bytes-find : (disk : D) (several : Bool) (read : Vec ℕ Global) (state : Contents) (records dropped : ℕ)
+      → (model.honest → several ≡ several_waited (model.folder disk))
       → (model.honest → Reads (model.folder disk) Store store_limit (Bytes read))
-      → RecoversTo read.items state records dropped → Finds model disk disk state
-  bytes-find disk read state records dropped reads recovers =
+      → RecoversTo several read.items state records dropped → Finds model disk disk state
+  bytes-find disk several read state records dropped note reads recovers =
       read-finds disk disk state (λ h. refl)
-      (λ h. bytes-mean (bytes_under (model.folder disk) Store) read state records dropped (reads h) recovers)
+      (λ h. bytes-mean (several_waited (model.folder disk)) (bytes_under (model.folder disk) Store) read state records dropped (reads h)
+      (subst (λ (b : Bool). RecoversTo b read.items state records dropped) (note h) recovers))
 
   -- nothing had to be told of it, where no bytes follow its last whole record
-  pub bytes-whole : {E : Type 0} (hears : E → List ℕ → E → Type 0) (errors : E) (file : Option (List ℕ)) (read : Vec ℕ Global)
-      (state : Contents) (records : ℕ) → Tells file store_limit (Bytes read) → RecoversTo read.items state records 0
-      → TellsDroppedOf hears file errors errors
-  bytes-whole hears errors None read state records tells recovers = absurd tells
-  bytes-whole hears errors (Some bytes) read state records tells recovers = record {
+  pub bytes-whole : {E : Type 0} (hears : E → List ℕ → E → Type 0) (errors : E) (several : Bool) (file : Option (List ℕ))
+      (read : Vec ℕ Global) (state : Contents) (records : ℕ) → Tells file store_limit (Bytes read)
+      → RecoversTo several read.items state records 0 → TellsDroppedOf hears several file errors errors
+  bytes-whole hears errors several None read state records tells recovers = absurd tells
+  bytes-whole hears errors several (Some bytes) read state records tells recovers = record {
     s = state;
     records = records;
     dropped = 0;
-    recovers = subst (λ b. RecoversTo b state records 0) tells.0 recovers;
+    recovers = subst (λ b. RecoversTo several b state records 0) tells.0 recovers;
     tells = refl;
   }
 
   -- why its bytes were refused
-  pub bytes-lack : (disk : D) (read : Vec ℕ Global) (name : List ℕ) (fault : OpenFault)
-      → (model.honest → Reads (model.folder disk) Store store_limit (Bytes read)) → RefusesBytes read.items fault
+  pub bytes-lack : (disk : D) (several : Bool) (read : Vec ℕ Global) (name : List ℕ) (fault : OpenFault)
+      → (model.honest → several ≡ several_waited (model.folder disk))
+      → (model.honest → Reads (model.folder disk) Store store_limit (Bytes read)) → RefusesBytes several read.items fault
       → LacksText model disk disk name (Open fault)
-  bytes-lack disk read name fault reads refused = (
-    λ h. not-read (bytes_under (model.folder disk) Store) read fault (reads h) refused,
-    λ device. absurd (subst (RefusesBytes read.items) device refused),
+  bytes-lack disk several read name fault note reads refused = (
+    λ h. not-read (several_waited (model.folder disk)) (bytes_under (model.folder disk) Store) read fault (reads h)
+        (subst (λ (b : Bool). RefusesBytes b read.items fault) (note h) refused),
+    λ device. absurd (subst (RefusesBytes several read.items) device refused),
   )
 
   -- a disk on which nothing was done leaves what it could leave before
   pub leaves-same : (disk : D) → ((image : Image) → model.left disk (model.moment disk) image → IsImage (model.folder disk) image)
-      → LeavesOnly model disk disk (λ image. MeantAtEntry (model.folder disk) image.store)
+      → LeavesOnly model disk disk (MeantAtEntry (model.folder disk))
   leaves-same disk only =
-      LeavesOnly-start model disk (λ image. MeantAtEntry (model.folder disk) image.store)
+      LeavesOnly-start model disk (MeantAtEntry (model.folder disk))
       (λ image is. image-meant (model.folder disk) image (only image is))
 
   -- ---- after a file was read, which was as it is
@@ -178,17 +200,16 @@ module _ {D : Type 0} (model : DiskModel D) where
         → HasFailed (model.failure_count old) (model.failure_count new)
     failed-before new failed = subst (λ n. HasFailed n (model.failure_count new)) steady failed
 
-    same-file : model.honest → bytes_under (model.folder mid) Store ≡ bytes_under (model.folder old) Store
-    same-file h = ap (λ (image : Image). image.store) (reads h)
-
     found-before : (new : D) (state : Contents) → Finds model mid new state → Finds model old new state
     found-before new state found = record {
       at_end = found.at_end;
       at_start = λ h.
-          ⊎_elim (λ is. inl (subst (λ file. FileMeans file state) (same-file h) is))
+          ⊎_elim (λ is. inl (subst (λ (image : Image). ImageMeans image state) (reads h) is))
           (λ base. inr (
             failed-before new base.0,
-            subst (λ file. IsNewBase file (bytes_under (model.folder new) Store)) (same-file h) base.1,
+            ⊎_elim (λ kept. inl (subst (λ (image : Image). FileMeans true image.store state) (reads h) kept))
+                (λ is. inr (subst (λ (image : Image). IsNewBase image.several image.store (bytes_under (model.folder new) Store)) (reads h) is))
+                base.1,
           ))
           (found.at_start h);
     }
@@ -223,7 +244,7 @@ module _ {D : Type 0} (model : DiskModel D) where
         → IfOk r (λ found. LastsOrTells hears model form mid found.0 name (bytes found.1) from to)
         → IfOk r (λ found. LastsOrTells hears model form old found.0 name (bytes found.1) from to)
     lasting-before bytes form name hears from to (Ok (new, x)) h lasts =
-        ⊎_elim (λ kept. inl (kept.0, subst (λ file. TellsDroppedOf hears file from to) (same-file h) kept.1))
+        ⊎_elim (λ kept. inl (kept.0, subst (λ (image : Image). TellsDroppedOf hears image.several image.store from to) (reads h) kept.1))
         (λ alone. inr (failed-before new alone.0, alone.1)) lasts
     lasting-before bytes form name hears from to (Err refused) h lasts = tt
 
@@ -233,19 +254,19 @@ module _ {D : Type 0} (model : DiskModel D) where
     quiet-before hears from to new quiet =
         ⊎_elim (λ same. inl same) (λ alone. inr (failed-before new alone.0, alone.1)) quiet
 
-    pub no-rest-before : model.honest → HasNoRest (bytes_under (model.folder old) Store)
-        → HasNoRest (bytes_under (model.folder mid) Store)
-    no-rest-before h none = subst HasNoRest (sym (same-file h)) none
+    pub no-rest-before : model.honest → HasNoRest (several_waited (model.folder old)) (bytes_under (model.folder old) Store)
+        → HasNoRest (several_waited (model.folder mid)) (bytes_under (model.folder mid) Store)
+    no-rest-before h none = subst (λ (image : Image). HasNoRest image.several image.store) (sym (reads h)) none
 
   -- what a crash leaves of two parts of a call
   pub leaves-both : (old mid new : D)
       → ((t : ℕ) (image : Image) → t ≤ model.moment mid → IsImage (model.folder mid) image → model.left mid t image)
       → LeavesOnly model old mid (IsImage (model.folder old))
-      → LeavesOnly model mid new (λ image. MeantAtEntry (model.folder mid) image.store)
-      → LeavesOnly model old new (λ image. MeantAtEntry (model.folder old) image.store)
+      → LeavesOnly model mid new (MeantAtEntry (model.folder mid))
+      → LeavesOnly model old new (MeantAtEntry (model.folder old))
   leaves-both old mid new counts first second =
-      LeavesOnly-joined model old mid new (IsImage (model.folder old)) (λ image. MeantAtEntry (model.folder mid) image.store)
-      (λ image. MeantAtEntry (model.folder old) image.store) first second (image-meant (model.folder old))
+      LeavesOnly-joined model old mid new (IsImage (model.folder old)) (MeantAtEntry (model.folder mid))
+      (MeantAtEntry (model.folder old)) first second (image-meant (model.folder old))
       (λ image meant. record {
         entry = meant.entry;
         is = LeavesOnly-now model old mid (IsImage (model.folder old)) counts first meant.entry meant.is;
@@ -254,30 +275,31 @@ module _ {D : Type 0} (model : DiskModel D) where
 
   -- what a crash leaves of a part that leaves only what it could leave before
   pub leaves-meant : (old new : D) → LeavesOnly model old new (IsImage (model.folder old))
-      → LeavesOnly model old new (λ image. MeantAtEntry (model.folder old) image.store)
+      → LeavesOnly model old new (MeantAtEntry (model.folder old))
   leaves-meant old new leaves =
-      LeavesOnly-weaker model old new (IsImage (model.folder old)) (λ image. MeantAtEntry (model.folder old) image.store)
+      LeavesOnly-weaker model old new (IsImage (model.folder old)) (MeantAtEntry (model.folder old))
       leaves (image-meant (model.folder old))
 
   -- ---- reading after the device failed
 
   module _ (old mid : D) (failed : HasFailed (model.failure_count old) (model.failure_count mid))
-      (starts : model.honest → IsOldOrBase (bytes_under (model.folder old) Store) (bytes_under (model.folder mid) Store)) where
+      (starts : model.honest → IsOldOrBase (several_waited (model.folder old)) (bytes_under (model.folder old) Store)
+      (bytes_under (model.folder mid) Store)) where
     since-failure : (new : D) (state : Contents) → model.failure_count mid ≤ model.failure_count new
         → (model.honest → model.folder new ≡ model.folder mid) → Finds model mid new state
         → Finds model old new state
     since-failure new state risen same found = record {
       at_end = found.at_end;
-      at_start = λ h.
-          ⊎_elim
-          (λ kept. inl (subst (λ file. FileMeans file state) kept
-          (subst (λ (f : Folder). FileMeans (bytes_under f Store) state) (same h) (found.at_end h))))
-          (λ base. inr (
-            failed-on (model.failure_count old) (model.failure_count mid) (model.failure_count new) failed risen,
-            subst (λ (f : Folder).
-                IsNewBase (bytes_under (model.folder old) Store) (bytes_under f Store)) (sym (same h)) base,
-          ))
-          (starts h);
+      at_start = λ h. inr (
+        failed-on (model.failure_count old) (model.failure_count mid) (model.failure_count new) failed risen,
+        ⊎_elim
+            (λ kept. inl (file-noted (several_waited (model.folder mid)) (bytes_under (model.folder old) Store) state
+            (subst (λ file. FileMeans (several_waited (model.folder mid)) file state) kept
+            (subst (λ (f : Folder). FolderMeans f state) (same h) (found.at_end h)))))
+            (λ base. inr (subst (λ (f : Folder). IsNewBase (several_waited (model.folder old)) (bytes_under (model.folder old) Store)
+            (bytes_under f Store)) (sym (same h)) base))
+            (starts h),
+      );
     }
 
     pub text-since : {X : Type 0} (bytes : X → List ℕ) (form : TreeForm) (name : List ℕ)
@@ -330,12 +352,12 @@ module _ {D : Type 0} (model : DiskModel D) where
     quiet-since hears from to (Err refused) risen told untold = inl untold
 
   -- a crash while the file is read leaves no more than one before
-  pub leaves-since : (old mid : D) → LeavesOnly model old mid (λ image. MeantAtEntry (model.folder old) image.store)
+  pub leaves-since : (old mid : D) → LeavesOnly model old mid (MeantAtEntry (model.folder old))
       → ((t : ℕ) (image : Image) → t ≤ model.moment mid → IsImage (model.folder mid) image → model.left mid t image)
       → (new : D) → FilesStay model mid new
-      → LeavesOnly model old new (λ image. MeantAtEntry (model.folder old) image.store)
+      → LeavesOnly model old new (MeantAtEntry (model.folder old))
   leaves-since old mid leaves counts new stays =
-      LeavesOnly-joined model old mid new (λ image. MeantAtEntry (model.folder old) image.store)
-      (IsImage (model.folder mid)) (λ image. MeantAtEntry (model.folder old) image.store)
+      LeavesOnly-joined model old mid new (MeantAtEntry (model.folder old))
+      (IsImage (model.folder mid)) (MeantAtEntry (model.folder old))
       leaves stays.any_moment (λ image is. is)
-      (LeavesOnly-now model old mid (λ image. MeantAtEntry (model.folder old) image.store) counts leaves)
+      (LeavesOnly-now model old mid (MeantAtEntry (model.folder old)) counts leaves)

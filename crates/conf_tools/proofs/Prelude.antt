@@ -1,6 +1,6 @@
 -- What the proofs of this crate name of others.
 pub use Rattle.conf_disk.proofs.Moments.{LeavesOnly-joined, LeavesOnly-now, LeavesOnly-weaker, LeavesOnly-start}
-pub use Rattle.conf_disk.specs.Folder.{bytes_under, Folder, Reads, Tells}
+pub use Rattle.conf_disk.specs.Folder.{bytes_under, Folder, Reads, several_waited, Tells}
 pub use Rattle.conf_disk.specs.Image.{Image, IsImage, image_now}
 pub use Rattle.conf_disk.specs.Laws.{ReadingIsAnImage}
 pub use Rattle.conf_disk.specs.Models.{DiskModel}
@@ -23,9 +23,9 @@ pub use Rattle.conf_state.specs.declared.fault.StoreFault.TheVariants.{StoreFull
 pub use Rattle.conf_state.specs.declared.fault.StoreFault.TheVariants.{OutOfMemory}
 pub use Rattle.conf_store.proofs.OpenLemmas.{image-meant, not-read, failed-later}
 pub use Rattle.conf_store.specs.Calls.{room_for, journal_length, outcome, HasFailed, tree_named}
-pub use Rattle.conf_store.specs.Durable.{AfterPrefix, AllImagesMean, NothingWaits, staged_text}
-pub use Rattle.conf_store.specs.Meaning.{FileMeans, empty_state}
-pub use Rattle.conf_store.specs.Opens.{MeantAtEntry, OneMeaning, RecoversTo, RefusesBytes, RefusesOpening}
+pub use Rattle.conf_store.specs.Durable.{AfterPrefix, AllImagesMean, MeansPrefix, NothingWaits, staged_text}
+pub use Rattle.conf_store.specs.Meaning.{FileMeans, FolderMeans, ImageMeans, empty_state}
+pub use Rattle.conf_store.specs.Opens.{MeantAtEntry, OneMeaning, RecoversTo, RefusesBytes, RefusesOpening, WholeIsMeant}
 pub use Rattle.conf_store.specs.View.{StoreView}
 pub use Rattle.conf_store.specs.declared.fault.OpenFault.{OpenFault}
 pub use Rattle.conf_words.specs.declared.invocation.MissingValue.{MissingValue}

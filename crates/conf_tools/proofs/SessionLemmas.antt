@@ -86,7 +86,7 @@ module _ {D : Type 0} (model : DiskModel D) (io : Streams)
       nothing_waits = opens.flushed h;
       while_opening = opens.at_any_moment h;
       once_open = runs.any_moment h opens.no_reopen store.state [] (opens.flushed h);
-      returned = λ image is. subst (λ n. AfterAtLeast store.state n each-work.accepted image.store)
+      returned = λ image is. subst (λ n. AfterAtLeast store.state n each-work.accepted image)
           (all.accepted (stored_of store) runs.answered)
           (runs.kept h opens.no_reopen store.state [] (opens.flushed h) image is);
     }
@@ -147,7 +147,7 @@ module _ {D : Type 0} (model : DiskModel D) (io : Streams)
       nothing_waits = opens.flushed h;
       while_opening = opens.at_any_moment h;
       once_open = runs.any_moment h opens.no_reopen store.state [] (opens.flushed h);
-      returned = λ image is. subst (λ n. AfterAtLeast store.state n groups-work.accepted image.store)
+      returned = λ image is. subst (λ n. AfterAtLeast store.state n groups-work.accepted image)
           (all-acknowledged (stored_of store) runs.answered)
           (runs.kept h opens.no_reopen store.state [] (opens.flushed h) image is);
     }

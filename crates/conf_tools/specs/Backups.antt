@@ -1,6 +1,6 @@
 -- What `backup` does: which file and which disk the world hands out, what is done with them, and that the disk is given
 -- back.
-use Rattle.std.specs.Prelude.{◌≡◌, ◌⊎◌, ℕ, List, Option, Result, Ok, Err, IfOk, IfErr}
+use Rattle.std.specs.Prelude.{◌≡◌, ◌⊎◌, ℕ, false, List, Option, Result, Ok, Err, IfOk, IfErr}
 use Rattle.conf_tools.specs.Prelude.{DiskModel, BacksUp, LeavesOldOrCopy, RefusesBackup, disk_handed_back, SalvageFault}
 use Rattle.conf_tools.specs.{ReadingStatuses.status_of_reading, Worlds.WorldModel, declared.program.Status.Status}
 use Rattle.conf_tools.specs.{declared.program.Status.TheVariants.Done, declared.reading_fault.ReadingFault.ReadingFault}
@@ -23,10 +23,10 @@ module _ {W D F P : Type 0} (world : WorldModel W D F P) (disk : DiskModel D) wh
     pub gives_back : world.given_back (disk_handed_back result) opened new
     pub ends : status ≡ status_after_backup result
     pub left : Option (List ℕ)
-    pub made : disk.honest → IfOk result (λ made. BacksUp given left (disk.folder first) (disk.folder made))
+    pub made : disk.honest → IfOk result (λ made. BacksUp false given left (disk.folder first) (disk.folder made))
     pub refused : disk.honest → IfErr result
-        (λ refused. RefusesBackup given left (disk.folder first) (disk.folder refused.0) refused.1)
-    pub survives : disk.honest → LeavesOldOrCopy disk given left first (disk_handed_back result)
+        (λ refused. RefusesBackup false given left (disk.folder first) (disk.folder refused.0) refused.1)
+    pub survives : disk.honest → LeavesOldOrCopy false disk given left first (disk_handed_back result)
 
   -- the new folder can't hold a store
   pub record CannotBackUpTo (folder : List ℕ) (old new : W) (status : Status) : Type 0 where

@@ -2,10 +2,10 @@
 use Rattle.std.specs.Prelude.{◌≡◌, ◌≢◌, ◌⊎◌, ℕ, Bool, true, false, if◌then◌else◌, List, [], ◌∷◌, length, Option, None}
 use Rattle.std.specs.Prelude.{Some, Result, Ok, Err}
 use Rattle.conf_tools.specs.Prelude.{Tree, IsRead, config_limits, Condition, first_fault, ConditionFault, Folder}
-use Rattle.conf_tools.specs.Prelude.{bytes_under, Image, IsImage, DiskModel, LeavesOnly, Store, batch, command_of}
+use Rattle.conf_tools.specs.Prelude.{bytes_under, several_waited, Image, IsImage, DiskModel, LeavesOnly, Store, batch, command_of}
 use Rattle.conf_tools.specs.Prelude.{delete_at, import_as, single, text_of, Contents, StoreFault, Reopen, Device}
 use Rattle.conf_tools.specs.Prelude.{Accepts, HasFailed, RefusesCommand, tree_named, AppendsRecord, store_file}
-use Rattle.conf_tools.specs.Prelude.{AfterPrefix, AllImagesMean, IsOldOrBase, FileMeans, empty_state, MeantAtEntry}
+use Rattle.conf_tools.specs.Prelude.{MeansPrefix, AllImagesMean, IsOldOrBase, FolderMeans, ImageMeans, empty_state, MeantAtEntry}
 use Rattle.conf_tools.specs.Prelude.{StoreView, AfterAtLeast, OpenFault}
 use Rattle.conf_conditions.specs.declared.fault.ConditionFault.TheVariants.{OutOfMemory as NoMemory}
 use Rattle.conf_state.specs.BaseTexts.{base_bytes}
@@ -116,9 +116,9 @@ ReadsChanged old (Rename name to) before after =
     AppendsMade old (text_of name) (renames (text_of name) (text_of to)) before after
 ReadsChanged old Checkpoint before after = after ≡ Some (base_bytes old.state)
 
--- the file means the state before a call, or the one after it
-abbrev pub MeansOneOf : Contents → Contents → Option (List ℕ) → Type 0
-MeansOneOf before after file = FileMeans file before ⊎ FileMeans file after
+-- the image means the state before a call, or the one after it
+abbrev pub MeansOneOf : Contents → Contents → Image → Type 0
+MeansOneOf before after image = ImageMeans image before ⊎ ImageMeans image after
 
 -- ---- a disk
 
@@ -177,15 +177,15 @@ CannotChange model old conditions change new fault = ⊥
 pub record KeepsChange {D : Type 0} (model : DiskModel D)
     (old : D) (change : Change) (new : D) (is_done : Bool) : Type 0 where
   pub start : Contents
-  pub means : FileMeans (bytes_under (model.folder old) Store) start
+  pub means : FolderMeans (model.folder old) start
   pub opened : D
   pub accepted : List GivenCommand
   pub of : (accepted ≡ []) ⊎ Performs start change accepted
   pub all : is_done ≡ true → Performs start change accepted
-  pub while_opening : LeavesOnly model old opened (λ image. MeantAtEntry (model.folder old) image.store)
-  pub once_open : LeavesOnly model opened new (λ image. AfterPrefix start accepted image.store)
+  pub while_opening : LeavesOnly model old opened (MeantAtEntry (model.folder old))
+  pub once_open : LeavesOnly model opened new (MeansPrefix start accepted)
   pub returned : (image : Image) → IsImage (model.folder new) image
-      → AfterAtLeast start (if is_done then length accepted else 0) accepted image.store
+      → AfterAtLeast start (if is_done then length accepted else 0) accepted image
 
 -- the same of a call that may not have opened the store
 abbrev pub ChangeSurvives : {D : Type 0} → DiskModel D → D → Change
@@ -194,7 +194,7 @@ ChangeSurvives model old change (Ok new) = KeepsChange model old change new true
 ChangeSurvives model old change (Err (new, Refused fault)) =
     KeepsChange model old change new false
 ChangeSurvives model old change (Err (new, fault)) =
-    LeavesOnly model old new (λ image. MeantAtEntry (model.folder old) image.store)
+    LeavesOnly model old new (MeantAtEntry (model.folder old))
 
 -- ---- a new store
 
@@ -210,7 +210,8 @@ pub record CannotStart {D : Type 0} (model : DiskModel D) (old new : D) (fault :
   pub is : model.honest → (fault ≡ OpenFaults.OutOfMemory) ⊎ (fault ≡ OpenFaults.Device)
   pub cause : fault ≡ OpenFaults.Device → HasFailed (model.failure_count old) (model.failure_count new)
   pub old_or_base : model.honest
-      → IsOldOrBase (bytes_under (model.folder old) Store) (bytes_under (model.folder new) Store)
+      → IsOldOrBase (several_waited (model.folder old)) (bytes_under (model.folder old) Store)
+      (bytes_under (model.folder new) Store)
 
 -- Why no store was made: there is a `store.yaml`, and nothing has changed; or it could not be opened.
 abbrev pub CannotMake : {D : Type 0} → DiskModel D → D → D → StoreToolFault → Type 0

@@ -1,5 +1,5 @@
 -- What is said of the bytes after the last whole record of a `store.yaml`, which opening drops.
-use Rattle.std.specs.Prelude.{◌≡◌, ◌⊎◌, ℕ, zero, suc, ◌==◌, if◌then◌else◌, List, ◌++◌, Option, codes, decimal}
+use Rattle.std.specs.Prelude.{◌≡◌, ◌⊎◌, ℕ, zero, suc, Bool, ◌==◌, if◌then◌else◌, List, ◌++◌, Option, codes, decimal}
 use Rattle.conf_tools.specs.Prelude.{Contents, FileRecoversTo}
 
 -- the line for more than one byte
@@ -23,14 +23,15 @@ TellsCount hears (suc less) old new = hears old (dropped_line (suc less)) new
 abbrev pub TellsDropped : {E : Type 0} → (E → List ℕ → E → Type 0) → E → E → Type 0
 TellsDropped hears old new = (new ≡ old) ⊎ ((dropped : ℕ) × hears old (dropped_line dropped) new)
 
--- no bytes follow the last whole record of the file
-abbrev pub HasNoRest : Option (List ℕ) → Type 0
-HasNoRest file = (s : Contents) (records dropped : ℕ) → FileRecoversTo file s records dropped → dropped ≡ 0
+-- opening drops none of the bytes of a file with this note
+abbrev pub HasNoRest : Bool → Option (List ℕ) → Type 0
+HasNoRest several file = (s : Contents) (records dropped : ℕ) → FileRecoversTo several file s records dropped → dropped ≡ 0
 
--- what opening dropped of this file was told: the bytes after its last whole record
-pub record TellsDroppedOf {E : Type 0} (hears : E → List ℕ → E → Type 0) (file : Option (List ℕ)) (old new : E) : Type 0 where
+-- what opening dropped of a file with this note was told: the bytes after its last whole record
+pub record TellsDroppedOf {E : Type 0} (hears : E → List ℕ → E → Type 0) (several : Bool) (file : Option (List ℕ))
+    (old new : E) : Type 0 where
   pub s : Contents
   pub records : ℕ
   pub dropped : ℕ
-  pub recovers : FileRecoversTo file s records dropped
+  pub recovers : FileRecoversTo several file s records dropped
   pub tells : TellsCount hears dropped old new

@@ -1,8 +1,8 @@
 -- What an export finds, and in which state.
-use Rattle.std.specs.Prelude.{◌≡◌, ◌≢◌, ◌⊎◌, ℕ, List, Option, Result, Ok, Err, codes, encode_utf8_all}
-use Rattle.conf_tools.specs.Prelude.{Tree, Folder, Tells, bytes_under, Image, IsImage, DiskModel, Store, store_limit}
-use Rattle.conf_tools.specs.Prelude.{Contents, StoreFault, AllImagesMean, HasFailed, tree_named, IsNewBase, FileMeans}
-use Rattle.conf_tools.specs.Prelude.{RefusesOpening, TreeForm}
+use Rattle.std.specs.Prelude.{◌≡◌, ◌≢◌, ◌⊎◌, ℕ, Bool, true, List, Option, Result, Ok, Err, codes, encode_utf8_all}
+use Rattle.conf_tools.specs.Prelude.{Tree, Folder, Tells, bytes_under, several_waited, Image, IsImage, DiskModel, Store}
+use Rattle.conf_tools.specs.Prelude.{Contents, StoreFault, AllImagesMean, HasFailed, tree_named, IsNewBase, FileMeans, FolderMeans}
+use Rattle.conf_tools.specs.Prelude.{RefusesOpening, TreeForm, store_limit}
 use Rattle.conf_disk.specs.declared.disk.Content.{Content}
 use Rattle.conf_state.specs.declared.fault.StoreFault.TheVariants.{OutOfMemory}
 use Rattle.conf_tools.specs.Dropped.{TellsDropped, TellsDroppedOf}
@@ -20,14 +20,17 @@ abbrev pub disk_handed_back : {D F : Type 0} → Result D (D × F) → D
 disk_handed_back (Ok disk) = disk
 disk_handed_back (Err r) = r.0
 
--- The state that an export finds is what `store.yaml` means at its end, and what it meant at its start. Only if the
--- device failed may the file be the whole new base of the state that it meant.
+-- The state that an export finds is what `store.yaml` means at its end, and what it meant at its start. If the device
+-- failed, the file may be the whole new base of the state that it meant, and the state is only known to be what the
+-- file meant if it was noted that several commands may have waited.
 pub record Finds {D : Type 0} (model : DiskModel D) (old new : D)
     (state : Contents) : Type 0 where
-  pub at_end : model.honest → FileMeans (bytes_under (model.folder new) Store) state
-  pub at_start : model.honest → FileMeans (bytes_under (model.folder old) Store) state
+  pub at_end : model.honest → FolderMeans (model.folder new) state
+  pub at_start : model.honest → FolderMeans (model.folder old) state
       ⊎ (HasFailed (model.failure_count old) (model.failure_count new)
-      × IsNewBase (bytes_under (model.folder old) Store) (bytes_under (model.folder new) Store))
+      × (FileMeans true (bytes_under (model.folder old) Store) state
+      ⊎ IsNewBase (several_waited (model.folder old)) (bytes_under (model.folder old) Store)
+      (bytes_under (model.folder new) Store)))
 
 -- the bytes are the tree that was found, written in this form in UTF-8
 abbrev pub IsTextOfFound : TreeForm → Result Tree StoreFault → List ℕ → Type 0
@@ -39,10 +42,10 @@ pub record IsTextOf (form : TreeForm) (state : Contents) (name bytes : List ℕ)
   pub named : tree_named state name ≡ Ok tree
   pub is : bytes ≡ encode_utf8_all (tree_text form tree)
 
--- the same of the state that a file means which was read as this content
-pub record IsTextIn (form : TreeForm) (content : Content) (name bytes : List ℕ) : Type 0 where
+-- the same of the state that a file with this note means which was read as this content
+pub record IsTextIn (several : Bool) (form : TreeForm) (content : Content) (name bytes : List ℕ) : Type 0 where
   pub state : Contents
-  pub means : (file : Option (List ℕ)) → Tells file store_limit content → FileMeans file state
+  pub means : (file : Option (List ℕ)) → Tells file store_limit content → FileMeans several file state
   pub exports : IsTextOf form state name bytes
 
 -- the same of the state that an export finds
@@ -61,19 +64,19 @@ pub record HasNoText {D : Type 0} (model : DiskModel D) (old new : D)
 
 -- Why a file that was read as this content gives no text: it means nothing, memory ran out, or the state that it means
 -- has no configuration under the name.
-abbrev pub HasNoTextIn : Content → List ℕ → StoreToolFault → Type 0
-HasNoTextIn content name (Open fault) =
-    ((file : Option (List ℕ)) → Tells file store_limit content → RefusesOpening fault file)
+abbrev pub HasNoTextIn : Bool → Content → List ℕ → StoreToolFault → Type 0
+HasNoTextIn several content name (Open fault) =
+    ((file : Option (List ℕ)) → Tells file store_limit content → RefusesOpening fault several file)
     × (fault ≢ OpenFaults.Device)
-HasNoTextIn content name (Export fault) =
-    (state : Contents) × ((file : Option (List ℕ)) → Tells file store_limit content → FileMeans file state)
+HasNoTextIn several content name (Export fault) =
+    (state : Contents) × ((file : Option (List ℕ)) → Tells file store_limit content → FileMeans several file state)
     × ((fault ≡ OutOfMemory) ⊎ (tree_named state name ≡ Err fault))
-HasNoTextIn content name fault = ⊥
+HasNoTextIn several content name fault = ⊥
 
 -- Why there is no text. At Device the device failed.
 abbrev pub LacksText : {D : Type 0} → DiskModel D → D → D → List ℕ → StoreToolFault → Type 0
 LacksText model old new name (Open fault) =
-    (model.honest → RefusesOpening fault (bytes_under (model.folder new) Store))
+    (model.honest → RefusesOpening fault (several_waited (model.folder new)) (bytes_under (model.folder new) Store))
     × (fault ≡ OpenFaults.Device → HasFailed (model.failure_count old) (model.failure_count new))
 LacksText model old new name (Export fault) = HasNoText model old new name fault
 LacksText model old new name fault = ⊥
@@ -109,5 +112,5 @@ module _ {E : Type 0} (hears : E → List ℕ → E → Type 0) where
   abbrev pub LastsOrTells : {D : Type 0} → DiskModel D → TreeForm → D → D → List ℕ → List ℕ → E → E → Type 0
   LastsOrTells model form old new name bytes before now =
       (CrashKeepsText (model.folder new) form name bytes
-      × TellsDroppedOf hears (bytes_under (model.folder old) Store) before now)
+      × TellsDroppedOf hears (several_waited (model.folder old)) (bytes_under (model.folder old) Store) before now)
       ⊎ TellsReadAlone (model.failure_count old) (model.failure_count new) before now

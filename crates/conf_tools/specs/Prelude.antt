@@ -2,7 +2,7 @@
 pub use Rattle.conf_conditions.specs.Conditions.{Condition, absent_at, condition_of, conditions_of, count_is, test_at}
 pub use Rattle.conf_conditions.specs.Conditions.{first_fault}
 pub use Rattle.conf_conditions.specs.declared.fault.ConditionFault.{ConditionFault}
-pub use Rattle.conf_disk.specs.Folder.{Folder, bytes_under, Tells, Reads}
+pub use Rattle.conf_disk.specs.Folder.{Folder, bytes_under, several_waited, Tells, Reads}
 pub use Rattle.conf_disk.specs.Image.{Image, IsImage}
 pub use Rattle.conf_disk.specs.Models.{DiskModel}
 pub use Rattle.conf_disk.specs.Moments.{LeavesOnly}
@@ -31,10 +31,10 @@ pub use Rattle.conf_state.specs.Steps.{after, and_then, by_path, found}
 pub use Rattle.conf_state.specs.declared.fault.StoreFault.{StoreFault}
 pub use Rattle.conf_state.specs.declared.fault.StoreFault.TheVariants.{Reopen, Device, BadName, NoConfig, Path}
 pub use Rattle.conf_store.specs.Calls.{Accepts, HasFailed, RefusesCommand, tree_named}
-pub use Rattle.conf_store.specs.Changing.{AppendsRecord, store_file, DeviceHasCause, FailuresNeverFall}
-pub use Rattle.conf_store.specs.Durable.{AfterPrefix, AllImagesMean, HasFlushed}
+pub use Rattle.conf_store.specs.Changing.{AppendsRecord, store_file, store_note, DeviceHasCause, FailuresNeverFall}
+pub use Rattle.conf_store.specs.Durable.{AllImagesMean, HasFlushed, MeansPrefix}
 pub use Rattle.conf_store.specs.Files.{IsOldOrBase, IsNewBase, FilesStay, HasLength}
-pub use Rattle.conf_store.specs.Meaning.{FileMeans, empty_state}
+pub use Rattle.conf_store.specs.Meaning.{FileMeans, FolderMeans, ImageMeans, empty_state}
 pub use Rattle.conf_store.specs.Opens.{MeantAtEntry, FileRecoversTo, RefusesOpening, ReadsAfterOpening, RefusalMeans}
 pub use Rattle.conf_store.specs.View.{StoreView}
 pub use Rattle.conf_store.specs.declared.fault.OpenFault.{OpenFault}

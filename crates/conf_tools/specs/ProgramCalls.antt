@@ -1,6 +1,6 @@
 -- Calls of the program on the store of one folder, one after the other, and what the folder keeps of their commands.
-use Rattle.std.specs.Prelude.{◌≡◌, ◌≤◌, ℕ, List, [], ◌∷◌, length, take, Option, Result, Ok, Err}
-use Rattle.conf_tools.specs.Prelude.{Image, IsImage, DiskModel, LeavesOnly, Command, Contents, after, FileMeans}
+use Rattle.std.specs.Prelude.{◌≡◌, ◌≤◌, ℕ, List, [], ◌∷◌, length, take, Result, Ok, Err}
+use Rattle.conf_tools.specs.Prelude.{Image, IsImage, DiskModel, LeavesOnly, Command, Contents, after, ImageMeans}
 use Rattle.conf_tools.specs.Prelude.{MeantAtEntry, Tally, Streams}
 use Rattle.conf_store.specs.Lives.{all_commands}
 use Rattle.conf_tools.specs.{Changes.ChangeSurvives, Stores.SurvivesCrashes, declared.changes.Change.Change}
@@ -21,7 +21,7 @@ pub data Call {D : Type 0} (model : DiskModel D) : Type 0 where
   changing : (change : Change) (old : D) (result : Result D (D × StoreToolFault))
       (crashes : ChangeSurvives model old change result) → Call model
   exporting : (old new : D)
-      (crashes : LeavesOnly model old new (λ image. MeantAtEntry (model.folder old) image.store))
+      (crashes : LeavesOnly model old new (MeantAtEntry (model.folder old)))
       → Call model
 
 -- Whether a call returned, or was cut off by a crash, or by the end of its process.
@@ -129,42 +129,42 @@ module _ {D : Type 0} (model : DiskModel D) where
 
 -- each image that a crash leaves of the folder means a state; the states may differ
 abbrev pub EachMeans : {D : Type 0} → DiskModel D → D → Type 0
-EachMeans model disk = (image : Image) → IsImage (model.folder disk) image → (state : Contents) × FileMeans image.store state
+EachMeans model disk = (image : Image) → IsImage (model.folder disk) image → (state : Contents) × ImageMeans image state
 
 -- a state that an image means, which a crash leaves of the folder
 pub record MeantBy {D : Type 0} (model : DiskModel D) (disk : D) (state : Contents) : Type 0 where
   pub entry : Image
   pub is : IsImage (model.folder disk) entry
-  pub means : FileMeans entry.store state
+  pub means : ImageMeans entry state
 
 module _ {D : Type 0} (model : DiskModel D) where
-  -- the file means what was kept of one call makes of a state that the folder before the call might mean
-  pub record HoldsOne (event : Event model) (file : Option (List ℕ)) : Type 0 where
+  -- the image means what was kept of one call makes of a state that the folder before the call might mean
+  pub record HoldsOne (event : Event model) (image : Image) : Type 0 where
     pub start : Contents
     pub began : MeantBy model (disk_before model event.call) start
     pub kept : List Command
     pub of : KeptOf event.ending (accepted model event.call) (answered model event.call) kept
     pub state : Contents
     pub leads : after start kept ≡ Ok state
-    pub means : FileMeans file state
+    pub means : ImageMeans image state
 
   -- where each image of the folder before a call means a state, each image that the call may leave holds what it keeps
   abbrev pub CallHolds : Type 0
   CallHolds = (event : Event model) → EachMeans model (disk_before model event.call)
       → (image : Image) → MayLeave model event.ending (disk_before model event.call) (disk_behind model event.call) image
-      → HoldsOne event image.store
+      → HoldsOne event image
 
-  -- the file means what was kept of all calls makes of a state that the folder before them might mean
-  pub record Holds (first : D) (events : List (Event model)) (file : Option (List ℕ)) : Type 0 where
+  -- the image means what was kept of all calls makes of a state that the folder before them might mean
+  pub record Holds (first : D) (events : List (Event model)) (image : Image) : Type 0 where
     pub start : Contents
     pub began : MeantBy model first start
     pub kept : List (List Command)
     pub each : EachKept model events kept
     pub state : Contents
     pub leads : after start (all_commands kept) ≡ Ok state
-    pub means : FileMeans file state
+    pub means : ImageMeans image state
 
   -- where each image of the first folder means a state, each image of the last one holds what was kept
   abbrev pub CallsHold : Type 0
   CallsHold = (first last : D) (events : List (Event model)) → EachMeans model first → AreCalls model first events last
-      → (image : Image) → IsImage (model.folder last) image → Holds first events image.store
+      → (image : Image) → IsImage (model.folder last) image → Holds first events image

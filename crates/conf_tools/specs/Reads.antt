@@ -89,7 +89,7 @@ value_in tree name pointer = and_then (tree_or tree name)
 
 -- the bytes of the file, where they are known, hold the state at this command
 abbrev pub FileHolds : Option (List ℕ) → Option ℕ → Contents → Type 0
-FileHolds given at state = IfSome given (λ bytes. HoldsAt bytes at state)
+FileHolds given at state = IfSome given (λ bytes. HoldsAt false bytes at state)
 
 -- the names of the configurations that the file holds were written
 pub record WritesNames (given : Option (List ℕ)) (at : Option ℕ) (form : NamesForm) (held written : Option (List ℕ))
@@ -146,7 +146,7 @@ pub record WritesValue (given : Option (List ℕ)) (at : Option ℕ) (name point
 -- the file doesn't answer, and nothing was written
 abbrev pub RefusesFile : Option (List ℕ) → Option ℕ → Option (List ℕ) → Option (List ℕ) → ReadingFault → Type 0
 RefusesFile given at held written (History fault) =
-    IfSome given (λ bytes. RefusesReading bytes at fault) × Keeps held written
+    IfSome given (λ bytes. RefusesReading false bytes at fault) × Keeps held written
 RefusesFile given at held written fault = ⊥
 
 -- why not all names were written: the file doesn't answer, or the writer failed
@@ -181,7 +181,7 @@ HidesPresence presence fault = (fault ≡ OutOfMemory) ⊎ (presence ≡ Err fau
 
 -- the file doesn't answer, or the name or the pointer can't be one
 abbrev pub RefusesPresence : Option (List ℕ) → Option ℕ → List ℕ → List ℕ → ReadingFault → Type 0
-RefusesPresence given at name pointer (History fault) = IfSome given (λ bytes. RefusesReading bytes at fault)
+RefusesPresence given at name pointer (History fault) = IfSome given (λ bytes. RefusesReading false bytes at fault)
 RefusesPresence given at name pointer (Value fault) =
     (state : Contents) × FileHolds given at state
     × HidesPresence (presence_of (value_at_path state name pointer)) fault

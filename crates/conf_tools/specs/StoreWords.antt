@@ -90,7 +90,7 @@ module _ {W D F P : Type 0} (world : WorldModel W D F P) (disk : DiskModel D) wh
     pub made : IfOk result (λ last. disk.honest → MakesStore disk.folder first last)
     pub refused : IfErr result (λ refused. CannotMake disk first refused.0 refused.1)
     pub survives : disk.honest → LeavesOnly disk first (disk_handed_back result)
-        (λ image. MeantAtEntry (disk.folder first) image.store)
+        (MeantAtEntry (disk.folder first))
 
   -- the folder was not made, and that is the fault
   pub record CannotMakeFolder (folder : List ℕ) (old new : W) (status : Status) : Type 0 where
@@ -172,7 +172,7 @@ module _ {W D F P : Type 0} (world : WorldModel W D F P) (disk : DiskModel D) wh
     pub found : IfOk result (λ found. HasText disk form first found.0 (chars name) (string_bytes found.1))
     pub refused : IfErr result (λ refused. LacksText disk first refused.0 (chars name) refused.1)
     pub survives : disk.honest → LeavesOnly disk first (disk_back result)
-        (λ image. MeantAtEntry (disk.folder first) image.store)
+        (MeantAtEntry (disk.folder first))
 
   -- the disk was not handed out, and nothing was written
   pub record CannotExport (folder : List ℕ) (old new : W) (held written : Option (List ℕ)) (status : Status)
@@ -307,10 +307,10 @@ module _ {W D F P : Type 0} (world : WorldModel W D F P) (disk : DiskModel D) wh
     pub writes : WritesFindings result held written status
     pub left : Option (List ℕ)
     pub saved : disk.honest → IfOk result
-        (λ saved. Saves given left (disk.folder first) (disk.folder saved.0) saved.1)
+        (λ saved. Saves false given left (disk.folder first) (disk.folder saved.0) saved.1)
     pub refused : disk.honest → IfErr result
-        (λ refused. RefusesSalvage given left (disk.folder first) (disk.folder refused.0) refused.1)
-    pub survives : disk.honest → LeavesOldOrSaved disk given left first (disk_of result)
+        (λ refused. RefusesSalvage false given left (disk.folder first) (disk.folder refused.0) refused.1)
+    pub survives : disk.honest → LeavesOldOrSaved false disk given left first (disk_of result)
 
   -- the new folder can't hold a store
   pub record CannotSaveTo (folder : List ℕ) (old new : W) (held written : Option (List ℕ)) (status : Status)

@@ -1,7 +1,7 @@
 -- What a tool on a store has read, answered and written, and what it leaves on its disk.
-use Rattle.std.specs.Prelude.{◌≡◌, ◌≢◌, ◌≤◌, ℕ, false, List, [], ◌++◌, length, Option, None, Result, Ok, Err}
-use Rattle.conf_tools.specs.Prelude.{Keeps, bytes_under, Image, IsImage, DiskModel, LeavesOnly, Store, Command}
-use Rattle.conf_tools.specs.Prelude.{HasFailed, FileMeans, AfterPrefix, AllImagesMean, HasFlushed, FilesStay, HasLength}
+use Rattle.std.specs.Prelude.{◌≡◌, ◌≢◌, ◌≤◌, ℕ, Bool, false, List, [], ◌++◌, length, Option, None, Result, Ok, Err}
+use Rattle.conf_tools.specs.Prelude.{Keeps, bytes_under, several_waited, Image, IsImage, DiskModel, LeavesOnly, Store, Command}
+use Rattle.conf_tools.specs.Prelude.{HasFailed, FileMeans, MeansPrefix, AllImagesMean, HasFlushed, FilesStay, HasLength}
 use Rattle.conf_tools.specs.Prelude.{IsOldOrBase, FileRecoversTo, MeantAtEntry, ReadsAfterOpening, RefusalMeans}
 use Rattle.conf_tools.specs.Prelude.{RefusesOpening, StoreView, OpenFault, SessionFault, Stored, accepted_commands}
 use Rattle.conf_tools.specs.Prelude.{file_after_all, AfterAtLeast, Ends, Runs, stored_of, Checkpoints, After, Asked}
@@ -72,13 +72,13 @@ CheckpointsAreDue io start file (Grouped checkpoints) result work answers =
 
 -- ---- opening
 
--- What opening made of a `store.yaml`: a store that holds `start`, and a file that reads as `after`. The state is what
--- the file meant, the size is the length of what it reads as now, and no checkpoint runs.
-pub record OpensTo (before : Option (List ℕ)) (start : Stored) (after : Option (List ℕ)) : Type 0 where
-  pub means : FileMeans before start.state
+-- What opening made of a `store.yaml` with this note: a store that holds `start`, and a file that reads as `after`. The
+-- state is what the file meant, the size is the length of what it reads as now, and no checkpoint runs.
+pub record OpensTo (several : Bool) (before : Option (List ℕ)) (start : Stored) (after : Option (List ℕ)) : Type 0 where
+  pub means : FileMeans several before start.state
   pub records : ℕ
   pub dropped : ℕ
-  pub recovers : FileRecoversTo before start.state records dropped
+  pub recovers : FileRecoversTo several before start.state records dropped
   pub reads : ReadsAfterOpening before start.state dropped after
   pub size : HasLength after start.size
   pub no_checkpoint : start.staged ≡ None
@@ -89,9 +89,10 @@ pub record OpensOn {D : Type 0} (model : DiskModel D) (old : D) (store : StoreVi
   pub no_reopen : store.reopen ≡ false
   pub no_checkpoint : store.staged ≡ None
   pub opens : model.honest
-      → OpensTo (bytes_under (model.folder old) Store) (stored_of store) (bytes_under (model.folder store.disk) Store)
+      → OpensTo (several_waited (model.folder old)) (bytes_under (model.folder old) Store) (stored_of store)
+      (bytes_under (model.folder store.disk) Store)
   pub at_any_moment : model.honest
-      → LeavesOnly model old store.disk (λ image. MeantAtEntry (model.folder old) image.store)
+      → LeavesOnly model old store.disk (MeantAtEntry (model.folder old))
   pub flushed : model.honest → HasFlushed (model.folder store.disk) store.state [] store.state
   pub images : model.honest → AllImagesMean (model.folder store.disk) store.state
   pub risen : model.failure_count old ≤ model.failure_count store.disk
@@ -99,13 +100,16 @@ pub record OpensOn {D : Type 0} (model : DiskModel D) (old : D) (store : StoreVi
 -- The store on a disk can't be opened. But for Device no file has changed, and at Device `store.yaml` may be a base of
 -- the state that it meant. A crash during it leaves what the disk might have left before.
 pub record CannotOpen {D : Type 0} (model : DiskModel D) (old new : D) (fault : OpenFault) : Type 0 where
-  pub refuses : model.honest → RefusesOpening fault (bytes_under (model.folder old) Store)
-  pub no_meaning : model.honest → RefusalMeans fault (bytes_under (model.folder old) Store)
+  pub refuses : model.honest
+      → RefusesOpening fault (several_waited (model.folder old)) (bytes_under (model.folder old) Store)
+  pub no_meaning : model.honest
+      → RefusalMeans fault (several_waited (model.folder old)) (bytes_under (model.folder old) Store)
   pub stays : model.honest → fault ≢ OpenFaults.Device → FilesStay model old new
   pub cause : fault ≡ OpenFaults.Device → HasFailed (model.failure_count old) (model.failure_count new)
   pub old_or_base : model.honest
-      → IsOldOrBase (bytes_under (model.folder old) Store) (bytes_under (model.folder new) Store)
-  pub at_any_moment : model.honest → LeavesOnly model old new (λ image. MeantAtEntry (model.folder old) image.store)
+      → IsOldOrBase (several_waited (model.folder old)) (bytes_under (model.folder old) Store)
+      (bytes_under (model.folder new) Store)
+  pub at_any_moment : model.honest → LeavesOnly model old new (MeantAtEntry (model.folder old))
 
 -- the store was opened, whatever came after that
 abbrev pub WasOpened : {A D : Type 0} → Result A (D × StoreToolFault) → Type 0
@@ -132,7 +136,8 @@ pub record AnswersOn {D : Type 0} (model : DiskModel D)
   pub work : Work
   pub answers : Answers io start file grouping result work
   pub due : model.honest → CheckpointsAreDue io start file grouping result work answers
-  pub opens : model.honest → OpensTo (bytes_under (model.folder old) Store) start file
+  pub opens : model.honest
+      → OpensTo (several_waited (model.folder old)) (bytes_under (model.folder old) Store) start file
   pub reads : model.honest → result ≢ Err SessionFaults.Device → bytes_under (model.folder new) Store ≡ work.file
   pub not_reopen : result ≢ Err SessionFaults.Reopen
   pub cause : result ≡ Err SessionFaults.Device → HasFailed (model.failure_count old) (model.failure_count new)
@@ -168,12 +173,13 @@ pub record KeepsAnswered {D : Type 0} (model : DiskModel D)
   pub opened : D
   pub work : Work
   pub answers : Answers io start (bytes_under (model.folder opened) Store) grouping result work
-  pub opens : OpensTo (bytes_under (model.folder old) Store) start (bytes_under (model.folder opened) Store)
+  pub opens : OpensTo (several_waited (model.folder old)) (bytes_under (model.folder old) Store) start
+      (bytes_under (model.folder opened) Store)
   pub nothing_waits : HasFlushed (model.folder opened) start.state [] start.state
-  pub while_opening : LeavesOnly model old opened (λ image. MeantAtEntry (model.folder old) image.store)
-  pub once_open : LeavesOnly model opened new (λ image. AfterPrefix start.state work.accepted image.store)
+  pub while_opening : LeavesOnly model old opened (MeantAtEntry (model.folder old))
+  pub once_open : LeavesOnly model opened new (MeansPrefix start.state work.accepted)
   pub returned : (image : Image) → IsImage (model.folder new) image
-      → AfterAtLeast start.state work.answered work.accepted image.store
+      → AfterAtLeast start.state work.answered work.accepted image
 
 -- the same of a call that may not have opened the store
 abbrev pub SurvivesCrashes : {D : Type 0} → DiskModel D → Streams → Grouping → D
@@ -183,4 +189,4 @@ SurvivesCrashes model io grouping old (Ok (new, tally)) =
 SurvivesCrashes model io grouping old (Err (new, Session fault)) =
     KeepsAnswered model io grouping old new (Err fault)
 SurvivesCrashes model io grouping old (Err (new, fault)) =
-    LeavesOnly model old new (λ image. MeantAtEntry (model.folder old) image.store)
+    LeavesOnly model old new (MeantAtEntry (model.folder old))

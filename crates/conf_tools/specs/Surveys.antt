@@ -62,7 +62,7 @@ findings_text found =
 
 -- the bytes of the file, where they are known, are as the findings say
 abbrev pub FileIsAs : Option (List ℕ) → Contents → Findings → Type 0
-FileIsAs given state findings = IfSome given (λ bytes. IsSurvey bytes state findings)
+FileIsAs given state findings = IfSome given (λ bytes. IsSurvey false bytes state findings)
 
 -- the findings were not written whole: memory ran out before, or the writer failed
 abbrev pub CannotWrite : Option (List ℕ) → Option (List ℕ) → ReadingFault → Type 0

@@ -9,6 +9,7 @@ use crate::read_words::{open_file, open_new};
 use crate::reading_fault::ReadingFault;
 use crate::world::World;
 use conf_history::{SalvageFault, back_up};
+use conf_store::Waiting;
 use std::alloc::Global;
 
 /// Makes a store in a new folder, with the base and the records of the store in another one.
@@ -39,7 +40,7 @@ fn back_up_in_folder<A: World>(
 {
     match open_new(world, alloc, file, new) {
         Ok(disk) => {
-            let ended = back_up(alloc, file, disk);
+            let ended = back_up(alloc, file, Waiting::One, disk);
             end_backup(world, ended)
         }
         Err(fault) => Outcome::Reading(fault),

@@ -1,8 +1,8 @@
 // Single changes of a store, over any disk.
 ghost use Rattle.std.specs.Prelude.{◌≡◌, ◌≢◌, ◌≤◌, ◌⊎◌, ◌↔◌, [], true, false, IfOk, IfErr, IsErrOf, Ok, OnOk};
-ghost use Rattle.conf_tools.specs.Prelude.{chars, tree_of, conditions_of, bytes_under, LeavesOnly, command_of, text_of};
+ghost use Rattle.conf_tools.specs.Prelude.{chars, tree_of, conditions_of, LeavesOnly, command_of, text_of};
 ghost use Rattle.conf_tools.specs.Prelude.{Accepts, RefusesCommand, tree_named, AppendsRecord, DeviceHasCause};
-ghost use Rattle.conf_tools.specs.Prelude.{FailuresNeverFall, store_file, AllImagesMean, HasFlushed, MeantAtEntry};
+ghost use Rattle.conf_tools.specs.Prelude.{FailuresNeverFall, store_file, store_note, AllImagesMean, HasFlushed, MeantAtEntry};
 ghost use Rattle.conf_tools.specs.Changes.{CannotChange, CannotMake, ChangesOn, ChangeSurvives, IsMadeOf, LacksTree, MakesStore, Makes, MeansOneOf, ReadsChanged, RefusesChange, copies, moves, renames};
 ghost use Rattle.yaml_grammar.specs.Texts.{same_text};
 ghost use Rattle.conf_tools.specs.Dropped.{HasNoRest, TellsDropped, TellsDroppedOf};
@@ -229,9 +229,10 @@ pub fn change_store<D: Disk + Drop, E: Listener>(
     ensures told { TellsDropped E.hears errors.old errors.new }
     // The line says how many bytes followed the last whole record of the file.
     ensures dropped { D.model.honest → WasOpened result →
-        TellsDroppedOf E.hears (bytes_under (D.model.folder disk) Name.Store) errors.old errors.new }
+        TellsDroppedOf E.hears (store_note D.model disk) (store_file D.model disk)
+        errors.old errors.new }
     // Nothing is told if no bytes are dropped.
-    ensures quiet { D.model.honest → HasNoRest (bytes_under (D.model.folder disk) Name.Store)
+    ensures quiet { D.model.honest → HasNoRest (store_note D.model disk) (store_file D.model disk)
         → errors.new ≡ errors.old }
 {
     steps_are_counted_or_refused();
@@ -266,7 +267,7 @@ pub fn make_store<D: Disk + Drop, E: Listener>(
         CannotMake D.model disk r.0 r.1) }
     // No crash leaves anything else than what was there, or an empty store.
     ensures crashes { D.model.honest → LeavesOnly D.model disk (disk_handed_back result)
-        (λ image. MeantAtEntry (D.model.folder disk) image.store) }
+        (MeantAtEntry (D.model.folder disk)) }
     ensures told { TellsDropped E.hears errors.old errors.new }
     // A new store has nothing to drop.
     ensures quiet { D.model.honest → errors.new ≡ errors.old }

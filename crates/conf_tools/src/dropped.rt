@@ -1,11 +1,11 @@
 // What is said of the bytes after the last whole record of a store's file, which opening it drops.
 ghost use Rattle.std.specs.Prelude.{◌≡◌, IfErr, IfOk, OnErr, OnOk};
-ghost use Rattle.conf_tools.specs.Prelude.{bytes_under};
+ghost use Rattle.conf_tools.specs.Prelude.{store_file, store_note};
 ghost use Rattle.conf_tools.specs.Dropped.{HasNoRest, TellsCount, TellsDropped, TellsDroppedOf, dropped_bytes_line};
 ghost use Rattle.conf_tools.specs.Stores.{CannotOpen, OpensOn};
 
 use crate::listener::Listener;
-use conf_disk::{Disk, Name};
+use conf_disk::Disk;
 use conf_store::{OpenFault, Store};
 use itoa::Buffer;
 use std::alloc::Global;
@@ -26,8 +26,9 @@ pub(crate) fn open_told<D: Disk + Drop, E: Listener>(
     ensures told { TellsDropped E.hears errors.old errors.new }
     ensures untold { OnErr result (errors.new ≡ errors.old) }
     ensures dropped { D.model.honest → OnOk result
-        (TellsDroppedOf E.hears (bytes_under (D.model.folder disk) Name.Store) errors.old errors.new) }
-    ensures quiet { D.model.honest → HasNoRest (bytes_under (D.model.folder disk) Name.Store)
+        (TellsDroppedOf E.hears (store_note D.model disk) (store_file D.model disk)
+        errors.old errors.new) }
+    ensures quiet { D.model.honest → HasNoRest (store_note D.model disk) (store_file D.model disk)
         → errors.new ≡ errors.old }
 {
     match Store::open(alloc, disk) {

@@ -1,7 +1,8 @@
 // The text of one configuration of a store, over any disk.
 ghost use Rattle.std.specs.Prelude.{◌≡◌, ◌≤◌, ◌⊎◌, IfOk, IfErr, Ok, Err, OnErr, OnOk, string_bytes};
-ghost use Rattle.conf_tools.specs.Prelude.{chars, Reads, bytes_under, LeavesOnly, store_limit, tree_named};
+ghost use Rattle.conf_tools.specs.Prelude.{chars, Reads, LeavesOnly, store_file, store_note, store_limit, tree_named};
 ghost use Rattle.conf_tools.specs.Prelude.{FilesStay, MeantAtEntry};
+ghost use Rattle.conf_store.specs.Holes.{is_several};
 ghost use Rattle.conf_tools.specs.Dropped.{HasNoRest};
 ghost use Rattle.conf_tools.specs.Exports.{CrashKeepsStore, HasNoTextIn, HasText, IsTextIn, IsTextOf, IsTextOfFound, LacksText, LastsOrTells, TellsExport, TellsReadAlone, disk_back, read_alone_line};
 ghost use Rattle.conf_tools.specs.Reads.{tree_found, tree_or};
@@ -14,7 +15,7 @@ use conf_disk::{Content, Disk, DiskFault, Name, reading_is_an_image};
 use conf_history::config_in;
 use conf_journal::{STORE_LIMIT, held_store_is_the_only_one, load};
 use conf_state::StoreFault;
-use conf_store::{OpenFault, Store};
+use conf_store::{OpenFault, Store, Waiting, bytes_mean_one_state};
 use conf_words::TreeForm;
 use std::alloc::Global;
 use yaml_tree::Config;
@@ -64,8 +65,9 @@ fn read_text<D: Disk + Drop, E: Listener>(
     ensures untold { OnErr result (errors.new ≡ errors.old) }
 {
     let mut disk = disk;
+    let waiting = Waiting::noted_on(&disk);
     match disk.read(alloc, Name::Store, STORE_LIMIT) {
-        Ok(content) => match text_in(alloc, content, name, form) {
+        Ok(content) => match text_in(alloc, content, waiting, name, form) {
             Ok(text) => {
                 errors.tell(
                     "confstore: store.yaml was only read, not put on the device: a crash may undo its last commands\n",
@@ -79,26 +81,28 @@ fn read_text<D: Disk + Drop, E: Listener>(
     }
 }
 
-/// The configuration under a name, written in a form, where `store.yaml` was read as `content`. Of the others only
-/// those are built that the records put or edit.
+/// The configuration under a name, written in a form, where `store.yaml` was read as `content`, and `waiting` is
+/// what its disk has noted. Of the others only those are built that the records put or edit.
 ///
 /// # Errors
 /// `Open` if what was read means nothing, and `Export` as [`export_text`] says.
 fn text_in(
     alloc: Global,
     content: Content,
+    waiting: Waiting,
     name: &str,
     form: TreeForm,
 ) -> Result<String, StoreToolFault>
-    ensures ok { IfOk result (λ text. IsTextIn form content (chars name.now) (string_bytes text)) }
-    ensures refused { IfErr result (HasNoTextIn content (chars name.now)) }
+    ensures ok { IfOk result (λ text.
+        IsTextIn (is_several waiting) form content (chars name.now) (string_bytes text)) }
+    ensures refused { IfErr result (HasNoTextIn (is_several waiting) content (chars name.now)) }
 {
     let bytes = match content {
         Content::Bytes(bytes) => bytes,
         Content::Missing => return export_or_fault(found_text(alloc, None, name, form)),
         Content::TooLong => return Err(StoreToolFault::Open(OpenFault::NotAStore)),
     };
-    let (config, _) = match config_in(alloc, bytes, name) {
+    let (config, _) = match config_in(alloc, bytes, waiting, name) {
         Ok(read) => read,
         Err(fault) => return Err(StoreToolFault::Open(fault)),
     };
@@ -155,11 +159,11 @@ fn open_text<D: Disk + Drop, E: Listener>(
     ensures refused { IfErr result (λ r. LacksText D.model disk r.0
         (chars name.now) r.1) }
     ensures crashes { D.model.honest → LeavesOnly D.model disk (disk_back result)
-        (λ image. MeantAtEntry (D.model.folder disk) image.store) }
+        (MeantAtEntry (D.model.folder disk)) }
     ensures told { TellsExport E.hears errors.old errors.new }
     ensures lasting { D.model.honest → IfOk result (λ r. LastsOrTells E.hears D.model form disk r.0
         (chars name.now) (string_bytes r.1) errors.old errors.new) }
-    ensures quiet { D.model.honest → HasNoRest (bytes_under (D.model.folder disk) Name.Store)
+    ensures quiet { D.model.honest → HasNoRest (store_note D.model disk) (store_file D.model disk)
         → (errors.new ≡ errors.old) ⊎ TellsReadAlone E.hears (D.model.failure_count disk)
         (D.model.failure_count (disk_back result)) errors.old errors.new }
 {
@@ -197,18 +201,20 @@ fn export_read<D: Disk + Drop, E: Listener>(
     ensures refused { IfErr result (λ r. LacksText D.model disk r.0
         (chars name.now) r.1) }
     ensures crashes { D.model.honest → LeavesOnly D.model disk (disk_back result)
-        (λ image. MeantAtEntry (D.model.folder disk) image.store) }
+        (MeantAtEntry (D.model.folder disk)) }
     ensures told { TellsExport E.hears errors.old errors.new }
     ensures lasting { D.model.honest → IfOk result (λ r. LastsOrTells E.hears D.model form disk r.0
         (chars name.now) (string_bytes r.1) errors.old errors.new) }
-    ensures quiet { D.model.honest → HasNoRest (bytes_under (D.model.folder disk) Name.Store)
+    ensures quiet { D.model.honest → HasNoRest (store_note D.model disk) (store_file D.model disk)
         → (errors.new ≡ errors.old) ⊎ TellsReadAlone E.hears (D.model.failure_count disk)
         (D.model.failure_count (disk_back result)) errors.old errors.new }
 {
+    bytes_mean_one_state();
     let Content::Bytes(bytes) = content else {
         return open_text(alloc, disk, name, form, errors);
     };
-    let (config, opened) = match config_in(alloc, bytes, name) {
+    let waiting = Waiting::noted_on(&disk);
+    let (config, opened) = match config_in(alloc, bytes, waiting, name) {
         Ok(read) => read,
         Err(fault) => return Err((disk, StoreToolFault::Open(fault))),
     };
@@ -248,14 +254,14 @@ pub fn export_text<D: Disk + Drop, E: Listener>(
         (chars name.now) r.1) }
     // No crash loses a command that was accepted.
     ensures crashes { D.model.honest → LeavesOnly D.model disk (disk_back result)
-        (λ image. MeantAtEntry (D.model.folder disk) image.store) }
+        (MeantAtEntry (D.model.folder disk)) }
     ensures told { TellsExport E.hears errors.old errors.new }
     // No crash takes back what was exported, and the line says how many bytes followed the last whole record of the
     // file. Or the device failed, and the line says that.
     ensures lasting { D.model.honest → IfOk result (λ r. LastsOrTells E.hears D.model form disk r.0
         (chars name.now) (string_bytes r.1) errors.old errors.new) }
     // Nothing is told if no bytes are dropped, and the device didn't fail.
-    ensures quiet { D.model.honest → HasNoRest (bytes_under (D.model.folder disk) Name.Store)
+    ensures quiet { D.model.honest → HasNoRest (store_note D.model disk) (store_file D.model disk)
         → (errors.new ≡ errors.old) ⊎ TellsReadAlone E.hears (D.model.failure_count disk)
         (D.model.failure_count (disk_back result)) errors.old errors.new }
 {

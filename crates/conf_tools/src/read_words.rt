@@ -13,6 +13,7 @@ use crate::surveys::{Soundness, write_findings, write_survey};
 use crate::world::World;
 use conf_folder::FolderFault;
 use conf_history::{Findings, HistoryFault, LogForm, SalvageFault, salvage, write_log};
+use conf_store::Waiting;
 use conf_words::{MissingValue, NamesForm, ValueForm};
 use std::alloc::Global;
 use std::io::{Read, Write};
@@ -88,7 +89,7 @@ fn answer<'w, R: Read, W: Write>(
             outcome_of_presence(found)
         }
         Question::Log { at, form } => {
-            let ended = write_log(alloc, file, at, form, output);
+            let ended = write_log(alloc, file, Waiting::One, at, form, output);
             outcome_of_log(ended)
         }
         Question::Survey => {
@@ -171,7 +172,7 @@ fn save_in_folder<A: World, W: Write>(
 {
     match open_new(world, alloc, file, new) {
         Ok(disk) => {
-            let saved = salvage(alloc, file, disk);
+            let saved = salvage(alloc, file, Waiting::One, disk);
             write_saved(world, alloc, saved, output)
         }
         Err(fault) => Outcome::Reading(fault),

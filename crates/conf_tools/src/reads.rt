@@ -9,6 +9,7 @@ use crate::reading_fault::ReadingFault;
 use crate::texts::write_whole;
 use conf_history::{HistoryFault, config_at, names_at};
 use conf_state::{StoreFault, good_name};
+use conf_store::Waiting;
 use conf_words::{MissingValue, NamesForm, RawEnd, TreeForm, ValueForm};
 use std::alloc::{AllocError, Global};
 use std::io::{Read, Write};
@@ -34,7 +35,7 @@ pub fn write_names<R: Read, W: Write>(
     ensures refused { IfErr result (RefusesNames (R.remaining reader.old) at
         (W.contents writer.old) (W.contents writer.new)) }
 {
-    let names = match names_at(alloc, reader, at) {
+    let names = match names_at(alloc, reader, Waiting::One, at) {
         Ok(names) => names,
         Err(fault) => return Err(ReadingFault::History(fault)),
     };
@@ -137,7 +138,7 @@ pub fn write_value<R: Read, W: Write>(
         (chars place.entry.name.now) (chars place.entry.pointer.now) missing.entry form
         (W.contents writer.old) (W.contents writer.new)) }
 {
-    let config = match config_at(alloc, reader, place.at, place.name) {
+    let config = match config_at(alloc, reader, Waiting::One, place.at, place.name) {
         Ok(config) => config,
         Err(fault) => return Err(ReadingFault::History(fault)),
     };
@@ -175,7 +176,7 @@ pub fn find_presence<R: Read>(
     ensures refused { IfErr result (RefusesPresence (R.remaining reader.old) place.entry.at
         (chars place.entry.name.now) (chars place.entry.pointer.now)) }
 {
-    let found = match config_at(alloc, reader, place.at, place.name) {
+    let found = match config_at(alloc, reader, Waiting::One, place.at, place.name) {
         Ok(found) => found,
         Err(fault) => return Err(ReadingFault::History(fault)),
     };

@@ -1,6 +1,6 @@
 // Sessions on a store, over any disk, reader and writer.
 ghost use Rattle.std.specs.Prelude.{◌≡◌, ◌≤◌, ◌⊎◌, ◌↔◌, true, IsErrOf};
-ghost use Rattle.conf_tools.specs.Prelude.{bytes_under, HasFailed, streams_of};
+ghost use Rattle.conf_tools.specs.Prelude.{HasFailed, store_file, store_note, streams_of};
 ghost use Rattle.conf_tools.specs.Dropped.{HasNoRest, TellsDropped, TellsDroppedOf};
 ghost use Rattle.conf_tools.specs.Stores.{RunsOn, SessionRuns, SurvivesCrashes, WasOpened, after_session};
 
@@ -136,9 +136,10 @@ pub fn run_store<D: Disk + Drop, R: Read, S: AnswerSink<D>, E: Listener>(
     ensures told { TellsDropped E.hears errors.old errors.new }
     // The line says how many bytes followed the last whole record of the file.
     ensures dropped { D.model.honest → WasOpened result →
-        TellsDroppedOf E.hears (bytes_under (D.model.folder disk) Name.Store) errors.old errors.new }
+        TellsDroppedOf E.hears (store_note D.model disk) (store_file D.model disk)
+        errors.old errors.new }
     // Nothing is told if no bytes are dropped.
-    ensures quiet { D.model.honest → HasNoRest (bytes_under (D.model.folder disk) Name.Store)
+    ensures quiet { D.model.honest → HasNoRest (store_note D.model disk) (store_file D.model disk)
         → errors.new ≡ errors.old }
 {
     answers_acknowledge();

@@ -7,6 +7,7 @@ use crate::findings::findings_text;
 use crate::reading_fault::ReadingFault;
 use crate::texts::write_whole;
 use conf_history::{Bad, BadKind, Findings, HistoryFault, find_in_store};
+use conf_store::Waiting;
 use std::alloc::Global;
 use std::io::{Read, Write};
 
@@ -35,7 +36,7 @@ pub fn write_survey<R: Read, W: Write>(
     ensures refused { IfErr result (RefusesWriting (R.remaining reader.old)
         (W.contents writer.old) (W.contents writer.new)) }
 {
-    let findings = match find_in_store(alloc, reader) {
+    let findings = match find_in_store(alloc, reader, Waiting::One) {
         Ok(findings) => findings,
         Err(fault) => return Err(ReadingFault::History(fault)),
     };

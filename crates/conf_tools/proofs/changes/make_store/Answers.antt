@@ -17,7 +17,7 @@ returns-in-Ok-open_told-clause-crashes g c h =
     let d = g.D.Disk in
     let mid = c.read.new.self in
     subst (λ (disk : g.row.D.Denot). LeavesOnly d.model c.args.disk disk
-    (λ image. MeantAtEntry (d.model.folder c.args.disk) image.store)) (sym c.close.ensures)
+    (MeantAtEntry (d.model.folder c.args.disk))) (sym c.close.ensures)
     (looked-leaves d.model c.args.disk mid c.in-Ok-open_told.store.disk
     (λ t image le is. g.met.D.Disk.counts_now mid t image h le is) (λ image is. g.met.D.Disk.only_now c.args.disk image h is)
     (c.read.ensures.time h) (c.read.ensures.same h) (c.in-Ok-open_told.ensures.opens.at_any_moment h))

@@ -21,7 +21,8 @@ export_read-requires-clause-synced g c h image is =
     let mid = d.model.folder c.load.new.disk in
     let file = bytes_under (d.model.folder c.args.disk) Store in
     let holds = subst (λ r. OnOk r (HoldsStore mid (option_map synced_file file))) c.in-Ok.is (c.load.ensures.holds h) in
-    c.held_store_is_the_only_one.ensures.left mid file image.store holds (record { image = image; is = is; same = refl })
+    c.held_store_is_the_only_one.ensures.left mid file image holds
+    (record { left = image; is = is; same = refl; noted = refl })
     ∙ sym (ap (λ (image : Image). image.store) (c.load.ensures.reads h))
 
 pub returns-in-Ok-clause-ok : goal.returns-in-Ok-clause-ok

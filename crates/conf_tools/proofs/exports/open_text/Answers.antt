@@ -121,12 +121,12 @@ pub returns-in-Ok-exported-clause-crashes : goal.returns-in-Ok-exported-clause-c
 returns-in-Ok-exported-clause-crashes g c h =
     let d = g.D.Disk in
     subst (λ (disk : g.row.D.Denot). LeavesOnly d.model c.args.disk disk
-    (λ image. MeantAtEntry (d.model.folder c.args.disk) image.store)) (sym c.close-disk.ensures)
+    (MeantAtEntry (d.model.folder c.args.disk))) (sym c.close-disk.ensures)
     (c.in-Ok.ensures.opens.at_any_moment h)
 
 pub returns-in-Err-exported-clause-crashes : goal.returns-in-Err-exported-clause-crashes
 returns-in-Err-exported-clause-crashes g c h =
     let d = g.D.Disk in
     subst (λ (disk : g.row.D.Denot). LeavesOnly d.model c.args.disk disk
-    (λ image. MeantAtEntry (d.model.folder c.args.disk) image.store)) (sym c.close-disk.ensures)
+    (MeantAtEntry (d.model.folder c.args.disk))) (sym c.close-disk.ensures)
     (c.in-Ok.ensures.opens.at_any_moment h)
