@@ -25,7 +25,7 @@ returns-clause-found c = (
   },
   c.in_ok-check_beside.ensures
       ∙ ap (λ (bytes : List ℕ). findings (chars bytes) (chars c.deref.result.now)) c.from_utf8_unchecked-shown.ensures
-      ∙ ap (λ (bytes : List ℕ). findings (chars c.args.text.now) (chars bytes)) c.deref.ensures.value,
+      ∙ ap (λ (bytes : List ℕ). findings (chars c.args.text.now) (chars bytes)) c.deref.ensures,
 )
 
 pub returns-clause-gives : goal.returns-clause-gives

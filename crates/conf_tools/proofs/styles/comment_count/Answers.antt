@@ -1,5 +1,5 @@
 -- As many as were found.
-use Rattle.std.proofs.Common.{◌∙◌}
+use Rattle.std.proofs.Common.{arith}
 use Rattle.yaml_comments.specs.Found.{places_of}
 use Rattle.conf_tools.proofs.StyleLemmas.{places_length}
 use Rattle.conf_tools.proofs.styles.comment_count.Goals as goal
@@ -13,5 +13,5 @@ returns c = record {
   reads = c.in-Ok.ensures.reads.reads;
   places = places_of c.in_ok-comments.comments.items;
   are = c.in_ok-comments.ensures;
-  is = c.len.ensures ∙ places_length c.in_ok-comments.comments.items;
+  is = omega (arith, c.len.ensures, c.in_ok-comments.comments.ok, places_length c.in_ok-comments.comments.items);
 }
