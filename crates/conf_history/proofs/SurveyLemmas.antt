@@ -115,7 +115,7 @@ kept-more : (several : Bool) (bad : List ℕ) (further : List (List ℕ)) (piece
     → IsKept several bad (further ++ piece ∷ [])
 kept-more several bad further piece (inl clean) = inl clean
 kept-more several bad further piece (inr (one, held)) =
-    inr (one, held.0, Contains-append_left further (piece ∷ []) held.0 held.1, held.2)
+    inr (one, (held.0, Contains-append_left further (piece ∷ []) held.0 held.1, held.2))
 
 dropped-more : (several : Bool) (further : List (List ℕ)) (piece : List ℕ) → MayBeDropped several further
     → (several ≡ true) ⊎ IsNoRecord piece → MayBeDropped several (further ++ piece ∷ [])
@@ -128,7 +128,7 @@ known-more : (several : Bool) (bad : List ℕ) (further : List (List ℕ)) (piec
     → IsKnown several found bad (further ++ piece ∷ [])
 known-more several bad further piece true known some none =
     let held = some refl in
-    inr (held.0, piece, Contains-append_right further (piece ∷ []) piece (0, omega arith, refl), held.1)
+    inr (held.0, (piece, Contains-append_right further (piece ∷ []) piece (0, omega arith, refl), held.1))
 known-more several bad further piece false known some none = (known.0, dropped-more several further piece known.1 (none refl))
 
 -- before any was gone past
