@@ -1,6 +1,6 @@
 -- What is written of one configuration that a file holds.
 use Rattle.std.proofs.Common.{◌≡◌, ap, subst, refl, ℕ, List}
-use Rattle.std.specs.Prelude.{Option, Some, None, option_copied, option_map}
+use Rattle.std.specs.Prelude.{false, Option, Some, None, option_copied, option_map}
 use Rattle.conf_tools.proofs.Prelude.{Appends, Keeps, tree_of, Tree, Contents, config_named, value_at_path, MissingValue, ValueForm}
 use Rattle.std.specs.Borrow.{Bor}
 use Rattle.conf_history.specs.Histories.{ReadsState}
@@ -23,7 +23,7 @@ keeps_same (Some bytes) = refl
 module _ (given left : Option (List ℕ)) (at : Option ℕ) where
   -- the tree of the configuration under a name of a state that the file holds was found, if there is one
   abbrev pub TreeFound : List ℕ → Option Tree → Type 0
-  TreeFound name tree = (s : Contents) × ReadsState given left at s × (tree ≡ config_named s.configs name)
+  TreeFound name tree = (s : Contents) × ReadsState false given left at s × (tree ≡ config_named s.configs name)
 
   module _ (name pointer : List ℕ) (tree : Option Tree) (found : TreeFound name tree) where
     -- so the value at a pointer in it is that of the state

@@ -1,5 +1,5 @@
 -- What the words on a store do: which disk or file the world hands out, what is done with it, and that it is given back.
-use Rattle.std.specs.Prelude.{◌≡◌, ◌⊎◌, ℕ, List, Option, Some, None, Result, Ok, Err, IfOk, IfErr, OnOk, String}
+use Rattle.std.specs.Prelude.{◌≡◌, ◌⊎◌, ℕ, false, List, Option, Some, None, Result, Ok, Err, IfOk, IfErr, OnOk, String}
 use Rattle.std.specs.Prelude.{string_bytes}
 use Rattle.conf_tools.specs.Prelude.{Global, chars, Appends, DiskModel, LeavesOnly, FolderFault, HistoryFault}
 use Rattle.conf_tools.specs.Prelude.{NotAStore, SalvageFault, LogForm, Findings, Tally, MeantAtEntry, MissingValue}
@@ -250,8 +250,8 @@ pub record SaysLog (at : Option ℕ) (form : LogForm) (given held written : Opti
   pub result : Result (Unit {0}) HistoryFault
   pub ends : status ≡ status_after_log result
   pub left : Option (List ℕ)
-  pub done : OnOk result (LogsAll at form given left held written)
-  pub refused : IfErr result (FailsToLog at form given held written)
+  pub done : OnOk result (LogsAll false at form given left held written)
+  pub refused : IfErr result (FailsToLog false at form given held written)
 
 -- what an opening would find in it
 pub record SaysSurvey (given held written : Option (List ℕ)) (status : Status) : Type 0 where

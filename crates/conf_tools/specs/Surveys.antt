@@ -1,5 +1,5 @@
 -- What is written of a store's file by `verify`: what an opening would find in it.
-use Rattle.std.specs.Prelude.{◌≡◌, ℕ, List, [], ◌++◌, Option, Some, None, IfSome, codes, decimal}
+use Rattle.std.specs.Prelude.{◌≡◌, ℕ, false, List, [], ◌++◌, Option, Some, None, IfSome, codes, decimal}
 use Rattle.conf_tools.specs.Prelude.{Keeps, Appends, Contents, fault_name, IsSurvey, RefusesSurvey, Findings}
 use Rattle.conf_history.specs.declared.fault.HistoryFault.TheVariants.{OutOfMemory}
 use Rattle.conf_store.specs.declared.records.NoRecord.{NoRecord}

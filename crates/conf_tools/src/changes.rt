@@ -49,7 +49,7 @@ fn make<D: Disk>(alloc: Global, store: &mut Store<D>, change: Change<'_>) -> Res
     ensures any_moment { D.model.honest → store.old.reopen ≡ false →
         HasFlushed (D.model.folder store.old.disk) store.old.state [] store.old.state →
         LeavesOnly D.model store.old.disk store.new.disk
-        (λ image. MeansOneOf store.old.state store.new.state image.store) }
+        (MeansOneOf store.old.state store.new.state) }
     ensures now { D.model.honest → OnOk result
         (AllImagesMean (D.model.folder store.new.disk) store.new.state) }
     ensures reads { D.model.honest → store.old.reopen ≡ false → OnOk result
@@ -93,7 +93,7 @@ fn perform<D: Disk>(store: &mut Store<D>, command: Command) -> Result<(), StoreF
     ensures any_moment { D.model.honest → store.old.reopen ≡ false →
         HasFlushed (D.model.folder store.old.disk) store.old.state [] store.old.state →
         LeavesOnly D.model store.old.disk store.new.disk
-        (λ image. MeansOneOf store.old.state store.new.state image.store) }
+        (MeansOneOf store.old.state store.new.state) }
     ensures now { D.model.honest → OnOk result
         (AllImagesMean (D.model.folder store.new.disk) store.new.state) }
     ensures reads { D.model.honest → store.old.reopen ≡ false → OnOk result

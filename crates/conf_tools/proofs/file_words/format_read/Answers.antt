@@ -16,8 +16,8 @@ returns-in-Ok-clause-formats g c = rw (c.in-Ok.is) (
 pub returns-in-Ok-clause-told : goal.returns-in-Ok-clause-told
 returns-in-Ok-clause-told g c = rw (c.in-Ok.is) (λ zero.
     subst (λ bytes. TellsLoss g.E.Listener.hears c.args.origin c.args.style bytes c.args.errors.now c.tell_loss.new.errors)
-    c.deref-3.ensures.value
-    (loss_if_done g.E.Listener.hears c.format_text-ended.result c.args.origin c.args.style c.deref-3.result.now
+    c.deref-in-Ok-2.ensures.value
+    (loss_if_done g.E.Listener.hears c.format_text-ended.result c.args.origin c.args.style c.deref-in-Ok-2.result.now
     c.status_after.result c.args.errors.now c.tell_written.new.errors c.tell_loss.new.errors c.status_after.ensures
     c.tell_written.ensures c.tell_loss.ensures zero))
 
