@@ -1,4 +1,5 @@
 mod BlankEnds
+pub mod Ranges
 mod Planning
 pub mod FoundTexts
 pub mod Keeping

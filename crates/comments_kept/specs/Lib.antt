@@ -1,3 +1,6 @@
 pub mod Blanks
+pub mod Signs
+pub mod Lines
+pub mod Places
 pub mod Weaving
 pub mod Keeping
