@@ -3,6 +3,7 @@ pub mod Ranges
 mod Planning
 pub mod FoundTexts
 pub mod Keeping
+pub mod Marks
 pub mod LineEnds
 pub mod ScalarParts
 pub mod Walks

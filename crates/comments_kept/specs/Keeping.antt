@@ -4,13 +4,20 @@ use Rattle.std.specs.Str.{IsUtf8, chars}
 use Rattle.yaml_grammar.specs.Reads.{Limits}
 use Rattle.yaml_grammar.specs.Style.{style_text}
 use Rattle.yaml_grammar.specs.Trees.{Tree}
-use Rattle.yaml_tree.specs.Reading.{IsRead}
+use Rattle.yaml_grammar.specs.Events.{Event}
+use Rattle.yaml_grammar.specs.Reads.{Reads}
+use Rattle.yaml_tree.specs.Prelude.{OutOfMemory}
+use Rattle.yaml_tree.specs.Reading.{IsRead, Refuses}
 use Rattle.yaml_commented.specs.Trails.{Extra, Trail}
 use Rattle.yaml_commented.specs.Commented.{commented_text}
 use Rattle.yaml_commented.specs.TrailsFit.{Fits}
 use Rattle.yaml_comments.specs.declared.find.Comment.{Comment}
-use Rattle.yaml_comments.specs.Comments.{HasComments, comment_at}
-use Rattle.yaml_comments.specs.Found.{place_of}
+use Rattle.yaml_comments.specs.Comments.{HasComments, AreComments, comment_at}
+use Rattle.yaml_comments.specs.Found.{place_of, places_of}
+use Rattle.comments_kept.specs.declared.fault.KeepFault.{KeepFault}
+use Rattle.comments_kept.specs.declared.fault.KeepFault.TheVariants.{Read, Unsettled}
+use Rattle.comments_kept.specs.Places.{marks}
+use Rattle.comments_kept.specs.Laid.{woven_text}
 use Rattle.comments_kept.specs.Blanks.{HasBlankLine, trimmed}
 
 -- the limits with another one of the length of the text
@@ -51,6 +58,33 @@ HasNoBlankLine bytes = HasBlankLine bytes → ⊥
 abbrev pub IsStyledIfBare : List ℕ → Limits → List ℕ → Type 0
 IsStyledIfBare bytes limits text =
     (t : Tree) → HasNoBlankLine bytes → HasComments bytes [] → IsRead bytes limits t → text ≡ encode_utf8_all (style_text t)
+
+-- ---- places
+
+-- The text is what the rule gives: that of the tree of the bytes, with the comments and empty lines at their places.
+pub record Keeps (bytes : List ℕ) (limits : Limits) (text : List ℕ) : Type 0 where
+  pub tree : Tree
+  pub read : IsRead bytes limits tree
+  pub events : List Event
+  pub means : Reads (chars bytes) events
+  pub found : List Comment
+  pub comments : AreComments bytes events 0 (places_of found)
+  pub spells : text ≡ encode_utf8_all (woven_text tree (marks bytes events found))
+
+-- formatted once more within the same limits of depth and style, the text is what it was
+abbrev pub IsSettled : Limits → List ℕ → Type 0
+IsSettled limits text = Keeps text (with_bytes limits (length text)) text
+
+-- the fault of bytes: that of reading them; a text that is not settled is not known
+abbrev pub RefusesKeeping : List ℕ → Limits → KeepFault → Type 0
+RefusesKeeping bytes limits (Read fault) = Refuses bytes limits fault
+RefusesKeeping bytes limits Unsettled = Unit {0}
+
+-- the faults of writing a text: memory ran out, or something is left over
+abbrev pub IsOfWeaving : KeepFault → Type 0
+IsOfWeaving (Read OutOfMemory) = Unit {0}
+IsOfWeaving (Read fault) = ⊥
+IsOfWeaving Unsettled = Unit {0}
 
 -- ---- comments that were found
 

@@ -23,6 +23,7 @@
 #![tactic(auto)]
 
 mod blanks;
+mod fault;
 mod format;
 mod lines;
 mod literal;
@@ -34,4 +35,5 @@ mod signs;
 mod weave;
 mod weaver;
 
+pub use fault::KeepFault;
 pub use format::format_keeping;

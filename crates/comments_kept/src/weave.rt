@@ -14,13 +14,12 @@ use std::alloc::{AllocError, Global};
 use yaml_data::{Text, Tree};
 use yaml_writer::Sink;
 
-/// The text of a tree in the one style with what is kept at its places. What has a place up to `first` comes before the
-/// tree, with no empty line at the start. It is `None` if something is left over.
+/// The text of a tree in the one style with what is kept at its places, with no empty line at the start. It is `None` if
+/// something is left over.
 pub(crate) fn weave(
     alloc: Global,
     tree: &Tree,
     kept: &[Placed<'_>],
-    first: u64,
 ) -> Result<Option<String>, AllocError>
     requires deep { depth (tree_of tree.now) ≤ own_limits.depth }
     requires lines { list_all (list_all nb) (texts_of kept.now) ≡ true }
@@ -31,7 +30,7 @@ pub(crate) fn weave(
         text: String::new(alloc),
         kept,
         taken: 0,
-        place: first,
+        place: 0,
     };
     weaver.put_filled_lines(u64::MAX)?;
     weave_tree(tree, &mut weaver)?;

@@ -40,7 +40,7 @@ returns-in_ok-weave_literal-in-LiteralKeep c =
     let p = is_keep value (sym c.in-LiteralKeep.ensures) in
     on_ok_weaker c.put_filled_lines.result
     (filled_literal value c.args.indent c.args.weaver.now c.weave_literal-in-LiteralKeep.new.weaver c.put_filled_lines.new.self
-    p.0 p.1 c.in_ok-weave_literal-in-LiteralKeep.ensures) c.put_filled_lines.ensures
+    p.0 p.1 c.in_ok-weave_literal-in-LiteralKeep.ensures p.3) c.put_filled_lines.ensures
 
 pub returns-in_ok-put_text-in-Plain : goal.returns-in_ok-put_text-in-Plain
 returns-in_ok-put_text-in-Plain c =

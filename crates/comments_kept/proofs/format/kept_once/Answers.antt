@@ -7,10 +7,13 @@ use Rattle.yaml_data.specs.Seen.{tree_of}
 use Rattle.yaml_comments.specs.Comments.{comment_at}
 use Rattle.yaml_comments.specs.Found.{places_of}
 use Rattle.yaml_tree.specs.Reading.{IsRead}
+use Rattle.yaml_events.specs.Meant.{events_of}
+use Rattle.comments_kept.specs.Places.{marks, marks_of}
+use Rattle.comments_kept.specs.Laid.{woven_text}
 use Rattle.comments_kept.specs.Weaving.{texts_of}
 use Rattle.comments_kept.proofs.FoundTexts.{none_found, written_at}
 use Rattle.comments_kept.proofs.Keeping.{AreFound, found, same_tree, same_comments, styled_if_bare}
-use Rattle.comments_kept.proofs.format.format_keeping.Goals as goal
+use Rattle.comments_kept.proofs.format.kept_once.Goals as goal
 
 pub plan-requires : goal.plan-requires
 plan-requires c =
@@ -35,7 +38,7 @@ returns-clause-tree c =
     let read = subst (λ t. IsRead bytes limits (tree_of t)) (sym c.tree.ensures.same) c.in_ok-config.ensures.given in
     let text = string_bytes c.in_ok-woven.field-0 in
     let t = tree_of c.tree.result.now in
-    same_tree bytes text limits t c.deref-2.result.now c.in_ok-woven.ensures read c.commented_reads.ensures
+    same_tree bytes text limits t c.deref-2.result.now c.in_ok-woven.ensures.woven read c.commented_reads.ensures
     (IsUtf8-string_bytes c.in_ok-woven.field-0)
 
 pub returns-clause-comments : goal.returns-clause-comments
@@ -51,7 +54,7 @@ returns-clause-comments c =
     let same = ap texts_of c.deref-2.ensures.value ∙ c.in_ok-kept.ensures.texts in
     let are = written_at bytes c.deref.result.now ∙ ap (map encode_utf8_all) (sym same) in
     let those = map (comment_at bytes) (places_of c.deref.result.now) in
-    same_comments bytes text limits t c.deref-2.result.now c.in_ok-woven.ensures read c.commented_comments.ensures those are all.has
+    same_comments bytes text limits t c.deref-2.result.now c.in_ok-woven.ensures.woven read c.commented_comments.ensures those are all.has
 
 pub returns-clause-bare : goal.returns-clause-bare
 returns-clause-bare c =
@@ -64,6 +67,25 @@ returns-clause-bare c =
     let text = string_bytes c.in_ok-woven.field-0 in
     let t = tree_of c.tree.result.now in
     let those = map (comment_at bytes) (places_of c.deref.result.now) in
-    styled_if_bare bytes text limits t c.deref-2.result.now c.in_ok-woven.ensures read c.bare_is_style.ensures
+    styled_if_bare bytes text limits t c.deref-2.result.now c.in_ok-woven.ensures.woven read c.bare_is_style.ensures
     c.comments_once.ensures c.bytes_give_one.ensures those all.has
     (λ lines none. c.deref-2.ensures.value ∙ c.in_ok-kept.ensures.bare lines (none_found bytes c.deref.result.now none))
+
+pub returns-clause-places : goal.returns-clause-places
+returns-clause-places c =
+    let bytes = c.args.bytes.now in
+    let limits = limits_of c.args.limits.now in
+    let t = tree_of c.tree.result.now in
+    let events = events_of c.in_ok-events.events in
+    let found = c.in_ok-found.found.items in
+    let kept = ap marks_of c.deref-2.ensures.value ∙ c.in_ok-kept.ensures.places
+    ∙ ap (marks bytes events) c.deref.ensures.value in
+    record {
+      tree = t;
+      read = subst (λ t. IsRead bytes limits (tree_of t)) (sym c.tree.ensures.same) c.in_ok-config.ensures.given;
+      events = events;
+      means = c.in_ok-events.ensures.reads.reads;
+      found = found;
+      comments = c.in_ok-found.ensures;
+      spells = c.in_ok-woven.ensures.woven.exact ∙ ap (λ ms. encode_utf8_all (woven_text t ms)) kept;
+    }
