@@ -31,6 +31,8 @@ pub enum ToolFault {
     Read(ReadFault),
     /// The text has comments, of which the first is here. Nothing was written.
     Comments(Place),
+    /// The text with its comments would change if it were formatted once more. Nothing was written.
+    Unsettled,
 }
 
 impl ToolFault {
@@ -45,6 +47,7 @@ impl ToolFault {
             ToolFault::Output => "Output",
             ToolFault::Read(fault) => StoreFault::Read(fault).name(),
             ToolFault::Comments(_) => "Comments",
+            ToolFault::Unsettled => "Unsettled",
         }
     }
 }
@@ -89,6 +92,7 @@ pub fn read_text<R: Read>(alloc: Global, reader: &mut R) -> Result<Vec<u8>, Tool
 /// # Errors
 ///
 /// - [`ToolFault::Read`] if the text is refused, or memory runs out. Nothing is written.
+/// - [`ToolFault::Unsettled`] as [`format_keeping`](comments_kept::format_keeping) says. Nothing is written.
 /// - [`ToolFault::Output`] if the writer fails. Some of the text may be written.
 pub fn format_text<W: Write>(
     alloc: Global,
@@ -101,7 +105,7 @@ pub fn format_text<W: Write>(
 {
     let styled = match styled_text(alloc, text, style) {
         Ok(styled) => styled,
-        Err(fault) => return Err(ToolFault::Read(fault)),
+        Err(fault) => return Err(fault),
     };
     write_whole(writer, styled.as_bytes())?;
     Ok(())
@@ -115,6 +119,7 @@ pub fn format_text<W: Write>(
 /// # Errors
 ///
 /// - [`ToolFault::Read`] if the text is refused, or memory runs out. Nothing is written.
+/// - [`ToolFault::Unsettled`] as [`format_keeping`](comments_kept::format_keeping) says. Nothing is written.
 /// - [`ToolFault::Output`] if the writer fails. Some of the lines may be written.
 pub fn check_text<W: Write>(
     alloc: Global,
@@ -127,7 +132,7 @@ pub fn check_text<W: Write>(
 {
     let findings = match findings_in(alloc, text, style) {
         Ok(findings) => findings,
-        Err(refused) => return Err(ToolFault::Read(refused)),
+        Err(fault) => return Err(fault),
     };
     let lines = report(alloc, &findings)?;
     write_whole(writer, &lines)?;
