@@ -1,6 +1,6 @@
 -- The whole text of a tree, written with comments.
-use Rattle.std.proofs.Common.{◌≡◌, sym, ◌∙◌, ap, ap₂, append-nil}
-use Rattle.std.specs.Prelude.{true, List, [], ◌++◌, string_bytes, encode_utf8_all, ℕ}
+use Rattle.std.proofs.Common.{◌≡◌, sym, ◌∙◌, ap, ap₂, append-nil, arith}
+use Rattle.std.specs.Prelude.{true, List, [], ◌∷◌, ◌++◌, ◌<◌, string_bytes, encode_utf8_all, ℕ, zero, suc, drop, length}
 use Rattle.std.specs.List.{list_all}
 use Rattle.yaml_chars.specs.Classes.{nb}
 use Rattle.yaml_writer.specs.Encoded.{encoded_both}
@@ -11,9 +11,34 @@ use Rattle.yaml_commented.specs.TrailsFit.{TreeFits}
 use Rattle.comments_kept.specs.declared.weaver.Weaver.{Weaver}
 use Rattle.comments_kept.specs.Weaving.{left, texts_of, AreTrails, WroteLines, WovenTop, IsWoven}
 use Rattle.comments_kept.specs.Weaving.{left_marks, coming}
-use Rattle.comments_kept.specs.Places.{Mark}
+use Rattle.comments_kept.specs.declared.weaver.Placed.{Placed}
+use Rattle.comments_kept.specs.Places.{Mark, marks_of}
 use Rattle.comments_kept.specs.Laid.{marks_to, marks_after, filled_from, lines_of, lead_of, behind_lead, trails_at, below_tree}
+use Rattle.comments_kept.specs.Laid.{Coming, behind_all, left_over}
 use Rattle.comments_kept.proofs.Weaving.{first_none, last_none, texts-append, both_on_lines, coming_by}
+
+-- some is left of a list
+some_dropped : (ps : List Placed) (n : ℕ) → n < length ps → marks_of (drop n ps) ≡ [] → ⊥
+some_dropped [] n within none = absurd (omega arith)
+some_dropped (p ∷ ps) zero within none = cc
+some_dropped (p ∷ ps) (suc n) within none = some_dropped ps n (omega arith) none
+
+-- what is to come behind the lines before a tree
+behind_lines : (w a : Weaver) → w.place ≡ 0 → WroteLines 18446744073709551615 (filled_from w.place (left_marks w)) w a
+    → coming a ≡ behind_lead (left_marks w)
+behind_lines w a first lines = coming_by a (behind_lead (left_marks w)) (lines.place ∙ first)
+    (lines.leaves ∙ ap (λ n. marks_after n (filled_from n (left_marks w))) first)
+
+-- what is left behind the tree has no place in it
+pub rest_is : (t : Tree) (w a b : Weaver) → w.place ≡ 0
+    → WroteLines 18446744073709551615 (filled_from w.place (left_marks w)) w a → WovenTop t a b
+    → left_marks b ≡ left_over t (left_marks w)
+rest_is t w a b first lines top =
+    ap (λ (s : Coming). s.marks) (top.goes ∙ ap (behind_all (below_tree t)) (behind_lines w a first lines))
+
+-- some is left
+pub some_left : (w : Weaver) → w.taken < length w.kept.now → left_marks w ≡ [] → ⊥
+some_left w within none = absurd (some_dropped w.kept.now w.taken within none)
 
 -- the lines before a tree, and the tree, with nothing left
 pub whole : (t : Tree) (w a b : Weaver) → string_bytes w.text ≡ [] → w.place ≡ 0
@@ -28,8 +53,7 @@ whole t w a b empty first lines top none fit =
     top.trails parts.1 [] in
     let ms : List Mark = left_marks w in
     let lead : lines.lines ≡ lead_of ms = lines.exact ∙ ap (λ n. lines_of 18446744073709551615 (marks_to n (filled_from n ms))) first in
-    let behind : coming a ≡ behind_lead ms =
-    coming_by a (behind_lead ms) (lines.place ∙ first) (lines.leaves ∙ ap (λ n. marks_after n (filled_from n ms)) first) in
+    let behind : coming a ≡ behind_lead ms = behind_lines w a first lines in
     let trails : it.trails ≡ trails_at (below_tree t) (behind_lead ms) =
     it.exact ∙ append-nil those ∙ ap (trails_at (below_tree t)) behind in
     let spells : string_bytes b.text ≡ encode_utf8_all (commented_text lines.lines t it.trails) =
@@ -43,6 +67,7 @@ whole t w a b empty first lines top none fit =
       has = ap₂ (λ xs ys. xs ++ ys) (sym lines.texts) (it.comments ∙ append-nil (texts_of top.used))
           ∙ sym (texts-append lines.used top.used) ∙ ap texts_of (sym all);
       exact = spells ∙ ap₂ (λ lead trails. encode_utf8_all (commented_text lead t trails)) lead trails;
+      all = sym (rest_is t w a b first lines top) ∙ ap marks_of none;
       bare = λ nothing. (
         lines.none (first_none lines.used top.used (sym all ∙ nothing)),
         it.bare (last_none lines.used top.used (sym all ∙ nothing)) tt,

@@ -155,6 +155,10 @@ lead_of ms = lines_of freely.most (marks_to 0 (filled_from 0 ms))
 abbrev pub behind_lead : List Mark → Coming
 behind_lead ms = record { place = 0; marks = marks_after 0 (filled_from 0 ms) }
 
+-- what has no place in the tree
+abbrev pub left_over : Tree → List Mark → List Mark
+left_over t ms = (behind_all (below_tree t) (behind_lead ms)).marks
+
 -- the text of a tree with what is kept
 abbrev pub woven_text : Tree → List Mark → List ℕ
 woven_text t ms = commented_text (lead_of ms) t (trails_at (below_tree t) (behind_lead ms))

@@ -23,7 +23,7 @@ use Rattle.comments_kept.specs.declared.weaver.Weaver.{Weaver}
 use Rattle.comments_kept.specs.Places.{Mark, marks_of, kept_text}
 use Rattle.comments_kept.specs.Laid.{Below, freely, below_scalar, below_key, below_element, below_value, below_elements}
 use Rattle.comments_kept.specs.Laid.{below_members, below_tree, marks_to, marks_after, filled_from, lines_of, behind_of}
-use Rattle.comments_kept.specs.Laid.{after_behind, Coming, trails_at, behind_all, woven_text}
+use Rattle.comments_kept.specs.Laid.{after_behind, Coming, trails_at, behind_all, left_over, woven_text}
 
 -- the comment of what is kept, by what is behind its `#`
 abbrev pub kept_texts : Kept → List (List ℕ)
@@ -225,4 +225,9 @@ pub record IsWoven (t : Tree) (kept : List Placed) (text : List ℕ) : Type 0 wh
   pub spells : text ≡ encode_utf8_all (commented_text lead t trails)
   pub has : comments_of lead trails ≡ texts_of kept
   pub exact : text ≡ encode_utf8_all (woven_text t (marks_of kept))
+  pub all : left_over t (marks_of kept) ≡ []
   pub bare : kept ≡ [] → (lead ≡ []) × AllByRecursion IsBare trails
+
+-- some of it has no place in the tree
+abbrev pub LeavesOver : Tree → List Placed → Type 0
+LeavesOver t kept = left_over t (marks_of kept) ≡ [] → ⊥

@@ -1,12 +1,12 @@
 // The text of a tree in the one style, written with comments.
-ghost use Rattle.std.specs.Prelude.{◌≡◌, ◌+◌, ◌*◌, ◌^◌, ◌<◌, ◌≤◌, OnOk, IfOk, IfSome, true, string_bytes};
+ghost use Rattle.std.specs.Prelude.{◌≡◌, ◌+◌, ◌*◌, ◌^◌, ◌<◌, ◌≤◌, MatchOption, OnOk, IfOk, true, string_bytes};
 ghost use Rattle.std.specs.List.{list_all};
 ghost use Rattle.yaml_chars.specs.Classes.{nb};
 ghost use Rattle.yaml_data.specs.Seen.{tree_of, elements_of, members_of};
 ghost use Rattle.yaml_data.specs.OwnLimits.{own_limits};
 ghost use Rattle.yaml_grammar.specs.Trees.{depth, elements_depth, members_depth};
 ghost use Rattle.comments_kept.specs.Weaving.{IsWoven, WovenElement, WovenElements, WovenMembers, WovenTop, WovenValue};
-ghost use Rattle.comments_kept.specs.Weaving.{texts_of};
+ghost use Rattle.comments_kept.specs.Weaving.{LeavesOver, texts_of};
 
 use crate::scalars::{weave_key, weave_scalar};
 use crate::weaver::{Placed, Weaver};
@@ -23,7 +23,7 @@ pub(crate) fn weave(
 ) -> Result<Option<String>, AllocError>
     requires deep { depth (tree_of tree.now) ≤ own_limits.depth }
     requires lines { list_all (list_all nb) (texts_of kept.now) ≡ true }
-    ensures { IfOk result (λ woven. IfSome woven (λ text.
+    ensures { IfOk result (λ woven. MatchOption woven (LeavesOver (tree_of tree.now) kept.now) (λ text.
         IsWoven (tree_of tree.now) kept.now (string_bytes text))) }
 {
     let mut weaver = Weaver {
