@@ -16,7 +16,9 @@ impl fmt::Display for KeepFault {
     fn fmt<W: fmt::Write>(&self, f: &mut fmt::Formatter<W>) -> fmt::Result {
         match self {
             KeepFault::Read(fault) => fmt::Display::fmt(fault, f),
-            KeepFault::Unsettled => f.write_str("the text with its comments would change if it were formatted once more"),
+            KeepFault::Unsettled => f.write_str(
+                "the text with its comments would change if it were formatted once more",
+            ),
         }
     }
 }

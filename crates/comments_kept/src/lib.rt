@@ -25,6 +25,7 @@
 mod blanks;
 mod fault;
 mod format;
+mod laws;
 mod lines;
 mod literal;
 mod long_key;
@@ -37,3 +38,4 @@ mod weaver;
 
 pub use fault::KeepFault;
 pub use format::format_keeping;
+pub use laws::bytes_keep_one;

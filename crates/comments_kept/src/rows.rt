@@ -6,7 +6,9 @@ ghost use Rattle.comments_kept.specs.Lines as line;
 ghost use Rattle.comments_kept.specs.Lines.{Shows};
 
 use crate::long_key::is_long_key;
-use crate::signs::{after_header, after_sign, byte_at, colon_at, line_start, next_sign, start_of_content};
+use crate::signs::{
+    after_header, after_sign, byte_at, colon_at, line_start, next_sign, start_of_content,
+};
 use std::alloc::{AllocError, Global};
 use yaml_events::{EventRef, Events, Span, Style};
 
@@ -95,7 +97,9 @@ pub(crate) fn layout_of(
     }
     rows.take(bytes, last, false)?;
     let Rows {
-        rows, collections, ..
+        rows,
+        collections,
+        ..
     } = rows;
     Ok(Layout { rows, collections })
 }
@@ -298,7 +302,13 @@ impl Rows {
     }
 
     /// Takes a scalar.
-    fn scalar(&mut self, bytes: &[u8], style: Style, span: Span, value: &str) -> Result<(), AllocError>
+    fn scalar(
+        &mut self,
+        bytes: &[u8],
+        style: Style,
+        span: Span,
+        value: &str,
+    ) -> Result<(), AllocError>
         ensures { OnOk result (line.reading_of self.new
             ≡ line.scalar_taken bytes.now (style_of style) span.start span.end (chars value.now)
             (line.reading_of self.old)) }

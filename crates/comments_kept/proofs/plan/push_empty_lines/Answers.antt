@@ -16,13 +16,13 @@ loop-row-preserved c =
     let here = empty_above bytes l.row (get_or rows l.row none).start in
     let more = range_more rows l.row to none (omega (arith, c.min-row-end.ensures, c.loop-row-test.true))
     (omega (arith, c.min-row-end.ensures, c.loop-row-test.true)) in (
-  ap (λ ms. ms ++ later) c.in_ok-push_empty_line.ensures.places
-      ∙ append_assoc (marks_of l.kept.items) here later
-      ∙ ap (λ rs. marks_of l.kept.items ++ empties bytes l.row rs) (sym more)
-      ∙ l.invariant.0,
-  c.in_ok-push_empty_line.ensures.texts ∙ c.loop-row.invariant.1,
-  λ lines. c.in_ok-push_empty_line.ensures.none lines ∙ c.loop-row.invariant.2 lines,
-)
+      ap (λ ms. ms ++ later) c.in_ok-push_empty_line.ensures.places
+          ∙ append_assoc (marks_of l.kept.items) here later
+          ∙ ap (λ rs. marks_of l.kept.items ++ empties bytes l.row rs) (sym more)
+          ∙ l.invariant.0,
+      c.in_ok-push_empty_line.ensures.texts ∙ c.loop-row.invariant.1,
+      λ lines. c.in_ok-push_empty_line.ensures.none lines ∙ c.loop-row.invariant.2 lines,
+    )
 
 pub returns-clause-places : goal.returns-clause-places
 returns-clause-places c =
