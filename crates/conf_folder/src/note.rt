@@ -59,6 +59,11 @@ pub(crate) fn note_length(note: Note) -> u64 {
     }
 }
 
+/// Whether a note of this length says that no two records waited for one sync.
+pub(crate) fn is_short(length: u64) -> bool {
+    length == 1 || length == 2
+}
+
 /// Writes the first byte of a note into an open `store.lock`.
 ///
 /// # Errors

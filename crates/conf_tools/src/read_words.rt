@@ -2,6 +2,7 @@
 ghost use Rattle.std.specs.Prelude.{◌≡◌};
 ghost use Rattle.conf_tools.specs.Outcomes.{status_of_outcome};
 ghost use Rattle.conf_tools.specs.ReadingStatuses.{status_of_history, status_of_reading};
+ghost use Rattle.conf_store.specs.Holes.{is_several};
 ghost use Rattle.conf_tools.specs.Exports.{disk_back};
 ghost use Rattle.conf_tools.specs.StoreWords.{OpensFile, OpensNew, Reads, Salvages, SavesInFolder, Says, WritesFindings, status_after_log, status_after_presence, status_after_reading, status_after_survey};
 
@@ -55,7 +56,10 @@ pub(crate) fn answer_on_folder<'w, A: World, W: Write>(
         (W.contents output.old) (W.contents output.new) (status_of_outcome result) }
 {
     match open_file(world, alloc, folder) {
-        Ok(mut file) => answer(alloc, &mut file, folder, question, output),
+        Ok(mut file) => {
+            let waiting = world.waiting(&file);
+            answer(alloc, &mut file, waiting, folder, question, output)
+        }
         Err(fault) => Outcome::Reading(fault),
     }
 }
@@ -64,16 +68,17 @@ pub(crate) fn answer_on_folder<'w, A: World, W: Write>(
 fn answer<'w, R: Read, W: Write>(
     alloc: Global,
     file: &mut R,
+    waiting: Waiting,
     folder: &'w str,
     question: Question<'_>,
     output: &mut W,
 ) -> Outcome<'w>
-    ensures { Says question.entry (R.remaining file.old) (W.contents output.old)
+    ensures { Says question.entry (is_several waiting) (R.remaining file.old) (W.contents output.old)
         (W.contents output.new) (status_of_outcome result) }
 {
     match question {
         Question::Names { at, form } => {
-            let ended = write_names(alloc, file, at, form, output);
+            let ended = write_names(alloc, file, waiting, at, form, output);
             outcome_of_reading(ended)
         }
         Question::Value {
@@ -81,19 +86,19 @@ fn answer<'w, R: Read, W: Write>(
             missing,
             form,
         } => {
-            let ended = write_value(alloc, file, place, missing, form, output);
+            let ended = write_value(alloc, file, waiting, place, missing, form, output);
             outcome_of_reading(ended)
         }
         Question::Presence(place) => {
-            let found = find_presence(alloc, file, place);
+            let found = find_presence(alloc, file, waiting, place);
             outcome_of_presence(found)
         }
         Question::Log { at, form } => {
-            let ended = write_log(alloc, file, Waiting::One, at, form, output);
+            let ended = write_log(alloc, file, waiting, at, form, output);
             outcome_of_log(ended)
         }
         Question::Survey => {
-            let ended = write_survey(alloc, file, output);
+            let ended = write_survey(alloc, file, waiting, output);
             outcome_of_survey(folder, ended)
         }
     }
@@ -153,7 +158,10 @@ pub(crate) fn salvage_folder<A: World, W: Write>(
         (W.contents output.old) (W.contents output.new) (status_of_outcome result) }
 {
     match open_file(world, alloc, folder) {
-        Ok(mut file) => save_in_folder(world, alloc, &mut file, new, output),
+        Ok(mut file) => {
+            let waiting = world.waiting(&file);
+            save_in_folder(world, alloc, &mut file, waiting, new, output)
+        }
         Err(fault) => Outcome::Reading(fault),
     }
 }
@@ -163,16 +171,17 @@ fn save_in_folder<A: World, W: Write>(
     world: &mut A,
     alloc: Global,
     file: &mut A::File,
+    waiting: Waiting,
     new: &str,
     output: &mut W,
 ) -> Outcome<'static>
-    ensures { SavesInFolder A.model A.Disk.model new.now (A.File.remaining file.old)
+    ensures { SavesInFolder A.model A.Disk.model new.now (is_several waiting) (A.File.remaining file.old)
         world.old world.new (W.contents output.old) (W.contents output.new)
         (status_of_outcome result) }
 {
     match open_new(world, alloc, file, new) {
         Ok(disk) => {
-            let saved = salvage(alloc, file, Waiting::One, disk);
+            let saved = salvage(alloc, file, waiting, disk);
             write_saved(world, alloc, saved, output)
         }
         Err(fault) => Outcome::Reading(fault),

@@ -2,6 +2,7 @@
 use conf_disk::{Content, Disk, DiskFault, Name};
 use conf_files::{Cause, ReplaceFault};
 use conf_folder::FolderFault;
+use conf_store::Waiting;
 use conf_tools::{Access, World};
 use conf_words::Reporting;
 use std::alloc::{AllocError, Global};
@@ -170,6 +171,8 @@ fn store_file(
 }
 
 impl World for MemoryWorld {
+    ghost use Rattle.std.specs.Prelude.{false};
+
     type Disk = FusedDisk<MemoryDisk>;
 
     type File = Cursor<Vec<u8>>;
@@ -182,6 +185,7 @@ impl World for MemoryWorld {
       opened = λ access folder old result new. Unit {0};
       given_back = λ disk old new. Unit {0};
       opened_store = λ folder old result new. Unit {0};
+      several = λ file. false;
       opened_file = λ path old result new. Unit {0};
       opened_to_replace = λ path old result new. Unit {0};
       replaced = λ place bytes old result new. Unit {0};
@@ -258,6 +262,10 @@ impl World for MemoryWorld {
             self.leave_nothing();
         }
         opened
+    }
+
+    fn waiting(&self, _file: &Cursor<Vec<u8>>) -> Waiting {
+        Waiting::One
     }
 
     fn open_file(&mut self, path: &str) -> Option<Cursor<Vec<u8>>> {
