@@ -253,10 +253,14 @@ def place_of_damage(content: bytes, commands: int) -> tuple[bytes, dict[str, int
     """The content through so many commands, with the numbers that `verify` gives of what follows."""
     pieces = pieces_of(content)[0]
     before = b"".join(pieces[: commands + 1])
+    bad = pieces[commands + 1]
+    zeros = bad.count(0)
     return before, {
         "piece": commands + 1,
         "byte": len(before),
         "line": before.count(b"\n") + 1,
+        "first_zero": len(before) + bad.index(0) if zeros else -1,
+        "zeros": zeros or -1,
         "following": len(pieces) - commands - 2,
     }
 
@@ -269,7 +273,7 @@ def verified_bad(content: bytes, found: Findings, failures: Failures) -> bytes:
 
 
 def verified(folder: str, content: bytes, outcome: Outcome, failures: Failures) -> None:
-    """What `verify` and `salvage` say and make of a file whose opening ended so."""
+    """What `verify` and `salvage` say and make of a file whose opening ended so, and what they keep of it."""
     write_file(os.path.join(folder, "store.yaml"), content)
     saved = os.path.join(folder, "saved")
     names = sorted(os.listdir(folder))

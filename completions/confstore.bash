@@ -17,6 +17,7 @@ _confstore_options() {
     get) echo '--raw --no-newline --json --plain --default --at --help' ;;
     keys | exists) echo '--at --help' ;;
     log) echo '--values --hide --yaml --at --help' ;;
+    verify | salvage) echo '--keep-dropped --help' ;;
     format) echo '-i --in-place --keep-comments --drop-comments --check --explain --help' ;;
     check) echo '--keep-comments --explain --help' ;;
     *) echo '--help' ;;
@@ -43,7 +44,9 @@ _confstore() {
     fi
     for ((index = 2; index < COMP_CWORD; index++)); do
         case ${COMP_WORDS[index]} in
-        --checkpoint-after | --at | --default | --file | --hide | --if-value | --if-count | --wait) index=$((index + 1)) ;;
+        --checkpoint-after | --at | --default | --file | --hide | --if-value | --if-count | --keep-dropped | --wait)
+            index=$((index + 1))
+            ;;
         -?*) ;;
         *)
             place=$((place + 1))
@@ -53,7 +56,7 @@ _confstore() {
     done
     case ${COMP_WORDS[COMP_CWORD - 1]} in
     --checkpoint-after | --at | --default | --hide | --if-value | --if-count | --wait) return ;;
-    --file)
+    --file | --keep-dropped)
         compopt -o filenames
         mapfile -t COMPREPLY < <(compgen -f -- "$current")
         return

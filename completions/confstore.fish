@@ -86,6 +86,7 @@ complete -c confstore -n '__fish_seen_subcommand_from get' -l default -x -d 'Wri
 complete -c confstore -n '__fish_seen_subcommand_from log' -l values -d 'Write values as JSON texts'
 complete -c confstore -n '__fish_seen_subcommand_from log' -l hide -x -d 'Hide the values at a place'
 complete -c confstore -n '__fish_seen_subcommand_from log' -l yaml -d 'Write the records as they stand'
+complete -c confstore -n '__fish_seen_subcommand_from verify salvage' -l keep-dropped -r -F -d 'Keep what an opening drops'
 complete -c confstore -n '__fish_seen_subcommand_from format check' -F
 complete -c confstore -n '__fish_seen_subcommand_from format' -s i -l in-place -d 'Replace each file that would change'
 complete -c confstore -n '__fish_seen_subcommand_from format check' -l keep-comments -d 'Keep the comments of each text'

@@ -19,11 +19,12 @@ _confstorectl_options() {
     get) echo '--raw --no-newline --json --plain --default --at --socket --wait --help' ;;
     exists) echo '--at --socket --wait --help' ;;
     log) echo '--values --hide --yaml --at --socket --wait --help' ;;
+    verify) echo '--keep-dropped --socket --wait --help' ;;
     watch) echo '--values --yaml --from --settle --socket --wait --help' ;;
     init) echo '--wait --help' ;;
     run) echo '--group --checkpoint-after --wait --help' ;;
     backup) echo '--wait --help' ;;
-    salvage) echo '--wait --help' ;;
+    salvage) echo '--keep-dropped --wait --help' ;;
     format) echo '--in-place --drop-comments --keep-comments --check --explain --help' ;;
     check) echo '--keep-comments --explain --help' ;;
     *) echo '--socket --wait --help' ;;
@@ -43,7 +44,7 @@ _confstorectl() {
     for ((index = 1; index < COMP_CWORD; index++)); do
         case "$word ${COMP_WORDS[index]}" in
         'format --check') ;;
-        *' --at' | *' --check' | *' --checkpoint-after' | *' --default' | *' --dir' | *' --document' | *' --file' | *' --from' | *' --hide' | *' --if-count' | *' --if-value' | *' --settle' | *' --socket' | *' --wait') index=$((index + 1)) ;;
+        *' --at' | *' --check' | *' --checkpoint-after' | *' --default' | *' --dir' | *' --document' | *' --file' | *' --from' | *' --hide' | *' --if-count' | *' --if-value' | *' --keep-dropped' | *' --settle' | *' --socket' | *' --wait') index=$((index + 1)) ;;
         *' -'?*) ;;
         *)
             place=$((place + 1))
@@ -54,7 +55,7 @@ _confstorectl() {
     done
     case "$word ${COMP_WORDS[COMP_CWORD - 1]}" in
     'format --check') ;;
-    *' --file' | *' --socket')
+    *' --file' | *' --keep-dropped' | *' --socket')
         compopt -o filenames
         mapfile -t COMPREPLY < <(compgen -f -- "$current")
         return

@@ -8,7 +8,7 @@ function __confstorectl_places
     for word in (commandline -opc)[2..-1]
         if test $is_value = 1
             set is_value 0
-        else if contains -- $word --at --check --checkpoint-after --default --dir --document --file --from --hide --if-count --if-value --settle --socket --wait; and not contains -- "$places[1] $word" 'format --check'
+        else if contains -- $word --at --check --checkpoint-after --default --dir --document --file --from --hide --if-count --if-value --keep-dropped --settle --socket --wait; and not contains -- "$places[1] $word" 'format --check'
             set is_value 1
         else if not string match -q -- '-?*' $word
             set -a places $word
@@ -206,6 +206,8 @@ complete -c confstorectl -n '__confstorectl_is log' -l yaml \
     -d 'Writes the records as they stand in store.yaml'
 complete -c confstorectl -n '__confstorectl_is log' -l at -x \
     -d 'Reads the store as it was after command number N'
+complete -c confstorectl -n '__confstorectl_is verify' -l keep-dropped -r -F \
+    -d 'Writes what an opening drops, or is refused for, to the new file FILE'
 complete -c confstorectl -n '__confstorectl_is watch' -l values \
     -d 'Writes the value of each import and set, too, as a JSON text'
 complete -c confstorectl -n '__confstorectl_is watch' -l yaml \
@@ -218,6 +220,8 @@ complete -c confstorectl -n '__confstorectl_is run' -l group \
     -d 'Syncs once for all commands that one read brings, and then answers them'
 complete -c confstorectl -n '__confstorectl_is run' -l checkpoint-after -x \
     -d 'Makes a checkpoint each time the file has grown by so many bytes; needs `--group`'
+complete -c confstorectl -n '__confstorectl_is salvage' -l keep-dropped -r -F \
+    -d 'Writes what an opening drops, or is refused for, to the new file FILE'
 complete -c confstorectl -n '__confstorectl_is format' -l in-place \
     -d 'Replaces each FILE that would change by its text in the one style; also `-i`'
 complete -c confstorectl -n '__confstorectl_is format' -l drop-comments \

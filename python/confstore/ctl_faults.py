@@ -37,6 +37,7 @@ _HINTS: dict[str, str] = {
     "RecordLong": "make two batches of it",
     "NotAStore": "the folder has no store; `confstore init` makes one",
     "StoreExists": "the folder has a store; take another folder",
+    "FileExists": "take the name of a new file",
     "NoSuchCommand": "`confstorectl verify` says which commands the file has",
     "Device": "the folder is missing or can't be used, or its device failed",
     "IdTaken": "send the command again",

@@ -113,6 +113,7 @@ CHECKPOINT_AFTER = Option(
 IN_PLACE = Option("--in-place", "Replaces each FILE that would change by its text in the one style; also `-i`")
 DROP_COMMENTS = Option("--drop-comments", "Replaces a FILE with comments too, which are lost")
 KEEP_COMMENTS = Option("--keep-comments", "Keeps the comments of each text; of `check`, wants them so")
+KEEP_DROPPED = Option("--keep-dropped", "Writes what an opening drops, or is refused for, to the new file FILE", "FILE")
 CHECK_ONLY = Option("--check", "Changes nothing, and names each FILE that would change")
 
 FOLDER = Argument("FOLDER", "The store's folder")
@@ -384,10 +385,14 @@ LOG = Word(
 VERIFY = Word(
     "verify",
     "Reads the whole store file, and writes whether it can be opened",
-    (),
+    (KEEP_DROPPED,),
     (FOLDER,),
-    ("The answer is a YAML mapping. Of a damaged store it says where the damage begins; then the status is 1.",),
-    ("confstorectl verify store",),
+    (
+        "The answer is a YAML mapping. Of a damaged store it says where the damage begins; then the status is 1. With"
+        " `--keep-dropped FILE` all bytes that follow the last record are kept in FILE, which is made for them, and"
+        " refused if it is there (FileExists).",
+    ),
+    ("confstorectl verify store", "confstorectl verify store --keep-dropped dropped.bin"),
 )
 WATCH = Word(
     "watch",
@@ -465,13 +470,14 @@ BACKUP = Word(
 SALVAGE = Word(
     "salvage",
     "Makes a new store of what a damaged one says before its first bad piece",
-    (),
+    (KEEP_DROPPED,),
     (FOLDER, NEW),
     (
         "The folder is read and stays as it is, also where a server holds its store. NEW is made if it is missing, and"
-        " is refused if it has a store (StoreExists). What was left out is written as `verify` writes it.",
+        " is refused if it has a store (StoreExists). What was left out is written as `verify` writes it; its bytes are put"
+        " into FILE first, as by `verify`.",
     ),
-    ("confstorectl salvage store new-store",),
+    ("confstorectl salvage store new-store", "confstorectl salvage store new-store --keep-dropped rest.bin"),
     common=WITHOUT_SERVER,
 )
 FORMAT_TEXT = Word(

@@ -7,7 +7,7 @@ use Rattle.conf_history.proofs.Prelude.{All, concat, Consumes, Consumes-nil, Con
 use Rattle.conf_history.proofs.Prelude.{All-nil, All-push, ClosesOnce, AdvancesToPiece, IsSound, ahead}
 use Rattle.conf_history.proofs.Prelude.{bytes_read, piece_or_rest, store_limit, Command, Contents, IsState, after-count, AreRecords}
 use Rattle.yaml_docs.specs.declared.pieces.Pieces.{Pieces as Reading}
-use Rattle.conf_history.specs.{Following.Follow, Histories.IsOfKind, declared.place.BadPiece.BadPiece}
+use Rattle.conf_history.specs.{BadPieces.zeros_of, Following.Follow, Histories.IsOfKind, declared.place.BadPiece.BadPiece}
 use Rattle.conf_history.specs.declared.following.{BadKind.TheVariants.Torn, BadKind.TheVariants.Unexpected, Following.Following}
 use Rattle.conf_history.specs.{declared.fault.HistoryFault.HistoryFault, declared.survey.Bad.Bad, declared.survey.Findings.Findings}
 use Rattle.conf_history.specs.Histories.{IsSurvey, ReadsSurvey, RefusesSurvey}
@@ -200,7 +200,13 @@ module _ (several : Bool) (given left : Option (List ℕ)) (walk : Walked) (piec
     (commands : List Command) where
   pub surveyed-whole : IsAtEndOf given left walk pieces start commands → (base count : ℕ) → base ≡ start.count
       → count ≡ walk.state.count → IsState walk.state → (findings : Findings)
-      → findings ≡ record { base = base; commands = count - base; dropped = length (piece_or_rest walk.pieces); bad = None }
+      → findings ≡ record {
+        base = base;
+        commands = count - base;
+        kept = walk.place.byte;
+        dropped = length (piece_or_rest walk.pieces);
+        bad = None;
+      }
       → ReadsSurvey several given left walk.state findings
   surveyed-whole e base count is all kept findings found =
       let rest = piece_or_rest walk.pieces in
@@ -220,6 +226,7 @@ module _ (several : Bool) (given left : Option (List ℕ)) (walk : Walked) (piec
               mean = e.performed.mean;
               base = base-count pieces start commands walk.state e.performed base is;
               commands = counted-records pieces start commands walk.state e.performed base is ∙ ap (λ n. suc (n - base)) (sym all);
+              kept = e.place.byte;
               dropped = refl;
               bad = tt;
             }));
@@ -231,12 +238,19 @@ module _ (several : Bool) (given left : Option (List ℕ)) (walk : Walked) (piec
   -- a file with a bad piece
   pub surveyed-bad : (mid : Option (List ℕ)) (now : Reading) (bad : Bad)
       → IsAtPiece given mid walk pieces start commands → IsBadHere walk bad.piece
+      → bad.zeros ≡ zeros_of walk.place.byte (piece_or_rest walk.pieces)
       → (following : Following) → following ≡ record { pieces = bad.following; kind = bad.kind }
       → Follow several given left (concat pieces ++ piece_or_rest walk.pieces) (piece_or_rest walk.pieces) now following → (base count : ℕ)
       → base ≡ start.count → count ≡ walk.state.count → IsState walk.state → (findings : Findings)
-      → findings ≡ record { base = base; commands = count - base; dropped = length (piece_or_rest now); bad = Some bad }
+      → findings ≡ record {
+        base = base;
+        commands = count - base;
+        kept = walk.place.byte;
+        dropped = length (piece_or_rest now);
+        bad = Some bad;
+      }
       → ReadsSurvey several given left walk.state findings
-  surveyed-bad mid now bad p here following same f base count is all kept findings found =
+  surveyed-bad mid now bad p here zeros following same f base count is all kept findings found =
       let piece = piece_or_rest walk.pieces in
       let read = p.read in
       let bytes = all-read several given mid left walk pieces start commands p now following f in
@@ -251,11 +265,13 @@ module _ (several : Bool) (given left : Option (List ℕ)) (walk : Walked) (piec
               mean = read.performed.mean;
               base = base-count pieces start commands walk.state read.performed base is;
               commands = counted-records pieces start commands walk.state read.performed base is ∙ ap (λ n. suc (n - base)) (sym all);
+              kept = read.place.byte;
               dropped = refl;
               bad = (
                 bad-is several given mid left walk pieces start commands p now following f bad.piece here,
                 f.counted ∙ ap (λ (f : Following). f.pieces) same,
                 subst (λ kind. IsOfKind several kind piece f.further) (ap (λ (f : Following). f.kind) same) f.kind,
+                zeros ∙ ap (λ byte. zeros_of byte piece) here.byte,
               );
             }));
         kept = kept;

@@ -1,8 +1,8 @@
 -- What the bytes of a store's file hold: at each command, and before a bad piece.
 use Rattle.std.specs.Prelude.{◌≡◌, ◌<◌, ◌≤◌, ◌⊎◌, ℕ, suc, Bool, false, List, [], ◌∷◌, ◌++◌, length, Option, Some, None, IfSome}
-use Rattle.conf_history.specs.Prelude.{Consumes, IsAtEnd, Pieces, store_limit, Contents, IsState, IsBase, PiecesMean}
+use Rattle.conf_history.specs.Prelude.{concat, Consumes, IsAtEnd, Pieces, store_limit, Contents, IsState, IsBase, PiecesMean}
 use Rattle.conf_history.specs.Prelude.{Means, HasNoBase, IsKept, MayBeDropped, no_zero}
-use Rattle.conf_history.specs.{BadPieces.IsBadPiece, declared.place.BadPiece.BadPiece}
+use Rattle.conf_history.specs.{BadPieces.IsBadPiece, BadPieces.zeros_of, declared.place.BadPiece.BadPiece}
 use Rattle.conf_history.specs.{declared.fault.HistoryFault.HistoryFault, declared.following.BadKind.BadKind}
 use Rattle.conf_history.specs.{declared.following.BadKind.TheVariants.Torn, declared.following.BadKind.TheVariants.Unexpected}
 use Rattle.conf_history.specs.declared.survey.Bad.{Bad}
@@ -93,8 +93,10 @@ AreUnread several before [] s (Some bad) = ⊥
 AreUnread several before (piece ∷ further) s None = ⊥
 AreUnread several before (piece ∷ further) s (Some bad) =
     IsBadPiece before piece s bad.piece × (length further ≡ bad.following) × IsOfKind several bad.kind piece further
+    × (bad.zeros ≡ zeros_of bad.piece.byte piece)
 
--- The bytes begin with a base and records, which mean `s`. What comes after these is as the findings say.
+-- The bytes begin with a base and records, which mean `s`. An opening keeps these. What comes after them is as the
+-- findings say.
 pub record IsSurvey (several : Bool) (bytes : List ℕ) (s : Contents) (findings : Findings) : Type 0 where
   pub short : length bytes ≤ store_limit
   pub pieces : List (List ℕ)
@@ -104,6 +106,7 @@ pub record IsSurvey (several : Bool) (bytes : List ℕ) (s : Contents) (findings
   pub mean : PiecesMean pieces s
   pub base : findings.base ≡ mean.start.count
   pub commands : length pieces ≡ suc findings.commands
+  pub kept : length (concat pieces) ≡ findings.kept
   pub dropped : length rest ≡ findings.dropped
   pub bad : AreUnread several pieces unread s findings.bad
 

@@ -40,7 +40,7 @@ pub use laws::reading_beside_a_writer;
 pub use line::LineForm;
 pub use log::{LogForm, write_log};
 pub use part_reading::{config_at, names_at};
-pub use place::BadPiece;
+pub use place::{BadPiece, Zeros};
 pub use reading::state_at;
 pub use saving::salvage;
 pub use survey::{Bad, Findings, Survey, find_in_store, survey_store};

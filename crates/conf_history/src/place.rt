@@ -1,6 +1,6 @@
-// Where a piece begins.
+// Where a piece begins, and where its zeros are.
 ghost use Rattle.std.specs.Prelude.{◌≡◌, ◌+◌, ◌≤◌, ◌<◌, ◌^◌, length};
-ghost use Rattle.conf_history.specs.BadPieces.{line_feeds};
+ghost use Rattle.conf_history.specs.BadPieces.{line_feeds, zeros_of};
 ghost use Rattle.conf_history.specs.Faults.{fault_here};
 
 use crate::fault::HistoryFault;
@@ -18,6 +18,15 @@ pub struct BadPiece {
     pub line: u64,
     /// Why it is not the next record.
     pub why: NoRecord,
+}
+
+/// The zeros of a piece, which a crash may have left there.
+#[derive(Clone, Copy, Debug, PartialEq, Eq)]
+pub struct Zeros {
+    /// How many bytes of the file come before the first of them.
+    pub first: u64,
+    /// How many there are.
+    pub count: u64,
 }
 
 /// Where the next piece of a file begins.
@@ -59,6 +68,21 @@ impl Place {
             byte: self.byte + piece.len() as u64,
             feeds: self.feeds + line_feeds(piece),
         }
+    }
+
+    /// The zeros of a piece that begins here, if it has any.
+    pub fn zeros_of(self, piece: &[u8]) -> Option<Zeros>
+        requires { self.byte + length piece.now < 2 ^ 63 }
+        ensures { result ≡ zeros_of self.byte piece.now }
+    {
+        let mut places = memchr_iter(0, piece);
+        let Some(first) = places.next() else {
+            return None;
+        };
+        Some(Zeros {
+            first: self.byte + first as u64,
+            count: 1 + places.count() as u64,
+        })
     }
 
     /// The fault of a file whose piece that begins here was not performed.

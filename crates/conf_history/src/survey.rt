@@ -3,11 +3,11 @@ ghost use Rattle.std.specs.Prelude.{◌≡◌, ◌-◌, ◌≤◌, ℕ, List, Op
 ghost use Rattle.conf_history.specs.Prelude.{piece_or_rest, is_several, IsState, Contents};
 ghost use Rattle.conf_state.specs.Commands.{Command as Meant};
 ghost use Rattle.conf_history.specs.Histories.{ReadsSurvey, RefusesSurvey};
-ghost use Rattle.conf_history.specs.Walks.{HasLimits, IsAtPiece, IsBadHere, with_state};
+ghost use Rattle.conf_history.specs.Walks.{HasLimits, HasRoom, IsAtPiece, IsBadHere, with_state};
 
 use crate::fault::HistoryFault;
 use crate::following::{BadKind, Following, look_behind};
-use crate::place::BadPiece;
+use crate::place::{BadPiece, Zeros};
 use crate::replayed::{BasePart, OfBase};
 use crate::walk::Walk;
 use conf_state::State;
@@ -19,6 +19,8 @@ use std::io::Read;
 #[derive(Clone, Copy, Debug, PartialEq, Eq)]
 pub struct Bad {
     pub piece: BadPiece,
+    /// The zeros that it has, if it has any.
+    pub zeros: Option<Zeros>,
     /// The number of closed pieces after it.
     pub following: u64,
     /// Whether a crash may have left it, with all that follows.
@@ -32,6 +34,9 @@ pub struct Findings {
     pub base: u64,
     /// The number of records that were performed: all of them, or those before the bad piece.
     pub commands: u64,
+    /// The number of bytes that an opening keeps: those of the base and of the records that were performed. It drops what
+    /// follows, or is refused for it.
+    pub kept: u64,
     /// The number of bytes after the last closing line, which an opening drops.
     pub dropped: u64,
     /// The first piece that is not the next record, if there is one. An opening drops it, with all that follows, if a
@@ -141,6 +146,7 @@ impl Walk {
         piece: BadPiece,
     ) -> Result<Findings, HistoryFault>
         requires limits { HasLimits self.old.pieces }
+        requires room { HasRoom self.old.pieces self.old.place }
         requires base { base ≤ count }
         ensures ok { (given : Option (List ℕ)) (s : Contents) (pieces : List (List ℕ))
             (start : Contents) (commands : List Meant)
@@ -153,9 +159,11 @@ impl Walk {
             → IsAtPiece given (R.remaining reader.old) (with_state self.old s) pieces start commands
             → IfErr result (λ fault. IfSome given (λ bytes. RefusesSurvey bytes fault)) }
     {
+        let zeros = self.place.zeros_of(self.pieces.piece());
         let Following { pieces, kind } = look_behind(alloc, &mut self.pieces, reader, waiting)?;
         let bad = Bad {
             piece,
+            zeros,
             following: pieces,
             kind,
         };
@@ -169,6 +177,7 @@ impl Walk {
         ensures { result ≡ record {
           base = base;
           commands = count - base;
+          kept = self.now.place.byte;
           dropped = length (piece_or_rest self.now.pieces);
           bad = bad;
         } }
@@ -176,6 +185,7 @@ impl Walk {
         Findings {
             base,
             commands: count - base,
+            kept: self.place.byte,
             dropped: self.pieces.piece().len() as u64,
             bad,
         }

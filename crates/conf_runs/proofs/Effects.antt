@@ -1,8 +1,10 @@
 -- What each word does to the folders of a world.
 use Rattle.std.proofs.Common.{◌≡◌, ◌≢◌, inl, inr, ℕ, Bool, true, false, List, [], ◌∷◌, Option, None, Some, Result, Ok}
-use Rattle.std.proofs.Common.{Err, IfOk, map, refl, sym, ap, subst, codes}
+use Rattle.std.proofs.Common.{Err, IfOk, drop, map, refl, sym, ap, subst, codes}
+use Rattle.std.specs.Borrow.{Bor}
 use Rattle.conf_disk.specs.Image.{Image}
 use Rattle.conf_disk.specs.Models.{DiskModel}
+use Rattle.conf_files.specs.declared.create.NewFileFault.{NewFileFault}
 use Rattle.conf_files.specs.declared.replace.ReplaceFault.{ReplaceFault}
 use Rattle.conf_history.specs.Copies.{BacksUp, LeavesOldOrCopy}
 use Rattle.conf_history.specs.Copies.{disk_handed_back as copied_disk}
@@ -29,6 +31,7 @@ use Rattle.conf_words.specs.declared.invocation.Value.TheVariants.{Text, Yaml, F
 use Rattle.conf_tools.specs.Backups.{BacksUpFound, BacksUpInFolder, BacksUpStore, status_after_backup}
 use Rattle.conf_tools.specs.Asking.{AskedConditions}
 use Rattle.conf_tools.specs.LogWords.{Logs, LogsValues}
+use Rattle.conf_tools.specs.Keeping.{CannotKeep, KeepsDropped, PutsFile, SalvagesTo, Verifies}
 use Rattle.conf_tools.specs.Performs.{ChangesAt, FormatsAll, ChecksAll, ImportsRead, Performs, access_of, grouping_of}
 use Rattle.conf_tools.specs.Exports.{disk_back}
 use Rattle.conf_tools.specs.Tools.{Taken}
@@ -57,7 +60,7 @@ use Rattle.conf_tools.specs.declared.world.Access.TheVariants.{Changing, New}
 use Rattle.conf_runs.specs.Folders.{IsDiskOf, KeepsFolders, LeavesNoMore}
 use Rattle.conf_runs.specs.Runs.{Deed, asked_for, call_of, changed_if, changed_in, copied_in, copied_of, copies}
 use Rattle.conf_runs.specs.Runs.{exported_from, folder_of, imported, initialised, made_in, makes_new, ran_in}
-use Rattle.conf_runs.specs.Runs.{saved_in, saved_of, saves}
+use Rattle.conf_runs.specs.Runs.{saved_in, saved_of, saved_to, saves}
 
 module _ {W D F P : Type 0} (world : WorldModel W D F P) (disk : DiskModel D) (remaining : F → Option (List ℕ))
     (honest : disk.honest) (leaves : W → List ℕ → Image → Type 0) (keeps : KeepsFolders world disk leaves) where
@@ -246,6 +249,44 @@ module _ {W D F P : Type 0} (world : WorldModel W D F P) (disk : DiskModel D) (r
   of-found folder (Ok file) old new held written status saving = of-saving folder (world.several file) (remaining file) old new held written status saving
   of-found folder (Err fault) old new held written status saving = spared folder old new (same old new saving.0)
 
+  -- ---- words that keep what an opening drops
+
+  of-putting : (path bytes : List ℕ) (old : W) (result : Result (Unit {0}) NewFileFault) (new : W)
+      → PutsFile world path bytes old result new → Steady old new
+  of-putting path [] old result new puts = same old new puts.0
+  of-putting path (byte ∷ bytes) old result new puts = keeps.new_files path (byte ∷ bytes) old new result puts
+
+  of-kept : (folder path bytes : List ℕ) (old : W) (result : Result (Unit {0}) NewFileFault) (new : W)
+      → KeepsDropped world remaining folder path bytes old result new → Steady old new
+  of-kept folder path bytes old result new kept =
+      then old kept.found new (of-open folder old (Ok kept.file) kept.found kept.opens)
+      (of-putting path (drop kept.kept bytes) kept.found result new kept.puts)
+
+  of-unkept : (folder path : List ℕ) (old new : W) (status : Status) → CannotKeep world remaining folder path old new status
+      → Steady old new
+  of-unkept folder path old new status (inl cannot) = of-open folder old (Err cannot.fault) new cannot.opens
+  of-unkept folder path old new status (inr (inl cannot)) = of-open folder old (Ok cannot.file) new cannot.opens
+  of-unkept folder path old new status (inr (inr cannot)) =
+      of-kept folder path cannot.bytes old (Err cannot.fault) new cannot.keeps
+
+  of-verify : (folder : List ℕ) (keep_dropped : Option (Bor (List ℕ))) (old new : W) (held written : Option (List ℕ))
+      (status : Status) → Verifies world remaining folder keep_dropped old new held written status → Steady old new
+  of-verify folder None old new held written status does = of-open folder old does.file new does.opens
+  of-verify folder (Some path) old new held written status (inl unkept) = of-unkept folder path.now old new status unkept.cannot
+  of-verify folder (Some path) old new held written status (inr does) = of-kept folder path.now does.bytes old (Ok tt) new does.keeps
+
+  of-salvage : (folder : List ℕ) (keep_dropped : Option (Bor (List ℕ))) (new_folder : List ℕ) (old new : W)
+      (held written : Option (List ℕ)) (status : Status)
+      → SalvagesTo world disk remaining folder keep_dropped new_folder old new held written status → Spares new_folder old new
+  of-salvage folder None new_folder old new held written status does = λ other image is_other is.
+      of-open folder old does.file does.found does.opens other image
+      (of-found new_folder does.file does.found new held written status does.saves other image is_other is)
+  of-salvage folder (Some path) new_folder old new held written status (inl unkept) =
+      spared new_folder old new (of-unkept folder path.now old new status unkept.cannot)
+  of-salvage folder (Some path) new_folder old new held written status (inr does) = λ other image is_other is.
+      of-kept folder path.now does.bytes old (Ok tt) does.found does.keeps other image
+      (of-saving new_folder (Some does.bytes) does.found new held written status does.saves other image is_other is)
+
   -- ---- words on texts
 
   of-text : (path : List ℕ) (read : Taken) (old new : W) (given left : Option (List ℕ))
@@ -349,9 +390,10 @@ module _ {W D F P : Type 0} (world : WorldModel W D F P) (disk : DiskModel D) (r
       nothing None (of-open folder.now old.world does.0.file new.world does.0.opens)
   effect (Log folder at form) old new status does not_new =
       nothing None (of-log folder.now at form old.world new.world old.output new.output status does.0)
-  effect (Verify folder) old new status does not_new = nothing None (of-open folder.now old.world does.0.file new.world does.0.opens)
+  effect (Verify folder keep_dropped) old new status does not_new =
+      nothing None (of-verify folder.now keep_dropped old.world new.world old.output new.output status does.0)
   effect (Format formatting files reporting) old new status does not_new = nothing None (of-formatting formatting _ old new status does)
-  effect (Salvage folder new_folder) old new status does not_new = cc
+  effect (Salvage folder new_folder keep_dropped) old new status does not_new = cc
   effect (Backup folder new_folder) old new status does not_new = cc
   effect (Check style files reporting) old new status does not_new = nothing None (of-checking style _ old new status does)
 
@@ -366,11 +408,9 @@ module _ {W D F P : Type 0} (world : WorldModel W D F P) (disk : DiskModel D) (r
   pub spares : (path : List ℕ) (invocation : Invocation) (old new : Around W) (status : Status)
       → Performs world disk remaining invocation old new status → folder_of invocation ≢ Some path
       → (image : Image) → leaves new.world path image → leaves old.world path image
-  spares path (Salvage folder new_folder) old new status does is_other image is =
-      let says = does.0 in
-      let begins = of-open folder.now old.world says.file says.found says.opens in
-      begins path image (of-found new_folder.now says.file says.found new.world old.output new.output status says.saves path image
-      (λ same. is_other (ap Some (sym same))) is)
+  spares path (Salvage folder new_folder keep_dropped) old new status does is_other image is =
+      of-salvage folder.now keep_dropped new_folder.now old.world new.world old.output new.output status does.0 path image
+      (λ same. is_other (ap Some (sym same))) is
   spares path (Backup folder new_folder) old new status does is_other image is =
       let says = does.0 in
       let begins = of-open folder.now old.world says.file says.found says.opens in
@@ -404,8 +444,8 @@ module _ {W D F P : Type 0} (world : WorldModel W D F P) (disk : DiskModel D) (r
       beside path old.world new.world (effect (Exists folder name pointer at) old new status does refl) is_other image is
   spares path (Log folder at form) old new status does is_other image is =
       beside path old.world new.world (effect (Log folder at form) old new status does refl) is_other image is
-  spares path (Verify folder) old new status does is_other image is =
-      beside path old.world new.world (effect (Verify folder) old new status does refl) is_other image is
+  spares path (Verify folder keep_dropped) old new status does is_other image is =
+      beside path old.world new.world (effect (Verify folder keep_dropped) old new status does refl) is_other image is
   spares path (Format formatting files reporting) old new status does is_other image is =
       beside path old.world new.world (effect (Format formatting files reporting) old new status does refl) is_other image is
   spares path (Check style files reporting) old new status does is_other image is =
@@ -483,13 +523,26 @@ module _ {W D F P : Type 0} (world : WorldModel W D F P) (disk : DiskModel D) (r
   of-saved folder (Err fault) old new held written status saving = none_made (same old new saving.0)
 
   -- what a salvage does
-  pub salvaged : (folder new_folder : List ℕ) (old new : W) (held written : Option (List ℕ)) (status : Status)
+  salvaged : (folder new_folder : List ℕ) (old new : W) (held written : Option (List ℕ)) (status : Status)
       (does : Salvages world disk remaining folder new_folder old new held written status)
       → Backed new_folder old new status (saved_of world disk remaining honest new_folder does.file does.found new
       held written status does.saves)
   salvaged folder new_folder old new held written status does =
       after-that old does.found new (of-open folder old does.file does.found does.opens)
       (of-saved new_folder does.file does.found new held written status does.saves)
+
+  -- the same, with a path for what an opening drops, or with none
+  pub salvaged-to : (folder : List ℕ) (keep_dropped : Option (Bor (List ℕ))) (new_folder : List ℕ) (old new : W)
+      (held written : Option (List ℕ)) (status : Status)
+      (does : SalvagesTo world disk remaining folder keep_dropped new_folder old new held written status)
+      → Backed new_folder old new status
+      (saved_to world disk remaining honest folder keep_dropped new_folder old new held written status does)
+  salvaged-to folder None new_folder old new held written status does = salvaged folder new_folder old new held written status does
+  salvaged-to folder (Some path) new_folder old new held written status (inl unkept) =
+      none_made (of-unkept folder path.now old new status unkept.cannot)
+  salvaged-to folder (Some path) new_folder old new held written status (inr does) =
+      after-that old does.found new (of-kept folder path.now does.bytes old (Ok tt) does.found does.keeps)
+      (of-saved-in new_folder (Some does.bytes) does.found new held written status does.saves)
 
   -- what a backup does
   pub backed : (folder new_folder : List ℕ) (old new : W) (status : Status)

@@ -39,7 +39,7 @@ use Rattle.conf_runs.specs.Runs.{ending_of_call, first_disk, folder_of, here, la
 use Rattle.conf_runs.specs.Runs.{returned, saves}
 use Rattle.conf_runs.proofs.StatusLemmas.{not-done, not-backed-up}
 use Rattle.conf_runs.proofs.Effects.{Backed, Effect, Fits, backed, effect, made_there, none_made, nothing, on_disk}
-use Rattle.conf_runs.proofs.Effects.{salvaged, saved_there, spares}
+use Rattle.conf_runs.proofs.Effects.{salvaged-to, saved_there, spares}
 
 -- a file means one state at most
 file-one : OneMeaning → (several : Bool) (file : Option (List ℕ)) (s t : Contents) → FileMeans several file s
@@ -246,13 +246,15 @@ module _ {W D F P : Type 0} (world : WorldModel W D F P) (disk : DiskModel D) (r
       new-cut-off new_folder.now old.world new.world status _
       (backed world disk remaining honest leaves keeps folder.now new_folder.now old.world new.world status does.0)
       (some-one new_folder.now path is) empty
-  at-new (Salvage folder new_folder) is is_new empty returned old new status does =
+  at-new (Salvage folder new_folder keep_dropped) is is_new empty returned old new status does =
       new-returned new_folder.now old.world new.world status _
-      (salvaged world disk remaining honest leaves keeps folder.now new_folder.now old.world new.world old.output new.output status does.0)
+      (salvaged-to world disk remaining honest leaves keeps folder.now keep_dropped new_folder.now old.world new.world old.output
+      new.output status does.0)
       (some-one new_folder.now path is) empty
-  at-new (Salvage folder new_folder) is is_new empty cut_off old new status does =
+  at-new (Salvage folder new_folder keep_dropped) is is_new empty cut_off old new status does =
       new-cut-off new_folder.now old.world new.world status _
-      (salvaged world disk remaining honest leaves keeps folder.now new_folder.now old.world new.world old.output new.output status does.0)
+      (salvaged-to world disk remaining honest leaves keeps folder.now keep_dropped new_folder.now old.world new.world old.output
+      new.output status does.0)
       (some-one new_folder.now path is) empty
   at-new invocation is is_new empty ending old new status does = cc
 

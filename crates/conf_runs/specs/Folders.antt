@@ -4,6 +4,7 @@ use Rattle.conf_disk.specs.Folder.{bytes_under}
 use Rattle.conf_disk.specs.Image.{Image, IsImage}
 use Rattle.conf_disk.specs.Models.{DiskModel}
 use Rattle.conf_disk.specs.declared.disk.Name.TheVariants.{Store}
+use Rattle.conf_files.specs.declared.create.NewFileFault.{NewFileFault}
 use Rattle.conf_files.specs.declared.replace.ReplaceFault.{ReplaceFault}
 use Rattle.conf_folder.specs.declared.fault.FolderFault.{FolderFault}
 use Rattle.conf_tools.specs.Worlds.{WorldModel}
@@ -38,6 +39,8 @@ module _ {W D F P : Type 0} (world : WorldModel W D F P) (disk : DiskModel D) (l
         → world.opened_store path old result new → LeavesNoMore leaves old new
     pub files : (path : List ℕ) (old new : W) (result : Option F)
         → world.opened_file path old result new → LeavesNoMore leaves old new
+    pub new_files : (path bytes : List ℕ) (old new : W) (result : Result (Unit {0}) NewFileFault)
+        → world.created_file path bytes old result new → LeavesNoMore leaves old new
     pub places : (path : List ℕ) (old new : W) (result : Result (F × P) ReplaceFault)
         → world.opened_to_replace path old result new → LeavesNoMore leaves old new
     pub replaced : (place : P) (bytes : List ℕ) (old new : W) (result : Result (Unit {0}) ReplaceFault)

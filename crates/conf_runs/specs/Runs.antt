@@ -1,6 +1,7 @@
 -- Runs of the program, one after the other, and what the store in one folder keeps of their commands.
 use Rattle.std.specs.Prelude.{◌≡◌, ◌≢◌, ◌≤◌, ℕ, Bool, true, false, List, [], ◌∷◌, length, take, Option, None, Some, Result, Ok, Err, IfOk}
 use Rattle.std.proofs.Common.{inl, inr}
+use Rattle.std.specs.Borrow.{Bor}
 use Rattle.conf_disk.specs.Image.{Image}
 use Rattle.conf_disk.specs.Models.{DiskModel}
 use Rattle.conf_history.specs.Copies.{BacksUp, LeavesOldOrCopy, ReadsCopy}
@@ -23,6 +24,7 @@ use Rattle.conf_tools.specs.Asking.{AskedConditions}
 use Rattle.conf_tools.specs.Backups.{BacksUpFound, BacksUpInFolder}
 use Rattle.conf_tools.specs.Changes.{Performs as ChangePerforms}
 use Rattle.conf_tools.specs.Exports.{disk_back, disk_handed_back}
+use Rattle.conf_tools.specs.Keeping.{SalvagesTo}
 use Rattle.conf_tools.specs.Performs.{ChangesAt, ImportsRead, Performs, access_of, grouping_of}
 use Rattle.conf_tools.specs.ProgramCalls.{Call, Ending as CallEnding, accepted, answered, changing, disk_before}
 use Rattle.conf_tools.specs.ProgramCalls.{disk_behind, exporting, running}
@@ -56,13 +58,13 @@ folder_of (Rename folder name to conditions) = Some folder.now
 folder_of (Checkpoint folder) = Some folder.now
 folder_of (Run folder grouping) = Some folder.now
 folder_of (Export folder name form) = Some folder.now
-folder_of (Salvage folder new) = Some new.now
+folder_of (Salvage folder new keep_dropped) = Some new.now
 folder_of (Backup folder new) = Some new.now
 folder_of invocation = None
 
 -- whether the words make a store of what another one's file says
 abbrev pub makes_new : Invocation → Bool
-makes_new (Salvage folder new) = true
+makes_new (Salvage folder new keep_dropped) = true
 makes_new (Backup folder new) = true
 makes_new invocation = false
 
@@ -204,11 +206,21 @@ module _ {W D F P : Type 0} (world : WorldModel W D F P) (disk : DiskModel D) (r
       saved_in folder (world.several file) (remaining file) old new held written status saving
   saved_of folder (Err fault) old new held written status saving = None
 
+  -- the same of a salvage, with a path for what an opening drops, or with none
+  abbrev pub saved_to : (folder : List ℕ) (keep_dropped : Option (Bor (List ℕ))) (new_folder : List ℕ) (old new : W)
+      (held written : Option (List ℕ)) (status : Status)
+      → SalvagesTo world disk remaining folder keep_dropped new_folder old new held written status → Option (Deed disk)
+  saved_to folder None new_folder old new held written status does =
+      saved_of new_folder does.file does.found new held written status does.saves
+  saved_to folder (Some path) new_folder old new held written status (inl unkept) = None
+  saved_to folder (Some path) new_folder old new held written status (inr does) =
+      saved_in new_folder (Some does.bytes) does.found new held written status does.saves
+
   -- how a run makes a new store, if the disk was handed out to it
   abbrev pub made_new : (invocation : Invocation) (old new : Around W) (status : Status)
       → Performs world disk remaining invocation old new status → Option (Deed disk)
-  made_new (Salvage folder new_folder) old new status does =
-      saved_of new_folder.now does.0.file does.0.found new.world old.output new.output status does.0.saves
+  made_new (Salvage folder new_folder keep_dropped) old new status does =
+      saved_to folder.now keep_dropped new_folder.now old.world new.world old.output new.output status does.0
   made_new (Backup folder new_folder) old new status does =
       copied_of new_folder.now does.0.file does.0.found new.world status does.0.makes
   made_new invocation old new status does = None

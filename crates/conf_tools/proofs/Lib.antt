@@ -14,4 +14,5 @@ pub mod HeldLemmas
 pub mod FileLemmas
 pub mod StyleLemmas
 pub mod OutcomeLemmas
+pub mod KeepingLemmas
 mod MadeLemmas

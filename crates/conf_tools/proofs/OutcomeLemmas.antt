@@ -180,3 +180,4 @@ module _ {E : Type 0} where
     written_told (ends.Damaged folder) status old new ended is tells = absurd ended
     written_told (ends.Store fault) status old new ended is tells = absurd ended
     written_told (ends.Reading fault) status old new ended is tells = absurd ended
+    written_told (ends.Keeping fault) status old new ended is tells = absurd ended

@@ -22,4 +22,6 @@ pub mod Losses
 pub mod Performs
 pub mod FaultLines
 pub mod Listening
+pub mod NewFiles
+pub mod Keeping
 pub mod Outcomes

@@ -11,6 +11,7 @@ use Rattle.conf_tools.specs.{declared.outcome.Ending.TheVariants.Of, declared.ou
 use Rattle.conf_tools.specs.{declared.outcome.Outcome.Outcome, declared.program.Status.Status, declared.tail.Tail.Tail}
 use Rattle.conf_tools.specs.{declared.texts.ToolFault.ToolFault, declared.texts.ToolFault.TheVariants.Output}
 use Rattle.conf_tools.specs.FaultLines.{reading_fault_name, store_fault_name, text_fault_name}
+use Rattle.conf_tools.specs.NewFiles.{new_file_fault_name, status_of_new_file}
 use Rattle.conf_tools.specs.Statuses.{code_of, status_of, status_of_store}
 use Rattle.conf_tools.specs.declared.program.Status.TheVariants.{Done, Absent, Refused, WrongWords, Device}
 use Rattle.conf_tools.specs.declared.outcome.Outcome.TheVariants as ends
@@ -25,6 +26,7 @@ status_of_outcome (ends.Damaged folder) = Refused
 status_of_outcome (ends.Text fault) = status_of fault
 status_of_outcome (ends.Store fault) = status_of_store fault
 status_of_outcome (ends.Reading fault) = status_of_reading fault
+status_of_outcome (ends.Keeping fault) = status_of_new_file fault
 
 -- the status of a run
 abbrev pub status_of_ending : Ending → Status
@@ -54,6 +56,7 @@ module _ {E : Type 0} (hears : E → List ℕ → E → Type 0) where
   TellsOutcome (ends.Text fault) old new = hears old (fault_line (text_fault_name fault)) new
   TellsOutcome (ends.Store fault) old new = hears old (fault_line (store_fault_name fault)) new
   TellsOutcome (ends.Reading fault) old new = hears old (fault_line (reading_fault_name fault)) new
+  TellsOutcome (ends.Keeping fault) old new = hears old (fault_line (new_file_fault_name fault)) new
 
   -- the same at the end of a run, if it is still to be told
   abbrev pub TellsEnding : Ending → E → E → Type 0
@@ -139,8 +142,8 @@ module _ {E : Type 0} (hears : E → List ℕ → E → Type 0) where
   Leaves (Get folder name pointer at absent form) old ending new = LeavesAll old ending new
   Leaves (Exists folder name pointer at) old ending new = LeavesAll old ending new
   Leaves (Log folder at form) old ending new = LeavesAll old ending new
-  Leaves (Verify folder) old ending new = LeavesAll old ending new
-  Leaves (Salvage folder new_folder) old ending new = LeavesAll old ending new
+  Leaves (Verify folder keep_dropped) old ending new = LeavesAll old ending new
+  Leaves (Salvage folder new_folder keep_dropped) old ending new = LeavesAll old ending new
   Leaves (Backup folder new_folder) old ending new = LeavesAll old ending new
   Leaves (Format formatting files reporting) old ending new = LeavesTold TellsIfDone old ending new
   Leaves (Check style files reporting) old ending new = LeavesTold SilentIfDone old ending new

@@ -6,7 +6,8 @@ use Rattle.conf_tools.specs.Prelude.{Exists, Log, Verify, Salvage, Backup, Forma
 use Rattle.conf_words.specs.declared.invocation.Grouping.{Grouping as AskedGrouping}
 use Rattle.conf_words.specs.declared.invocation.MissingStore.{MissingStore}
 use Rattle.conf_words.specs.declared.invocation.Formatting.{Formatting}
-use Rattle.conf_tools.specs.{Asking.AskedConditions, Asking.AsksFor, Backups.BacksUpStore, LogWords.Logs, Tools.IsTaken}
+use Rattle.conf_tools.specs.{Asking.AskedConditions, Asking.AsksFor, Backups.BacksUpStore, Keeping.SalvagesTo}
+use Rattle.conf_tools.specs.{Keeping.Verifies, LogWords.Logs, Tools.IsTaken}
 use Rattle.conf_tools.specs.{Statuses.status_of, Tools.Taken, Worlds.Around, Worlds.LeavesStreams, Worlds.WorldModel}
 use Rattle.conf_tools.specs.{declared.changes.Change.Change, declared.file_words.Report.TheVariants.Findings}
 use Rattle.conf_tools.specs.{declared.file_words.Report.TheVariants.Name, declared.program.Status.Status}
@@ -15,7 +16,7 @@ use Rattle.conf_tools.specs.{declared.stores.Grouping.TheVariants.Single, declar
 use Rattle.conf_tools.specs.{declared.texts.ToolFault.ToolFault, declared.world.Access.Access}
 use Rattle.conf_tools.specs.{declared.world.Access.TheVariants.Changing, declared.world.Access.TheVariants.Making}
 use Rattle.conf_tools.specs.StoreWords.{ChangesInFolder, ExportsFromFolder, Inits, MakesChange, Reads, RunsOnFolder}
-use Rattle.conf_tools.specs.StoreWords.{Salvages, SaysNames, SaysPresence, SaysSurvey, SaysValue}
+use Rattle.conf_tools.specs.StoreWords.{SaysNames, SaysPresence, SaysValue}
 use Rattle.conf_tools.specs.TextWords.{ChecksRead, FormatsFile, FormatsRead, IsCopy, IsDelete, IsImport, IsRename}
 use Rattle.conf_tools.specs.TextWords.{IsSet, ReportsOnAll, RestylesAll, TakesText}
 use Rattle.conf_words.specs.declared.invocation.Formatting.TheVariants as formatting
@@ -102,7 +103,7 @@ module _ {W D F P : Type 0} (world : WorldModel W D F P) (disk : DiskModel D) wh
     pub changes : ChangesAt world disk wanted Changing folder name path change old new status
 
 module _ {W D F P : Type 0} (world : WorldModel W D F P) (remaining : F → Option (List ℕ)) where
-  -- `names`, `get`, `exists` and `verify`
+  -- `names`, `get` and `exists`
   abbrev pub Asks : List ℕ → (Option (List ℕ) → Option (List ℕ) → Option (List ℕ) → Status → Type 0)
       → Around W → Around W → Status → Type 0
   Asks folder says old new status =
@@ -169,9 +170,12 @@ module _ {W D F P : Type 0} (world : WorldModel W D F P) (disk : DiskModel D) (r
       Asks world remaining folder.now (SaysPresence at name.now pointer.now) old new status
   Performs (Log folder at form) old new status =
       Logs world remaining folder.now at form old.world new.world old.output new.output status × (new.input ≡ old.input)
-  Performs (Verify folder) old new status = Asks world remaining folder.now SaysSurvey old new status
-  Performs (Salvage folder new_folder) old new status =
-      Salvages world disk remaining folder.now new_folder.now old.world new.world old.output new.output status
+  Performs (Verify folder keep_dropped) old new status =
+      Verifies world remaining folder.now keep_dropped old.world new.world old.output new.output status
+      × (new.input ≡ old.input)
+  Performs (Salvage folder new_folder keep_dropped) old new status =
+      SalvagesTo world disk remaining folder.now keep_dropped new_folder.now old.world new.world old.output new.output
+      status
       × (new.input ≡ old.input)
   Performs (Backup folder new_folder) old new status =
       BacksUpStore world disk remaining folder.now new_folder.now old.world new.world status × LeavesStreams old new

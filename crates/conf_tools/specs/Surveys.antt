@@ -4,7 +4,7 @@ use Rattle.conf_tools.specs.Prelude.{Keeps, Appends, Contents, fault_name, IsSur
 use Rattle.conf_history.specs.declared.fault.HistoryFault.TheVariants.{OutOfMemory}
 use Rattle.conf_store.specs.declared.records.NoRecord.{NoRecord}
 use Rattle.conf_store.specs.declared.records.NoRecord.TheVariants.{NotARecord, WrongNumber, Refused}
-use Rattle.conf_history.specs.declared.survey.Bad.{Bad}
+use Rattle.conf_history.specs.{declared.place.Zeros.Zeros, declared.survey.Bad.Bad}
 use Rattle.conf_history.specs.declared.following.{BadKind.BadKind, BadKind.TheVariants.Torn, BadKind.TheVariants.Unexpected}
 use Rattle.conf_tools.specs.{declared.reading_fault.ReadingFault.ReadingFault, declared.surveys.Soundness.Soundness}
 use Rattle.conf_tools.specs.declared.reading_fault.ReadingFault.TheVariants.{History, Output}
@@ -43,13 +43,19 @@ abbrev pub state_word : Option Bad → List ℕ
 state_word None = codes "whole"
 state_word (Some bad) = kind_word bad.kind
 
+-- the lines on the zeros of a bad piece, if it has any
+abbrev pub zero_lines : Option Zeros → List ℕ
+zero_lines None = []
+zero_lines (Some zeros) =
+    number_line (codes "first_zero") zeros.first ++ number_line (codes "zeros") zeros.count
+
 -- the lines on the first bad piece, if there is one
 abbrev pub bad_lines : Option Bad → List ℕ
 bad_lines None = []
 bad_lines (Some bad) =
     number_line (codes "piece") bad.piece.number ++ number_line (codes "byte") bad.piece.byte
     ++ number_line (codes "line") bad.piece.line ++ word_line (codes "why") (why_word bad.piece.why)
-    ++ number_line (codes "following") bad.following
+    ++ zero_lines bad.zeros ++ number_line (codes "following") bad.following
 
 -- what an opening would find: a YAML mapping in the one style
 abbrev pub findings_text : Findings → List ℕ

@@ -1,5 +1,6 @@
 -- What is around the program, by what contracts see of it.
 use Rattle.std.specs.Prelude.{◌≡◌, ℕ, Bool, List, Option, Result}
+use Rattle.conf_files.specs.declared.create.NewFileFault.{NewFileFault}
 use Rattle.conf_tools.specs.Prelude.{ReplaceFault, FolderFault}
 use Rattle.conf_tools.specs.declared.world.Access.{Access}
 
@@ -20,6 +21,8 @@ pub record WorldModel (W D F P : Type 0) : Type 1 where
   pub opened_file : List ℕ → W → Option F → W → Type 0
   -- the same, with the place where another file may be put
   pub opened_to_replace : List ℕ → W → Result (F × P) ReplaceFault → W → Type 0
+  -- a file of these bytes was made at a path, where nothing was, or why not
+  pub created_file : List ℕ → List ℕ → W → Result (Unit {0}) NewFileFault → W → Type 0
   -- a file of these bytes was put in a place
   pub replaced : P → List ℕ → W → Result (Unit {0}) ReplaceFault → W → Type 0
 

@@ -1,8 +1,10 @@
 // The names by which faults of the crates below are told. But for that of a failed read, each is the fault's message.
 ghost use Rattle.std.specs.Prelude.{◌≡◌};
 ghost use Rattle.conf_tools.specs.FaultLines.{condition_fault_name, folder_fault_name, history_fault_name, open_fault_name, salvage_fault_name, session_fault_name};
+ghost use Rattle.conf_tools.specs.NewFiles.{new_file_fault_name};
 
 use conf_conditions::ConditionFault;
+use conf_files::NewFileFault;
 use conf_folder::FolderFault;
 use conf_history::{HistoryFault, SalvageFault};
 use conf_session::SessionFault;
@@ -79,5 +81,15 @@ pub(crate) fn salvage_fault_name(fault: SalvageFault) -> &'static str
         SalvageFault::StoreExists => "StoreExists",
         SalvageFault::Device => "Device",
         SalvageFault::OutOfMemory => "OutOfMemory",
+    }
+}
+
+pub(crate) fn new_file_fault_name(fault: NewFileFault) -> &'static str
+    ensures { result.now ≡ new_file_fault_name fault }
+{
+    match fault {
+        NewFileFault::FileExists => "FileExists",
+        NewFileFault::Device => "Device",
+        NewFileFault::OutOfMemory => "OutOfMemory",
     }
 }

@@ -1,8 +1,8 @@
 // What stands in a store's file, as lines of text.
 ghost use Rattle.std.specs.Prelude.{◌≡◌, ◌++◌, IfOk, OnOk};
-ghost use Rattle.conf_tools.specs.Surveys.{bad_lines, findings_text, kind_word, number_line, state_word, why_word, word_line};
+ghost use Rattle.conf_tools.specs.Surveys.{bad_lines, findings_text, kind_word, number_line, state_word, why_word, word_line, zero_lines};
 
-use conf_history::{Bad, BadKind, Findings, NoRecord};
+use conf_history::{Bad, BadKind, Findings, NoRecord, Zeros};
 use itoa::Buffer;
 use std::alloc::{AllocError, Global};
 
@@ -58,7 +58,19 @@ fn push_bad(text: &mut Vec<u8>, bad: &Option<Bad>) -> Result<(), AllocError>
     push_number(text, "byte", bad.piece.byte)?;
     push_number(text, "line", bad.piece.line)?;
     push_word(text, "why", why_word(bad.piece.why))?;
+    push_zeros(text, &bad.zeros)?;
     push_number(text, "following", bad.following)
+}
+
+/// Appends where the zeros of a bad piece are, and how many, if it has any.
+fn push_zeros(text: &mut Vec<u8>, zeros: &Option<Zeros>) -> Result<(), AllocError>
+    ensures { OnOk result (text.new.items ≡ text.old.items ++ zero_lines zeros.now) }
+{
+    let Some(zeros) = zeros else {
+        return Ok(());
+    };
+    push_number(text, "first_zero", zeros.first)?;
+    push_number(text, "zeros", zeros.count)
 }
 
 /// Appends the line of a key whose value is a word.

@@ -1,7 +1,10 @@
 // The files and folders of the system.
 use crate::waiting::Waiting;
 use crate::world::{Access, World};
-use conf_files::{Cause, Place, ReplaceFault, Subject, open_input, open_to_replace, replace_file};
+use conf_files::{
+    Cause, NewFileFault, Place, ReplaceFault, Subject, create_file, open_input, open_to_replace,
+    replace_file,
+};
 use conf_folder::{
     FolderDisk, FolderError, FolderFault, NewFolder, make_folder, may_several_wait, open_store_file,
 };
@@ -49,9 +52,9 @@ pub struct Host<'r, F> {
     wait: Duration,
     /// The folder that was made last, until a disk of it is given back, or could not be opened.
     made: Option<NewFolder>,
-    /// The path that the last call on a folder was given.
+    /// The path that the last call on a folder, or on a new file, was given.
     folder: Option<String>,
-    /// Why the call on a folder that failed last did.
+    /// Why the call on a folder, or on a new file, that failed last did.
     cause: Option<Cause>,
     /// Why the last call on a file failed, if it did.
     file_cause: Option<Cause>,
@@ -90,7 +93,7 @@ impl<'r, F: Files<File = File> + Clock> Host<'r, F> {
         }
     }
 
-    /// Begins a call on the folder at a path.
+    /// Begins a call on the folder, or on the new file, at a path.
     fn begin(&mut self, alloc: Global, folder: &str) {
         self.folder = String::from_str(alloc, folder).ok();
     }
@@ -205,6 +208,7 @@ impl<'r, F: Files<File = File> + Clock> World for Host<'r, F> {
       several = λ file. is_several file.records;
       opened_file = λ path old result new. Unit {0};
       opened_to_replace = λ path old result new. Unit {0};
+      created_file = λ path bytes old result new. Unit {0};
       replaced = λ place bytes old result new. Unit {0};
     } };
 
@@ -303,6 +307,17 @@ impl<'r, F: Files<File = File> + Clock> World for Host<'r, F> {
         let opened = open_to_replace(self.rt, alloc, path);
         let (file, place) = self.keep_of_file(opened)?;
         Ok((self.input(file, Records::One), place))
+    }
+
+    fn create_file(&mut self, alloc: Global, path: &str, bytes: &[u8]) -> Result<(), NewFileFault> {
+        self.begin(alloc, path);
+        match create_file(self.rt, alloc, path, bytes) {
+            Ok(()) => Ok(()),
+            Err(cause) => {
+                self.cause = Some(cause);
+                Err(NewFileFault::from(cause))
+            }
+        }
     }
 
     fn replace(&mut self, alloc: Global, place: Place, bytes: &[u8]) -> Result<(), ReplaceFault> {

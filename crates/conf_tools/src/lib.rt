@@ -22,6 +22,7 @@ mod file_words;
 mod findings;
 mod host;
 mod input;
+mod keeping;
 mod laws;
 mod listener;
 mod logs;

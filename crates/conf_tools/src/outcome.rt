@@ -4,14 +4,17 @@ ghost use Rattle.conf_tools.specs.FaultLines.{reading_fault_name, store_fault_na
 ghost use Rattle.conf_tools.specs.Listening.{fault_line};
 ghost use Rattle.conf_tools.specs.Outcomes.{TellsDamage, TellsEnding, TellsOutcome, status_of_ending, status_of_outcome};
 ghost use Rattle.conf_tools.specs.ReadingStatuses.{status_of_reading};
+ghost use Rattle.conf_tools.specs.NewFiles.{new_file_fault_name, status_of_new_file};
 ghost use Rattle.conf_tools.specs.Statuses.{status_of, status_of_store};
 
+use crate::fault_names::new_file_fault_name;
 use crate::listener::{Listener, tell_name};
 use crate::program::{Status, status_of, status_of_store};
 use crate::read_words::status_of_reading;
 use crate::reading_fault::ReadingFault;
 use crate::stores::StoreToolFault;
 use crate::texts::ToolFault;
+use conf_files::NewFileFault;
 use conf_words::FolderWord;
 
 /// How a word on a store ended. What went wrong is still to be told.
@@ -29,6 +32,8 @@ pub(crate) enum Outcome<'w> {
     Store(StoreToolFault),
     /// The file of a store could not be read, or does not answer.
     Reading(ReadingFault),
+    /// What an opening drops was not put into a new file.
+    Keeping(NewFileFault),
 }
 
 /// How a run ended.
@@ -66,6 +71,7 @@ pub(crate) fn tell_outcome<E: Listener>(errors: &mut E, outcome: Outcome<'_>) ->
         Outcome::Text(fault) => tell_text_fault(errors, fault),
         Outcome::Store(fault) => tell_store_fault(errors, fault),
         Outcome::Reading(fault) => tell_reading_fault(errors, fault),
+        Outcome::Keeping(fault) => tell_new_file_fault(errors, fault),
     }
 }
 
@@ -94,6 +100,25 @@ fn tell_reading_fault<E: Listener>(errors: &mut E, fault: ReadingFault) -> Statu
 {
     tell_name(errors, fault.name());
     status_of_reading(fault)
+}
+
+/// Tells the name of a fault of a new file, and returns its status.
+fn tell_new_file_fault<E: Listener>(errors: &mut E, fault: NewFileFault) -> Status
+    ensures status { result ≡ status_of_new_file fault }
+    ensures tells { E.hears errors.old (fault_line (new_file_fault_name fault)) errors.new }
+{
+    tell_name(errors, new_file_fault_name(fault));
+    status_of_new_file(fault)
+}
+
+/// The status of a fault of a new file.
+fn status_of_new_file(fault: NewFileFault) -> Status
+    ensures { result ≡ status_of_new_file fault }
+{
+    match fault {
+        NewFileFault::Device => Status::Device,
+        NewFileFault::FileExists | NewFileFault::OutOfMemory => Status::Refused,
+    }
 }
 
 /// Tells that a store is damaged, and which words make a store of what it still says.

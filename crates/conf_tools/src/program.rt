@@ -14,10 +14,11 @@ use crate::change_words::{
 use crate::changes::Change;
 use crate::exports::export_text;
 use crate::file_words::{check_files, format_files, read_named};
+use crate::keeping::{salvage_to, verify_folder};
 use crate::listener::Listener;
 use crate::logs::log_folder;
 use crate::outcome::{Ending, Outcome, tell_ending, tell_outcome};
-use crate::read_words::{Question, answer_on_folder, salvage_folder};
+use crate::read_words::{Question, answer_on_folder};
 use crate::reads::Place;
 use crate::reporter::{Reporter, write_cause};
 use crate::rest::tell_rest;
@@ -254,13 +255,15 @@ fn perform_word<'w, A: World, R: Read, W: Write, E: Listener>(
         Invocation::Log { folder, at, form } => {
             Ending::Of(log_folder(world, alloc, folder, at, form, output))
         }
-        Invocation::Verify { folder } => {
-            let asked = Question::Survey;
-            Ending::Of(answer_on_folder(world, alloc, folder, asked, output))
-        }
-        Invocation::Salvage { folder, new } => {
-            Ending::Of(salvage_folder(world, alloc, folder, new, output))
-        }
+        Invocation::Verify {
+            folder,
+            keep_dropped,
+        } => Ending::Of(verify_folder(world, alloc, folder, keep_dropped, output)),
+        Invocation::Salvage {
+            folder,
+            new,
+            keep_dropped,
+        } => Ending::Of(salvage_to(world, alloc, folder, keep_dropped, new, output)),
         Invocation::Backup { folder, new } => {
             Ending::Of(back_up_folder(world, alloc, folder, new))
         }

@@ -65,7 +65,7 @@ pub(crate) fn answer_on_folder<'w, A: World, W: Write>(
 }
 
 /// Answers a question on a store, of whose folder this is the file.
-fn answer<'w, R: Read, W: Write>(
+pub(crate) fn answer<'w, R: Read, W: Write>(
     alloc: Global,
     file: &mut R,
     waiting: Waiting,
@@ -190,7 +190,7 @@ fn save_in_folder<A: World, W: Write>(
 
 /// Gives the disk back, and writes what stands in the file of which a store was made, if one was. No other run waits
 /// for whoever reads the output.
-fn write_saved<A: World, W: Write>(
+pub(crate) fn write_saved<A: World, W: Write>(
     world: &mut A,
     alloc: Global,
     saved: Result<(A::Disk, Findings), (A::Disk, SalvageFault)>,

@@ -4,7 +4,7 @@ ghost use Rattle.conf_store.specs.Holes.{is_several};
 ghost use Rattle.conf_tools.specs.Worlds.{WorldModel};
 
 use conf_disk::Disk;
-use conf_files::{Cause, ReplaceFault};
+use conf_files::{Cause, NewFileFault, ReplaceFault};
 use conf_folder::FolderFault;
 use conf_store::Waiting;
 use conf_words::Reporting;
@@ -44,8 +44,8 @@ pub trait World {
     /// How much is said of a text that is refused, where the words ask for no more. Nothing is claimed of it.
     fn reporting(&self) -> Reporting;
 
-    /// Why the call on a folder that failed last did, if the system said so, with the path that the call was given.
-    /// Nothing is claimed of it.
+    /// Why the call on a folder, or on a new file, that failed last did, if the system said so, with the path that the
+    /// call was given. Nothing is claimed of it.
     fn cause(&self) -> Option<(Cause, &str)>;
 
     /// Why the last call on a file failed, or a read of it, if one did and the system said so. Nothing is claimed of
@@ -115,6 +115,13 @@ pub trait World {
         path: &str,
     ) -> Result<(Self::File, Self::Place), ReplaceFault>
         ensures { model.opened_to_replace path.now self.old result self.new };
+
+    /// Makes a file of these bytes at a path, where nothing may be.
+    ///
+    /// # Errors
+    /// `FileExists` if something is there, which stays as it is. `Device` if the file can't be made, and `OutOfMemory`.
+    fn create_file(&mut self, alloc: Global, path: &str, bytes: &[u8]) -> Result<(), NewFileFault>
+        ensures { model.created_file path.now bytes.now self.old result self.new };
 
     /// Puts a file of these bytes in the place of the file that was opened, whole.
     ///

@@ -101,14 +101,18 @@ pub enum Invocation<'w> {
         at: Option<u64>,
         form: LogForm<'w>,
     },
-    /// Reads the whole store, and writes whether it can be opened.
+    /// Reads the whole store, and writes whether it can be opened. What an opening drops of it, or is refused for, is
+    /// kept in the new file `keep_dropped`, if the words name one.
     Verify {
         folder: &'w str,
+        keep_dropped: Option<&'w str>,
     },
-    /// Makes a store in the folder `new` of what the damaged one in `folder` says before its first bad piece.
+    /// Makes a store in the folder `new` of what the damaged one in `folder` says before its first bad piece. The rest
+    /// is kept in the new file `keep_dropped`, if the words name one.
     Salvage {
         folder: &'w str,
         new: &'w str,
+        keep_dropped: Option<&'w str>,
     },
     /// Makes a store in the folder `new` with the same base and records as the one in `folder`.
     Backup {

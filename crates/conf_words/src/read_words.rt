@@ -3,7 +3,7 @@ ghost use Rattle.std.specs.Prelude.{IfOk, IfSome};
 ghost use Rattle.conf_words.specs.Invocations.{HasFittingFiles};
 
 use crate::arguments::{
-    Argument, FOLDER, FOLDER_ARGUMENT, Form, NAME, NAME_ARGUMENT, POINTER, POINTER_ARGUMENT,
+    Argument, FILE, FOLDER, FOLDER_ARGUMENT, Form, NAME, NAME_ARGUMENT, POINTER, POINTER_ARGUMENT,
     Relation, WHOLE, YAML,
 };
 use crate::invocation::{
@@ -347,9 +347,19 @@ fn form_of_log<'w>(alloc: Global, words: &ArgMatches<'w>) -> Result<LogForm<'w>,
     Ok(LogForm::Values { hidden })
 }
 
+/// The word of `verify` and `salvage` that names a new file for the bytes that an opening drops.
+const KEEP_DROPPED: &str = "keep-dropped";
+
+const KEEP_DROPPED_ARGUMENT: Argument = Argument {
+    name: KEEP_DROPPED,
+    help: "Writes what an opening drops, or is refused for, to the new file FILE",
+    form: Form::Word(FILE),
+    relation: Relation::Free,
+};
+
 pub(crate) const VERIFY: Listing = Listing {
     about: "Reads a whole store, and writes whether it can be opened",
-    arguments: &[FOLDER_ARGUMENT],
+    arguments: &[KEEP_DROPPED_ARGUMENT, FOLDER_ARGUMENT],
     help: "\
 The answer is a YAML mapping, a line for each key:
   state       whole; torn if a crash left zeros in the last record; or damaged
@@ -360,11 +370,19 @@ Of a torn or damaged store also:
   piece       the number of the first bad piece, from 1 after the base
   byte, line  where that piece begins: the byte from 0, the line from 1
   why         NotARecord, WrongNumber, or why its command is refused
+  first_zero  where its first zero is, and how many it has: a crash leaves zeros; both only
+  zeros       if it has any
   following   how many pieces follow it
 A store that is whole or torn can be opened: that drops what follows its last record. Of a damaged
 one the fault is `Damaged`, and the status is 1.
 
-Example:  confstore verify store",
+With `--keep-dropped FILE` the bytes that an opening drops, or is refused for, are kept: all that follow
+the last record. FILE is made for them, for its owner alone, and refused if it is there (FileExists). It
+is not made if there are none.
+
+Examples:
+  confstore verify store
+  confstore verify store --keep-dropped dropped.bin",
 };
 
 pub(crate) fn verify_invocation<'w>(words: &ArgMatches<'w>) -> Option<Invocation<'w>>
@@ -372,18 +390,22 @@ pub(crate) fn verify_invocation<'w>(words: &ArgMatches<'w>) -> Option<Invocation
 {
     Some(Invocation::Verify {
         folder: words.get_str(FOLDER)?,
+        keep_dropped: words.get_str(KEEP_DROPPED),
     })
 }
 
 pub(crate) const SALVAGE: Listing = Listing {
     about: "Makes a new store of what a damaged one says before its first bad piece",
-    arguments: &[FOLDER_ARGUMENT, NEW_ARGUMENT],
+    arguments: &[KEEP_DROPPED_ARGUMENT, FOLDER_ARGUMENT, NEW_ARGUMENT],
     help: "\
 FOLDER is read and stays as it is. NEW is made if it is missing, and is refused if it has a
 store.yaml (StoreExists). What was left out is written as `confstore verify` writes it: piece, byte,
-line, why and following, unless nothing was.
+line, why, zeros and following, unless nothing was. With `--keep-dropped FILE` its bytes are put into
+the new file FILE before NEW is made, as by `verify`.
 
-Example:  confstore salvage store new-store",
+Examples:
+  confstore salvage store new-store
+  confstore salvage store new-store --keep-dropped rest.bin",
 };
 
 /// The argument of `salvage` and `backup` that names the folder of the new store.
@@ -402,6 +424,7 @@ pub(crate) fn salvage_invocation<'w>(words: &ArgMatches<'w>) -> Option<Invocatio
     Some(Invocation::Salvage {
         folder: words.get_str(FOLDER)?,
         new: words.get_str(NEW)?,
+        keep_dropped: words.get_str(KEEP_DROPPED),
     })
 }
 

@@ -1,6 +1,6 @@
 // A world in memory: folders of disks that stop after so many calls, and files.
 use conf_disk::{Content, Disk, DiskFault, Name};
-use conf_files::{Cause, ReplaceFault};
+use conf_files::{Cause, NewFileFault, ReplaceFault};
 use conf_folder::FolderFault;
 use conf_store::Waiting;
 use conf_tools::{Access, World};
@@ -188,6 +188,7 @@ impl World for MemoryWorld {
       several = λ file. false;
       opened_file = λ path old result new. Unit {0};
       opened_to_replace = λ path old result new. Unit {0};
+      created_file = λ path bytes old result new. Unit {0};
       replaced = λ place bytes old result new. Unit {0};
     } };
 
@@ -284,6 +285,21 @@ impl World for MemoryWorld {
         match self.open_file(path) {
             Some(file) => Ok((file, place)),
             None => Err(ReplaceFault::Device),
+        }
+    }
+
+    fn create_file(
+        &mut self,
+        _alloc: Global,
+        path: &str,
+        bytes: &[u8],
+    ) -> Result<(), NewFileFault> {
+        if self.files.contains_key(path) {
+            return Err(NewFileFault::FileExists);
+        }
+        match self.put_file(path, bytes) {
+            Ok(()) => Ok(()),
+            Err(_) => Err(NewFileFault::OutOfMemory),
         }
     }
 

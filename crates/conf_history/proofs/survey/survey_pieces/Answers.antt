@@ -6,7 +6,7 @@ use Rattle.conf_history.proofs.Prelude.{err_from_is_err_and, piece_or_rest}
 use Rattle.conf_history.specs.{declared.fault.HistoryFault.TheVariants.Damaged, declared.place.BadPiece.BadPiece}
 use Rattle.conf_history.specs.Walks.{IsBadHere, Stops, with_state}
 use Rattle.conf_history.proofs.{ReadingLemmas.ended-whole, ReadingLemmas.goes-further, SurveyLemmas.counted-from, SurveyLemmas.not-bad}
-use Rattle.conf_history.proofs.{SurveyLemmas.not-started, SurveyLemmas.surveyed-whole}
+use Rattle.conf_history.proofs.{SurveyLemmas.not-started, SurveyLemmas.surveyed-whole, WalkLemmas.has-room}
 use Rattle.conf_history.proofs.survey.survey_pieces.Goals as goal
 
 pub returns-in_err-held-clause-refused : goal.returns-in_err-held-clause-refused
@@ -80,6 +80,16 @@ find_after-requires-clause-limits g c =
     let stops = subst (Stops None given (g.R.Read.remaining c.step.new.reader) walk walked.0 walked.1 walked.2)
     c.in-Err-Damaged.field-0-is (c.in-Err-Damaged.ensures.stops given walked.0 walked.1 walked.2 walked.3) in
     stops.0.read.limits
+
+pub find_after-requires-clause-room : goal.find_after-requires-clause-room
+find_after-requires-clause-room g c =
+    let given = g.R.Read.remaining c.args.reader.now in
+    let left = g.R.Read.remaining c.step.new.reader in
+    let walked = c.records.invariant in
+    let walk = with_state c.step.new.self (g.T.Replayed.contents c.records.held) in
+    let stops = subst (Stops None given left walk walked.0 walked.1 walked.2)
+    c.in-Err-Damaged.field-0-is (c.in-Err-Damaged.ensures.stops given walked.0 walked.1 walked.2 walked.3) in
+    has-room given left walk walked.0 walked.1 walked.2 stops.0
 
 pub find_after-requires-clause-base : goal.find_after-requires-clause-base
 find_after-requires-clause-base g c =

@@ -1,6 +1,6 @@
 -- What follows the bad piece is counted.
-use Rattle.std.proofs.Common.{refl, ◌++◌}
-use Rattle.conf_history.specs.Prelude.{is_several}
+use Rattle.std.proofs.Common.{refl, ap, ◌∙◌, ◌++◌}
+use Rattle.conf_history.specs.{BadPieces.zeros_of, Prelude.is_several}
 use Rattle.conf_history.proofs.Prelude.{concat, err_from_is_err_and, piece_or_rest}
 use Rattle.conf_history.specs.Walks.{with_state}
 use Rattle.conf_history.proofs.SurveyLemmas.{past-piece, surveyed-bad}
@@ -22,5 +22,10 @@ returns-clause-ok g c = λ given s pieces start commands p here base count kept.
     let past = past-piece given mid walk pieces start commands p in
     let follows = c.in_ok-pieces.ensures given (concat pieces ++ piece_or_rest walk.pieces) past.0 past.1 in
     surveyed-bad (is_several c.args.waiting) given left walk pieces start commands mid c.look_behind.new.pieces
-    (record { piece = c.args.piece; following = c.in_ok-pieces.field-0.pieces; kind = c.in_ok-pieces.field-0.kind })
-    p here c.in_ok-pieces.field-0 refl follows c.args.base c.args.count base count kept c.findings.result c.findings.ensures
+    (record {
+      piece = c.args.piece;
+      zeros = c.zeros_of-zeros.result;
+      following = c.in_ok-pieces.field-0.pieces;
+      kind = c.in_ok-pieces.field-0.kind;
+    })
+    p here (c.zeros_of-zeros.ensures ∙ ap (zeros_of c.args.self.now.place.byte) c.piece.ensures) c.in_ok-pieces.field-0 refl follows c.args.base c.args.count base count kept c.findings.result c.findings.ensures
