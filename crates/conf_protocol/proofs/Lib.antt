@@ -1,0 +1,13 @@
+pub mod Frames
+pub mod Moving
+pub mod Writes
+pub mod Known
+pub mod Appends
+pub mod Going
+pub mod Calls
+pub mod Copied
+pub mod Noted
+pub mod Shown
+pub mod Keeping
+pub mod SameBytes
+pub mod Told

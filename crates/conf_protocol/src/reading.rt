@@ -1,4 +1,7 @@
 // Reading the whole of a file.
+ghost use Rattle.std.specs.Prelude.{◌≡◌, ℕ, List, IfOk, Some, IsSome, length};
+ghost use Rattle.conf_system.specs.Machine.{under, bytes_under};
+
 use conf_system::{FileName, System};
 use std::alloc::Global;
 use std::io;
@@ -19,7 +22,10 @@ pub(crate) fn read_all<S: System>(
     name: FileName,
     total: u64,
 ) -> io::Result<Vec<u8>>
-    requires { S.model.honest → ⊥ }
+    requires { S.model.honest → IsSome (under (S.model.machine system.now) name) }
+    ensures { S.model.honest → IfOk result (λ read. (bytes : List ℕ)
+        → bytes_under (S.model.machine system.now) name ≡ Some bytes
+        → total ≡ length bytes → read.items ≡ bytes) }
 {
     let mut bytes = Vec::new(alloc);
     let mut part = [0_u8; PART];

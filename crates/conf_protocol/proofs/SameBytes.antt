@@ -1,0 +1,30 @@
+-- What a disk reads is what the system reads.
+use Rattle.std.specs.Prelude.{option_map}
+use Rattle.std.proofs.Common.{◌≡◌, ℕ, List, length, map, get_or, take-append-drop, Option, Some, None, false, refl, ◌∙◌, ap}
+use Rattle.conf_disk.specs.Folder.{File, file_bytes}
+use Rattle.conf_disk.specs.Folder as disk
+use Rattle.conf_disk.specs.declared.disk.Name.{Name}
+use Rattle.conf_disk.specs.declared.disk.Name.TheVariants.{Store, Next}
+use Rattle.conf_system.specs.Machine.{Held, Machine, empty_held, version_bytes, version_at, bytes_under, file_of, sure_count, are_linked}
+use Rattle.conf_system.specs.Folders.{folder_of}
+use Rattle.conf_system.proofs.Steps.{file_at, apart-same}
+use Rattle.conf_protocol.specs.Names.{file_name}
+
+at-same : (files : List Held) (place : Option ℕ) → disk.bytes_at (map file_of files) place ≡ option_map version_bytes (version_at files place)
+at-same files None = refl
+at-same files (Some id) =
+    let file = get_or files id empty_held in
+    ap (λ (f : File). Some (file_bytes f)) (file_at files id)
+    ∙ ap (λ (l : List ℕ). Some l) (take-append-drop (sure_count (length file.now.device) file.earlier) (version_bytes file.now))
+
+pub read-same : (m : Machine) (name : Name) → (name ≡ Next → are_linked m.now.store m.now.next ≡ false)
+    → disk.bytes_under (folder_of m) name ≡ bytes_under m (file_name name)
+read-same m Store apart = at-same m.files m.now.store
+read-same m Next apart =
+    ap (disk.bytes_at (map file_of m.files)) (apart-same m.now.store m.now.next (apart refl)) ∙ at-same m.files m.now.next
+
+-- the bytes of a file of which the length was looked at
+pub length-of : (bytes : Option (List ℕ)) (total : ℕ) → option_map length bytes ≡ Some total
+    → (b : List ℕ) × (bytes ≡ Some b) × (total ≡ length b)
+length-of None total is = cc
+length-of (Some b) total is = (b, refl, cc)
