@@ -1,0 +1,83 @@
+"""A page of a store's log: one file of HTML with each command, the values before and after it, and the store at each
+number. Its policy lets it reach no network."""
+
+from __future__ import annotations
+
+import base64
+import hashlib
+import json
+import os
+import re
+from typing import Any, Dict
+
+from .faults import ConfstoreError, NoSuchCommand
+from .hidden import Hidden, Hiding, shown
+from .pointers import steps_of
+from .reader import Reader
+from .records import Edit
+from .style import Tree
+
+_TEMPLATE = os.path.join(os.path.dirname(os.path.abspath(__file__)), "log_page.html")
+
+# How often the log is read again where a checkpoint came between two reads.
+TRIES = 10
+
+# What stands for a value that is hidden.
+MARK = "(hidden)"
+
+
+def shown_edit(edit: Edit, hidden: Hidden) -> Edit:
+    """An edit with the mark in the place of what is hidden. One below a hidden place puts the mark there."""
+    steps = steps_of(edit.path)
+    hiding = Hiding(steps, hidden)
+    if len(hiding.steps) < len(steps):
+        return Edit("set" if hiding.steps else "import", edit.name, hiding.path, MARK)
+    return edit if edit.tree is None else Edit(edit.kind, edit.name, edit.path, shown(edit.tree, hiding.hidden, MARK))
+
+
+def _packed(tree: Tree) -> Any:
+    """A tree as JSON, with mappings as lists of pairs, since JavaScript does not keep the order of all keys."""
+    if isinstance(tree, list):
+        return [_packed(item) for item in tree]
+    return {"pairs": [[key, _packed(value)] for key, value in tree.items()]} if isinstance(tree, dict) else tree
+
+
+def _edit_of(edit: Edit) -> Dict[str, Any]:
+    tree = None if edit.tree is None else _packed(edit.tree)
+    return {"kind": edit.kind, "name": edit.name, "path": edit.path, "tree": tree}
+
+
+def _history(reader: Reader, hidden: Hidden) -> Dict[str, Any]:
+    """The state before the first record of the file, and the records, but for what is hidden."""
+    for _ in range(TRIES):
+        records = reader.log()
+        start = records[0].number - 1 if records else None
+        try:
+            names = reader.names(start)
+            configs = [[name, _packed(shown(reader.get(name, at=start), hidden, MARK))] for name in names]
+        except NoSuchCommand:
+            continue
+        edits = [[_edit_of(shown_edit(edit, hidden)) for edit in record.edits] for record in records]
+        told = [{"number": record.number, "edits": made} for record, made in zip(records, edits)]
+        title = os.path.basename(reader.folder) or reader.folder
+        return {"title": title, "start": start or 0, "configs": {"pairs": configs}, "records": told}
+    raise ConfstoreError("checkpoints come faster than the log is read")
+
+
+def _policy(template: str) -> str:
+    """What the page may do: run its own script and use its own style, and nothing else."""
+    kinds = []
+    for kind in ("script", "style"):
+        found = re.search(f"<{kind}>(.*?)</{kind}>", template, re.DOTALL)
+        assert found is not None
+        checksum = base64.b64encode(hashlib.sha256(found[1].encode()).digest()).decode()
+        kinds.append(f"{kind}-src 'sha256-{checksum}'")
+    return "; ".join(["default-src 'none'", *kinds])
+
+
+def page_of(reader: Reader, hidden: Hidden) -> str:
+    """The page of a store as a text, without the values at these paths. Raises a `ConfstoreError`."""
+    data = json.dumps(_history(reader, hidden)).replace("<", "\\u003c")  # so that no text ends the script that holds it
+    with open(_TEMPLATE, encoding="utf-8") as source:
+        template = source.read()
+    return template.replace("POLICY", _policy(template), 1).replace(">DATA<", f">{data}<", 1)
