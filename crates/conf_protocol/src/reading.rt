@@ -8,7 +8,7 @@ use std::io;
 use std::io::ErrorKind;
 
 /// How many bytes are read at a time.
-pub(crate) const PART: usize = 65_536;
+pub(crate) const PART: usize = 16_384;
 
 /// The error of a file that ends before its length.
 pub(crate) fn ends_too_soon() -> io::Error {
