@@ -21,10 +21,10 @@ use Rattle.comments_kept.specs.declared.weaver.Placed.{Placed}
 use Rattle.comments_kept.specs.declared.weaver.Weaver.{Weaver}
 use Rattle.comments_kept.specs.Weaving.{kept_texts, texts_of, left, extra_of, IsComment, StartsFilled, Woven, Wrote, WroteEnd}
 use Rattle.comments_kept.specs.Weaving.{WroteLines, WroteFilledLines, HasSkipped, WovenEnd}
-use Rattle.comments_kept.specs.Weaving.{left_marks, coming, AreTrails, StartsBehind, StartsElsewhere}
+use Rattle.comments_kept.specs.Weaving.{left_marks, coming, StartsBehind, StartsElsewhere}
 use Rattle.comments_kept.specs.Places.{Mark, mark_of, marks_of, kept_text}
-use Rattle.comments_kept.specs.Laid.{Below, freely, Coming, next, trail_at, trails_at, behind_all, coming_below, filled_if}
-use Rattle.comments_kept.specs.Laid.{marks_to, marks_after, filled_from, is_empty, line_of, lines_of, behind_of, after_behind}
+use Rattle.comments_kept.specs.Laid.{Below, freely, next, trail_at, filled_if}
+use Rattle.comments_kept.specs.Laid.{marks_to, marks_after, filled_from, line_of, lines_of, behind_of, after_behind}
 use Rattle.comments_kept.proofs.Weaving.{first_none, last_none, texts-append, both_on_lines, wrote_both, kept, coming_by}
 use Rattle.comments_kept.proofs.Marks.{IsLater, later_to, later_after, behind_here, first_to, first_after, first_from, filled_same}
 
@@ -257,7 +257,8 @@ behind_fit (Some comment) e = (and_parts _ _ e).0
 
 -- one trail, of which something was written
 pub trail_woven : (P : Trail → List ℕ) (F : Trail → Type 0) (below : Below) (a b : Weaver) (w : Trail)
-    → (w ≡ trail_at below (coming a)) × (coming b ≡ next below (coming a)) → (used : List Placed) → string_bytes b.text ≡ string_bytes a.text ++ encode_utf8_all (P w) → left a ≡ used ++ left b
+    → (w ≡ trail_at below (coming a)) × (coming b ≡ next below (coming a)) → (used : List Placed)
+    → string_bytes b.text ≡ string_bytes a.text ++ encode_utf8_all (P w) → left a ≡ used ++ left b
     → trail_comments w ≡ texts_of used → (list_all (list_all nb) (texts_of used) ≡ true → F w) → (used ≡ [] → IsBare w)
     → Woven (λ ws. P (next_trail ws)) later_trails (λ ws. F (next_trail ws)) (below ∷ []) a b
 trail_woven P F below a b w laid used spells taken texts meets bare = record {

@@ -1,9 +1,7 @@
 -- What is to come at a place.
-use Rattle.std.proofs.Common.{◌≡◌, ◌≤◌, ◌<◌, refl, sym, ◌∙◌, ap, ⊎_elim, eqb}
-use Rattle.std.specs.Prelude.{ℕ, ◌+◌, ◌⊎◌, ◌==◌, Bool, true, false, not, ◌&&◌, nat_le, List, [], ◌∷◌, Option, Some, None, if◌then◌else◌}
-use Rattle.std.specs.Str.{chars}
-use Rattle.std.proofs.Common.{Bor}
-use Rattle.std.proofs.lemmas.Bool.{ne_eqb, eq-eqb, le-leb, lt-leb}
+use Rattle.std.proofs.Common.{◌≡◌, ◌≤◌, ◌<◌, refl, ◌∙◌, ap, ⊎_elim}
+use Rattle.std.specs.Prelude.{ℕ, ◌==◌, Bool, true, false, not, ◌&&◌, nat_le, List, [], ◌∷◌, Some, None, if◌then◌else◌}
+use Rattle.std.proofs.lemmas.Bool.{eq-eqb, le-leb, lt-leb}
 use Rattle.comments_kept.specs.declared.weaver.Kept.{Kept}
 use Rattle.comments_kept.specs.declared.weaver.Kept.TheVariants.{EmptyLine, Comment}
 use Rattle.comments_kept.specs.declared.weaver.Placed.{Placed}
@@ -18,42 +16,12 @@ yes b x y e = ap (λ t. if t then x else y) e
 no : {A : Type 0} (b : Bool) (x y : A) → b ≡ false → (if b then x else y) ≡ y
 no b x y e = ap (λ t. if t then x else y) e
 
--- both are the same
-either : (b : Bool) (x : Option (List ℕ)) → (if b then x else x) ≡ x
-either true x = refl
-either false x = refl
-
 -- the test fails by its second part
 neither : (b : Bool) (x y : List Mark) → (if b && false then x else y) ≡ y
 neither true x y = refl
 neither false x y = refl
 
 -- ---- behind a line
-
--- no comment is behind it
-pub record IsAlone (place : ℕ) (ms : List Mark) : Type 0 where
-  pub none : behind_of place ms ≡ None
-  pub same : after_behind place ms ≡ ms
-
--- nothing comes
-pub alone_nothing : (place : ℕ) → IsAlone place []
-alone_nothing place = record { none = refl; same = refl }
-
--- what comes first is at another place
-pub alone_elsewhere : (place : ℕ) (m : Mark) (ms : List Mark) → (m.place ≡ place → ⊥) → IsAlone place (m ∷ ms)
-alone_elsewhere place m ms other =
-    let e : (m.place == place) ≡ false = ne_eqb m.place place other in
-    record {
-      none = no (m.place == place) m.text None e;
-      same = ap (λ t. if t && not (is_empty m.text) then ms else m ∷ ms) e;
-    }
-
--- it is an empty line
-pub alone_empty : (place : ℕ) (m : Mark) (ms : List Mark) → m.text ≡ None → IsAlone place (m ∷ ms)
-alone_empty place m ms empty = record {
-  none = ap (λ t. if m.place == place then t else None) empty ∙ either (m.place == place) None;
-  same = ap (λ t. if (m.place == place) && not (is_empty t) then ms else m ∷ ms) empty ∙ neither (m.place == place) ms (m ∷ ms);
-}
 
 -- a comment comes first, at this place
 pub behind_here : (place : ℕ) (m : Mark) (ms : List Mark) (text : List ℕ) → m.place ≡ place → m.text ≡ Some text

@@ -6,7 +6,6 @@ use Rattle.std.proofs.lemmas.Bool.{cases_lt}
 use Rattle.yaml_grammar.specs.Events.{Event}
 use Rattle.yaml_grammar.specs.Reads.{CanRead, Limits}
 use Rattle.yaml_grammar.specs.Trees.{Tree}
-use Rattle.yaml_tree.specs.Reading.{IsRead}
 use Rattle.yaml_tree.proofs.GivenLemmas.{given_one}
 use Rattle.yaml_comments.specs.declared.find.Comment.{Comment}
 use Rattle.yaml_comments.specs.Outside.{IsLineEnd}

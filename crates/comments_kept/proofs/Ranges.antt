@@ -1,5 +1,5 @@
 -- Ranges of lists.
-use Rattle.std.proofs.Common.{◌≡◌, refl, ap, sym, ◌∙◌, arith, get_or, take, drop, length, ⊎_elim}
+use Rattle.std.proofs.Common.{◌≡◌, refl, ap, ◌∙◌, arith, get_or, take, drop, length, ⊎_elim}
 use Rattle.std.specs.Prelude.{ℕ, zero, suc, ◌+◌, ◌-◌, ◌<◌, ◌≤◌, min, List, [], ◌∷◌, slice_range}
 use Rattle.std.proofs.lemmas.List.{drop_more, drop_all}
 use Rattle.std.proofs.lemmas.Bool.{cases_lt}

@@ -1,5 +1,5 @@
 -- Scalars and keys, written with comments.
-use Rattle.std.proofs.Common.{◌≡◌, refl, sym, ◌∙◌, ap, subst, arith}
+use Rattle.std.proofs.Common.{◌≡◌, refl, sym, ◌∙◌, ap, ap₂, subst, arith}
 use Rattle.std.specs.Prelude.{ℕ, zero, suc, ◌+◌, Bool, true, false, not, ◌||◌, nat_le, if◌then◌else◌, List, [], ◌∷◌, ◌++◌, codes}
 use Rattle.std.specs.Prelude.{string_bytes, encode_utf8_all}
 use Rattle.std.proofs.lemmas.Bool.{and_from, or_left, or_right, false≢true, lt-leb}
@@ -16,9 +16,10 @@ use Rattle.yaml_commented.specs.TrailsFit.{trail_fits, scalar_trail_fits, litera
 use Rattle.comments_kept.specs.declared.weaver.Weaver.{Weaver}
 use Rattle.comments_kept.specs.Weaving.{Woven, Wrote, WroteEnd, WroteLines, WroteFilledLines, WroteLiteral, WovenEnd}
 use Rattle.comments_kept.specs.Weaving.{WovenLine, WovenScalar, WovenKey}
-use Rattle.comments_kept.specs.Weaving.{left_marks, coming}
+use Rattle.comments_kept.specs.Weaving.{left_marks, coming, WroteBelow}
 use Rattle.comments_kept.specs.Places.{Mark}
-use Rattle.comments_kept.specs.Laid.{Below, freely, below_literal, below_scalar, below_key, filled_if, filled_from, trail_at, next}
+use Rattle.comments_kept.specs.Laid.{Below, freely, below_literal, filled_if, filled_from, trail_at, next}
+use Rattle.comments_kept.specs.Laid.{ends_blank}
 use Rattle.comments_kept.proofs.Weaving.{both, said, plain, line, wrote_both, kept, coming_kept}
 use Rattle.comments_kept.proofs.LineEnds.{trail_woven, written, written_laid, written_used, written_taken, written_texts}
 use Rattle.comments_kept.proofs.LineEnds.{written_fits, written_bare}
@@ -172,7 +173,7 @@ literal_meets i value w fits low filled = and_from _ _ fits (or_right _ _ (and_f
 -- a literal, with the lines behind it
 literal_woven : (value : List ℕ) (i : ℕ) (a d e : Weaver) (ms : List Mark) → plain_in_style value ≡ false
     → literal_in_style value ≡ true → WroteLiteral value i a d → (lines : WroteLines i ms d e)
-    → ms ≡ filled_if (not (nat_le (feeds_at_end value) 1)) d.place (left_marks d)
+    → ms ≡ filled_if (not (nat_le (feeds_at_end value) 1) || ends_blank (encode_utf8_all value)) d.place (left_marks d)
     → nat_le (feeds_at_end value) 1 || starts_filled lines.lines ≡ true → WovenScalar value i a e
 literal_woven value i a d e ms unplain lit literal lines come filled =
     let b : Weaver = literal.b in
@@ -184,8 +185,8 @@ literal_woven value i a d e ms unplain lit literal lines come filled =
     let mark : List ℕ = literal_mark (feeds_at_end value) in
     let all : List ℕ = literal_lines (i + 2) true value in
     let same : coming b ≡ coming a = coming_kept a b header.1 header.2 header.3 in
-    let laid = written_laid i ms b c d e end lines (not (nat_le (feeds_at_end value) 1)) come body.1 body.2 body.3 in
     let free : Below = below_literal i value in
+    let laid = written_laid i ms b c d e end lines free.filled come body.1 body.2 body.3 in
     let from : (w ≡ trail_at free (coming a)) × (coming e ≡ next free (coming a)) =
     (laid.0 ∙ ap (trail_at free) same, laid.1 ∙ ap (next free) same) in
     let below = literal_is_below (plain_in_style value) (literal_in_style value) free unplain lit in
@@ -207,15 +208,23 @@ literal_woven value i a d e ms unplain lit literal lines come filled =
 
 module _ (value : List ℕ) (i : ℕ) (a d e : Weaver) (unplain : plain_in_style value ≡ false) (lit : literal_in_style value ≡ true)
     (literal : WroteLiteral value i a d) where
+  -- one that keeps at most one line feed at its end, by its last line
+  short_by : (blank : Bool) → ends_blank (encode_utf8_all value) ≡ blank → nat_le (feeds_at_end value) 1 ≡ true → WroteBelow blank i d e
+      → WovenScalar value i a e
+  short_by true is short lines = literal_woven value i a d e (filled_from d.place (left_marks d)) unplain lit literal lines.wrote
+      (ap₂ (λ short blank. filled_if (not short || blank) d.place (left_marks d)) (sym short) (sym is)) (or_left _ _ short)
+  short_by false is short lines = literal_woven value i a d e (left_marks d) unplain lit literal lines
+      (ap₂ (λ short blank. filled_if (not short || blank) d.place (left_marks d)) (sym short) (sym is)) (or_left _ _ short)
+
   -- one that keeps at most one line feed at its end
-  pub short_literal : nat_le (feeds_at_end value) 1 ≡ true → WroteLines i (left_marks d) d e → WovenScalar value i a e
-  short_literal short lines = literal_woven value i a d e (left_marks d) unplain lit literal lines
-      (ap (λ short. filled_if (not short) d.place (left_marks d)) (sym short)) (or_left _ _ short)
+  pub short_literal : nat_le (feeds_at_end value) 1 ≡ true → WroteBelow (ends_blank (encode_utf8_all value)) i d e → WovenScalar value i a e
+  short_literal short lines = short_by (ends_blank (encode_utf8_all value)) refl short lines
 
   -- one that keeps more, with no empty line directly behind it
   pub filled_literal : nat_le (feeds_at_end value) 1 ≡ false → WroteFilledLines i d e → WovenScalar value i a e
   filled_literal long lines = literal_woven value i a d e (filled_from d.place (left_marks d)) unplain lit literal lines.wrote
-      (ap (λ short. filled_if (not short) d.place (left_marks d)) (sym long)) (or_right _ _ lines.filled)
+      (ap (λ short. filled_if (not short || ends_blank (encode_utf8_all value)) d.place (left_marks d)) (sym long))
+      (or_right _ _ lines.filled)
 
 -- ---- keys
 

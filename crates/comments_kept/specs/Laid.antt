@@ -1,10 +1,11 @@
 -- What is kept, laid between the lines of a tree in the one style: the trail behind each line.
-use Rattle.std.specs.Prelude.{ℕ, zero, suc, ◌+◌, ◌==◌, Bool, true, false, not, ◌&&◌, nat_le, min, List, [], ◌∷◌, ◌++◌}
-use Rattle.std.specs.Prelude.{Option, Some, None, if◌then◌else◌}
+use Rattle.std.specs.Prelude.{ℕ, ◌+◌, ◌==◌, Bool, true, false, not, ◌&&◌, nat_le, min, List, [], ◌∷◌, ◌++◌}
+use Rattle.std.specs.Prelude.{◌||◌, Option, Some, None, encode_utf8_all, if◌then◌else◌}
 use Rattle.yaml_grammar.specs.Style.{plain_in_style, literal_in_style, feeds_at_end, long_key}
 use Rattle.yaml_grammar.specs.Trees.{Tree, text, sequence, mapping, Elements, no_element, element, Members, no_member, member}
 use Rattle.yaml_commented.specs.Trails.{Extra, empty_line, comment_line, Trail}
 use Rattle.yaml_commented.specs.Commented.{commented_text}
+use Rattle.comments_kept.specs.declared.scalars.Line.{Line}
 use Rattle.comments_kept.specs.Places.{Mark}
 
 -- ---- below a line of the tree
@@ -18,9 +19,32 @@ pub record Below : Type 0 where
 abbrev pub freely : Below
 freely = record { most = 18446744073709551615; filled = false }
 
--- below a literal in a collection at the indentation i: an empty line directly behind a body `|+` would be its own
+-- one more byte
+abbrev pub line_after : Line → ℕ → Line
+line_after l b =
+    if b == 10 then record { last = l.blank; blank = true; fed = true }
+    else record { last = l.last; blank = l.blank && b == 32; fed = false }
+
+-- more bytes
+abbrev pub line_behind : Line → List ℕ → Line
+line_behind l [] = l
+line_behind l (b ∷ bs) = line_behind (line_after l b) bs
+
+-- the last line is blank
+abbrev pub is_blank : Line → Bool
+is_blank l = if l.fed then l.last else l.blank
+
+-- the last line of a literal's body is blank
+abbrev pub ends_blank : List ℕ → Bool
+ends_blank bytes = is_blank (line_behind (record { last = true; blank = true; fed = true }) bytes)
+
+-- Below a literal in a collection at the indentation i: an empty line directly behind a body `|+` would be its own, and
+-- behind one whose last line is blank it would not be told from that line.
 abbrev pub below_literal : ℕ → List ℕ → Below
-below_literal i value = record { most = i; filled = not (nat_le (feeds_at_end value) 1) }
+below_literal i value = record {
+  most = i;
+  filled = not (nat_le (feeds_at_end value) 1) || ends_blank (encode_utf8_all value);
+}
 
 -- below a text as a value
 abbrev pub below_scalar : ℕ → List ℕ → Below

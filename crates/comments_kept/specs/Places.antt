@@ -1,6 +1,6 @@
 -- Where the comments and empty lines of a text are written: the rule. Lines are those of the tree in the one style,
 -- counted from 0, and each ends in the text where its last token ends.
-use Rattle.std.specs.Prelude.{◌≡◌, ℕ, zero, suc, ◌+◌, ◌-◌, ◌*◌, Bool, true, false, ◌&&◌, nat_lt, nat_le, max, List, [], ◌∷◌, ◌++◌}
+use Rattle.std.specs.Prelude.{ℕ, zero, suc, ◌+◌, ◌-◌, ◌*◌, Bool, true, false, ◌&&◌, nat_lt, nat_le, max, List, [], ◌∷◌, ◌++◌}
 use Rattle.std.specs.Prelude.{Option, Some, None, length, map, drop, slice_get, slice_range, if◌then◌else◌}
 use Rattle.std.specs.Str.{chars}
 use Rattle.yaml_grammar.specs.Events.{Event}

@@ -1,5 +1,5 @@
 -- A tree's text that is woven with comments and empty lines: what a step of the writing adds, and what it takes.
-use Rattle.std.specs.Prelude.{◌≡◌, ◌⊎◌, ◌<◌, true, ℕ, ◌+◌, List, [], ◌∷◌, ◌++◌, Option, Some, None, codes, encode_utf8_all, string_bytes}
+use Rattle.std.specs.Prelude.{◌≡◌, ◌⊎◌, ◌<◌, Bool, true, false, ℕ, ◌+◌, List, [], ◌∷◌, ◌++◌, Option, Some, None, codes, encode_utf8_all, string_bytes}
 use Rattle.std.specs.Prelude.{flat_map, drop, length}
 use Rattle.std.proofs.Common.{get_or}
 use Rattle.std.specs.List.{AllByRecursion, list_all}
@@ -142,6 +142,11 @@ pub record WroteLines (most : ℕ) (marks : List Mark) (a b : Weaver) : Type 0 w
 pub record WroteFilledLines (most : ℕ) (a b : Weaver) : Type 0 where
   pub wrote : WroteLines most (filled_from a.place (left_marks a)) a b
   pub filled : starts_filled wrote.lines ≡ true
+
+-- the lines below a literal, where this says that the last line of its body is blank
+abbrev pub WroteBelow : Bool → ℕ → Weaver → Weaver → Type 0
+WroteBelow true i a b = WroteFilledLines i a b
+WroteBelow false i a b = WroteLines i (left_marks a) a b
 
 -- it took empty lines, and wrote nothing
 pub record HasSkipped (a b : Weaver) : Type 0 where

@@ -28,8 +28,8 @@ use yaml_tree::{Limits, ReadFault, bytes_give_one, read_one};
 /// # Errors
 ///
 /// Those of [`format_one`](yaml_tree::format_one): each fault of [`ReadFault`] is returned only if it holds and no
-/// earlier one does; [`ReadFault::OutOfMemory`] may come at any point. [`KeepFault::Unsettled`] comes in place of a text
-/// that would change if it were formatted once more.
+/// earlier one does; [`ReadFault::OutOfMemory`] may come at any point. [`KeepFault::Unsettled`] comes in place of a
+/// text that would change if it were formatted once more.
 pub fn format_keeping(alloc: Global, bytes: &[u8], limits: &Limits) -> Result<String, KeepFault>
     requires deep { limits.now.depth ≤ own_limits.depth }
     requires long { limits.now.style ≤ own_limits.style }
@@ -55,20 +55,26 @@ pub fn format_keeping(alloc: Global, bytes: &[u8], limits: &Limits) -> Result<St
     let config = read_one(alloc, bytes, limits)?;
     let tree = config.tree();
     let text = written(alloc, bytes, limits.bytes, tree)?;
-    if is_settled(alloc, tree, &text)? {
+    if is_settled(alloc, bytes, tree, &text)? {
         return Ok(text);
     }
     Err(KeepFault::Unsettled)
 }
 
-/// Whether the text of a tree stays as it is when it is formatted once more. It fails only if memory runs out.
-fn is_settled(alloc: Global, tree: &Tree, text: &str) -> Result<bool, KeepFault>
-    requires { depth (tree_of tree.now) ≤ own_limits.depth }
+/// Whether the text of a tree that was written for these bytes stays as it is when it is formatted once more. It fails
+/// only if memory runs out.
+fn is_settled(alloc: Global, bytes: &[u8], tree: &Tree, text: &str) -> Result<bool, KeepFault>
+    requires deep { depth (tree_of tree.now) ≤ own_limits.depth }
+    requires written { Writes bytes.now (tree_of tree.now) text.now }
     ensures settled { IfOk result (λ settled. MatchBool settled
         (Writes text.now (tree_of tree.now) text.now) (Changes (tree_of tree.now) text.now)) }
     ensures refused { IfErr result (λ fault. fault ≡ KeepFault.Read ReadFault.OutOfMemory) }
 {
-    match written(alloc, text.as_bytes(), text.len() as u64, tree) {
+    let once = text.as_bytes();
+    if once == bytes {
+        return Ok(true);
+    }
+    match written(alloc, once, text.len() as u64, tree) {
         Ok(again) => Ok(again.as_str() == text),
         Err(KeepFault::Unsettled) => Ok(false),
         // What is written is read, so that only memory can be missing.

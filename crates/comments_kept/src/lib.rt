@@ -3,8 +3,8 @@
 //! [`format_keeping`] does what [`format_one`](yaml_tree::format_one) does, and keeps each comment (YAML 1.2.2, 6.6)
 //! and empty lines between. Its contract says that its text gives the same tree, has the same comments in the same
 //! order, is in the one style but for them and for empty lines, and is that of the one style where the text that was
-//! read has neither. Where they stand is tested, and not proved, and so is that formatting once more changes nothing.
-//! The places follow this rule.
+//! read has neither. The text is the one that this rule gives (`Keeps`), and stays as it is when it is formatted once
+//! more.
 //!
 //! A line here is one of the tree in the one style, outside of a literal's body. It ends in the text that was read
 //! where its last token ends: a key with its `:`, a scalar, the header of a block scalar, or an empty collection.

@@ -80,7 +80,8 @@ pub(crate) fn layout_of(
     bytes: &[u8],
     events: &Events<'_>,
 ) -> Result<Layout, AllocError>
-    ensures { IfOk result (λ layout. Shows bytes.now (events_of events.now) layout.rows.items layout.collections.items) }
+    ensures { IfOk result (λ layout.
+        Shows bytes.now (events_of events.now) layout.rows.items layout.collections.items) }
 {
     let mut rows = Rows {
         rows: Vec::new(alloc),

@@ -14,8 +14,8 @@ use std::alloc::{AllocError, Global};
 use yaml_data::{Text, Tree};
 use yaml_writer::Sink;
 
-/// The text of a tree in the one style with what is kept at its places, with no empty line at the start. It is `None` if
-/// something is left over.
+/// The text of a tree in the one style with what is kept at its places, with no empty line at the start. It is `None`
+/// if something is left over.
 pub(crate) fn weave(
     alloc: Global,
     tree: &Tree,

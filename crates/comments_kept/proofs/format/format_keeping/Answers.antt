@@ -82,3 +82,9 @@ returns-clause-refused c =
       read = read;
       changes = inr (text, writes bytes t text c.in_ok-text.ensures.written, subst (Changes t) c.deref.ensures changes);
     }
+
+pub is_settled-requires-clause-written : goal.is_settled-requires-clause-written
+is_settled-requires-clause-written c =
+    let bytes = c.args.bytes.now in
+    let t = tree_of c.tree-tree.result.now in
+    subst (Writes bytes t) (sym c.deref.ensures) (writes bytes t (string_bytes c.in_ok-text.text) c.in_ok-text.ensures.written)

@@ -1,5 +1,5 @@
 use Rattle.std.proofs.Common.{◌≡◌, ◌+◌, ◌-◌, ℕ, suc, zero, List, sym, ap, ◌∙◌, arith, length}
-use Rattle.std.specs.Prelude.{Option, Some, None}
+use Rattle.std.specs.Prelude.{Option, Some}
 use Rattle.comments_kept.specs.Lines.{held}
 use Rattle.comments_kept.specs.Places.{holders, better, with_outer}
 use Rattle.comments_kept.specs.Places as place

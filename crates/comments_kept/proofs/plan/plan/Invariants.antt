@@ -1,8 +1,7 @@
 -- What is kept so far has the comments before the next one.
 use Rattle.std.proofs.Common.{◌≡◌, ◌++◌, [], drop}
-use Rattle.yaml_events.specs.Meant.{events_of}
 use Rattle.comments_kept.specs.Keeping.{AreTexts, texts_at}
-use Rattle.comments_kept.specs.Places.{marks, marks_from, marks_of}
+use Rattle.comments_kept.specs.Places.{marks_from, marks_of}
 use Rattle.comments_kept.specs.Weaving.{texts_of}
 use Rattle.comments_kept.proofs.plan.plan.Given as goal
 

@@ -1,4 +1,4 @@
-use Rattle.std.proofs.Common.{◌∙◌, ◌++◌, ◌+◌, ap, sym, append_assoc, append-nil, arith, get_or, length, refl}
+use Rattle.std.proofs.Common.{◌∙◌, ◌++◌, ◌+◌, ap, sym, append_assoc, append-nil, arith, get_or}
 use Rattle.std.specs.Prelude.{None}
 use Rattle.comments_kept.specs.Places.{empties, empty_above, empties_between, marks_of}
 use Rattle.comments_kept.specs.declared.rows.Row.{Row}
