@@ -9,7 +9,8 @@ First a library under the program stands for such a system (shims/lost_pages.c),
 single calls fail, or ends the process. One command at a time and in groups:
 
 - Each sync of a session fails in turn, and one of the next session too.
-- A session is killed before each of its syncs, and the system fails to write its pages, and says so or not.
+- A session is killed before each of its syncs, and the system fails to write its pages, and says so or not: to a session that syncs the file before
+  it changes it, and else to none.
 - The new file fails: no session goes on, and the next one tries again. An opening is killed at each of its calls.
 - A note can't be written, or `store.lock` is gone, empty, or as an older version left it.
 - The next session is by another writer of the group, who does not own `store.lock`. That takes root.
@@ -60,6 +61,8 @@ MARKED = 0o1600
 # changes may have waited for one sync.
 ON_DEVICE = (b"-", b"-\0\0\0")
 UNSURE = (b"-\0", b"-\0\0")
+# What says as much as the second of these: a `store.lock` that a run has made, and not noted anything in.
+EMPTY_NOTE = b""
 
 # What the library keeps of a page.
 CLEAN, DIRTY, LOST = range(3)
@@ -223,7 +226,7 @@ def try_killed(new: Maker, words: Sequence[str]) -> None:
             store.expect("the killed session", store.run(words, **fault(sync, "none", "exit"))[0], ENDED)
             if way != "written later":
                 store.lose_pages(way == "said")
-            if way == "said":
+            if way == "said" and store.lock.read_bytes() in ON_DEVICE:
                 store.expect("the session that is told", store.run(), DEVICE)
             store.expect_whole()
     print(f"  killed before {len(syncs)} syncs of `{' '.join(words)}`")
@@ -363,7 +366,7 @@ def try_group(top: Path, new: Maker) -> None:
         path.chmod(mode)
     store.lock.unlink()
     store.expect("the session whose sync fails", store.run(LOST_SYNC="4")[0], 3)
-    store.expect_note("then", UNSURE)
+    store.expect_note("then", (*UNSURE, EMPTY_NOTE))
     store.expect("the writer's session", store.run(program=program, user=NOBODY), DONE)
     store.expect_note("of the writer", ON_DEVICE)
     store.expect("the owner of store.lock", store.lock.stat().st_uid, 0)
