@@ -219,7 +219,8 @@ module _ {W D F P : Type 0} (world : WorldModel W D F P) (disk : DiskModel D) (r
 
   of-saving : (folder : List ℕ) (several : Bool) (given : Option (List ℕ)) (old new : W) (held written : Option (List ℕ)) (status : Status)
       → SavesInFolder world disk folder several given old new held written status → Spares folder old new
-  of-saving folder several given old new held written status (inl cannot) = spared folder old new (of-new folder old cannot.fault new cannot.opens)
+  of-saving folder several given old new held written status (inl cannot) = spared folder old new
+      (of-new folder old cannot.fault new cannot.opens)
   of-saving folder several given old new held written status (inr saving) = λ other image is_other is.
       let opens = saving.opens in
       let made = opens.0 in
@@ -246,7 +247,8 @@ module _ {W D F P : Type 0} (world : WorldModel W D F P) (disk : DiskModel D) (r
 
   of-found : (folder : List ℕ) (file : Result F ReadingFault) (old new : W) (held written : Option (List ℕ)) (status : Status)
       → SavesFound world disk remaining folder file old new held written status → Spares folder old new
-  of-found folder (Ok file) old new held written status saving = of-saving folder (world.several file) (remaining file) old new held written status saving
+  of-found folder (Ok file) old new held written status saving = of-saving folder (world.several file)
+      (remaining file) old new held written status saving
   of-found folder (Err fault) old new held written status saving = spared folder old new (same old new saving.0)
 
   -- ---- words that keep what an opening drops
@@ -458,13 +460,14 @@ module _ {W D F P : Type 0} (world : WorldModel W D F P) (disk : DiskModel D) (r
     none_made : Steady old new → Backed path old new status None
     made_there : (found opened : W) (several : Bool) (given left : Option (List ℕ)) (first : D) (result : Result D (D × SalvageFault))
         (made : IfOk result (λ made. BacksUp several given left (disk.folder first) (disk.folder made)))
-        (survives : LeavesOldOrCopy several disk several given left first (copied_disk result))
+        (survives : LeavesOldOrCopy several disk given left first (copied_disk result))
         → Steady old found → world.opened New path found (Ok first) opened
         → IsDiskOf disk leaves path found first (copied_disk result) new → status ≡ status_after_backup result
         → Backed path old new status (Some (copies several given left first result made survives))
-    saved_there : (found opened : W) (several : Bool) (given left : Option (List ℕ)) (first : D) (result : Result (D × Surveyed) (D × SalvageFault))
+    saved_there : (found opened : W) (several : Bool) (given left : Option (List ℕ)) (first : D) (result : Result (D
+        × Surveyed) (D × SalvageFault))
         (made : IfOk result (λ saved. Saves several given left (disk.folder first) (disk.folder saved.0) saved.1))
-        (survives : LeavesOldOrSaved several disk several given left first (saved_disk result)) (held written : Option (List ℕ))
+        (survives : LeavesOldOrSaved several disk given left first (saved_disk result)) (held written : Option (List ℕ))
         → Steady old found → world.opened New path found (Ok first) opened
         → IsDiskOf disk leaves path found first (saved_disk result) new → WritesFindings result held written status
         → Backed path old new status (Some (saves several given left first result made survives))
@@ -493,8 +496,10 @@ module _ {W D F P : Type 0} (world : WorldModel W D F P) (disk : DiskModel D) (r
   after-that old between new steady (none_made ends) = none_made (then old between new steady ends)
   after-that old between new steady (made_there found opened several given left first result made survives begins opens is ends) =
       made_there found opened several given left first result made survives (then old between found steady begins) opens is ends
-  after-that old between new steady (saved_there found opened several given left first result made survives held written begins opens is ends) =
-      saved_there found opened several given left first result made survives held written (then old between found steady begins) opens is ends
+  after-that old between new steady
+      (saved_there found opened several given left first result made survives held written begins opens is ends) =
+      saved_there found opened several given left first result made survives held written
+          (then old between found steady begins) opens is ends
 
   -- the two ways to name the disk that is handed back agree
   same-disk : (result : Result (D × Surveyed) (D × SalvageFault)) (path : List ℕ) (found : W) (first : D) (new : W)
@@ -502,7 +507,8 @@ module _ {W D F P : Type 0} (world : WorldModel W D F P) (disk : DiskModel D) (r
   same-disk (Ok saved) path found first new is = is
   same-disk (Err refused) path found first new is = is
 
-  of-saved-in : (folder : List ℕ) (several : Bool) (given : Option (List ℕ)) (old new : W) (held written : Option (List ℕ)) (status : Status)
+  of-saved-in : (folder : List ℕ) (several : Bool) (given : Option (List ℕ)) (old new : W) (held written : Option
+      (List ℕ)) (status : Status)
       (saving : SavesInFolder world disk folder several given old new held written status)
       → Backed folder old new status (saved_in world disk remaining honest folder several given old new held written status saving)
   of-saved-in folder several given old new held written status (inl cannot) = none_made (of-new folder old cannot.fault new cannot.opens)
@@ -519,7 +525,8 @@ module _ {W D F P : Type 0} (world : WorldModel W D F P) (disk : DiskModel D) (r
   of-saved : (folder : List ℕ) (file : Result F ReadingFault) (old new : W) (held written : Option (List ℕ)) (status : Status)
       (saving : SavesFound world disk remaining folder file old new held written status)
       → Backed folder old new status (saved_of world disk remaining honest folder file old new held written status saving)
-  of-saved folder (Ok file) old new held written status saving = of-saved-in folder (world.several file) (remaining file) old new held written status saving
+  of-saved folder (Ok file) old new held written status saving = of-saved-in folder (world.several file)
+      (remaining file) old new held written status saving
   of-saved folder (Err fault) old new held written status saving = none_made (same old new saving.0)
 
   -- what a salvage does

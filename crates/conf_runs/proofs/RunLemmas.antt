@@ -85,7 +85,7 @@ module _ {W D F P : Type 0} (world : WorldModel W D F P) (disk : DiskModel D) (r
 
   is-copied : (several : Bool) (given left : Option (List ℕ)) (first : D) (result : Result D (D × SalvageFault))
       (made : IfOk result (λ made. BacksUp several given left (disk.folder first) (disk.folder made)))
-      (survives : LeavesOldOrCopy several disk several given left first (copied_disk result)) (image : Image)
+      (survives : LeavesOldOrCopy several disk given left first (copied_disk result)) (image : Image)
       → IsStoreOf (disk.folder first) image ⊎ IsCopied several given left image.store
       → IsStoreOf (disk.folder first) image ⊎ IsNew (copies several given left first result made survives) image
   is-copied several given left first result made survives image (inl old) = inl old
@@ -97,7 +97,8 @@ module _ {W D F P : Type 0} (world : WorldModel W D F P) (disk : DiskModel D) (r
 
   copy-done : (status : Status) (several : Bool) (given left : Option (List ℕ)) (first : D) (result : Result D (D × SalvageFault))
       (made : IfOk result (λ made. BacksUp several given left (disk.folder first) (disk.folder made)))
-      (survives : LeavesOldOrCopy several disk several given left first (copied_disk result)) → status ≡ status_after_backup result → status ≡ Done
+      (survives : LeavesOldOrCopy several disk given left first (copied_disk result))
+          → status ≡ status_after_backup result → status ≡ Done
       → (image : Image) → IsImage (disk.folder (copied_disk result)) image
       → IsNew (copies several given left first result made survives) image
   copy-done status several given left first (Ok new) made survives ends done image is = record {
@@ -105,11 +106,12 @@ module _ {W D F P : Type 0} (world : WorldModel W D F P) (disk : DiskModel D) (r
     makes = record { copy = made.copy; reads = made.reads; is = refl };
     means = made.now image is;
   }
-  copy-done status several given left first (Err refused) made survives ends done image is = absurd (not-backed-up refused.1 (sym done ∙ ends))
+  copy-done status several given left first (Err refused) made survives ends done image is = absurd
+      (not-backed-up refused.1 (sym done ∙ ends))
 
   makes-copy : (status : Status) (several : Bool) (given left : Option (List ℕ)) (first : D) (result : Result D (D × SalvageFault))
       (made : IfOk result (λ made. BacksUp several given left (disk.folder first) (disk.folder made)))
-      (survives : LeavesOldOrCopy several disk several given left first (copied_disk result)) → status ≡ status_after_backup result
+      (survives : LeavesOldOrCopy several disk given left first (copied_disk result)) → status ≡ status_after_backup result
       → MakesNew status (copies several given left first result made survives)
   makes-copy status several given left first result made survives ends = record {
     later = survives.later;
@@ -122,7 +124,7 @@ module _ {W D F P : Type 0} (world : WorldModel W D F P) (disk : DiskModel D) (r
 
   is-saved : (several : Bool) (given left : Option (List ℕ)) (first : D) (result : Result (D × Findings) (D × SalvageFault))
       (made : IfOk result (λ saved. Saves several given left (disk.folder first) (disk.folder saved.0) saved.1))
-      (survives : LeavesOldOrSaved several disk several given left first (saved_disk result)) (image : Image)
+      (survives : LeavesOldOrSaved several disk given left first (saved_disk result)) (image : Image)
       → IsStoreOf (disk.folder first) image ⊎ IsSaved several given left image.store
       → IsStoreOf (disk.folder first) image ⊎ IsNew (saves several given left first result made survives) image
   is-saved several given left first result made survives image (inl old) = inl old
@@ -136,8 +138,10 @@ module _ {W D F P : Type 0} (world : WorldModel W D F P) (disk : DiskModel D) (r
   salvage-done : (status : Status) (held written : Option (List ℕ)) (several : Bool) (given left : Option (List ℕ)) (first : D)
       (result : Result (D × Findings) (D × SalvageFault))
       (made : IfOk result (λ saved. Saves several given left (disk.folder first) (disk.folder saved.0) saved.1))
-      (survives : LeavesOldOrSaved several disk several given left first (saved_disk result)) → WritesFindings result held written status → status ≡ Done
-      → (image : Image) → IsImage (disk.folder (saved_disk result)) image → IsNew (saves several given left first result made survives) image
+      (survives : LeavesOldOrSaved several disk given left first (saved_disk result))
+          → WritesFindings result held written status → status ≡ Done
+      → (image : Image) → IsImage (disk.folder (saved_disk result)) image → IsNew
+          (saves several given left first result made survives) image
   salvage-done status held written several given left first (Ok saved) made survives writes done image is = record {
     state = made.s;
     makes = record { findings = saved.1; reads = made.reads };
@@ -149,7 +153,7 @@ module _ {W D F P : Type 0} (world : WorldModel W D F P) (disk : DiskModel D) (r
   makes-saved : (status : Status) (held written : Option (List ℕ)) (several : Bool) (given left : Option (List ℕ)) (first : D)
       (result : Result (D × Findings) (D × SalvageFault))
       (made : IfOk result (λ saved. Saves several given left (disk.folder first) (disk.folder saved.0) saved.1))
-      (survives : LeavesOldOrSaved several disk several given left first (saved_disk result)) → WritesFindings result held written status
+      (survives : LeavesOldOrSaved several disk given left first (saved_disk result)) → WritesFindings result held written status
       → MakesNew status (saves several given left first result made survives)
   makes-saved status held written several given left first result made survives writes = record {
     later = survives.later;
@@ -212,7 +216,8 @@ module _ {W D F P : Type 0} (world : WorldModel W D F P) (disk : DiskModel D) (r
   new-returned own_path old new status (Some (saves several given left first result made survives))
       (saved_there found opened _ _ _ _ _ _ held written begins opens of writes) is empty =
       let here = subst (λ (p : List ℕ). IsDiskOf disk leaves p found first (saved_disk result) new) is of in
-      fresh (saves several given left first result made survives) (makes-saved status held written several given left first result made survives writes)
+      fresh (saves several given left first result made survives)
+          (makes-saved status held written several given left first result made survives writes)
       (λ image was. begins path image (here.handed_out image was)) (λ image now. here.given_back image now)
       (empty own_path found opened first opens)
 
@@ -228,7 +233,8 @@ module _ {W D F P : Type 0} (world : WorldModel W D F P) (disk : DiskModel D) (r
   new-cut-off own_path old new status (Some (saves several given left first result made survives))
       (saved_there found opened _ _ _ _ _ _ held written begins opens of writes) is empty =
       let here = subst (λ (p : List ℕ). IsDiskOf disk leaves p found first (saved_disk result) new) is of in
-      fresh (saves several given left first result made survives) (makes-saved status held written several given left first result made survives writes)
+      fresh (saves several given left first result made survives)
+          (makes-saved status held written several given left first result made survives writes)
       (λ image was. begins path image (here.handed_out image was)) (λ image left. left) (empty own_path found opened first opens)
 
   -- a run that makes a store of what another one says

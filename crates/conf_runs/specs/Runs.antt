@@ -159,10 +159,10 @@ module _ {D : Type 0} (disk : DiskModel D) where
     calls : (call : Call disk) → Deed
     copies : (several : Bool) (given left : Option (List ℕ)) (first : D) (result : Result D (D × SalvageFault))
         → IfOk result (λ made. BacksUp several given left (disk.folder first) (disk.folder made))
-        → LeavesOldOrCopy several disk several given left first (copied_disk result) → Deed
+        → LeavesOldOrCopy several disk given left first (copied_disk result) → Deed
     saves : (several : Bool) (given left : Option (List ℕ)) (first : D) (result : Result (D × Findings) (D × SalvageFault))
         → IfOk result (λ saved. Saves several given left (disk.folder first) (disk.folder saved.0) saved.1)
-        → LeavesOldOrSaved several disk several given left first (saved_disk result) → Deed
+        → LeavesOldOrSaved several disk given left first (saved_disk result) → Deed
 
   -- the disk before it
   abbrev pub first_disk : Deed → D
