@@ -5,8 +5,8 @@ use std::io;
 use std::io::ErrorKind;
 use std::os::unix::fs::FileExt;
 
-/// The first byte of a note. What it says is in the length of the file, since that is in no page of it which memory that
-/// is short could lose.
+/// The first byte of a note. What it says is in the length of the file, since that is in no page of it which memory
+/// that is short could lose.
 const MARK: u8 = b'-';
 
 /// How many bytes are read to tell a note from others.

@@ -7,11 +7,14 @@ use Rattle.conf_disk.specs.Folder.{File, empty_file}
 use Rattle.conf_disk.specs.Folder as disk
 use Rattle.conf_disk.specs.declared.disk.Name.TheVariants as disk_name
 use Rattle.conf_system.specs.declared.system.FileName.TheVariants.{Store, Next}
-use Rattle.conf_system.specs.Machine.{Version, Held, Machine, empty_held, version_at, under, with_file, with_now, failed_sync, synced, file_of, is_any, version_bytes}
-use Rattle.conf_system.specs.Machine.{CreateNext, UnlinkNext, RenameNext, LinkNext, SyncFolder, Sync, MayBeCalled, are_linked, after, failing}
+use Rattle.conf_system.specs.Machine.{Version, Held, Machine, empty_held, version_at, under, with_file, with_now}
+use Rattle.conf_system.specs.Machine.{failed_sync, synced, file_of, is_any, version_bytes}
+use Rattle.conf_system.specs.Machine.{CreateNext, UnlinkNext, RenameNext, LinkNext, SyncFolder, Sync, MayBeCalled}
+use Rattle.conf_system.specs.Machine.{are_linked, after, failing}
 use Rattle.conf_system.specs.Crash.{IsSound}
 use Rattle.conf_system.specs.Folders.{folder_of, stages_before, stage_of, IsSure, IsTold}
-use Rattle.conf_system.proofs.Steps.{apart-same, linked-same, unlink-none, file_at, create-steps, remove-steps, folder_sync-steps, sync-steps, next_sync-steps, rename-steps}
+use Rattle.conf_system.proofs.Steps.{apart-same, linked-same, unlink-none, file_at, create-steps, remove-steps}
+use Rattle.conf_system.proofs.Steps.{folder_sync-steps, sync-steps, next_sync-steps, rename-steps}
 use Rattle.conf_system.proofs.Steps.{failed_rename-steps, link-steps, failed_link-steps}
 use Rattle.conf_protocol.specs.Keeps.{is_so, IsPlain, IsSafe, IsExact}
 use Rattle.conf_protocol.specs.declared.run.Bytes.{Bytes}

@@ -11,7 +11,8 @@ use Rattle.conf_disk.specs.declared.disk.Name.TheVariants as disk_name
 use Rattle.conf_system.specs.declared.system.Note.{Note}
 use Rattle.conf_system.specs.Crash.{IsSound}
 use Rattle.conf_system.specs.declared.system.FileName.TheVariants.{Store, Copy}
-use Rattle.conf_system.specs.Machine.{Version, Held, Machine, empty_held, version_bytes, version_at, file_of, cut_at, sure_count, with_pending}
+use Rattle.conf_system.specs.Machine.{Version, Held, Machine, empty_held, version_bytes, version_at, file_of, cut_at}
+use Rattle.conf_system.specs.Machine.{sure_count, with_pending}
 use Rattle.conf_system.specs.Machine.{with_file, with_copy, replaced, settled, failed_sync, synced, under, are_linked, bytes_under}
 use Rattle.conf_system.specs.Machine.{Call, CreateCopy, UnlinkCopy, PlaceCopy, SyncFolder, Sync, Write, MayBeCalled, after, failing}
 use Rattle.conf_system.specs.Models.{SystemModel, Passes, Stays, Wrote}
@@ -22,7 +23,8 @@ use Rattle.conf_protocol.specs.Keeps.{is_so, IsPlain}
 use Rattle.conf_protocol.specs.Moments.{Copies, Quiet}
 use Rattle.conf_protocol.specs.Copying.{HasCopy, IsKept, IsPlaced}
 use Rattle.conf_protocol.specs.declared.run.Bytes.TheVariants.{OnDevice}
-use Rattle.conf_protocol.proofs.Frames.{at-other, at-settled, now-same, noted-same, notes-same, note-same, plain-settled, made-store, one-alone}
+use Rattle.conf_protocol.proofs.Frames.{at-other, at-settled, now-same, noted-same, notes-same, note-same}
+use Rattle.conf_protocol.proofs.Frames.{plain-settled, made-store, one-alone}
 use Rattle.conf_protocol.proofs.Known.{safe-off}
 use Rattle.conf_protocol.proofs.Moving.{Passes-joined, Passes-weaker, Passes-none, Quiet-call, may-end}
 use Rattle.conf_protocol.proofs.Told.{told-changed}
@@ -112,7 +114,8 @@ Copies-quiet model old new off copies = record {
   moments = Passes-weaker model old new (IsCopied (model.machine old)) _ copies.moments
       (λ m is. (
         ap folder_of is.1,
-        may-end (model.machine old) m (with_copy (model.machine old) is.0) is.1 (safe-off (with_copy (model.machine old) is.0) off) (λ t. t),
+        may-end (model.machine old) m (with_copy (model.machine old) is.0) is.1 (safe-off (with_copy (model.machine old) is.0) off)
+            (λ t. t),
       ));
   told = λ t. subst IsTold (sym copies.is) t;
   folder = ap folder_of copies.is;

@@ -8,7 +8,8 @@ use Rattle.std.proofs.lemmas.List.{get_or-set_same, get_or-set_other, set_past, 
 use Rattle.std.proofs.lemmas.List.Elements.{All-contains, Contains-append_right, Contains-push_cases}
 use Rattle.conf_disk.specs.Folder.{Stage}
 use Rattle.conf_disk.specs.Image.{IsMade}
-use Rattle.conf_system.specs.Machine.{Version, Held, Machine, empty_held, empty_version, version_at, stages, with_file, with_now, are_linked, settled}
+use Rattle.conf_system.specs.Machine.{Version, Held, Machine, empty_held, empty_version, version_at, stages, with_file}
+use Rattle.conf_system.specs.Machine.{with_now, are_linked, settled}
 use Rattle.conf_system.specs.Crash.{IsSound}
 use Rattle.conf_protocol.specs.Keeps.{IsPlain, HasOneStore}
 

@@ -77,7 +77,8 @@ pub Goes-done : {S E : Type 0} (model : SystemModel S) (call : Call) (step : Ste
 Goes-done model call step was is old (Err error) new done change time steps = cc
 Goes-done model call step was is old (Ok value) new done change time steps = record {
   change = ap folder_of change ∙ steps.folder;
-  moments = Changes-call model old new time (subst IsSafe (sym change) steps.safe) (λ before. subst IsTold (sym change) (steps.told before));
+  moments = Changes-call model old new time (subst IsSafe (sym change) steps.safe)
+      (λ before. subst IsTold (sym change) (steps.told before));
   exact = λ before. subst (IsExact is) (sym change) (steps.exact before);
 }
 
@@ -90,7 +91,8 @@ Goes-failed model call step several old (Err error) new failed change time parts
     let part = parts change.0 in
     record {
       change = (part.part.0, ap folder_of change.1 ∙ part.part.1);
-      moments = Changes-call model old new time (subst IsSafe (sym change.1) part.safe) (λ before. subst IsTold (sym change.1) (part.told before));
+      moments = Changes-call model old new time (subst IsSafe (sym change.1) part.safe)
+          (λ before. subst IsTold (sym change.1) (part.told before));
       exact = λ before. subst (IsExact several) (sym change.1) (part.exact before);
     }
 

@@ -7,7 +7,8 @@ use Rattle.std.proofs.lemmas.List.{drop_all}
 use Rattle.conf_disk.specs.Folder.{File, Stage, is_place, noted_at, noted_behind}
 use Rattle.conf_system.specs.declared.system.Note.{Note}
 use Rattle.conf_system.specs.declared.system.FileName.TheVariants.{Store, Next}
-use Rattle.conf_system.specs.Machine.{Version, Machine, empty_held, version_at, under, with_file, with_now, with_version, with_pending, synced, failed_sync}
+use Rattle.conf_system.specs.Machine.{Version, Machine, empty_held, version_at, under, with_file, with_now}
+use Rattle.conf_system.specs.Machine.{with_version, with_pending, synced, failed_sync}
 use Rattle.conf_system.specs.Machine.{sure_count, file_of}
 use Rattle.conf_system.specs.Machine.{is_any, are_linked, notes_of, all_several, noted_by_write, CreateNext, UnlinkNext, SyncFolder, Write}
 use Rattle.conf_system.specs.Machine.{after}
@@ -18,7 +19,8 @@ use Rattle.conf_protocol.specs.declared.run.Bytes.{Bytes}
 use Rattle.conf_protocol.specs.declared.run.Bytes.TheVariants.{OnDevice, Pending, Unsure}
 use Rattle.conf_protocol.specs.declared.run.Names.{Names}
 use Rattle.conf_protocol.specs.declared.run.Names.TheVariants.{Settled}
-use Rattle.conf_protocol.proofs.Frames.{made-store, made-next, at-changed, at-other, linked-sym, now-same, earlier-same, note-same, notes-same}
+use Rattle.conf_protocol.proofs.Frames.{made-store, made-next, at-changed, at-other, linked-sym, now-same, earlier-same}
+use Rattle.conf_protocol.proofs.Frames.{note-same, notes-same}
 use Rattle.conf_protocol.proofs.Frames.{one-added, one-alone, one-changed}
 use Rattle.conf_protocol.proofs.Frames.{noted-same, plain-changed, at-created, at-new, plain-created, at-settled, plain-settled}
 
@@ -350,7 +352,8 @@ knows-wrote_next store next known_next names several m bytes sound may known so 
       settled = changed.settled;
       store_so = changed.store_so;
       next_so = changed.next_so;
-      noted = λ is. changed.noted (ap (λ (noted : Option ℕ → Bool). noted (with_file m m.now.next (with_now (with_pending bytes))).now.store)
+      noted = λ is. changed.noted (ap
+          (λ (noted : Option ℕ → Bool). noted (with_file m m.now.next (with_now (with_pending bytes))).now.store)
           (noted-same m m.now.next (with_now (with_pending bytes))) ∙ is);
       told = changed.told;
     }

@@ -86,7 +86,8 @@ Quiet-call model old new time same safe told = record {
 pub Quiet-none : {S : Type 0} (model : SystemModel S) (s : S) → Quiet model s s
 Quiet-none model s = record { moments = Passes-none model s _; told = λ is. is; folder = refl }
 
-pub Quiet-stays : {S : Type 0} (model : SystemModel S) (old new : S) → Stays model old new → IsSafe (model.machine old) → Quiet model old new
+pub Quiet-stays : {S : Type 0} (model : SystemModel S) (old new : S) → Stays model old new → IsSafe (model.machine old)
+    → Quiet model old new
 Quiet-stays model old new stays safe =
     Quiet-call model old new stays.time (ap folder_of stays.same) (subst IsSafe (sym stays.same) safe)
     (λ is. subst IsTold (sym stays.same) is)
@@ -107,7 +108,8 @@ Changes-quiet model old new quiet = record {
 }
 
 -- nothing of the folder changes, and then something
-pub Changes-then : {S : Type 0} (model : SystemModel S) (old mid new : S) → Quiet model old mid → Changes model mid new → Changes model old new
+pub Changes-then : {S : Type 0} (model : SystemModel S) (old mid new : S) → Quiet model old mid → Changes model mid new
+    → Changes model old new
 Changes-then model old mid new first second = record {
   moments = Passes-joined model old mid new _ _ _ first.moments second.moments
       (λ m is. (λ image left. inl (same-image m (model.machine old) image is.0 left), is.1))
@@ -120,7 +122,8 @@ Changes-then model old mid new first second = record {
 }
 
 -- something changes, and then nothing more
-pub Changes-before : {S : Type 0} (model : SystemModel S) (old mid new : S) → Changes model old mid → Quiet model mid new → Changes model old new
+pub Changes-before : {S : Type 0} (model : SystemModel S) (old mid new : S) → Changes model old mid → Quiet model mid new
+    → Changes model old new
 Changes-before model old mid new first second = record {
   moments = Passes-joined model old mid new _ _ _ first.moments second.moments
       (λ m is. (

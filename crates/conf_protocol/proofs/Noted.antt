@@ -3,7 +3,8 @@ use Rattle.std.proofs.Common.{◌≡◌, ℕ, zero, suc, List, [], ◌∷◌, �
 use Rattle.std.specs.Prelude.{Result, MatchResult}
 use Rattle.conf_system.specs.declared.system.Note.{Note}
 use Rattle.conf_system.specs.declared.system.FileName.TheVariants.{Store}
-use Rattle.conf_system.specs.Machine.{Machine, Call, notes_of, all_several, WriteNote, SyncNote, SyncFolder, after, after_reading, failing, under, are_linked}
+use Rattle.conf_system.specs.Machine.{Machine, Call, notes_of, all_several, WriteNote, SyncNote, SyncFolder, after}
+use Rattle.conf_system.specs.Machine.{after_reading, failing, under, are_linked}
 use Rattle.conf_system.specs.Models.{SystemModel, Passes}
 use Rattle.conf_system.specs.Folders.{folder_of, IsTold}
 use Rattle.conf_protocol.specs.Keeps.{IsSafe, IsSure, Knows, HasSameNotes, is_so, may_change, is_kept, HasOneStore}

@@ -10,7 +10,8 @@ use Rattle.conf_system.specs.Folders.{folder_of}
 use Rattle.conf_system.proofs.Steps.{file_at, apart-same}
 use Rattle.conf_protocol.specs.Names.{file_name}
 
-at-same : (files : List Held) (place : Option ℕ) → disk.bytes_at (map file_of files) place ≡ option_map version_bytes (version_at files place)
+at-same : (files : List Held) (place : Option ℕ)
+    → disk.bytes_at (map file_of files) place ≡ option_map version_bytes (version_at files place)
 at-same files None = refl
 at-same files (Some id) =
     let file = get_or files id empty_held in

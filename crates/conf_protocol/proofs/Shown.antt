@@ -25,7 +25,8 @@ blamed-err (Ok v) error of P Q is so = cc
 blamed-err (Err e) error of P Q is so = so
 
 -- a refusal as a fault
-pub performs : {E : Type 0} (step : Step) (old new : Folder) (done : Result (Unit {0}) E) (result : Result (Unit {0}) DiskFault) (fault : DiskFault)
+pub performs : {E : Type 0} (step : Step) (old new : Folder) (done : Result (Unit {0}) E) (result : Result (Unit {0}) DiskFault)
+    (fault : DiskFault)
     → MatchResult done (λ v. result ≡ Ok v) (λ _. result ≡ Err fault)
     → MatchResult done (λ _. new ≡ after step old) (λ _. (k : ℕ) × (new ≡ after_part k step old))
     → Performs step old new result
@@ -64,7 +65,8 @@ err-always (Ok value) R so = tt
 err-always (Err error) R so = so
 
 -- nothing was done
-pub performs-none : (step : Step) (folder : Folder) (result : Result (Unit {0}) DiskFault) → IsErr result → Performs step folder folder result
+pub performs-none : (step : Step) (folder : Folder) (result : Result (Unit {0}) DiskFault) → IsErr result
+    → Performs step folder folder result
 performs-none step folder (Ok value) failed = cc
 performs-none step folder (Err fault) failed = (0, refl)
 

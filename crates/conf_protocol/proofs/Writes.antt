@@ -8,7 +8,8 @@ use Rattle.std.proofs.lemmas.List.{get_or-set_same, set_past}
 use Rattle.conf_disk.specs.Folder.{Stage}
 use Rattle.conf_system.specs.declared.system.FileName.{FileName}
 use Rattle.conf_system.specs.declared.system.FileName.TheVariants.{Store, Next, Copy}
-use Rattle.conf_system.specs.Machine.{Version, Held, Machine, empty_held, with_pending, with_now, with_file, with_copy, noted_by_write, version_at, under}
+use Rattle.conf_system.specs.Machine.{Version, Held, Machine, empty_held, with_pending, with_now, with_file, with_copy}
+use Rattle.conf_system.specs.Machine.{noted_by_write, version_at, under}
 use Rattle.conf_system.specs.Machine.{Write, WriteRest, after}
 use Rattle.conf_system.specs.Models.{SystemModel, Wrote}
 use Rattle.conf_protocol.proofs.Frames.{now-same}
@@ -29,7 +30,8 @@ file-joined : (files : List Held) (id : ℕ) (x y : List ℕ)
 file-joined files id x y =
     let first = with_now (with_pending x) (get_or files id empty_held) in
     elim (cases_lt id (length files)) [
-      | inl lt ↦ ap (λ (file : Held). set (set files id first) id (with_now (with_pending y) file)) (get_or-set_same files id first empty_held lt)
+      | inl lt ↦ ap (λ (file : Held). set (set files id first) id (with_now (with_pending y) file))
+          (get_or-set_same files id first empty_held lt)
           ∙ set-set files id first (with_now (with_pending y) first)
           ∙ ap (λ (version : Version). set files id (record (get_or files id empty_held) { now = version }))
           (pending-joined x y (get_or files id empty_held).now)
@@ -94,7 +96,8 @@ some-mapped : (copy : Option Version) (change : Version → Version) → IsSome 
 some-mapped None change some = some
 some-mapped (Some version) change some = refl
 
-pub some-written : (name : FileName) (bytes : List ℕ) (m : Machine) → IsSome (under m name) → IsSome (under (after (Write name bytes) m) name)
+pub some-written : (name : FileName) (bytes : List ℕ) (m : Machine) → IsSome (under m name)
+    → IsSome (under (after (Write name bytes) m) name)
 some-written Store bytes m some =
     let changed = with_file m m.now.store (with_now (with_pending bytes)) in
     ap (λ (stage : Stage). is_some (version_at changed.files stage.store)) (now-same m m.now.store (with_now (with_pending bytes)))

@@ -17,14 +17,15 @@ pub(crate) fn put_copy<S: System>(system: &mut S) -> Result<(), Refusal>
     requires there { S.model.honest → IsSome (under (S.model.machine system.old) Store) }
     requires plain { S.model.honest → IsPlain (S.model.machine system.old) }
     requires settled { S.model.honest → length (S.model.machine system.old).earlier ≡ 0 }
-    requires apart { S.model.honest
-        → are_linked (S.model.machine system.old).now.store (S.model.machine system.old).now.next ≡ false }
+    requires apart { S.model.honest → (let m = S.model.machine system.old in
+        are_linked m.now.store m.now.next ≡ false) }
     requires off { S.model.honest → (S.model.machine system.old).note.on_device ≡ false }
     ensures placed { S.model.honest → OnOk result
         (IsPlaced (S.model.machine system.old) (S.model.machine system.new)) }
     ensures failed { S.model.honest → OnErr result
         (folder_of (S.model.machine system.new) ≡ folder_of (S.model.machine system.old)) }
-    ensures kept { S.model.honest → IsKept (S.model.machine system.old) (S.model.machine system.new) }
+    ensures kept { S.model.honest
+        → IsKept (S.model.machine system.old) (S.model.machine system.new) }
     ensures moments { S.model.honest → Changes S.model system.old system.new }
 {
     if let Err(refusal) = make_copy(system) {
@@ -64,7 +65,8 @@ fn fill_copy<S: System>(system: &mut S) -> Result<(), Refusal>
     requires empty { S.model.honest → (S.model.machine system.old).copy ≡ Some empty_version }
     ensures filled { S.model.honest → OnOk result ((bytes : List ℕ)
         → bytes_under (S.model.machine system.new) Store ≡ Some bytes
-        → (S.model.machine system.new).copy ≡ Some (record { device = []; pending = bytes; failed = false })) }
+        → (S.model.machine system.new).copy
+        ≡ Some (record { device = []; pending = bytes; failed = false })) }
     ensures copies { S.model.honest → Copies S.model system.old system.new }
 {
     let Some(total) = STORE.blame(system.open(FileName::Store))? else {

@@ -46,8 +46,10 @@ impl DiskState {
     /// Counts a failure of a disk that can't be taken up.
     pub fn fail(&mut self) -> DiskFault
         ensures fault { result ≡ DiskFault.Device }
-        ensures change { CountsFailures {T = Unit {0}} self.old.failures self.new.failures (Err result) }
-        ensures read { CountsFailures {T = Content} self.old.failures self.new.failures (Err result) }
+        ensures change { CountsFailures {T = Unit {0}}
+            self.old.failures self.new.failures (Err result) }
+        ensures read { CountsFailures {T = Content}
+            self.old.failures self.new.failures (Err result) }
     {
         self.failures = self.failures.saturating_add(1);
         DiskFault::Device
@@ -143,7 +145,8 @@ impl<S: System + Drop> SystemDisk<S> {
     /// `Device` if as many were counted as can be.
     fn may_fail(&self) -> Result<(), DiskFault>
         ensures counted { OnOk result (self.now.failures < u64.MAX) }
-        ensures spent { IfErr result (λ fault. (fault ≡ DiskFault.Device) × (self.now.failures ≡ u64.MAX)) }
+        ensures spent { IfErr result (λ fault.
+            (fault ≡ DiskFault.Device) × (self.now.failures ≡ u64.MAX)) }
     {
         if self.failures == u64::MAX {
             return Err(DiskFault::Device);
@@ -156,7 +159,8 @@ impl<S: System + Drop> SystemDisk<S> {
         requires { self.old.failures < u64.MAX }
         ensures failures { CountsFailures self.old.failures self.new.failures result }
         ensures same { self.new.run ≡ self.old.run }
-        ensures told { MatchResult done (λ done. result ≡ Ok done) (λ _. result ≡ Err DiskFault.Device) }
+        ensures told { MatchResult done
+            (λ done. result ≡ Ok done) (λ _. result ≡ Err DiskFault.Device) }
         ensures fault { result ≢ Err DiskFault.OutOfMemory }
     {
         match done {
@@ -196,15 +200,18 @@ impl<S: System + Drop> Disk for SystemDisk<S> {
 
     // Whenever the process is killed, the next run finds what it may build on, and a crash leaves the note.
     ghost also_changes = { λ old step result new.
-        S.model.honest → Passes S.model old.run.system new.run.system (MayEnd (S.model.machine old.run.system)) };
+        S.model.honest → Passes S.model old.run.system new.run.system
+        (MayEnd (S.model.machine old.run.system)) };
 
     ghost counts_now = { λ disk t image honest le is.
         left_now S.model disk.run.system t image (S.holds_now disk.run.system t honest le) is };
 
     ghost only_now = { λ disk image honest left.
-        left_only_now S.model disk.run.system image (λ m. S.only_now disk.run.system m honest) left };
+        left_only_now S.model disk.run.system image
+        (λ m. S.only_now disk.run.system m honest) left };
 
-    ghost whole = { λ disk honest. folder_whole (S.model.machine disk.run.system) (S.sound disk.run.system honest) };
+    ghost whole = { λ disk honest.
+        folder_whole (S.model.machine disk.run.system) (S.sound disk.run.system honest) };
 
     fn failures(&self) -> u64 {
         self.failures

@@ -258,8 +258,8 @@ impl<S: System + Drop> Run<S> {
     fn have_noted(&mut self, several: bool) -> Result<(), Refusal>
         requires more { self.old.several ≡ true → several ≡ true }
         requires kept { is_kept self.old.names ≡ true }
-        ensures noted { S.model.honest → OnOk result
-            ((S.model.machine self.new.system).note ≡ record { on_device = false; several = several }) }
+        ensures noted { S.model.honest → OnOk result ((S.model.machine self.new.system).note
+            ≡ record { on_device = false; several = several }) }
         ensures same { (self.new.store ≡ self.old.store) × (self.new.next ≡ self.old.next)
             × (self.new.names ≡ self.old.names) × (self.new.several ≡ self.old.several) }
         ensures only { S.model.honest
@@ -294,9 +294,10 @@ impl<S: System + Drop> Run<S> {
     fn note_append(&mut self) -> Result<(), Refusal>
         requires may { may_change self.old.names ≡ true }
         requires kept { is_kept self.old.names ≡ true }
-        ensures off { S.model.honest → OnOk result ((S.model.machine self.new.system).note.on_device ≡ false) }
-        ensures told { S.model.honest → OnOk result
-            (self.old.store ≡ Bytes.Pending → all_several (notes_of (S.model.machine self.new.system)) ≡ true) }
+        ensures off { S.model.honest
+            → OnOk result ((S.model.machine self.new.system).note.on_device ≡ false) }
+        ensures told { S.model.honest → OnOk result (self.old.store ≡ Bytes.Pending
+            → all_several (notes_of (S.model.machine self.new.system)) ≡ true) }
         ensures same { (self.new.store ≡ self.old.store) × (self.new.next ≡ self.old.next)
             × (self.new.names ≡ self.old.names) × (self.new.several ≡ self.old.several) }
         ensures only { S.model.honest
@@ -481,7 +482,8 @@ impl<S: System + Drop> Run<S> {
     /// Gives `next.yaml` the name `store.yaml`.
     fn replace_store(&mut self) -> Result<(), Refusal>
         requires may { may_change self.old.names ≡ true }
-        requires there { S.model.honest → IsSome (folder_of (S.model.machine self.old.system)).now.next }
+        requires there { S.model.honest
+            → IsSome (folder_of (S.model.machine self.old.system)).now.next }
         requires off { S.model.honest → (S.model.machine self.old.system).note.on_device ≡ false }
         ensures { S.model.honest → Goes S.model RenameNext
             self.old.several self.old.system result self.new.several self.new.system }
@@ -500,7 +502,8 @@ impl<S: System + Drop> Run<S> {
     /// is.
     fn take_free_name(&mut self) -> Result<(), Refusal>
         requires may { may_change self.old.names ≡ true }
-        requires there { S.model.honest → IsSome (folder_of (S.model.machine self.old.system)).now.next }
+        requires there { S.model.honest
+            → IsSome (folder_of (S.model.machine self.old.system)).now.next }
         requires free { S.model.honest → (S.model.machine self.old.system).now.store ≡ None }
         requires off { S.model.honest → (S.model.machine self.old.system).note.on_device ≡ false }
         ensures { S.model.honest → Goes S.model RenameNext
@@ -577,9 +580,10 @@ impl<S: System + Drop> Run<S> {
 
 /// Removes a `next.yaml` that is another name of `store.yaml`.
 fn unlink_linked<S: System>(system: &mut S) -> Result<(), Refusal>
-    ensures apart { S.model.honest → OnOk result
-        (are_linked (S.model.machine system.new).now.store (S.model.machine system.new).now.next ≡ false) }
-    ensures same { S.model.honest → HasSameNotes (S.model.machine system.old) (S.model.machine system.new) }
+    ensures apart { S.model.honest → OnOk result (let m = S.model.machine system.new in
+        are_linked m.now.store m.now.next ≡ false) }
+    ensures same { S.model.honest
+        → HasSameNotes (S.model.machine system.old) (S.model.machine system.new) }
 {
     if NEXT.blame(system.are_linked())? {
         NEXT.blame(system.unlink_next())?;

@@ -15,7 +15,8 @@ use Rattle.conf_disk.specs.Image.{Image, IsImage, IsTornAt, IsMade, IsStage, IsW
 use Rattle.conf_disk.specs.Image as image
 use Rattle.conf_disk.proofs.Worn.{IsWorn-behind, IsWorn-more}
 use Rattle.conf_system.specs.declared.system.Note.{Note}
-use Rattle.conf_system.specs.Machine.{Version, Held, Machine, empty_held, version_bytes, stages, are_linked, apart, sure_count, cut_at, file_of}
+use Rattle.conf_system.specs.Machine.{Version, Held, Machine, empty_held, version_bytes, stages, are_linked, apart}
+use Rattle.conf_system.specs.Machine.{sure_count, cut_at, file_of}
 use Rattle.conf_system.specs.Machine.{notes_of, all_several}
 use Rattle.conf_system.specs.Crash.{IsTorn, IsLeftOf, IsLeftAt, CrashLeaves, IsFront, IsSound}
 use Rattle.conf_system.specs.Folders.{same_place, same_stage, first_of, stages_before, stage_of, folder_of, IsTold}
@@ -129,7 +130,8 @@ sound-whole m sound =
     let kept = disk.stages (folder_of m) in
     subst (λ (count : ℕ). All (IsStage count staged) kept) (sym (length-map m.files file_of))
     (All-weaker (Contains kept) P
-    (λ s has. All-contains P (map stage_of m.earlier ++ stage_of m.now ∷ []) s all (kept-among (map stage_of m.earlier) (stage_of m.now) s has))
+    (λ s has. All-contains P (map stage_of m.earlier ++ stage_of m.now ∷ []) s all
+    (kept-among (map stage_of m.earlier) (stage_of m.now) s has))
     kept (All-contains_itself kept))
 
 -- each version has as many bytes on the device as are sure

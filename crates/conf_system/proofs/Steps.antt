@@ -15,7 +15,9 @@ use Rattle.conf_disk.specs.Image.{IsMade}
 use Rattle.conf_disk.specs.declared.disk.Name.TheVariants as disk_name
 use Rattle.conf_system.specs.declared.system.FileName.TheVariants.{Store, Next}
 use Rattle.conf_system.specs.Machine.{Version, Held, Machine, empty_held, version_bytes, stages, with_now, with_file, with_pending, synced}
-use Rattle.conf_system.specs.Machine.{settled, CreateNext, Write, Sync, RenameNext, LinkNext, UnlinkNext, SyncFolder, MayBeCalled, after, failing, with_renamed, are_linked, apart, notes_of, all_several, sure_count, cut_at, file_of}
+use Rattle.conf_system.specs.Machine.{settled, CreateNext, Write, Sync, RenameNext, LinkNext, UnlinkNext, SyncFolder}
+use Rattle.conf_system.specs.Machine.{MayBeCalled, after, failing, with_renamed, are_linked, apart, notes_of}
+use Rattle.conf_system.specs.Machine.{all_several, sure_count, cut_at, file_of}
 use Rattle.conf_system.specs.Crash.{IsSound}
 use Rattle.conf_system.specs.Folders.{MayAppend, same_place, same_stage, first_of, stages_before, stage_of, folder_of, IsSure}
 

@@ -5,7 +5,8 @@ use Rattle.conf_system.specs.Folders.{folder_of, IsTold}
 use Rattle.conf_protocol.specs.Copying.{IsKept, IsPlaced}
 use Rattle.conf_protocol.proofs.Known.{safe-off}
 use Rattle.conf_protocol.proofs.Moving.{Changes-call, Changes-quiet, Changes-then, Quiet-joined}
-use Rattle.conf_protocol.proofs.Copied.{IsReady, IsPlacing, ready-copied, may-place, placing-done, placing-part, Copies-quiet, Quiet-placing}
+use Rattle.conf_protocol.proofs.Copied.{IsReady, IsPlacing, ready-copied, may-place, placing-done, placing-part}
+use Rattle.conf_protocol.proofs.Copied.{Copies-quiet, Quiet-placing}
 use Rattle.conf_protocol.proofs.Copied.{placed-done, placed-copied, kept-copied, kept-joined, settled-kept, kept-none}
 use Rattle.conf_protocol.proofs.Told.{told-settled}
 use Rattle.conf_protocol.proofs.Shown.{call-either, blamed-ok, results, on-ok, on-err, err-always}

@@ -40,7 +40,8 @@ loop-done-preserved g c =
     let done = c.loop-done.done in
     let count = c.in-Ok-write_rest.count in
     let within : done + count ≤ length bytes = search rules in
-    let wrote = λ (h : model.honest). wrote-more model c.args.name bytes done count c.args.system.now c.loop-done.system c.write_rest.new.self
+    let wrote = λ (h : model.honest). wrote-more model c.args.name bytes done count c.args.system.now c.loop-done.system
+    c.write_rest.new.self
     within (c.loop-done.invariant.1 h)
     (subst (λ (l : List ℕ). Wrote model (WriteRest c.args.name) l count c.loop-done.system c.write_rest.new.self)
     (to_end done bytes) (c.in-Ok-write_rest.ensures h)) in (

@@ -28,12 +28,14 @@ returns-clause-goes g c =
       | in-Store w ↦ subst (λ done. Goes model step run.several old done c.match-name.self.run.several mid) (sym w.done-is)
           (subst (λ run. Goes model step c.args.self.now.run.several old w.append_store-done.result run.several run.system)
           (sym (ap (λ self. self.run) w.self-is))
-          (subst (λ name. Goes model (disk.Append name c.args.bytes.now) run.several old w.append_store-done.result w.append_store-done.new.self.several
+          (subst (λ name. Goes model (disk.Append name
+          c.args.bytes.now) run.several old w.append_store-done.result w.append_store-done.new.self.several
           w.append_store-done.new.self.system) (sym w.in-Store.is) (w.append_store-done.ensures h)))
       | in-Next w ↦ subst (λ done. Goes model step run.several old done c.match-name.self.run.several mid) (sym w.done-is)
           (subst (λ run. Goes model step c.args.self.now.run.several old w.append_next-done.result run.several run.system)
           (sym (ap (λ self. self.run) w.self-is))
-          (subst (λ name. Goes model (disk.Append name c.args.bytes.now) run.several old w.append_next-done.result w.append_next-done.new.self.several
+          (subst (λ name. Goes model (disk.Append name
+          c.args.bytes.now) run.several old w.append_next-done.result w.append_next-done.new.self.several
           w.append_next-done.new.self.system) (sym w.in-Next.is) (w.append_next-done.ensures h)))
     ] in all) in record {
       change = λ h. subst (λ s. disk.Performs step (folder_of (model.machine old)) (folder_of (model.machine s)) c.count.result) (sym same)
@@ -59,12 +61,14 @@ returns-clause-also g c h =
       | in-Store w ↦ subst (λ done. Goes model step run.several old done c.match-name.self.run.several mid) (sym w.done-is)
           (subst (λ run. Goes model step c.args.self.now.run.several old w.append_store-done.result run.several run.system)
           (sym (ap (λ self. self.run) w.self-is))
-          (subst (λ name. Goes model (disk.Append name c.args.bytes.now) run.several old w.append_store-done.result w.append_store-done.new.self.several
+          (subst (λ name. Goes model (disk.Append name
+          c.args.bytes.now) run.several old w.append_store-done.result w.append_store-done.new.self.several
           w.append_store-done.new.self.system) (sym w.in-Store.is) (w.append_store-done.ensures h)))
       | in-Next w ↦ subst (λ done. Goes model step run.several old done c.match-name.self.run.several mid) (sym w.done-is)
           (subst (λ run. Goes model step c.args.self.now.run.several old w.append_next-done.result run.several run.system)
           (sym (ap (λ self. self.run) w.self-is))
-          (subst (λ name. Goes model (disk.Append name c.args.bytes.now) run.several old w.append_next-done.result w.append_next-done.new.self.several
+          (subst (λ name. Goes model (disk.Append name
+          c.args.bytes.now) run.several old w.append_next-done.result w.append_next-done.new.self.several
           w.append_next-done.new.self.system) (sym w.in-Next.is) (w.append_next-done.ensures h)))
     ] in
     subst (λ s. Passes model old s (MayEnd (model.machine old))) (sym same) (ends-always model old mid all.moments)
@@ -75,7 +79,8 @@ returns-in_err-may_fail-clause-goes g c =
     let old = c.args.self.now.run.system in
     let told = c.in_err-may_fail.ensures.spent in
     let device = is-device c.from_residual.result c.in_err-may_fail.field-0.0 c.from_residual.ensures.1 told.0 in record {
-      change = λ h. performs-none (disk.Append c.args.name c.args.bytes.now) (folder_of (model.machine old)) c.from_residual.result c.from_residual.ensures.0;
+      change = λ h. performs-none (disk.Append c.args.name c.args.bytes.now) (folder_of (model.machine old)) c.from_residual.result
+          c.from_residual.ensures.0;
       spent = λ h is. refl;
       time = λ h. Elapses-of model old old (λ t. g.met.S.System.holds_now old t h) (Changes-quiet model old old (Quiet-none model old));
       failures = counts-spent c.args.self.now.failures c.from_residual.result told.1 device;

@@ -16,8 +16,10 @@ returns-clause-goes g c =
     let old = c.args.self.now.run.system in
     let mid = c.create_next-done.new.self.system in
     let same = ap (λ run. run.system) c.count.ensures.same in record {
-      change = λ h. subst (λ s. disk.Performs disk.CreateNext (folder_of (model.machine old)) (folder_of (model.machine s)) c.count.result) (sym same)
-          (performs disk.CreateNext (folder_of (model.machine old)) (folder_of (model.machine mid)) c.create_next-done.result c.count.result Device
+      change = λ h. subst (λ s. disk.Performs disk.CreateNext (folder_of (model.machine old)) (folder_of (model.machine s))
+          c.count.result) (sym same)
+          (performs disk.CreateNext (folder_of (model.machine old)) (folder_of (model.machine mid)) c.create_next-done.result
+          c.count.result Device
           c.count.ensures.told (c.create_next-done.ensures h).change);
       spent = λ h is. absurd (omega (arith, is, c.in_ok-may_fail.ensures.counted));
       time = λ h. subst (λ s. Elapses (model.moment old) (model.moment s) (LeftSince model old) (LeftSince model s)
@@ -33,7 +35,8 @@ returns-clause-also g c h =
     let old = c.args.self.now.run.system in
     let mid = c.create_next-done.new.self.system in
     let same = ap (λ run. run.system) c.count.ensures.same in
-    subst (λ s. Passes model old s (MayEnd (model.machine old))) (sym same) (ends-always model old mid (c.create_next-done.ensures h).moments)
+    subst (λ s. Passes model old s (MayEnd (model.machine old))) (sym same)
+    (ends-always model old mid (c.create_next-done.ensures h).moments)
 
 pub returns-in_err-may_fail-clause-goes : goal.returns-in_err-may_fail-clause-goes
 returns-in_err-may_fail-clause-goes g c =

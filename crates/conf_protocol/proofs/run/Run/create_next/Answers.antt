@@ -19,7 +19,8 @@ invariant_of-self g c =
     let may : may_change names ≡ true = c.changed-self.ensures.may ∙ c.in_ok-may_change.ensures in
     let unsettled = c.changed-self.ensures.unsettled in
     let holds = λ (h : model.honest). (
-    let held = other_names run.store run.next run.names names run.several run.note m c.changed-self.ensures.kept c.changed-self.ensures.may unsettled
+    let held = other_names run.store run.next run.names names run.several run.note m c.changed-self.ensures.kept
+    c.changed-self.ensures.may unsettled
     (record { known = run.known h; safe = run.safe h; noted = run.noted h }) in
     let sound = g.met.S.System.sound run.system h in
     call-either CreateNext m new c.create_next.result (Holds run.store Unsure names run.several run.note)
@@ -42,7 +43,8 @@ invariant_of-self-2 g c =
     let may : may_change names ≡ true = c.changed-self.ensures.may ∙ c.in_ok-may_change.ensures in
     let unsettled = c.changed-self.ensures.unsettled in
     let holds = λ (h : model.honest). (
-    let held = other_names run.store run.next run.names names run.several run.note m c.changed-self.ensures.kept c.changed-self.ensures.may unsettled
+    let held = other_names run.store run.next run.names names run.several run.note m c.changed-self.ensures.kept
+    c.changed-self.ensures.may unsettled
     (record { known = run.known h; safe = run.safe h; noted = run.noted h }) in
     let done : new ≡ after CreateNext m = blamed-ok c.create_next.result _ _ (λ _. new ≡ after CreateNext m) _
     c.in_ok-blame.ensures (c.create_next.ensures.change h) in

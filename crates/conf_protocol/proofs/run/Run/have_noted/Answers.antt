@@ -15,7 +15,8 @@ invariant_of-self g c =
       known = λ h. call-either (WriteNote note) (g.S.System.model.machine run.system) (g.S.System.model.machine c.write_note.new.self)
           c.write_note.result (Knows run.store run.next run.names run.several) (c.write_note.ensures.change h)
           (knows-noted run.store run.next run.names run.several (g.S.System.model.machine run.system) note c.requires.more (run.known h))
-          (knows-note_part run.store run.next run.names run.several (g.S.System.model.machine run.system) note c.requires.more (run.known h));
+          (knows-note_part run.store run.next run.names run.several (g.S.System.model.machine run.system) note c.requires.more
+          (run.known h));
       safe = λ h. call-either (WriteNote note) (g.S.System.model.machine run.system) (g.S.System.model.machine c.write_note.new.self)
           c.write_note.result IsSafe (c.write_note.ensures.change h)
           (safe-off (after (WriteNote note) (g.S.System.model.machine run.system)) refl)

@@ -26,7 +26,8 @@ invariant_of-result-2 g c =
           subst (IsNoted note) (sym (ap model.machine w.system-is ∙ synced)) (noted-synced note old read at.0 at.1))
       | else-note-2 w ↦
           subst (IsNoted note) (sym (ap model.machine w.system-is))
-          (noted-read note old read at.0 at.1 (λ is. absurd (let no : note.several ≡ false = search rules in let both : true ≡ false = sym is ∙ no in cc)))
+          (noted-read note old read at.0 at.1
+          (λ is. absurd (let no : note.several ≡ false = search rules in let both : true ≡ false = sym is ∙ no in cc)))
     ] in
     noted-same note mid apart (c.unlink_linked.ensures.same h) of_mid) in
     let done = λ (h : model.honest). (

@@ -37,8 +37,10 @@ returns-in-Err g c h =
     let model = g.S.System.model in
     let run = c.args.self.now in
     let m = model.machine run.system in
-    subst (λ (is : Bool). Goes model disk.SyncFolder run.several run.system (Err c.refusal.result) is c.note_doubt.new.self.system) (sym c.note_doubt.ensures.same)
-    (Goes-before model disk.SyncFolder run.several run.several run.system c.sync_folder.new.self (Err c.refusal.result) c.note_doubt.new.self.system
+    subst (λ (is : Bool). Goes model disk.SyncFolder run.several run.system (Err c.refusal.result) is c.note_doubt.new.self.system)
+    (sym c.note_doubt.ensures.same)
+    (Goes-before model disk.SyncFolder run.several run.several run.system c.sync_folder.new.self (Err c.refusal.result)
+    c.note_doubt.new.self.system
     (Goes-failed model SyncFolder disk.SyncFolder run.several run.system (Err c.refusal.result) c.sync_folder.new.self refl
     (c.in-Err.ensures.change h) (c.sync_folder.ensures.time h) (settle-part run.several m (run.safe h)))
     (c.note_doubt.ensures.quiet h))

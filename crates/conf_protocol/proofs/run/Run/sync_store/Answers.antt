@@ -54,9 +54,11 @@ returns-in-Err g c h =
     let model = g.S.System.model in
     let run = c.args.self.now in
     let m = model.machine run.system in
-    subst (λ (is : Bool). Goes model (disk.Sync disk_name.Store) run.several run.system (Err c.refusal.result) is c.note_doubt.new.self.system)
+    subst (λ (is : Bool). Goes model (disk.Sync disk_name.Store) run.several run.system (Err c.refusal.result) is
+    c.note_doubt.new.self.system)
     (sym c.note_doubt.ensures.same)
-    (Goes-before model (disk.Sync disk_name.Store) run.several run.several run.system c.sync.new.self (Err c.refusal.result) c.note_doubt.new.self.system
+    (Goes-before model (disk.Sync disk_name.Store) run.several run.several run.system c.sync.new.self (Err c.refusal.result)
+    c.note_doubt.new.self.system
     (Goes-failed model (Sync Store) (disk.Sync disk_name.Store) run.several run.system (Err c.refusal.result) c.sync.new.self refl
     (c.in-Err.ensures.change h) (c.sync.ensures.time h)
     (sync_store-part run.several m (g.met.S.System.sound run.system h) (run.safe h)))

@@ -43,11 +43,13 @@ returns-in_err-blame-in-Linked g c h =
     let off = ap (λ (n : Note). n.on_device) (ap (λ (x : Machine). x.note) part.1 ∙ unlink-note mid part.0
     ∙ ap (λ (x : Machine). x.note) done) ∙ c.requires.off h in
     let linked : Goes {E = Refusal} model disk.RenameNext run.several run.system (Ok tt) false c.link_next.new.self =
-    Goes-done model LinkNext disk.RenameNext run.several false run.system (Ok tt) c.link_next.new.self refl done (c.link_next.ensures.time h)
+    Goes-done model LinkNext disk.RenameNext run.several false run.system (Ok tt) c.link_next.new.self refl done
+    (c.link_next.ensures.time h)
     (link-step run.several m (some, c.requires.free h) (c.requires.off h)) in
     Goes-before model disk.RenameNext run.several false run.system c.link_next.new.self c.from_residual-in_err-blame-in-Linked.result
     c.unlink_next.new.self
-    (Goes-late model disk.RenameNext run.several false run.system (Ok tt) c.from_residual-in_err-blame-in-Linked.result c.link_next.new.self 2
+    (Goes-late model disk.RenameNext run.several false run.system (Ok tt) c.from_residual-in_err-blame-in-Linked.result
+    c.link_next.new.self 2
     refl c.from_residual-in_err-blame-in-Linked.ensures.0 refl linked)
     (Quiet-call model c.link_next.new.self c.unlink_next.new.self (c.unlink_next.ensures.time h) same (safe-off new off)
     (λ told. subst IsTold (sym part.1) (unlink-told mid part.0 told)))
@@ -71,7 +73,8 @@ returns-in_ok-blame-in-Linked g c h =
     let off = ap (λ (n : Note). n.on_device) (ap (λ (x : Machine). x.note) last
     ∙ ap (λ (x : Machine). x.note) done) ∙ c.requires.off h in
     Goes-before model disk.RenameNext run.several false run.system c.link_next.new.self (Ok tt) c.unlink_next.new.self
-    (Goes-done model LinkNext disk.RenameNext run.several false run.system (Ok tt) c.link_next.new.self refl done (c.link_next.ensures.time h)
+    (Goes-done model LinkNext disk.RenameNext run.several false run.system (Ok tt) c.link_next.new.self refl done
+    (c.link_next.ensures.time h)
     (link-step run.several m (some, c.requires.free h) (c.requires.off h)))
     (Quiet-call model c.link_next.new.self c.unlink_next.new.self (c.unlink_next.ensures.time h) same (safe-off new off)
     (λ told. subst IsTold (sym last) (unlink-told mid 1 told)))
