@@ -17,7 +17,7 @@
 //!    that has the greatest column not above its own. Below a literal it is at most as the collection that holds it.
 //! 4. One empty line is kept above a line, or above a comment on a line of its own, if its first token or its `#` is
 //!    the first on its line of the text, perhaps behind a `---`, and the line above that is blank. There is none at the
-//!    start, and none directly behind the body of a literal `|+`.
+//!    start, and none directly behind the body of a literal whose last line is blank, as that of each `|+` is.
 //!
 //! A comment is its `#` and what follows on its line, without spaces and TABs at the end. Directives are not kept.
 #![tactic(auto)]
