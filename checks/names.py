@@ -13,7 +13,7 @@
 - CONTRIBUTING.md: in the table of a new command, each file of a crate is there, and has the command of its column.
 - docs/TRUSTED.md: each file of definitions is there.
 - docs/GUIDE.md, docs/OPERATING.md and README.md: each word behind `confstore` is one of the program's; the guide has
-  all of them.
+  all of them. Each word behind `confstorectl` on any page is one of its table.
 - docs/OPERATING.md: the table of faults has each fault for which docs/FAULTS.md points to it, and no name that is none.
 - PAGES: each page, script and picture that they name is there: beside the page, from the top, in checks/ or bench/.
 - crates.txt: a library that a line names is in the files of the line's crate, and from no crate are there more than
@@ -286,6 +286,14 @@ def wrong_words() -> Iterator[str]:
             yield from (f"{path}: the word `{word}` is missing" for word in sorted(words - named))
 
 
+def wrong_ctl_words() -> Iterator[str]:
+    words = set(runpy.run_path(os.path.join(TOP, "python", "confstore", "ctl_words.py"))["WORDS"]) | {"help"}
+    for pattern in PAGES:
+        for path in sorted(glob.glob(os.path.join(TOP, pattern))):
+            named = set(re.findall(r"(?m)(?:^    .*?|`)\bconfstorectl ([a-z]+)\b", page(path)))
+            yield from (f"{os.path.relpath(path, TOP)}: confstorectl {word}" for word in sorted(named - words))
+
+
 def missing_files() -> Iterator[str]:
     for pattern in PAGES:
         for path in sorted(glob.glob(os.path.join(TOP, pattern))):
@@ -369,8 +377,8 @@ def wrong_copies() -> Iterator[str]:
 def main() -> int:
     looks = (missing_in_rules, missing_in_proofs, wrong_in_faults, wrong_statuses, wrong_in_operating, wrong_limits,
              wrong_in_architecture, wrong_in_contributing, wrong_in_drawing, missing_definitions,
-             wrong_words, missing_files, unused_libraries, many_ways, wrong_pictures, mixed_scripts, wrong_remedies,
-             wrong_copies)  # fmt: skip
+             wrong_words, wrong_ctl_words, missing_files, unused_libraries, many_ways, wrong_pictures, mixed_scripts,
+             wrong_remedies, wrong_copies)  # fmt: skip
     missing = [line for look in looks for line in look()]
     for line in missing:
         print(line)

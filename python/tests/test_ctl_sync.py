@@ -9,7 +9,7 @@ from unittest import mock
 
 from confstore import Reader, Store, ctl
 from confstore.ctl_exchange import Exchange
-from confstore.style import Tree
+from confstore.style import Tree, to_text
 
 from .test_ctl_back import START, WRITERS, HistoryTest
 
@@ -167,6 +167,24 @@ class ImportEdits(SyncTest):
         assert isinstance(web, dict)
         wanted: Tree = {**web, "port": "81"}
         self.assertEqual((self.web(), self.count()), (wanted, 3))
+
+
+    def test_four_at_once(self) -> None:
+        """Each text was there whole, one after the other: the edits of one are not mixed with those of another."""
+        texts: "list[Tree]" = [{"port": str(n), **{f"k{n}": "x"}, "l": [str(n)] * n} for n in range(WRITERS)]
+        statuses: "list[int]" = []
+
+        def does(text: str) -> None:
+            statuses.append(self.ctl("import", "web", "-", "--edits", "--wait", "60", given=text)[0])
+
+        threads = [threading.Thread(target=does, args=(to_text(tree),)) for tree in texts]
+        for thread in threads:
+            thread.start()
+        for thread in threads:
+            thread.join()
+        self.assertEqual(statuses, [0] * WRITERS)
+        states = [Reader(self.folder).at(number).get("web") for number in range(2, self.count() + 1)]
+        self.assertEqual(sorted(map(to_text, states)), sorted(map(to_text, texts)))
 
 
 class ExportAll(SyncTest):
