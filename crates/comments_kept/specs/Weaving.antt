@@ -1,6 +1,24 @@
 -- A tree's text that is woven with comments and empty lines: what a step of the writing adds, and what it takes.
-use Rattle.std.specs.Prelude.{◌≡◌, ◌⊎◌, ◌<◌, Bool, true, false, ℕ, ◌+◌, List, [], ◌∷◌, ◌++◌, Option, Some, None,
-    codes, encode_utf8_all, string_bytes}
+use Rattle.std.specs.Prelude.{
+  ◌≡◌,
+  ◌⊎◌,
+  ◌<◌,
+  Bool,
+  true,
+  false,
+  ℕ,
+  ◌+◌,
+  List,
+  [],
+  ◌∷◌,
+  ◌++◌,
+  Option,
+  Some,
+  None,
+  codes,
+  encode_utf8_all,
+  string_bytes,
+}
 use Rattle.std.specs.Prelude.{flat_map, drop, length}
 use Rattle.std.proofs.Common.{get_or}
 use Rattle.std.specs.List.{AllByRecursion, list_all}

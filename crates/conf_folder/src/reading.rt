@@ -39,8 +39,8 @@ pub fn open_store_file<R: Files<File = File>>(
 }
 
 /// Whether several records of the store in the folder at a path may have waited for one sync when the machine stopped,
-/// by the length of its `store.lock`. It is also true where no run has noted that, or the length can't be read. It takes
-/// no lock, and opens no file, since who may only read the store may not open this one.
+/// by the length of its `store.lock`. It is also true where no run has noted that, or the length can't be read. It
+/// takes no lock, and opens no file, since who may only read the store may not open this one.
 pub fn may_several_wait<R: Files<File = File>>(rt: &R, alloc: Global, folder: &str) -> bool {
     let Ok(folder) = OpenFolder::new(rt, alloc, folder) else {
         return true;

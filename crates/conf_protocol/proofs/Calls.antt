@@ -204,11 +204,6 @@ pub looked : (files : List Held) (place : Option ℕ) (found : Option ℕ)
 looked files None found is some = sym (ap is_some is) ∙ some
 looked files (Some id) found is some = refl
 
-pub looked-none : (files : List Held) (place : Option ℕ) (found : Option ℕ)
-    → found ≡ option_map length (option_map version_bytes (version_at files place)) → found ≡ None → place ≡ None
-looked-none files None found is none = refl
-looked-none files (Some id) found is none = cc
-
 -- there is a staged file
 pub next-some : (m : Machine) → are_linked m.now.store m.now.next ≡ false → IsSome (folder_of m).now.next → IsSome m.now.next
 next-some m other some = sym (ap is_some (apart-same m.now.store m.now.next other)) ∙ some

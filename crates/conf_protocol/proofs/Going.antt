@@ -8,23 +8,12 @@ use Rattle.conf_system.specs.Models.{SystemModel, Passes}
 use Rattle.conf_system.specs.Folders.{folder_of, IsTold}
 use Rattle.conf_protocol.specs.Keeps.{IsSafe, IsExact}
 use Rattle.conf_protocol.specs.Moments.{Goes, Quiet, Changes}
-use Rattle.conf_protocol.proofs.Moving.{Changes-call, Changes-quiet, Changes-then, Changes-before}
+use Rattle.conf_protocol.proofs.Moving.{Changes-call, Changes-then, Changes-before}
 
 -- where nothing of the folder changes, what is said of the note stays exact
 pub exact-quiet : {S : Type 0} (model : SystemModel S) (several : Bool) (old new : S) → Quiet model old new
     → IsExact several (model.machine old) → IsExact several (model.machine new)
 exact-quiet model several old new quiet is = ap several_waited quiet.folder ∙ is
-
--- a step that fails and changes nothing
-pub Goes-fails : {S E : Type 0} (model : SystemModel S) (step : Step) (several : Bool) (old : S)
-    (result : Result (Unit {0}) E) (new : S) → IsErr result → Quiet model old new
-    → Goes model step several old result several new
-Goes-fails model step several old (Ok done) new failed quiet = cc
-Goes-fails model step several old (Err error) new failed quiet = record {
-  change = (0, quiet.folder);
-  moments = Changes-quiet model old new quiet;
-  exact = exact-quiet model several old new quiet;
-}
 
 -- nothing changes, and then a step goes so
 pub Goes-then : {S E : Type 0} (model : SystemModel S) (step : Step) (was is : Bool) (old mid : S)

@@ -5,7 +5,7 @@ use Rattle.conf_disk.specs.Folder.{Folder}
 use Rattle.conf_disk.specs.Moments.{Elapses}
 use Rattle.conf_system.specs.Machine.{Machine}
 use Rattle.conf_system.specs.Folders.{folder_of, IsTold}
-use Rattle.conf_system.specs.Models.{SystemModel, Passes, Stays}
+use Rattle.conf_system.specs.Models.{SystemModel, Passes}
 use Rattle.conf_protocol.specs.Keeps.{IsSafe}
 use Rattle.conf_protocol.specs.Moments.{LeftSince, Changes, Quiet, MayEnd}
 use Rattle.conf_protocol.specs.MomentsLaws.{left_now}
@@ -85,12 +85,6 @@ Quiet-call model old new time same safe told = record {
 
 pub Quiet-none : {S : Type 0} (model : SystemModel S) (s : S) → Quiet model s s
 Quiet-none model s = record { moments = Passes-none model s _; told = λ is. is; folder = refl }
-
-pub Quiet-stays : {S : Type 0} (model : SystemModel S) (old new : S) → Stays model old new → IsSafe (model.machine old)
-    → Quiet model old new
-Quiet-stays model old new stays safe =
-    Quiet-call model old new stays.time (ap folder_of stays.same) (subst IsSafe (sym stays.same) safe)
-    (λ is. subst IsTold (sym stays.same) is)
 
 pub Quiet-joined : {S : Type 0} (model : SystemModel S) (old mid new : S) → Quiet model old mid → Quiet model mid new → Quiet model old new
 Quiet-joined model old mid new first second = record {

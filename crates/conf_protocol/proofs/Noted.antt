@@ -107,10 +107,6 @@ pub note-folder : (m : Machine) (note : Note) (k : ℕ) → folder_of (failing k
 note-folder m note zero = refl
 note-folder m note (suc k) = refl
 
-pub sync-folder : (m : Machine) (k : ℕ) → folder_of (failing k SyncNote m) ≡ folder_of m
-sync-folder m zero = refl
-sync-folder m (suc k) = refl
-
 -- a call that fails or not, of which only the notes tell, and nothing of the folder changes
 pub Quiet-noted : {S E : Type 0} (model : SystemModel S) (call : Call) (old new : S) (result : Result (Unit {0}) E)
     → MatchResult result (λ _. model.machine new ≡ after call (model.machine old))
@@ -174,10 +170,6 @@ pub told-note_part : (m : Machine) (note : Note) → HasOneStore m → (m.noted 
     → (k : ℕ) → IsTold (failing k (WriteNote note) m)
 told-note_part m note one more told zero = told
 told-note_part m note one more told (suc k) = told-noted m note one more told
-
-pub told-sync_part : (m : Machine) → IsTold m → (k : ℕ) → IsTold (failing k SyncNote m)
-told-sync_part m told zero = told
-told-sync_part m told (suc k) = λ stage among is. ap (λ (b : Bool). b && true) (all-last m.notes m.note (told stage among is))
 
 pub sync-note : (m : Machine) (k : ℕ) → (failing k SyncNote m).note ≡ m.note
 sync-note m zero = refl
