@@ -93,6 +93,14 @@ fn subsets(pages: usize) -> u64 {
     1 << pages.min(PAGES)
 }
 
+/// The number of the page that a place is in, where pages have so many bytes.
+fn page_of(place: usize, page: usize) -> usize {
+    match page {
+        0 => 0,
+        page => place / page,
+    }
+}
+
 /// The places of so many pending bytes whose pages are in a subset.
 fn places(
     alloc: Global,
@@ -102,7 +110,7 @@ fn places(
 ) -> Result<Vec<usize>, AllocError> {
     let mut places = Vec::new(alloc);
     for place in 0..pending {
-        let number = place / page;
+        let number = page_of(place, page);
         if number < PAGES && (subset >> number) % 2 == 1 {
             places.push(place)?;
         }
