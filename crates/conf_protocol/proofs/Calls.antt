@@ -225,3 +225,9 @@ unlink-note m (suc k) = refl
 pub unlink-told : (m : Machine) (k : ℕ) → IsTold m → IsTold (failing k UnlinkNext m)
 unlink-told m zero told = told
 unlink-told m (suc k) told = told-staged m m.files None told
+
+-- where both names lead to one file, nothing of the folder changes when one goes
+pub unlinked-folder : (m : Machine) → are_linked m.now.store m.now.next ≡ true → (k : ℕ)
+    → folder_of (failing k UnlinkNext m) ≡ folder_of m
+unlinked-folder m linked zero = refl
+unlinked-folder m linked (suc k) = unlink-none m linked

@@ -1,14 +1,16 @@
 -- What a disk reads is what the system reads.
 use Rattle.std.specs.Prelude.{option_map}
-use Rattle.std.proofs.Common.{◌≡◌, ℕ, List, length, map, get_or, take-append-drop, Option, Some, None, false, refl, ◌∙◌, ap}
+use Rattle.std.proofs.Common.{◌≡◌, ℕ, List, length, map, get_or, take-append-drop, Option, Some, None, false, refl, sym, ◌∙◌, ap}
 use Rattle.conf_disk.specs.Folder.{File, file_bytes}
 use Rattle.conf_disk.specs.Folder as disk
 use Rattle.conf_disk.specs.declared.disk.Name.{Name}
 use Rattle.conf_disk.specs.declared.disk.Name.TheVariants.{Store, Next}
-use Rattle.conf_system.specs.Machine.{Held, Machine, empty_held, version_bytes, version_at, bytes_under, file_of, sure_count, are_linked}
+use Rattle.conf_system.specs.Machine.{Held, Machine, empty_held, version_bytes, version_at, bytes_under, file_of}
+use Rattle.conf_system.specs.Machine.{sure_count, are_linked, SyncFolder, after}
 use Rattle.conf_system.specs.Folders.{folder_of}
 use Rattle.conf_system.proofs.Steps.{file_at, apart-same}
 use Rattle.conf_protocol.specs.Names.{file_name}
+use Rattle.conf_protocol.proofs.Frames.{at-settled}
 
 at-same : (files : List Held) (place : Option ℕ)
     → disk.bytes_at (map file_of files) place ≡ option_map version_bytes (version_at files place)
@@ -29,3 +31,13 @@ pub length-of : (bytes : Option (List ℕ)) (total : ℕ) → option_map length 
     → (b : List ℕ) × (bytes ≡ Some b) × (total ≡ length b)
 length-of None total is = cc
 length-of (Some b) total is = (b, refl, cc)
+
+-- a sync of the folder leaves what reads
+settled-bytes : (m : Machine) (name : Name) → bytes_under (after SyncFolder m) (file_name name) ≡ bytes_under m (file_name name)
+settled-bytes m Store = ap (option_map version_bytes) (at-settled m.files m.now.store)
+settled-bytes m Next = ap (option_map version_bytes) (at-settled m.files m.now.next)
+
+pub settled-reads : (m : Machine) (name : Name) → are_linked m.now.store m.now.next ≡ false
+    → disk.bytes_under (folder_of (after SyncFolder m)) name ≡ disk.bytes_under (folder_of m) name
+settled-reads m name apart =
+    read-same (after SyncFolder m) name (λ is. apart) ∙ settled-bytes m name ∙ sym (read-same m name (λ is. apart))

@@ -1,7 +1,8 @@
 -- What a disk over a system shows of its moments.
 use Rattle.std.specs.Prelude.{◌≡◌, ◌⊎◌, ℕ, Bool, Option, Result, MatchResult}
-use Rattle.conf_disk.specs.Folder.{Step, after, after_part}
+use Rattle.conf_disk.specs.Folder.{Step, after, after_part, bytes_under}
 use Rattle.conf_disk.specs.Image.{Image, IsImage}
+use Rattle.conf_disk.specs.declared.disk.Name.{Name}
 use Rattle.conf_system.specs.Machine.{Version, Machine, with_copy}
 use Rattle.conf_system.specs.Folders.{folder_of, IsTold}
 use Rattle.conf_system.specs.Models.{SystemModel, Passes}
@@ -45,6 +46,10 @@ pub record Goes {S E : Type 0} (model : SystemModel S) (step : Step)
       (λ _. (k : ℕ) × (folder_of (model.machine new) ≡ after_part k step (folder_of (model.machine old))))
   pub moments : Changes model old new
   pub exact : IsExact was (model.machine old) → IsExact is (model.machine new)
+
+-- each name of the disk reads as it did
+abbrev pub ReadsAsBefore : Machine → Machine → Type 0
+ReadsAsBefore old new = (name : Name) → bytes_under (folder_of new) name ≡ bytes_under (folder_of old) name
 
 -- nothing but the copy changed
 pub record Copies {S : Type 0} (model : SystemModel S) (old new : S) : Type 0 where

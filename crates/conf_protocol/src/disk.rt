@@ -1,8 +1,10 @@
 // The disk of a run, which counts failures.
-ghost use Rattle.std.specs.Prelude.{◌≡◌, ◌≢◌, ◌<◌, Ok, Err, OnOk, IfErr, MatchResult, ◌+◌, true};
+ghost use Rattle.std.specs.Prelude.{◌≡◌, ◌≢◌, ◌<◌, Ok, Err, OnOk, IfOk, IfErr, MatchResult, ◌+◌, true};
 ghost use Rattle.conf_disk.specs.Moments.{CountsFailures};
 ghost use Rattle.conf_disk.specs.declared.disk.Content.{Content};
+ghost use Rattle.conf_system.specs.Folders.{IsTold};
 ghost use Rattle.conf_protocol.specs.Keeps.{IsSafe, IsExact};
+ghost use Rattle.conf_protocol.specs.Moments.{Quiet, ReadsAsBefore};
 ghost use Rattle.conf_protocol.specs.States.{IsDiskStateOf};
 
 use crate::refusal::Refusal;
@@ -68,6 +70,10 @@ impl<S: System + Drop> SystemDisk<S> {
     /// If the system refuses.
     pub fn open(system: S) -> Result<Self, Refusal>
         requires { S.model.honest → IsSafe (S.model.machine system) }
+        ensures reads { S.model.honest → IfOk result (λ disk.
+            ReadsAsBefore (S.model.machine system) (S.model.machine disk.run.system)) }
+        ensures told { S.model.honest → IfOk result (λ disk.
+            IsTold (S.model.machine disk.run.system)) }
     {
         match Run::open(system) {
             Ok(run) => Ok(SystemDisk {
@@ -83,6 +89,7 @@ impl<S: System + Drop> SystemDisk<S> {
     pub fn for_reading(system: S) -> Self
         requires safe { S.model.honest → IsSafe (S.model.machine system) }
         requires unread { S.model.honest → IsExact true (S.model.machine system) }
+        ensures { result.run.system ≡ system }
     {
         SystemDisk {
             run: Run::for_reading(system),
@@ -94,7 +101,8 @@ impl<S: System + Drop> SystemDisk<S> {
     /// Ends the run. If the device has all bytes of `store.yaml`, and its name, that is noted, unless the system
     /// refuses.
     pub fn release(self) -> S
-        ensures { S.model.honest → IsSafe (S.model.machine result) }
+        ensures safe { S.model.honest → IsSafe (S.model.machine result) }
+        ensures quiet { S.model.honest → Quiet S.model self.run.system result }
     {
         let SystemDisk { run, .. } = self;
         run.release()

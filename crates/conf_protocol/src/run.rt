@@ -1,12 +1,12 @@
 // A run on a folder: what it knows of the files, what it notes, and by which calls it changes them.
 ghost use Rattle.std.specs.Prelude.{◌≡◌, ◌≢◌, ℕ, true, false, not, None, Some, IsSome, OnOk, IfOk, IsTrue, ◌↔◌};
 ghost use Rattle.conf_disk.specs.Folder.{CreateNext, Append, Sync, RenameNext, RemoveNext, SyncFolder, Reads};
-ghost use Rattle.conf_system.specs.Folders.{folder_of};
+ghost use Rattle.conf_system.specs.Folders.{folder_of, IsTold};
 ghost use Rattle.conf_system.specs.Models.{Stays};
 ghost use Rattle.conf_protocol.specs.Keeps.{IsSafe, Knows, NoteIs, IsExact, HasOtherNotes, HasSameNotes};
 ghost use Rattle.conf_protocol.specs.Keeps.{may_change, is_kept, bytes_after, several_after};
 ghost use Rattle.conf_system.specs.Machine.{is_any, notes_of, all_several, are_linked};
-ghost use Rattle.conf_protocol.specs.Moments.{Goes, Quiet};
+ghost use Rattle.conf_protocol.specs.Moments.{Goes, Quiet, ReadsAsBefore};
 ghost use Rattle.conf_protocol.specs.States.{IsStateOf};
 
 use crate::copying::put_copy;
@@ -113,8 +113,11 @@ impl<S: System + Drop> Run<S> {
     /// A run on the folder of a system, however the run before ended.
     pub(crate) fn open(system: S) -> Result<Self, Refusal>
         requires { S.model.honest → IsSafe (S.model.machine system) }
-        ensures { S.model.honest → IfOk result (λ run.
+        ensures exact { S.model.honest → IfOk result (λ run.
             IsExact run.several (S.model.machine run.system)) }
+        ensures reads { S.model.honest → IfOk result (λ run.
+            ReadsAsBefore (S.model.machine system) (S.model.machine run.system)) }
+        ensures told { S.model.honest → IfOk result (λ run. IsTold (S.model.machine run.system)) }
     {
         let mut system = system;
         let note = Place::Lock.blame(system.read_note())?;
@@ -147,7 +150,9 @@ impl<S: System + Drop> Run<S> {
     pub(crate) fn for_reading(system: S) -> Self
         requires safe { S.model.honest → IsSafe (S.model.machine system) }
         requires unread { S.model.honest → IsExact true (S.model.machine system) }
-        ensures { S.model.honest → IsExact result.several (S.model.machine result.system) }
+        ensures exact { S.model.honest
+            → IsExact result.several (S.model.machine result.system) }
+        ensures system { result.system ≡ system }
     {
         Run {
             system,
@@ -584,6 +589,8 @@ fn unlink_linked<S: System>(system: &mut S) -> Result<(), Refusal>
         are_linked m.now.store m.now.next ≡ false) }
     ensures same { S.model.honest
         → HasSameNotes (S.model.machine system.old) (S.model.machine system.new) }
+    ensures folder { S.model.honest
+        → folder_of (S.model.machine system.new) ≡ folder_of (S.model.machine system.old) }
 {
     if NEXT.blame(system.are_linked())? {
         NEXT.blame(system.unlink_next())?;

@@ -76,8 +76,8 @@ RenamesAreSteps = (m : Machine) → MayBeCalled RenameNext m
     → folder_of (after RenameNext m) ≡ disk.after disk.RenameNext (folder_of m)
 
 -- the same of one that failed and was done
-abbrev pub FailedRenamesAreSteps : Type 0
-FailedRenamesAreSteps = (m : Machine) → MayBeCalled RenameNext m
+abbrev pub RenamesThatFailAreSteps : Type 0
+RenamesThatFailAreSteps = (m : Machine) → MayBeCalled RenameNext m
     → folder_of (failing 1 RenameNext m) ≡ disk.after_part 1 disk.RenameNext (folder_of m)
 
 -- the name that is added is the renaming
@@ -85,8 +85,8 @@ abbrev pub LinksAreSteps : Type 0
 LinksAreSteps = (m : Machine) → MayBeCalled LinkNext m
     → folder_of (after LinkNext m) ≡ disk.after disk.RenameNext (folder_of m)
 
-abbrev pub FailedLinksAreSteps : Type 0
-FailedLinksAreSteps = (m : Machine) → MayBeCalled LinkNext m
+abbrev pub LinksThatFailAreSteps : Type 0
+LinksThatFailAreSteps = (m : Machine) → MayBeCalled LinkNext m
     → folder_of (failing 1 LinkNext m) ≡ disk.after_part 1 disk.RenameNext (folder_of m)
 
 -- and nothing changes when the old one goes
