@@ -71,7 +71,7 @@ fn each_subset(alloc: Global, commands: u64, page: usize, note: Note) -> Result<
     let Some(pending) = disk.pending(0, Name::Store)? else {
         return Err(Wrong::NoImage);
     };
-    for subset in 0..subsets(pending.div_ceil(page)) {
+    for subset in 0..subsets(pages_in(pending, page)) {
         let places = places(alloc, pending, page, subset)?;
         let image = worn(alloc, &disk, pending, places, note)?;
         holed.note(open_image(alloc, image, expected))?;
@@ -91,6 +91,14 @@ fn submits(alloc: Global, commands: u64) -> Result<Vec<Call>, AllocError> {
 /// How many subsets so many pages have, or the greatest number of pages.
 fn subsets(pages: usize) -> u64 {
     1 << pages.min(PAGES)
+}
+
+/// How many pages so many bytes have, where pages have so many.
+fn pages_in(bytes: usize, page: usize) -> usize {
+    match page {
+        0 => 0,
+        page => bytes.div_ceil(page),
+    }
 }
 
 /// The number of the page that a place is in, where pages have so many bytes.
