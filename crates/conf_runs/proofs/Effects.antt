@@ -258,9 +258,9 @@ module _ {W D F P : Type 0} (world : WorldModel W D F P) (disk : DiskModel D) (r
   of-putting path [] old result new puts = same old new puts.0
   of-putting path (byte ∷ bytes) old result new puts = keeps.new_files path (byte ∷ bytes) old new result puts
 
-  of-kept : (folder path bytes : List ℕ) (old : W) (result : Result (Unit {0}) NewFileFault) (new : W)
-      → KeepsDropped world remaining folder path bytes old result new → Steady old new
-  of-kept folder path bytes old result new kept =
+  of-kept : (folder path : List ℕ) (several : Bool) (bytes : List ℕ) (old : W) (result : Result (Unit {0}) NewFileFault) (new : W)
+      → KeepsDropped world remaining folder path several bytes old result new → Steady old new
+  of-kept folder path several bytes old result new kept =
       then old kept.found new (of-open folder old (Ok kept.file) kept.found kept.opens)
       (of-putting path (drop kept.kept bytes) kept.found result new kept.puts)
 
@@ -269,13 +269,14 @@ module _ {W D F P : Type 0} (world : WorldModel W D F P) (disk : DiskModel D) (r
   of-unkept folder path old new status (inl cannot) = of-open folder old (Err cannot.fault) new cannot.opens
   of-unkept folder path old new status (inr (inl cannot)) = of-open folder old (Ok cannot.file) new cannot.opens
   of-unkept folder path old new status (inr (inr cannot)) =
-      of-kept folder path cannot.bytes old (Err cannot.fault) new cannot.keeps
+      of-kept folder path cannot.several cannot.bytes old (Err cannot.fault) new cannot.keeps
 
   of-verify : (folder : List ℕ) (keep_dropped : Option (Bor (List ℕ))) (old new : W) (held written : Option (List ℕ))
       (status : Status) → Verifies world remaining folder keep_dropped old new held written status → Steady old new
   of-verify folder None old new held written status does = of-open folder old does.file new does.opens
   of-verify folder (Some path) old new held written status (inl unkept) = of-unkept folder path.now old new status unkept.cannot
-  of-verify folder (Some path) old new held written status (inr does) = of-kept folder path.now does.bytes old (Ok tt) new does.keeps
+  of-verify folder (Some path) old new held written status (inr does) =
+      of-kept folder path.now does.several does.bytes old (Ok tt) new does.keeps
 
   of-salvage : (folder : List ℕ) (keep_dropped : Option (Bor (List ℕ))) (new_folder : List ℕ) (old new : W)
       (held written : Option (List ℕ)) (status : Status)
@@ -286,8 +287,8 @@ module _ {W D F P : Type 0} (world : WorldModel W D F P) (disk : DiskModel D) (r
   of-salvage folder (Some path) new_folder old new held written status (inl unkept) =
       spared new_folder old new (of-unkept folder path.now old new status unkept.cannot)
   of-salvage folder (Some path) new_folder old new held written status (inr does) = λ other image is_other is.
-      of-kept folder path.now does.bytes old (Ok tt) does.found does.keeps other image
-      (of-saving new_folder (Some does.bytes) does.found new held written status does.saves other image is_other is)
+      of-kept folder path.now does.several does.bytes old (Ok tt) does.found does.keeps other image
+      (of-saving new_folder does.several (Some does.bytes) does.found new held written status does.saves other image is_other is)
 
   -- ---- words on texts
 
@@ -548,8 +549,8 @@ module _ {W D F P : Type 0} (world : WorldModel W D F P) (disk : DiskModel D) (r
   salvaged-to folder (Some path) new_folder old new held written status (inl unkept) =
       none_made (of-unkept folder path.now old new status unkept.cannot)
   salvaged-to folder (Some path) new_folder old new held written status (inr does) =
-      after-that old does.found new (of-kept folder path.now does.bytes old (Ok tt) does.found does.keeps)
-      (of-saved-in new_folder (Some does.bytes) does.found new held written status does.saves)
+      after-that old does.found new (of-kept folder path.now does.several does.bytes old (Ok tt) does.found does.keeps)
+      (of-saved-in new_folder does.several (Some does.bytes) does.found new held written status does.saves)
 
   -- what a backup does
   pub backed : (folder new_folder : List ℕ) (old new : W) (status : Status)

@@ -208,13 +208,13 @@ module _ {W D F P : Type 0} (world : WorldModel W D F P) (disk : DiskModel D) (r
   new-returned own_path old new status None (none_made steady) is empty = quiet (λ image left. steady path image left)
   new-returned own_path old new status (Some (calls call)) did is empty = elim did [ ]
   new-returned own_path old new status (Some (copies several given left first result made survives))
-      (made_there found opened _ _ _ _ _ _ begins opens of ends) is empty =
+      (made_there found opened _ _ _ _ _ _ _ begins opens of ends) is empty =
       let here = subst (λ (p : List ℕ). IsDiskOf disk leaves p found first (copied_disk result) new) is of in
       fresh (copies several given left first result made survives) (makes-copy status several given left first result made survives ends)
       (λ image was. begins path image (here.handed_out image was)) (λ image now. here.given_back image now)
       (empty own_path found opened first opens)
   new-returned own_path old new status (Some (saves several given left first result made survives))
-      (saved_there found opened _ _ _ _ _ _ held written begins opens of writes) is empty =
+      (saved_there found opened _ _ _ _ _ _ _ held written begins opens of writes) is empty =
       let here = subst (λ (p : List ℕ). IsDiskOf disk leaves p found first (saved_disk result) new) is of in
       fresh (saves several given left first result made survives)
           (makes-saved status held written several given left first result made survives writes)
@@ -226,12 +226,12 @@ module _ {W D F P : Type 0} (world : WorldModel W D F P) (disk : DiskModel D) (r
   new-cut-off own_path old new status None (none_made steady) is empty = quiet (λ image left. left)
   new-cut-off own_path old new status (Some (calls call)) did is empty = elim did [ ]
   new-cut-off own_path old new status (Some (copies several given left first result made survives))
-      (made_there found opened _ _ _ _ _ _ begins opens of ends) is empty =
+      (made_there found opened _ _ _ _ _ _ _ begins opens of ends) is empty =
       let here = subst (λ (p : List ℕ). IsDiskOf disk leaves p found first (copied_disk result) new) is of in
       fresh (copies several given left first result made survives) (makes-copy status several given left first result made survives ends)
       (λ image was. begins path image (here.handed_out image was)) (λ image left. left) (empty own_path found opened first opens)
   new-cut-off own_path old new status (Some (saves several given left first result made survives))
-      (saved_there found opened _ _ _ _ _ _ held written begins opens of writes) is empty =
+      (saved_there found opened _ _ _ _ _ _ _ held written begins opens of writes) is empty =
       let here = subst (λ (p : List ℕ). IsDiskOf disk leaves p found first (saved_disk result) new) is of in
       fresh (saves several given left first result made survives)
           (makes-saved status held written several given left first result made survives writes)

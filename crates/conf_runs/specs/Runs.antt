@@ -214,7 +214,7 @@ module _ {W D F P : Type 0} (world : WorldModel W D F P) (disk : DiskModel D) (r
       saved_of new_folder does.file does.found new held written status does.saves
   saved_to folder (Some path) new_folder old new held written status (inl unkept) = None
   saved_to folder (Some path) new_folder old new held written status (inr does) =
-      saved_in new_folder (Some does.bytes) does.found new held written status does.saves
+      saved_in new_folder does.several (Some does.bytes) does.found new held written status does.saves
 
   -- how a run makes a new store, if the disk was handed out to it
   abbrev pub made_new : (invocation : Invocation) (old new : Around W) (status : Status)
