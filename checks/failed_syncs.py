@@ -261,7 +261,8 @@ def opening_of(new: Maker) -> Opening:
                                    for name in ("create", "write", "fsync", "rename"))
     found = Opening(calls, create, write, sync, rename, numbers_of(calls, "fsync", store.folder.name)[-1])
     append = numbers_of(calls, "write", "store.yaml")[0]
-    store.expect("what is written", calls[found.write - 1], f"write copy.yaml {size}")
+    written = [int(line.split()[-1]) for line in calls if line.startswith("write copy.yaml ")]
+    store.expect("what is written", sum(written), size)
     store.expect("the order", create < write < sync < rename < found.sync_folder < append, True)
     store.expect("new notes before an append", numbers_of(calls[:append], "ftruncate", "store.lock"), [])
     return found._replace(calls=calls[: append - 1])
