@@ -69,7 +69,7 @@ PAGES = os.path.join(TOP, "python", "pages_of_confstorectl.py")
 OF_PROGRAM_ALONE = {"help"}
 
 # The words that confstorectl has alone.
-OF_CTL_ALONE = {"batch", "watch", "edit", "render", "undo", "rollback", "sync", "diff", "page"}
+OF_CTL_ALONE = {"batch", "watch", "edit", "render"}
 
 # How long anything here is waited for, in seconds.
 PATIENCE = 60
@@ -332,7 +332,6 @@ def try_words(top: str, failures: Failures) -> None:
             node_model.do(node_rows, top)
             asked.do(node_rows, top)
             try_link_of_node(os.path.join(top, "node-store"), at, failures)
-            try_history_of_node(os.path.join(top, "node-store"), at, failures)
         for thread in threads:
             thread.join()
     compare(asked, node_model, node_rows, failures)
@@ -355,27 +354,6 @@ def try_link_of_node(folder: str, at: str, failures: Failures) -> None:
     failures.expect("the node's folder", ctl("names", folder).status, 0)
     found = ctl("import", copy, "lost", given=b"x")
     failures.expect("a copy of it", (found.status, found.fault("confstorectl")), (3, ["OtherStore"]))
-
-
-def try_history_of_node(folder: str, at: str, failures: Failures) -> None:
-    """What commands of a node have changed is taken back, but for what the node keeps for itself."""
-    files = f"{folder}.files"
-    os.mkdir(files)
-    write_file(os.path.join(files, "past.yaml"), b"n: 4\n")
-    ctl("import", "--socket", at, folder, "past", given=b"n: 1\n")
-    number = int(ctl("log", folder).output.splitlines()[-1].split()[0])
-    for words, wanted in (
-        (["set", folder, "past", "/n", "2"], b'{"n":"2"}\n'),
-        (["set", folder, "past", "/m", "3"], b'{"n":"2","m":"3"}\n'),
-        (["undo", folder, str(number + 1)], b'{"n":"1","m":"3"}\n'),
-        (["rollback", folder, "past", "--to", str(number + 1)], b'{"n":"2"}\n'),
-        (["sync", folder, files, "--delete"], b'{"n":"4"}\n'),
-    ):
-        failures.expect(f"{words[0]} by a node", ctl(words[0], "--socket", at, *words[1:]).status, 0)
-        failures.expect(f"{words} by a node", ctl("get", folder, "past", "--json").output, wanted)
-    failures.expect("the node's names", ctl("names", "--socket", at, folder).output, b"past\n")
-    found = ctl("undo", folder, str(number + 1), "--socket", at)
-    failures.expect("what was changed since", (found.status, found.fault("confstorectl")), (1, ["Unmet"]))
 
 
 def through_shell(line: str, folder: str, program: str) -> Done:
@@ -727,13 +705,6 @@ LINES = [
     ("backup store sto", "backup store store"),
     ("format --check file.yaml fil", "format --check file.yaml file.yaml"),
     ("run --checkp", "run --checkpoint-after"),
-    ("und", "undo"),
-    ("undo store 3 ap", "undo store 3 app"),
-    ("rollback --if-c", "rollback --if-count"),
-    ("rollback --to 3 store we", "rollback --to 3 store web"),
-    ("sync store sto", "sync store store"),
-    ("diff --li", "diff --lines"),
-    ("export --all sto", "export --all store"),
 ]
 
 

@@ -123,41 +123,6 @@ def roll_back(user: User) -> None:
     user.is_refused("confstore get s web --at 1 | confstore import s web --if-count 3", "Unmet")
 
 
-def roll_back_by_a_word(user: User) -> None:
-    user.does("confstore set s web /port 81; confstore set s web /port wrong; confstore set s web /hosts/- c")
-    user.does("confstorectl rollback s web --to 2 --if-count 4")
-    assert user.value("") == {"port": "81", "hosts": ["a", "b"]}
-    user.is_refused("confstorectl rollback s web --to 1 --if-count 4", "Unmet")
-
-
-def undo(user: User) -> None:
-    """What came since stays, and what was changed since is not overwritten."""
-    user.does("confstore set s web /port 81; confstore set s web /hosts/- c; confstorectl undo s 2")
-    assert user.value("") == {"port": "80", "hosts": ["a", "b", "c"]}
-    user.does("confstore set s web /hosts/- d")
-    user.is_refused("confstorectl undo s 3", "web /hosts")
-
-
-def what_changed(user: User) -> None:
-    user.does("confstore set s web /port 81; confstore set s web /hosts/- c; confstore copy s web old")
-    shown = user.runs("confstorectl diff s web --from 1 --to 3 --lines").stdout
-    assert shown == '- /port "80"\n+ /port "81"\n+ /hosts/- "c"\n', shown
-    user.does("confstorectl diff s --from 1 > edits.yaml || [ $? = 1 ]; confstore get s web --at 1 > web.yaml")
-    user.does("confstore init t; confstore import t web web.yaml; confstorectl batch t edits.yaml")
-    assert user.does("confstore names t; confstore get t old") == user.does("confstore names s; confstore get s old")
-
-
-def folder_as_it_is(user: User) -> None:
-    """A folder of files is what the store has to be: what changes is shown, and is one command."""
-    user.does("confstore copy s web old; confstorectl export s --all files; rm files/old.yaml")
-    user.does("sed -i s/80/81/ files/web.yaml; echo 'a: b' > files/new.yaml")
-    shown = user.does("confstorectl sync s files --delete --dry-run")
-    assert '-port: "80"\n+port: "81"\n' in shown and user.value("/port") == "80"
-    assert user.does("confstorectl sync s files --delete") == shown
-    assert user.does("confstore names s").split() == ["web", "new"] and user.value("/port") == "81"
-    assert user.does("confstore log s").splitlines()[2:] == ['3 batch import new; set web "/port"; delete old ""']
-
-
 def secret(user: User) -> None:
     """It is in no argument, and in no line that is shown."""
     user.does("printf hunter2 | confstore set s web /password --file -")
@@ -165,8 +130,10 @@ def secret(user: User) -> None:
     shown = user.does("confstore log s --values --hide /password; confstorectl log s --values --hide /password")
     assert "hunter2" not in shown and "hidden" in shown
     assert "hunter2" in user.does("confstore log s --values")
-    assert "hunter2" not in user.does("confstorectl page s --hide /password")
-    assert "hunter2" not in user.runs("confstorectl diff s --lines --hide /password").stdout
+    page = os.path.join(TOP, "clients", "examples", "page.py")
+    path = shlex.quote(os.path.join(TOP, "python"))
+    page_of = f"PYTHONPATH={path} {sys.executable} {shlex.quote(page)} --hide /password s"
+    assert "hunter2" not in user.does(page_of)
 
 
 def render(user: User) -> None:
@@ -179,13 +146,10 @@ def render(user: User) -> None:
 
 def environment(user: User) -> None:
     """What a shell and systemd can take as variables, with a value that has to be quoted."""
-    user.does("confstorectl get s web /port --env > port.env")
-    assert user.reads("port.env") == 'port="80"\n'
     user.does("""confstore import s env <<'END'\nNAME: it's "a" $b\nEMPTY: ""\nEND""")
     user.writes("env.template", "{% for key, value in env %}\n{{ key }}={{ value | sh }}\n{% end %}\n")
-    user.does("confstorectl render s env.template app.env; confstorectl get s env --env > get.env")
-    for file in ("app.env", "get.env"):
-        assert user.does(f'. ./{file}; printf "%s|%s" "$NAME" "$EMPTY"') == 'it\'s "a" $b|'
+    user.does("confstorectl render s env.template app.env")
+    assert user.does('. ./app.env; printf "%s|%s" "$NAME" "$EMPTY"') == 'it\'s "a" $b|'
 
 
 def validate(user: User) -> None:
@@ -307,13 +271,9 @@ TASKS = [
     Task("compare-and-set from 8 shells", "`--if-value`, `--wait`", from_many_shells),
     Task("8 changes side by side", "`--wait`", eight_at_once),
     Task("roll back one configuration", "`get --at`, `import --if-count`", roll_back),
-    Task("the same by a word", "`confstorectl rollback`", roll_back_by_a_word),
-    Task("undo", "`confstorectl undo`", undo),
-    Task("what changed between two numbers", "`confstorectl diff`", what_changed),
-    Task("a folder that the store is to be like", "`confstorectl sync`, `export --all`", folder_as_it_is),
-    Task("a secret out of arguments and logs", "`set --file -`, `log --hide`, `page --hide`", secret),
+    Task("a secret out of arguments and logs", "`set --file -`, `log --hide`, `page.py --hide`", secret),
     Task("render a file, and reload", "`confstorectl render .. -- COMMAND`", render),
-    Task("variables for sh", "`confstorectl get --env`, `render`, `| sh`", environment),
+    Task("variables for sh", "`confstorectl render`, `| sh`", environment),
     Task("validate before a change", "`confstorectl --check COMMAND`", validate),
     Task("a dry run", "`confstorectl .. --dry-run`", dry_run),
     Task("a new key below a missing parent", "`confstorectl set --parents`", missing_parents),
@@ -327,7 +287,9 @@ TASKS = [
 
 # What no word does yet, each with a word of confstore, or an option of one, that would.
 LEFT = {
+    "undo": ("undo", ""),
     "who, when, why": ("set", "--about"),
+    "what changed between two numbers": ("diff", ""),
 }
 
 

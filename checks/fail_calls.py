@@ -102,14 +102,17 @@ class PlacedCall(Call):
         return self.name in ("read", "write", "ftruncate") and self.file == "store.lock"
 
     def is_at_end(self) -> bool:
-        """Whether all is answered, and what follows looks for a store, notes the end, and closes handles. The program
-        does without each of these."""
+        """Whether all is answered, and what follows looks for a store, notes the end, and closes handles."""
         calls = ("close ", "statx proc ", "statx store.yaml ", "write store.lock ", "ftruncate store.lock ")
         return all(line.startswith(calls) for line in self.following)
 
     def is_look_at_end(self) -> bool:
         """Whether the call looks for `store.yaml` once all is answered, so that no `store.lock` is left without one."""
         return self.name == "statx" and self.is_at_end()
+
+    def is_last(self) -> bool:
+        """Whether the program does without each call after this one."""
+        return self.is_look_at_end() or all(line.startswith("close ") for line in self.following)
 
     def is_dispensable(self) -> bool:
         """Whether the program does without the call: a handle that is closed, the look whether there is a /proc, the
@@ -225,7 +228,7 @@ def goes_on(call: PlacedCall, kind: Kind) -> bool:
     """Whether the program finishes the call, or does without it: one that it doesn't need, one that was cut short, and
     one on the folder that was interrupted, but for a note, which is one byte."""
     if kind.later:
-        return call.is_dispensable() and call.is_at_end()
+        return call.is_dispensable() and call.is_last()
     if call.is_dispensable() or kind.answer == "count":
         return True
     return kind.error == errno.EINTR and call.file != "output" and not call.is_of_note()
@@ -290,7 +293,7 @@ def is_cause(line: str, folder: str, call: PlacedCall, kind: Kind) -> bool:
     others = {"link": "store.yaml", "rename": "store.yaml", "unlink": "store.yaml", "fstat": "store.lock"}
     subjects = {subject_of_call, others.get(call.name, subject_of_call)}
     if call.name == "statx":
-        subjects |= {"store.yaml", "next.yaml", "copy.yaml"}
+        subjects |= {"store.yaml", "next.yaml"}
     return line.endswith("\n") and reason == wanted and (kind.later or subject in subjects)
 
 

@@ -9,8 +9,7 @@ First a library under the program stands for such a system (shims/lost_pages.c),
 single calls fail, or ends the process. One command at a time and in groups:
 
 - Each sync of a session fails in turn, and one of the next session too.
-- A session is killed before each of its syncs, and the system fails to write its pages, and says so or not: to a session that syncs the file before
-  it changes it, and else to none.
+- A session is killed before each of its syncs, and the system fails to write its pages, and says so or not.
 - The new file fails: no session goes on, and the next one tries again. An opening is killed at each of its calls.
 - A note can't be written, or `store.lock` is gone, empty, or as an older version left it.
 - The next session is by another writer of the group, who does not own `store.lock`. That takes root.
@@ -61,8 +60,6 @@ MARKED = 0o1600
 # changes may have waited for one sync.
 ON_DEVICE = (b"-", b"-\0\0\0")
 UNSURE = (b"-\0", b"-\0\0")
-# What says as much as the second of these: a `store.lock` that a run has made, and not noted anything in.
-EMPTY_NOTE = b""
 
 # What the library keeps of a page.
 CLEAN, DIRTY, LOST = range(3)
@@ -226,7 +223,7 @@ def try_killed(new: Maker, words: Sequence[str]) -> None:
             store.expect("the killed session", store.run(words, **fault(sync, "none", "exit"))[0], ENDED)
             if way != "written later":
                 store.lose_pages(way == "said")
-            if way == "said" and store.lock.read_bytes() in ON_DEVICE:
+            if way == "said":
                 store.expect("the session that is told", store.run(), DEVICE)
             store.expect_whole()
     print(f"  killed before {len(syncs)} syncs of `{' '.join(words)}`")
@@ -261,8 +258,7 @@ def opening_of(new: Maker) -> Opening:
                                    for name in ("create", "write", "fsync", "rename"))
     found = Opening(calls, create, write, sync, rename, numbers_of(calls, "fsync", store.folder.name)[-1])
     append = numbers_of(calls, "write", "store.yaml")[0]
-    written = [int(line.split()[-1]) for line in calls if line.startswith("write copy.yaml ")]
-    store.expect("what is written", sum(written), size)
+    store.expect("what is written", calls[found.write - 1], f"write copy.yaml {size}")
     store.expect("the order", create < write < sync < rename < found.sync_folder < append, True)
     store.expect("new notes before an append", numbers_of(calls[:append], "ftruncate", "store.lock"), [])
     return found._replace(calls=calls[: append - 1])
@@ -367,7 +363,7 @@ def try_group(top: Path, new: Maker) -> None:
         path.chmod(mode)
     store.lock.unlink()
     store.expect("the session whose sync fails", store.run(LOST_SYNC="4")[0], 3)
-    store.expect_note("then", (*UNSURE, EMPTY_NOTE))
+    store.expect_note("then", UNSURE)
     store.expect("the writer's session", store.run(program=program, user=NOBODY), DONE)
     store.expect_note("of the writer", ON_DEVICE)
     store.expect("the owner of store.lock", store.lock.stat().st_uid, 0)

@@ -272,9 +272,9 @@ def verified_bad(content: bytes, found: Findings, failures: Failures) -> bytes:
     return kept
 
 
-def verified(folder: str, content: bytes, note: int, outcome: Outcome, failures: Failures) -> None:
+def verified(folder: str, content: bytes, outcome: Outcome, failures: Failures) -> None:
     """What `verify` and `salvage` say and make of a file whose opening ended so, and what they keep of it."""
-    write_store(folder, content, note)
+    write_file(os.path.join(folder, "store.yaml"), content)
     saved = os.path.join(folder, "saved")
     names = sorted(os.listdir(folder))
     status, output, errors = run_word("verify", folder)
@@ -359,7 +359,8 @@ def try_files(stores: Sequence[bytes], seed: str, count: int) -> Tried:
             store = chance.choice(stores)
             change = chance.choice(list(EXACT))
             content = change(chance, store, chance.choice(stores))
-            note = LOCKS[0] if change is with_flipped_bit else chance.choice(LOCKS)
+            is_plain = change is with_flipped_bit or number % VERIFIED == 0
+            note = LOCKS[0] if is_plain else chance.choice(LOCKS)
             model = outcome_of_model(content, note)
             program = outcome_of_program(folder, content, note, failures)
             agreed = agreement(change, content, model, program)
@@ -372,7 +373,7 @@ def try_files(stores: Sequence[bytes], seed: str, count: int) -> Tried:
             if number % LOOKED_AT == 0:
                 opening_changes_nothing(folder, content, note, program, failures)
             if number % VERIFIED == 0:
-                verified(folder, content, note, program, failures)
+                verified(folder, content, program, failures)
     return counts, failures
 
 

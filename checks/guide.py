@@ -4,7 +4,7 @@
 In the lists of the first two a line that begins with `$ ` is a command, one that begins with `> ` goes on with it, and
 the lines up to the next command are what it prints, on standard output or standard error. The commands of one page
 share a scratch folder and run in order, by one bash each. Of README.md the first list is run, and the file compared
-that the second shows. It needs PyYAML, and the program has to be built first:
+that the second shows. The program has to be built first:
 
     ./prove && python3 checks/guide.py [--write]
 
@@ -16,7 +16,6 @@ from __future__ import annotations
 
 import os
 import re
-import shlex
 import subprocess
 import sys
 import tempfile
@@ -63,25 +62,11 @@ def parts_of(text: str) -> list[Part]:
 
 
 def environment(top: str) -> dict[str, str]:
-    """An environment in which the word `confstore` is the program, and `confstorectl` that of this package."""
-    words, program = os.path.join(top, "bin"), os.path.realpath(os.environ.get("CONFSTORE", PROGRAM))
+    """An environment in which the word `confstore` is the program."""
+    words = os.path.join(top, "bin")
     os.mkdir(words)
-    os.symlink(program, os.path.join(words, "confstore"))
-    ctl = os.path.join(words, "confstorectl")
-    with open(ctl, "w", encoding="utf-8") as file:
-        package = shlex.quote(os.path.join(TOP, "python"))
-        file.write(f'#!/bin/sh\nPYTHONPATH={package} exec {python_with_yaml()} -m confstore.ctl "$@"\n')
-    os.chmod(ctl, 0o755)
-    path = f"{words}:{os.environ['PATH']}"
-    return {**os.environ, "PATH": path, "LC_ALL": "C.UTF-8", "CONFSTORE": program}
-
-
-def python_with_yaml() -> str:
-    """A Python that has PyYAML. Ends the run where there is none."""
-    for python in (sys.executable, "/usr/bin/python3"):
-        if subprocess.run([python, "-c", "import yaml"], capture_output=True, check=False).returncode == 0:
-            return python
-    sys.exit("this needs PyYAML: install python3-yaml")
+    os.symlink(os.environ.get("CONFSTORE", PROGRAM), os.path.join(words, "confstore"))
+    return {**os.environ, "PATH": f"{words}:{os.environ['PATH']}", "LC_ALL": "C.UTF-8"}
 
 
 def lines_printed(script: str, folder: str, settings: Mapping[str, str]) -> list[str]:

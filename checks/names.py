@@ -13,14 +13,13 @@
 - CONTRIBUTING.md: in the table of a new command, each file of a crate is there, and has the command of its column.
 - docs/TRUSTED.md: each file of definitions is there.
 - docs/GUIDE.md, docs/OPERATING.md and README.md: each word behind `confstore` is one of the program's; the guide has
-  all of them. Each word behind `confstorectl` on any page is one of its table.
+  all of them.
 - docs/OPERATING.md: the table of faults has each fault for which docs/FAULTS.md points to it, and no name that is none.
 - PAGES: each page, script and picture that they name is there: beside the page, from the top, in checks/ or bench/.
 - crates.txt: a library that a line names is in the files of the line's crate, and from no crate are there more than
   18,000 ways down through these lines: a toolchain may read the sources once for each.
 - docs/*.svg: the pictures that packaging/pictures draws are as it would draw them.
 - checks/ and bench/: no two scripts have one name, and none imports another: what they share is in lib/.
-- The Ansible collection says what to do about a refused text as the program does.
 - COPIES: two files that have to be the same are, and nothing is a link, which the proof refuses.
 
 It takes some seconds, and the status is 1 if a name is not there or if there are more ways.
@@ -30,10 +29,8 @@ from __future__ import annotations
 
 import functools
 import glob
-import json
 import os
 import re
-import runpy
 import subprocess
 import sys
 from collections.abc import Iterator
@@ -58,13 +55,10 @@ PAGES = (
 COPIES = (
     ("python/confstore/written.py", "clients/ansible/ansible_collections/confstore/store/plugins/module_utils/written.py"),
 )  # fmt: skip
-# The faults of Ansible's tasks, and an arm of the program's table of what to do: names, and a text.
-TASK_FAULTS = "clients/ansible/ansible_collections/confstore/store/plugins/module_utils/faults.py"
-REMEDY = re.compile(r'(?m)^        ((?:ReadFault|Why)::[^=]*?) => (?:\{\s*)?("(?:[^"\\]|\\.)*")')
 # The enums of faults that the program prints, and the names that it prints for what isn't a variant of that name.
 FAULTS = ["Why", "ReadFault", "StoreFault", "PathFault", "OpenFault", "FolderFault", "SessionFault", "HistoryFault",
           "ReadingFault", "ConditionFault", "NewFileFault"]
-PRINTED = {"BadCommand", "Comments", "Input", "Output", "StoreExists", "Unsettled"}
+PRINTED = {"BadCommand", "Comments", "Input", "Output", "StoreExists"}
 # A line of the drawing of a command's way: a crate or none, functions of it, words, and the files that have them.
 DRAWN = re.compile(r"^ +(\w+)? {2,}([a-zA-Z_:, ]+?)(?::| {2,}).*? {2,}([\w., ]+\.rt)$", re.M)
 # The status of the script `./confstore`, and the words that are clap's.
@@ -286,14 +280,6 @@ def wrong_words() -> Iterator[str]:
             yield from (f"{path}: the word `{word}` is missing" for word in sorted(words - named))
 
 
-def wrong_ctl_words() -> Iterator[str]:
-    words = set(runpy.run_path(os.path.join(TOP, "python", "confstore", "ctl_words.py"))["WORDS"]) | {"help"}
-    for pattern in PAGES:
-        for path in sorted(glob.glob(os.path.join(TOP, pattern))):
-            named = set(re.findall(r"(?m)(?:^    .*?|`)\bconfstorectl ([a-z]+)\b", page(path)))
-            yield from (f"{os.path.relpath(path, TOP)}: confstorectl {word}" for word in sorted(named - words))
-
-
 def missing_files() -> Iterator[str]:
     for pattern in PAGES:
         for path in sorted(glob.glob(os.path.join(TOP, pattern))):
@@ -345,29 +331,6 @@ def mixed_scripts() -> Iterator[str]:
         yield from (f"{here} imports the script {name}.py" for pair in imported for name in pair if name in names)
 
 
-def remedies() -> dict[str, list[str]]:
-    """What the program says to do about each fault of a text; in order, where it depends on how many documents there
-    are."""
-    found: dict[str, list[str]] = {}
-    for names, text in REMEDY.findall(page("crates/yaml_refusals/src/remedies.rt")):
-        for name in re.findall(r"::(\w+)", names):
-            found.setdefault(name, []).append(json.loads(text))
-    return found
-
-
-def wrong_remedies() -> Iterator[str]:
-    """What a task says to do about a refused text, where the program says something else."""
-    told, there = runpy.run_path(os.path.join(TOP, TASK_FAULTS)), remedies()
-    of_tasks = {name: [remedy] for name, (_, remedy) in {**told["REFUSALS"], **told["REASONS"]}.items()}
-    of_tasks["Documents"].insert(0, told["NO_DOCUMENT"][1])
-    names = set(there) - {"OutOfMemory"}
-    if set(told["REASONS"]) != set(variants_of("Why")) or not set(variants_of("Why")) <= names <= set(of_tasks):
-        yield f"{TASK_FAULTS}: it has other faults of texts than the program"
-    for name in sorted(names & set(of_tasks)):
-        if of_tasks[name] != there[name]:
-            yield f"{TASK_FAULTS}: `{name}` has {of_tasks[name]}, and the program {there[name]}"
-
-
 def wrong_copies() -> Iterator[str]:
     yield from (f"{copy} is not as {original}" for original, copy in COPIES if page(original) != page(copy))
     kept = subprocess.run(["git", "ls-files", "-s"], cwd=TOP, capture_output=True, text=True, check=False).stdout
@@ -377,8 +340,7 @@ def wrong_copies() -> Iterator[str]:
 def main() -> int:
     looks = (missing_in_rules, missing_in_proofs, wrong_in_faults, wrong_statuses, wrong_in_operating, wrong_limits,
              wrong_in_architecture, wrong_in_contributing, wrong_in_drawing, missing_definitions,
-             wrong_words, wrong_ctl_words, missing_files, unused_libraries, many_ways, wrong_pictures, mixed_scripts,
-             wrong_remedies, wrong_copies)  # fmt: skip
+             wrong_words, missing_files, unused_libraries, many_ways, wrong_pictures, mixed_scripts, wrong_copies)  # fmt: skip
     missing = [line for look in looks for line in look()]
     for line in missing:
         print(line)

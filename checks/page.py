@@ -1,5 +1,5 @@
 #!/usr/bin/env python3
-"""Looks at the page of a log, made by clients/examples/page.py, in a headless Chromium.
+"""Looks at the page of clients/examples/page.py in a headless Chromium.
 
 - The store that it shows at each number is what `confstore get --at` prints, and the values before and after each
   command are those of the commands; unchanged lines are folded.

@@ -8,7 +8,7 @@ function __confstorectl_places
     for word in (commandline -opc)[2..-1]
         if test $is_value = 1
             set is_value 0
-        else if contains -- $word --all --at --check --checkpoint-after --default --dir --document --file --from --hide --if-count --if-value --keep-dropped --settle --socket --to --wait; and not contains -- "$places[1] $word" 'format --check'
+        else if contains -- $word --at --check --checkpoint-after --default --dir --document --file --from --hide --if-count --if-value --keep-dropped --settle --socket --wait; and not contains -- "$places[1] $word" 'format --check'
             set is_value 1
         else if not string match -q -- '-?*' $word
             set -a places $word
@@ -54,11 +54,6 @@ complete -c confstorectl -n '__confstorectl_at -1' -a rename -d 'Gives a configu
 complete -c confstorectl -n '__confstorectl_at -1' \
     -a edit -d 'Opens a configuration in an editor, and imports what is saved'
 complete -c confstorectl -n '__confstorectl_at -1' -a batch -d 'Makes all edits of a list, or none of them'
-complete -c confstorectl -n '__confstorectl_at -1' -a undo -d 'Takes back what commands have changed'
-complete -c confstorectl -n '__confstorectl_at -1' \
-    -a rollback -d 'Makes a configuration what it was after a command'
-complete -c confstorectl -n '__confstorectl_at -1' \
-    -a sync -d 'Makes the configurations what the files of a folder have'
 complete -c confstorectl -n '__confstorectl_at -1' \
     -a checkpoint -d 'Makes the store file as short as its state'
 complete -c confstorectl -n '__confstorectl_at -1' -a export -d 'Writes a configuration'
@@ -74,10 +69,6 @@ complete -c confstorectl -n '__confstorectl_at -1' \
     -a render -d 'Writes a template with values of the store in it'
 complete -c confstorectl -n '__confstorectl_at -1' -a log -d 'Writes the commands since the last checkpoint'
 complete -c confstorectl -n '__confstorectl_at -1' \
-    -a diff -d 'Writes what changed between two commands, or between two files'
-complete -c confstorectl -n '__confstorectl_at -1' \
-    -a page -d 'Writes a page of the log, a file of HTML for a browser'
-complete -c confstorectl -n '__confstorectl_at -1' \
     -a verify -d 'Reads the whole store file, and writes whether it can be opened'
 complete -c confstorectl -n '__confstorectl_at -1' -a watch -d 'Writes each change as it is made'
 complete -c confstorectl -n '__confstorectl_at -1' -a init -d 'Makes a folder with an empty store'
@@ -92,7 +83,7 @@ complete -c confstorectl -n '__confstorectl_at -1' \
 complete -c confstorectl -n '__confstorectl_at -1' \
     -a check -d 'Writes where YAML texts depart from the one style'
 complete -c confstorectl -n '__confstorectl_at -1' -a help -d 'Says what a word does'
-complete -c confstorectl -n 'not __confstorectl_is diff' -n 'not __confstorectl_is page' -n 'not __confstorectl_is init' -n 'not __confstorectl_is run' -n 'not __confstorectl_is backup' -n 'not __confstorectl_is salvage' -n 'not __confstorectl_is format' -n 'not __confstorectl_is check' -l socket -r -F \
+complete -c confstorectl -n 'not __confstorectl_is init' -n 'not __confstorectl_is run' -n 'not __confstorectl_is backup' -n 'not __confstorectl_is salvage' -n 'not __confstorectl_is format' -n 'not __confstorectl_is check' -l socket -r -F \
     -d 'The socket of the server or the node that holds the store'
 complete -c confstorectl -n 'not __confstorectl_is format' -n 'not __confstorectl_is check' -l wait -x \
     -d 'Tries again for so many seconds while another run holds the store'
@@ -102,8 +93,6 @@ complete -c confstorectl -n '__confstorectl_is import' -l init \
     -d 'Makes a store in the folder, if it has none'
 complete -c confstorectl -n '__confstorectl_is import' -l explain \
     -d 'Shows the line at fault of a refused text, and says what to do'
-complete -c confstorectl -n '__confstorectl_is import' -l edits \
-    -d 'Records the edits that make the text of what is there, in place of the whole text'
 complete -c confstorectl -n '__confstorectl_is import' -l if-value -x \
     -d 'Changes the store only if this text is at the place that is changed'
 complete -c confstorectl -n '__confstorectl_is import' -l if-absent \
@@ -120,7 +109,7 @@ complete -c confstorectl -n '__confstorectl_is import' -l document -x \
     -d 'Of a YAML text with several documents takes number N, from 1'
 complete -c confstorectl -n '__confstorectl_is import' -l split \
     -d 'Imports each document of a YAML text; {n} in NAME stands for its number'
-complete -c confstorectl -n '__confstorectl_is import' -l dir -r -F \
+complete -c confstorectl -n '__confstorectl_is import' -l dir -x \
     -d 'Imports each file of the folder DIR; {file} in NAME stands for its name'
 complete -c confstorectl -n '__confstorectl_is set' -l yaml \
     -d 'Reads VALUE, or standard input if that is `-`, as a YAML text'
@@ -186,35 +175,10 @@ complete -c confstorectl -n '__confstorectl_is batch' -l check -x \
     -d 'Makes the change only if COMMAND, of a shell, takes the text that comes of it'
 complete -c confstorectl -n '__confstorectl_is batch' -l dry-run \
     -d 'Writes what would change, as `diff -u` does, and changes nothing'
-complete -c confstorectl -n '__confstorectl_is undo' -l if-count -x \
-    -d 'Changes the store only if it has accepted N commands'
-complete -c confstorectl -n '__confstorectl_is undo' -l check -x \
-    -d 'Makes the change only if COMMAND, of a shell, takes the text that comes of it'
-complete -c confstorectl -n '__confstorectl_is undo' -l dry-run \
-    -d 'Writes what would change, as `diff -u` does, and changes nothing'
-complete -c confstorectl -n '__confstorectl_is rollback' -l to -x -d 'Goes as far as command number N'
-complete -c confstorectl -n '__confstorectl_is rollback' -l if-count -x \
-    -d 'Changes the store only if it has accepted N commands'
-complete -c confstorectl -n '__confstorectl_is rollback' -l check -x \
-    -d 'Makes the change only if COMMAND, of a shell, takes the text that comes of it'
-complete -c confstorectl -n '__confstorectl_is rollback' -l dry-run \
-    -d 'Writes what would change, as `diff -u` does, and changes nothing'
-complete -c confstorectl -n '__confstorectl_is sync' -l delete \
-    -d 'Removes each configuration that has no file'
-complete -c confstorectl -n '__confstorectl_is sync' -l explain \
-    -d 'Shows the line at fault of a refused text, and says what to do'
-complete -c confstorectl -n '__confstorectl_is sync' -l if-count -x \
-    -d 'Changes the store only if it has accepted N commands'
-complete -c confstorectl -n '__confstorectl_is sync' -l check -x \
-    -d 'Makes the change only if COMMAND, of a shell, takes the text that comes of it'
-complete -c confstorectl -n '__confstorectl_is sync' -l dry-run \
-    -d 'Writes what would change, as `diff -u` does, and changes nothing'
 complete -c confstorectl -n '__confstorectl_is export' -l json \
     -d 'Writes a JSON text on one line; each text is a string'
 complete -c confstorectl -n '__confstorectl_is export' -l plain \
     -d 'Writes texts as 80, true and null without quotes, for readers with types'
-complete -c confstorectl -n '__confstorectl_is export' -l all -r -F \
-    -d 'Writes each configuration into the file NAME.yaml of the folder DIR, in place of NAME'
 complete -c confstorectl -n '__confstorectl_is names' -l json -d 'Writes a JSON array on one line'
 complete -c confstorectl -n '__confstorectl_is names' -l at -x \
     -d 'Reads the store as it was after command number N'
@@ -228,8 +192,6 @@ complete -c confstorectl -n '__confstorectl_is get' -l json \
     -d 'Writes a JSON text on one line; each text is a string'
 complete -c confstorectl -n '__confstorectl_is get' -l plain \
     -d 'Writes texts as 80, true and null without quotes, for readers with types'
-complete -c confstorectl -n '__confstorectl_is get' -l env \
-    -d 'Writes lines that set variables of sh and of systemd'
 complete -c confstorectl -n '__confstorectl_is get' -l default -x \
     -d 'Writes TEXT where nothing is at the place; `--default=TEXT` if it begins with `-`'
 complete -c confstorectl -n '__confstorectl_is get' -l at -x \
@@ -244,19 +206,6 @@ complete -c confstorectl -n '__confstorectl_is log' -l yaml \
     -d 'Writes the records as they stand in store.yaml'
 complete -c confstorectl -n '__confstorectl_is log' -l at -x \
     -d 'Reads the store as it was after command number N'
-complete -c confstorectl -n '__confstorectl_is diff' -l from -x \
-    -d 'Begins with what the store was after command number N'
-complete -c confstorectl -n '__confstorectl_is diff' -l to -x -d 'Goes as far as command number N'
-complete -c confstorectl -n '__confstorectl_is diff' -l lines \
-    -d 'Writes a line for what was at each place, and one for what is there then'
-complete -c confstorectl -n '__confstorectl_is diff' -l hide -x \
-    -d 'Leaves out what is at POINTER, or below it; may be given again'
-complete -c confstorectl -n '__confstorectl_is diff' -l files \
-    -d 'Compares two files, which stand in the places of FOLDER and NAME'
-complete -c confstorectl -n '__confstorectl_is diff' -l explain \
-    -d 'Shows the line at fault of a refused text, and says what to do'
-complete -c confstorectl -n '__confstorectl_is page' -l hide -x \
-    -d 'Leaves out what is at POINTER, or below it; may be given again'
 complete -c confstorectl -n '__confstorectl_is verify' -l keep-dropped -r -F \
     -d 'Writes what an opening drops, or is refused for, to the new file FILE'
 complete -c confstorectl -n '__confstorectl_is watch' -l values \
@@ -287,18 +236,16 @@ complete -c confstorectl -n '__confstorectl_is check' -l keep-comments \
     -d 'Keeps the comments of each text; of `check`, wants them so'
 complete -c confstorectl -n '__confstorectl_is check' -l explain \
     -d 'Shows the line at fault of a refused text, and says what to do'
-complete -c confstorectl -n '__confstorectl_at 0 import set delete copy rename edit batch undo rollback sync checkpoint export names keys get exists render log diff page verify watch init run backup salvage' \
+complete -c confstorectl -n '__confstorectl_at 0 import set delete copy rename edit batch checkpoint export names keys get exists render log verify watch init run backup salvage' \
     -a '(__fish_complete_directories)'
 complete -c confstorectl -n '__confstorectl_at 1 backup salvage' -a '(__fish_complete_directories)'
-complete -c confstorectl -n '__confstorectl_at 1 sync' -a '(__fish_complete_directories)'
 complete -c confstorectl -n '__confstorectl_at 2 import render' -F
 complete -c confstorectl -n '__confstorectl_at 1 batch' -F
 complete -c confstorectl -n '__confstorectl_is format' -F
 complete -c confstorectl -n '__confstorectl_is check' -F
 complete -c confstorectl -n '__confstorectl_at 1 render' -F
-complete -c confstorectl -n '__confstorectl_at 1 import set delete copy rename edit rollback export keys get exists diff watch' \
+complete -c confstorectl -n '__confstorectl_at 1 import set delete copy rename edit export keys get exists watch' \
     -a '(__confstorectl_names)'
-complete -c confstorectl -n '__confstorectl_at 2 undo' -a '(__confstorectl_names)'
 complete -c confstorectl -n '__confstorectl_at 2 copy rename' -a '(__confstorectl_names)'
 complete -c confstorectl -n '__confstorectl_at 0 help' \
-    -a 'import set delete copy rename edit batch undo rollback sync checkpoint export names keys get exists render log diff page verify watch init run backup salvage format check'
+    -a 'import set delete copy rename edit batch checkpoint export names keys get exists render log verify watch init run backup salvage format check'

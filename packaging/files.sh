@@ -31,7 +31,7 @@ put_files() { # PROGRAM FOLDER
 # Puts the Python package into a folder for Python's modules.
 put_python() { # FOLDER
     local file
-    for file in "$top"/python/confstore/*.{py,html,typed}; do
+    for file in "$top"/python/confstore/*.py "$top/python/confstore/py.typed"; do
         put 644 "$file" "$1/confstore/${file##*/}" || return
     done
 }

@@ -36,7 +36,7 @@ WITHOUT_VALUE = sorted(
     for option in word.options
     if not option.value and option.name in WITH_VALUE
 )
-OF_FILES = sorted({option.name for option in OPTIONS if option.value in ("PATH", "FILE", "DIR")})
+OF_FILES = sorted({option.name for option in OPTIONS if option.value in ("PATH", "FILE")})
 HELP_ABOUT = "Says what a word does"
 
 
@@ -68,7 +68,7 @@ def for_bash() -> str:
         of_files=" | ".join(f"*' {name}'" for name in OF_FILES),
         no_files=" | ".join(f"*' {name}'" for name in WITH_VALUE if name not in OF_FILES),
         files=" | ".join([*places("FILE"), *places("TEMPLATE")]),
-        folders=" | ".join([*places("NEW"), *places("DIR")]),
+        folders=" | ".join(places("NEW")),
         names=" | ".join([*places("NAME"), *places("TO")]),
         version=VERSION.name,
     )
@@ -146,7 +146,6 @@ complete -F _confstorectl confstorectl
 ZSH_PLACES = {
     "FOLDER": "folder:_files -/", "NAME": "name:_confstorectl_names", "TO": "name:_confstorectl_names",
     "FILE": "file:_files", "TEMPLATE": "template:_files", "NEW": "folder:_files -/",
-    "DIR": "folder:_files -/",
 }  # fmt: skip
 
 
@@ -244,8 +243,7 @@ def for_fish() -> str:
     for word in ALL:
         rows += [fish_option(f" -n '__confstorectl_is {word.name}'", option) for option in word.options]
     folders = "-a '(__fish_complete_directories)'"
-    of_places = (("FOLDER", folders), ("NEW", folders), ("DIR", folders), ("FILE", "-F"), ("TEMPLATE", "-F"))
-    for argument, action in of_places:
+    for argument, action in (("FOLDER", folders), ("NEW", folders), ("FILE", "-F"), ("TEMPLATE", "-F")):
         rows += [f"complete -c confstorectl -n {place} {action}" for place in fish_places(argument)]
     for argument in ("NAME", "TO"):
         rows += [f"complete -c confstorectl -n {place} -a '(__confstorectl_names)'" for place in fish_places(argument)]

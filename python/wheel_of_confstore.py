@@ -49,7 +49,7 @@ def _version() -> str:
 
 def _sources() -> List[str]:
     """The files of the package."""
-    kept = [name for name in os.listdir(os.path.join(HERE, "confstore")) if name.endswith((".py", ".typed", ".html"))]
+    kept = [name for name in os.listdir(os.path.join(HERE, "confstore")) if name.endswith((".py", ".typed"))]
     return [f"confstore/{name}" for name in sorted(kept)]
 
 

@@ -76,7 +76,7 @@ class Line:
     levels: tuple[Level, ...]
     body: list[str] = field(default_factory=list)
     is_literal: bool = False
-    ends_blank: bool = False
+    keeps_feeds: bool = False
 
 
 class Loader(yaml.BaseLoader):
@@ -313,7 +313,7 @@ class Document:
             body = node.value.removesuffix("\n").split("\n")
             line.body = [spaces + part if part else "" for part in body]
             line.is_literal = True
-            line.ends_blank = not body[-1].strip(" ")
+            line.keeps_feeds = node.value.endswith("\n\n")
 
     def add(
         self, node: Node, indent: int, lead: str, start: int | None, path: Path, levels: tuple[Level, ...]
@@ -412,7 +412,7 @@ class Writer:
         end = f" {behind.text}" if behind else ""
         self.put(" " * line.indent + line.text + end, line.start)
         self.out.extend(line.body)
-        self.holds = line.ends_blank
+        self.holds = line.keeps_feeds
 
 
 def formatted(text: str) -> str:

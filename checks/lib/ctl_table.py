@@ -12,11 +12,7 @@ from lib.store_runs import TOP
 
 sys.path.insert(0, os.path.join(TOP, "python"))
 
-from confstore.ctl_words import ALL, EDITS, ENVIRONMENT, EXPORT, FOREIGN, PLANNED, SHAPED, WORDS  # noqa: E402
-
-# The options of words of confstore that it does not have, and the argument that one of them makes needless.
-ALONE = (*FOREIGN, *PLANNED, *SHAPED, EDITS, ALL, ENVIRONMENT)
-NEEDED = {(EXPORT.name, "NAME")}
+from confstore.ctl_words import FOREIGN, PLANNED, SHAPED, WORDS  # noqa: E402
 
 # A row of the help of a word: an argument, or an option, and a row of the words in the help of all.
 ARGUMENT = re.compile(r"(?m)^  (<|\[)([A-Z]+)[>\]](?:\.\.\.)?  +\S")
@@ -66,8 +62,8 @@ def table_of_ctl() -> Table:
     """The words of confstorectl, without the options that confstore has of no word."""
     return {
         word.name: Shape(
-            [(one.name, one.is_optional and (word.name, one.name) not in NEEDED) for one in word.arguments],
-            {option.name: option.value for option in word.options if option not in ALONE},
+            [(argument.name, argument.is_optional) for argument in word.arguments],
+            {option.name: option.value for option in word.options if option not in (*FOREIGN, *PLANNED, *SHAPED)},
         )
         for word in WORDS.values()
     }

@@ -1,4 +1,4 @@
-"""The protocol of `SystemDisk` (crates/conf_protocol) over a model of the system, and the calls of a store.
+"""The protocol of `Run` (crates/conf_protocol) over a model of the system, and the calls of a store.
 
 Each method of `FolderDisk` makes the calls of the one of its name. `Store` makes those of `conf_journal` and
 `conf_store`. `checks/search_schedules.py` compares both with the program.

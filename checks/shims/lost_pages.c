@@ -1,15 +1,15 @@
-// Stands for a file system that loses pages as ext4 does: one sync of a file of a store fails. What was written since the
-// last one is read from memory from then on, and counts as written: a later sync succeeds, and leaves it in memory
-// alone. A page that the device had before is dirty once it is written again, and a sync that succeeds puts it on the
-// device. A page that the device never had is lost for good: whatever is written to it in this file counts as written.
-// Load it with LD_PRELOAD.
+// Stands for a file system that loses pages as ext4 does: one sync of `store.yaml` or `next.yaml` fails. What was
+// written since the last one is read from memory from then on, and counts as written: a later sync succeeds, and leaves
+// it in memory alone. A page that the device had before is dirty once it is written again, and a sync that succeeds
+// puts it on the device. A page that the device never had is lost for good: whatever is written to it in this file
+// counts as written. Load it with LD_PRELOAD.
 //
 // What the device has of a file is in a file of LOST_FOLDER that has the number of its inode for a name. Beside it is
 // one of that name and `.pages`, with a byte for each page: 1 if the next sync is to write it, 2 if it is lost for
 // good.
 //
 //   LOST_FOLDER  the folder of these files
-//   LOST_SYNC    which sync of `store.yaml`, `next.yaml` or `copy.yaml` fails, from 1; without it none does
+//   LOST_SYNC    which sync of the two files fails, from 1; without it none does
 //
 // A sync also fails, once, if there is a file of that name and `.untold`: then the system wrote pages by itself before,
 // and failed.
@@ -158,7 +158,7 @@ int open(const char *path, int flags, ...) {
     int handle = REAL(open)(path, flags, mode);
     const char *slash = strrchr(path, '/');
     const char *name = slash ? slash + 1 : path;
-    int is_one = !strcmp(name, "store.yaml") || !strcmp(name, "next.yaml") || !strcmp(name, "copy.yaml");
+    int is_one = !strcmp(name, "store.yaml") || !strcmp(name, "next.yaml");
     if (handle >= 0 && handle < HANDLES) {
         followed[handle] = is_one && getenv("LOST_FOLDER");
     }

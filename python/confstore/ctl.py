@@ -22,9 +22,8 @@ from .ctl_faults import DEVICE, NOTHING_THERE, OF_TEXTS, REFUSED, WRONG_WORDS, F
 from .ctl_places import NO_SERVER, Place, place_of
 from .ctl_program import Source, is_without_store, program_if_any, run_shown, styled
 from .ctl_streams import ClosedPipe, hold_closed, is_error_terminal, read_text, write, write_error
-from .ctl_words import ALL, AT, BATCH, DIFF, EDIT, EDITS, ENVIRONMENT, EXISTS, EXPLAIN, FED, FOREIGN, FROM_FILE, GET
-from .ctl_words import HIDE, IMPORT, LOOKING_BACK, MOVING, OF_PROGRAM, PAGE, PLANNED, READING, RENDER, ROLLBACK, RUN
-from .ctl_words import SET, SHAPED, SYNC, UNDO, WATCH, YAML_VALUE, Option
+from .ctl_words import AT, BATCH, EDIT, EXISTS, EXPLAIN, FED, FOREIGN, FROM_FILE, HIDE, IMPORT, LOOKING_BACK
+from .ctl_words import MOVING, OF_PROGRAM, PLANNED, READING, RENDER, RUN, SET, SHAPED, WATCH, YAML_VALUE, Option
 
 TYPE_CHECKING = False  # `typing` takes as long to import as all of this
 if TYPE_CHECKING:
@@ -37,12 +36,6 @@ PAUSE = 0.1
 
 # What to do where a run can't have the store.
 HELD = "a server or another run holds the store: a server's socket takes the same commands; or use `confstorectl batch`"
-
-# Where the words are done that take more than one command.
-_MODULES = {
-    WATCH: "ctl_watch.watch", EDIT: "ctl_edit.edit", RENDER: "ctl_render.render", UNDO: "ctl_back.undo",
-    ROLLBACK: "ctl_back.rollback", SYNC: "ctl_sync.sync", DIFF: "ctl_diff.diff", PAGE: "ctl_diff.page",
-}  # fmt: skip
 
 # What a shell adds to the number of the signal that ended a program.
 BY_SIGNAL = 128
@@ -223,20 +216,23 @@ def do(asked: Asked) -> int:
 
 def composed_of(asked: Asked) -> Callable[[Asked], int] | None:
     """What does a word that takes more than one command, or None of another one. Only that is imported then."""
-    name = _MODULES.get(asked.word)
-    if name is None and asked.word is IMPORT and any(asked.has(option) for option in FOREIGN):
-        name = "ctl_import.import_foreign"
-    if name is None and (asked.has(ENVIRONMENT) or (asked.word is GET and asked.repeated)):
-        name = "ctl_values.get_values"
-    if name is None and asked.has(ALL):
-        name = "ctl_values.export_all"
-    if name is not None:
-        from importlib import import_module
+    if asked.word is WATCH:
+        from .ctl_watch import watch
 
-        module, _, function = name.partition(".")
-        does: Callable[[Asked], int] = getattr(import_module(f".{module}", __package__), function)
-        return does
-    return plan_and_do if any(asked.has(option) for option in (*PLANNED, *SHAPED, EDITS)) else None
+        return watch
+    if asked.word is EDIT:
+        from .ctl_edit import edit
+
+        return edit
+    if asked.word is RENDER:
+        from .ctl_render import render
+
+        return render
+    if asked.word is IMPORT and any(asked.has(option) for option in FOREIGN):
+        from .ctl_import import import_foreign
+
+        return import_foreign
+    return plan_and_do if any(asked.has(option) for option in (*PLANNED, *SHAPED)) else None
 
 
 def plan_and_do(asked: Asked) -> int:
@@ -249,11 +245,7 @@ def plan_and_do(asked: Asked) -> int:
         return change(asked, {}, conditions_of(asked))
     work = Work(asked)
     if asked.word is IMPORT:
-        text = styled(work.text or b"", work.source)  # a text that is refused is named by its file
-        if asked.has(EDITS):
-            from .ctl_sync import import_edits
-
-            return import_edits(asked, text)
+        styled(work.text or b"", work.source)  # a text that is refused is named by its file
     command = {key: value for key, value in work.command.items() if key != "if"}
     return change(asked, command, conditions_of(asked))
 

@@ -3,10 +3,9 @@
 from __future__ import annotations
 
 from .ctl_faults import Fault, shown
-from .ctl_words import ALL, COMMON, DEFAULT, DIFF, EDITS, ENVIRONMENT, EXPORT, FORMAT, FROM_FILE, GET, HELP, HIDE
-from .ctl_words import IF_ABSENT, IF_VALUE, IN_PLACE, INSERT, JSON, LINES, LOG, NO_NEWLINE, OF_FILES, OTHER_NAMES
-from .ctl_words import PAGE, PARENTS, PLAIN, RAW, RENDER, ROLLBACK, SET, SETTLE, SINCE, SOCKET, TO_NUMBER, UNDO, VALUES
-from .ctl_words import VERSION, WAIT, WHOLE, WORDS, YAML_RECORDS, YAML_VALUE, Option, Word
+from .ctl_words import COMMON, FROM_FILE, HELP, HIDE, IF_ABSENT, IF_VALUE, IN_PLACE, INSERT, JSON, NO_NEWLINE
+from .ctl_words import OTHER_NAMES, PARENTS, PLAIN, RAW, RENDER, SET, SETTLE, SOCKET, VALUES, VERSION, WAIT, WHOLE
+from .ctl_words import WORDS, YAML_RECORDS, YAML_VALUE, Option, Word
 
 TYPE_CHECKING = False
 if TYPE_CHECKING:
@@ -35,13 +34,6 @@ _EXCLUDING = (
     (JSON, PLAIN),
     (VALUES, YAML_RECORDS),
     (PARENTS, INSERT),
-    (FORMAT, EDITS),
-    (ENVIRONMENT, RAW),
-    (ENVIRONMENT, JSON),
-    (ENVIRONMENT, PLAIN),
-    (ENVIRONMENT, DEFAULT),
-    (OF_FILES, SINCE),
-    (OF_FILES, TO_NUMBER),
 )
 
 
@@ -192,7 +184,7 @@ class _Cut:
         option = _option_of(self._word(), name)
         if option is None:
             raise no_option(name, self._word())
-        if name in self.options and name != HIDE.name:
+        if name in self.options and option is not HIDE:
             raise wrong(f"{name} is there twice", self._word())
         if not option.value and mark:
             raise wrong(f"{name} takes no value", self._word())
@@ -203,7 +195,7 @@ class _Cut:
             if option not in COMMON and value.startswith("-") and value != "-" and not _is(_NUMBER, value):
                 raise wrong(f"{name} wants {option.value}; {name}={shown(value)} gives it that", self._word())
         self.options[name] = value
-        if name == HIDE.name:
+        if option is HIDE:
             self.hidden.append(value)
 
 
@@ -230,8 +222,6 @@ def asked_of(words: Sequence[str]) -> Asked | Help | Version:
     asked = Asked(word, _arguments_of(word, cut.arguments[1:]), cut.options, cut.command, repeated, hidden)
     _check_pointer(asked)
     _check_together(asked)
-    _check_history(asked)
-    _check_several(asked)
     return asked
 
 
@@ -290,7 +280,7 @@ def _check_together(asked: Asked) -> None:
     for one, other in _EXCLUDING:
         if asked.has(one) and asked.has(other):
             raise wrong(f"{one.name} beside {other.name}", asked.word)
-    if asked.word is LOG and asked.has(HIDE) and not asked.has(VALUES):
+    if asked.has(HIDE) and not asked.has(VALUES):
         raise wrong(f"{HIDE.name} needs {VALUES.name}", asked.word)
     if asked.has(NO_NEWLINE) and not asked.has(RAW):
         raise wrong(f"{NO_NEWLINE.name} needs {RAW.name}", asked.word)
@@ -300,42 +290,3 @@ def _check_together(asked: Asked) -> None:
         raise wrong("a COMMAND needs FILE", asked.word)
     if asked.word is SET and ("VALUE" in asked.arguments) == asked.has(FROM_FILE):
         raise wrong(f"either VALUE or {FROM_FILE.name} is needed", asked.word)
-
-
-def _check_history(asked: Asked) -> None:
-    """Raises `WrongWords` for words on earlier commands that lack something, or that say it wrongly."""
-    if asked.word is UNDO:
-        range_of(asked.arguments["N"])
-    if asked.word is ROLLBACK and not asked.has(TO_NUMBER):
-        raise wrong(f"{TO_NUMBER.name} is needed", asked.word)
-    if asked.word is DIFF and asked.has(OF_FILES) and "NAME" not in asked.arguments:
-        raise wrong(f"{OF_FILES.name} needs two files", asked.word)
-    if asked.word is DIFF and asked.hidden and not asked.has(LINES):
-        raise wrong(f"{HIDE.name} needs {LINES.name}", asked.word)
-    for pointer in asked.hidden if asked.word in (DIFF, PAGE) else ():
-        if not _is("(/([^~/]|~[01])*)*", pointer):
-            raise wrong(f"{HIDE.name} wants a JSON Pointer, not {shown(pointer)}", asked.word)
-
-
-def range_of(text: str) -> tuple[int, int]:
-    """The first and the last number of what is to be undone. Raises `WrongWords`."""
-    first, dots, last = text.partition("..")
-    for number in (first, last) if dots else (first,):
-        _check_number(UNDO, "N", number)
-    least, most = int(first), int(last if dots else first)
-    if not 1 <= least <= most:
-        raise wrong(f"N wants numbers from 1 on, the smaller one first, not {shown(text)}", UNDO)
-    return least, most
-
-
-def _check_several(asked: Asked) -> None:
-    """Raises `WrongWords` for several values, or all configurations, without what they need, or beside one."""
-    if asked.word is EXPORT and ("NAME" in asked.arguments) == asked.has(ALL):
-        raise wrong(f"either NAME or {ALL.name} is needed", asked.word)
-    if asked.has(ALL) and not asked.options[ALL.name]:
-        raise wrong(f"{ALL.name} wants a folder", asked.word)
-    if asked.word is GET and asked.repeated:
-        if asked.has(DEFAULT) or asked.has(NO_NEWLINE):
-            raise wrong(f"{DEFAULT.name} and {NO_NEWLINE.name} take one POINTER", asked.word)
-        if not any(asked.has(option) for option in (RAW, JSON, ENVIRONMENT)):
-            raise wrong(f"several pointers need {RAW.name}, {JSON.name} or {ENVIRONMENT.name}", asked.word)

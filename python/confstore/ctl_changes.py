@@ -23,7 +23,7 @@ def conditions_of(asked: Asked) -> List[Condition]:
     absent = asked.has(IF_ABSENT) or (asked.word is COPY and not asked.has(REPLACE) and not asked.has(IF_VALUE))
     if not absent and not any(asked.has(option) for option in (IF_VALUE, IF_COUNT)):
         return []
-    name = asked.argument("TO") or asked.argument("NAME")
+    name = asked.arguments.get("TO", asked.arguments["NAME"])
     value = asked.options.get(IF_VALUE.name, MISSING)
     count: Optional[int] = int(asked.options[IF_COUNT.name]) if asked.has(IF_COUNT) else None
     return at_place(name, asked.argument("POINTER"), value, absent, count)

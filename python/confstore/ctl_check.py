@@ -8,7 +8,7 @@ import os
 import subprocess
 import tempfile
 import time
-from typing import Callable, Dict, Iterator, List, Mapping, NamedTuple, Optional, Sequence
+from typing import Callable, Dict, Iterator, List, NamedTuple, Optional, Sequence
 
 from .commands import is_name, put_of
 from .conditions import Absent, Condition, Test, move_of, under
@@ -18,9 +18,8 @@ from .ctl_exchange import Exchange
 from .ctl_faults import Fault, TextFault, shown
 from .ctl_program import program, run
 from .ctl_sockets import PATIENCE, Command, SessionReply, answer_of
-from .ctl_streams import write, write_error
+from .ctl_streams import write
 from .ctl_words import CHECK, DRY_RUN, MOVING, PLANNED, SHAPED
-from .differences import are_same
 from .pieces import Cutter
 from .style import Tree, document, to_text
 
@@ -31,11 +30,7 @@ LAST_LINES = 10
 LONGEST_LINE = 300
 
 
-class NothingToChange(Exception):
-    """What a change is to give is there already."""
-
-
-class Planned(NamedTuple):
+class _Planned(NamedTuple):
     """A change, and the configurations that it was made for, each with its tree, or None where there is none."""
 
     command: Command
@@ -45,10 +40,6 @@ class Planned(NamedTuple):
     def guards(self) -> List[Condition]:
         """The conditions under which they are as they were."""
         return [Absent(name) if tree is None else Test(name, "", tree) for name, tree in self.trees.items()]
-
-
-# What makes a change for what is there.
-Plan = Callable[[Exchange], Planned]
 
 
 def judge(asked: Asked, name: str, text: bytes) -> None:
@@ -70,54 +61,33 @@ def judge(asked: Asked, name: str, text: bytes) -> None:
 
 
 def change(asked: Asked, command: Command, conditions: Sequence[Condition]) -> int:
-    """Makes a change as `carry_out` does. The status. Raises a `Fault`."""
-    return carry_out(asked, _plan_of(asked, command), conditions)
-
-
-def carry_out(asked: Asked, plan: Plan, conditions: Sequence[Condition], *, is_planned_once: bool = False) -> int:
     """Makes a change once the command of `--check` has taken all configurations that it gives, or shows it. The status.
-    Where one of these was changed meanwhile it begins again with another plan, unless there is one plan alone. Raises a
-    `Fault`."""
+    Where one of these was changed meanwhile it begins again. Raises a `Fault`."""
     is_looked_at = any(asked.has(option) for option in PLANNED)
     if is_looked_at:
         program()  # it says what the change would give
     exchange, deadline = Exchange(asked), time.monotonic() + PATIENCE
+    plan = _plan_of(asked, command)
     while True:
-        try:
-            planned = plan(exchange)
-        except NothingToChange:
-            return _changed_nothing(exchange, conditions)
+        planned = plan(exchange)
         texts = _outcome_of(planned) if is_looked_at else {}
-        judge_all(asked, texts)
+        for name, text in texts.items() if asked.has(CHECK) else ():
+            judge(asked, name, text)
         if asked.has(DRY_RUN):
             if conditions and not hold(conditions, exchange.ask):
                 raise Fault("Unmet")
-            write("".join(differing_lines(planned.trees, texts)).encode())
+            write("".join(_differences(planned.trees, texts)).encode())
             return 0
         try:
             exchange.ask(under([*conditions, *planned.guards], planned.command))
             return 0
         except Fault as fault:
-            if fault.kind != "Unmet" or is_planned_once or time.monotonic() > deadline:
+            is_as_it_was = {name: exchange.tree(name) for name in planned.trees} == planned.trees
+            if fault.kind != "Unmet" or is_as_it_was or time.monotonic() > deadline:
                 raise
-            if all(are_same(exchange.tree(name), tree) for name, tree in planned.trees.items()):
-                raise
 
 
-def _changed_nothing(exchange: Exchange, conditions: Sequence[Condition]) -> int:
-    if conditions and not hold(conditions, exchange.ask):
-        raise Fault("Unmet")
-    write_error("confstorectl: nothing changed\n")
-    return 0
-
-
-def judge_all(asked: Asked, texts: Mapping[str, bytes]) -> None:
-    """Has the command of `--check`, if there is one, look at the texts of configurations. Raises a `Fault`."""
-    for name, text in texts.items() if asked.has(CHECK) else ():
-        judge(asked, name, text)
-
-
-def differing_lines(before: Mapping[str, Optional[Tree]], after: Mapping[str, bytes]) -> Iterator[str]:
+def _differences(before: Dict[str, Optional[Tree]], after: Dict[str, bytes]) -> Iterator[str]:
     """The lines that differ of each configuration that a change gives or removes."""
     for name, tree in before.items():
         old = to_text(tree) if tree is not None else ""
@@ -126,29 +96,29 @@ def differing_lines(before: Mapping[str, Optional[Tree]], after: Mapping[str, by
         yield from difflib.unified_diff(old.splitlines(keepends=True), new.splitlines(keepends=True), *files)
 
 
-def _plan_of(asked: Asked, command: Command) -> Plan:
+def _plan_of(asked: Asked, command: Command) -> Callable[[Exchange], _Planned]:
     """What makes the change for what is there."""
     if any(asked.has(option) for option in SHAPED):
         from .ctl_placing import placed
 
-        def plan_of_place(exchange: Exchange) -> Planned:
+        def plan_of_place(exchange: Exchange) -> _Planned:
             name = asked.arguments["NAME"]
             tree = exchange.tree(name)
-            return Planned(placed(asked, command["value"], tree), {name: tree})
+            return _Planned(placed(asked, command["value"], tree), {name: tree})
 
         return plan_of_place
     if asked.word not in MOVING:
-        return lambda exchange: Planned(command, {name: exchange.tree(name) for name in _names_of(command)})
+        return lambda exchange: _Planned(command, {name: exchange.tree(name) for name in _names_of(command)})
     source, target = asked.arguments["NAME"], asked.arguments["TO"]
 
-    def plan(exchange: Exchange) -> Planned:
+    def plan(exchange: Exchange) -> _Planned:
         tree = exchange.tree(source)
         if tree is None:
             raise Fault("NoConfig")
         trees: Dict[str, Optional[Tree]] = {source: tree}
         if target != source:
             trees[target] = exchange.tree(target)
-        return Planned(move_of(asked.word.name, source, target, tree), trees)
+        return _Planned(move_of(asked.word.name, source, target, tree), trees)
 
     return plan
 
@@ -160,7 +130,7 @@ def _names_of(command: Command) -> List[str]:
     return list(dict.fromkeys(name for name in firsts if isinstance(name, str) and is_name(name)))
 
 
-def _outcome_of(planned: Planned) -> Dict[str, bytes]:
+def _outcome_of(planned: _Planned) -> Dict[str, bytes]:
     """The texts of the configurations that a change may give, which the program makes in a store of its own. Raises the
     `Fault` of a change that it refuses."""
     commands: List[Command] = [put_of(name, tree) for name, tree in planned.trees.items() if tree is not None]

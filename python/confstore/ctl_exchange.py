@@ -3,7 +3,7 @@
 from __future__ import annotations
 
 import time
-from typing import List, Optional
+from typing import Optional
 
 from .commands import get_of
 from .ctl_asked import Asked
@@ -11,7 +11,7 @@ from .ctl_faults import REFUSED, Fault, TextFault, shown
 from .ctl_places import Place, place_of
 from .ctl_program import Ended, is_without_store, program_if_any, run
 from .ctl_sockets import Command, Connection, Reply, SessionReply, answer_of
-from .ctl_words import INIT, WITH_HISTORY
+from .ctl_words import INIT
 from .style import Tree, document
 from .trees import NO_TREES, from_text
 
@@ -36,18 +36,13 @@ class Exchange:
                     raise
             time.sleep(min(PAUSE, max(deadline - time.monotonic(), 0)))
 
-    @property
-    def _place(self) -> Optional[Place]:
-        """The socket that is there now, if any is. A word that reads the history reads it in the folder."""
-        return place_of(self._asked.socket, self._asked.folder, is_read=self._asked.word in WITH_HISTORY)
-
     def tree(self, name: str) -> Optional[Tree]:
         """The tree of a configuration, or None if none has the name. The program takes no lock for it."""
         folder = self._asked.folder
         if self._asked.has(INIT) and is_without_store(folder):
             return None
         try:
-            if self._place is not None:
+            if place_of(self._asked.socket, folder) is not None:
                 return self.ask(get_of(name, "")).tree()
         except Fault as fault:
             if fault.kind != "NoConfig":
@@ -60,18 +55,8 @@ class Exchange:
             return None
         raise TextFault(ended.lines(), ended.status if ended.status > 0 else REFUSED)
 
-    def names(self) -> List[str]:
-        """The names of the configurations. The program takes no lock for them."""
-        folder = self._asked.folder
-        if self._place is None:
-            ended = run(["names", "--", folder], None)
-            if ended.status:
-                raise TextFault(ended.lines(), ended.status if ended.status > 0 else REFUSED)
-            return ended.output.decode().split()
-        return names_in(self.ask({"names": ""}).tree())
-
     def _ask(self, command: Command) -> Reply:
-        place = self._place
+        place = place_of(self._asked.socket, self._asked.folder)
         if place is None:
             return self._ask_program(command)
         try:
@@ -91,13 +76,6 @@ class Exchange:
         if is_without_store(self._asked.folder) and not self._asked.has(INIT):
             raise Fault("NotAStore")
         return answer_by_program(self._asked.folder, command)
-
-
-def names_in(tree: Tree) -> List[str]:
-    """The names that an answer has. Raises a `Fault` where it has something else."""
-    if not isinstance(tree, list) or not all(isinstance(name, str) for name in tree):
-        raise Fault("BadAnswer", "the names are no list of texts")
-    return [name for name in tree if isinstance(name, str)]
 
 
 def tree_in(output: bytes) -> Tree:

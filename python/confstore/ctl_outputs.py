@@ -47,10 +47,10 @@ def _raw(asked: Asked, tree: Tree) -> bytes:
 
 
 def _value(asked: Asked, reply: Reply) -> bytes:
-    return in_form(asked, reply.tree()) if has_form(asked) else reply.styled()
+    return _in_form(asked, reply.tree()) if has_form(asked) else reply.styled()
 
 
-def in_form(asked: Asked, tree: Tree) -> bytes:
+def _in_form(asked: Asked, tree: Tree) -> bytes:
     """A tree in the form that is asked for."""
     from .style import to_plain_text, to_text
 
@@ -68,7 +68,7 @@ def has_form(asked: Asked) -> bool:
 
 def _text(asked: Asked, reply: Reply) -> bytes:
     if has_form(asked):
-        return in_form(asked, reply.tree())
+        return _in_form(asked, reply.tree())
     text = reply.tree()
     if not isinstance(text, str):
         raise Fault("BadAnswer", "the text of an export is a collection")
@@ -113,4 +113,4 @@ def output_of_default(asked: Asked) -> bytes | None:
     """What a word writes where nothing is at the place, or None where that is a fault."""
     if not asked.has(DEFAULT):
         return None
-    return in_form(asked, asked.options[DEFAULT.name])
+    return _in_form(asked, asked.options[DEFAULT.name])

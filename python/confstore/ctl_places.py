@@ -13,20 +13,22 @@ STORES, SOCKETS = "/var/lib/confstore", "/run/confstore"
 
 
 class Place:
-    """Where a server may be: the path of its socket, and the folder whose store it has to have, or None where it may have
-    any, as one that the user has named."""
+    """Where a server may be: the path of its socket, and the folder of the store for which that was found, or None if
+    the user has named the socket."""
 
-    def __init__(self, path: str, folder: str | None = None, *, is_given: bool = False) -> None:
+    def __init__(self, path: str, folder: str | None = None) -> None:
         self.path, self.folder = path, folder
-        self.is_given = is_given or folder is None
+
+    @property
+    def is_given(self) -> bool:
+        return self.folder is None
 
 
-def place_of(given: str, folder: str, *, is_read: bool = False) -> Place | None:
-    """The socket for a store: the one that was given, or the one that is found. Its server has to have the store in the
-    folder where the socket was found for it, or where the folder is read too."""
+def place_of(given: str, folder: str) -> Place | None:
+    """The socket for a store: the one that was given, or the one that is found."""
     given = given or os.environ.get("CONFSTORE_SOCKET", "")
     if given:
-        return Place(given, os.path.abspath(folder) if is_read else None, is_given=True)
+        return Place(given)
     folder = os.path.abspath(folder)
     above, name = os.path.split(folder)
     likely = [os.path.join(folder, "confstore.sock")]

@@ -190,13 +190,11 @@ class Connection:
             os.close(above)
 
     def _need_store(self, place: Place) -> None:
-        """Raises a `Fault` where the server has to have one store, and has another one. The system gives
+        """Raises a `Fault` where the socket was found for one store, and its server has another one. The system gives
         a connection the name by which the server has bound the socket, through whatever link it was reached."""
         if place.folder is None:
             return
-        about = "name the server of this store with --socket"
-        if not place.is_given:
-            about = f"remove {shown(place.path)}, or name the server with --socket"
+        about = f"remove {shown(place.path)}, or name the server with --socket"
         found = _STORE.fullmatch(os.path.basename(os.fsdecode(self._socket.getpeername())))
         if found is None:
             if os.path.islink(place.path):

@@ -57,11 +57,6 @@ def is_error_terminal() -> bool:
     return os.isatty(STANDARD_ERROR)
 
 
-def is_output_terminal() -> bool:
-    """Whether standard output is a terminal that is to show colours (no-color.org)."""
-    return os.isatty(STANDARD_OUTPUT) and not os.environ.get("NO_COLOR") and os.environ.get("TERM") != "dumb"
-
-
 def read_text(file: str) -> bytes:
     """The bytes of a file, or of standard input for `-`; the first of them where they are more than a text may have."""
     if file == "-":

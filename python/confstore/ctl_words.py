@@ -102,19 +102,6 @@ CHECKED = (CHECK,)
 PLANNED = (CHECK, DRY_RUN)
 SHAPED = (PARENTS, INSERT)
 
-# Those of the words that tell what changed, or that change something back.
-TO_NUMBER = Option("--to", "Goes as far as command number N", "N")
-SINCE = Option("--from", "Begins with what the store was after command number N", "N")
-LINES = Option("--lines", "Writes a line for what was at each place, and one for what is there then")
-OF_FILES = Option("--files", "Compares two files, which stand in the places of FOLDER and NAME")
-HIDE_VALUES = Option("--hide", "Leaves out what is at POINTER, or below it; may be given again", "POINTER")
-DELETE_MISSING = Option("--delete", "Removes each configuration that has no file")
-
-# That of `import` which records edits, and those of the words that write several values or configurations.
-EDITS = Option("--edits", "Records the edits that make the text of what is there, in place of the whole text")
-ALL = Option("--all", "Writes each configuration into the file NAME.yaml of the folder DIR, in place of NAME", "DIR")
-ENVIRONMENT = Option("--env", "Writes lines that set variables of sh and of systemd")
-
 # Those of `import` for texts of other formats, which confstore does not have.
 FOREIGN = (FORMAT, DOCUMENT, SPLIT, DIR)
 
@@ -132,9 +119,6 @@ CHECK_ONLY = Option("--check", "Changes nothing, and names each FILE that would 
 FOLDER = Argument("FOLDER", "The store's folder")
 NAME = Argument("NAME", "The name of the configuration")
 POINTER = Argument("POINTER", "A JSON Pointer (RFC 6901), as /port or /tags/0")
-POINTERS = Argument(
-    "POINTER", "JSON Pointers, as /port; the whole configuration if none is given", True, True
-)
 WHOLE_POINTER = Argument("POINTER", "A JSON Pointer, as /port; the whole configuration if it is left out", True)
 VALUE = Argument("VALUE", "The value; after `--` if it begins with `-` and is no number", True)
 TO = Argument("TO", "The other name; after `--` if it begins with `-`")
@@ -147,7 +131,7 @@ WATCHED_NAME = Argument("NAME", "The configuration; all of them if it is left ou
 IMPORT = Word(
     "import",
     "Reads a YAML text, and puts its tree under a name",
-    (INIT, EXPLAIN, EDITS, *CONDITIONS, *PLANNED, *FOREIGN),
+    (INIT, EXPLAIN, *CONDITIONS, *PLANNED, *FOREIGN),
     (FOLDER, NAME, FILE),
     (
         "A configuration that has the name is replaced. Nothing is printed where it is done. Comments and quotes are"
@@ -160,9 +144,6 @@ IMPORT = Word(
         " value, a date and a time get the plain form, as 31, true and 1979-05-27T07:32:00Z. An env text in which"
         " readers would replace a variable, or differ, is refused, with what to write instead; the keys of properties"
         " are not cut at dots.",
-        "With `--edits` the log says what changed: the record has the edits that make the tree of what is there, unless"
-        " nothing of that stays, or they have over 4,096 bytes and the whole text is shorter. A text that changes"
-        " nothing is not recorded.",
         "`--dir` takes the files of DIR itself that have an ending of the format: .yaml, .yml; .toml; .ini, .cfg,"
         " .conf; .env; .properties; .json5, .json, .jsonc. What a name can't have of a file's name becomes `-`.",
     ),
@@ -170,7 +151,6 @@ IMPORT = Word(
         "confstorectl import store web web.yaml",
         "confstorectl import --init store web web.yaml",
         "confstorectl import store web web.yaml --if-absent",
-        "confstorectl import store web web.yaml --edits",
         "printf 'port: 80\\n' | confstorectl import store web",
         "confstorectl import --from toml store app pyproject.toml",
         "confstorectl import --from yaml --document 2 store web all.yaml",
@@ -284,55 +264,6 @@ BATCH = Word(
         "echo '[{set: web, path: /port, value: 81}, {delete: old, path: \"\"}]' | confstorectl batch store",
     ),
 )
-UNDO = Word(
-    "undo",
-    "Takes back what commands have changed",
-    (IF_COUNT, *PLANNED),
-    (FOLDER, Argument("N", "The number of a command, or `N..M` for those from N to M"), WATCHED_NAME),
-    (
-        "Each place that the commands changed gets the value that it had before, by one batch, which is recorded and"
-        " can be undone. Where a place has another value than they left there, nothing is changed (Unmet), and the fault"
-        " says which places these are. Mappings are compared key by key, and lists element by element where none was"
-        " added or taken out; another list is one place. A change that comes meanwhile is looked at in the same way."
-        " Commands that a checkpoint dropped can't be undone (NoSuchCommand).",
-    ),
-    (
-        "confstorectl undo store 12",
-        "confstorectl undo store 12..14 web --dry-run",
-    ),
-)
-ROLLBACK = Word(
-    "rollback",
-    "Makes a configuration what it was after a command",
-    (TO_NUMBER, IF_COUNT, *PLANNED),
-    (FOLDER, NAME),
-    (
-        "`--to` is needed. The edits that this takes are one batch, which is recorded and can be undone. All changes of"
-        " the configuration since then are dropped, so look at them first (`diff`). Where it is changed meanwhile,"
-        " nothing is changed (Unmet); `--if-count` says up to which number you have looked. One that was not there then"
-        " is removed.",
-    ),
-    (
-        "confstorectl rollback store web --to 11",
-        "confstorectl rollback store web --to 11 --if-count 14",
-    ),
-)
-SYNC = Word(
-    "sync",
-    "Makes the configurations what the files of a folder have",
-    (DELETE_MISSING, EXPLAIN, IF_COUNT, *PLANNED),
-    (FOLDER, Argument("DIR", "The folder of the files, each NAME.yaml")),
-    (
-        "What will change is written first, as `diff -u` does. Then it is changed by one batch of edits, all or"
-        " nothing, and only where no other command came since the store was read. Where one did, it is read again, and"
-        " changed if that takes the same edits; else nothing is changed (Unmet). A configuration without a file stays, unless"
-        " `--delete` is given. A folder without such a file is refused (NothingToImport).",
-    ),
-    (
-        "confstorectl sync store conf.d --dry-run",
-        "confstorectl sync store conf.d --delete",
-    ),
-)
 CHECKPOINT = Word(
     "checkpoint",
     "Makes the store file as short as its state",
@@ -344,19 +275,15 @@ CHECKPOINT = Word(
 EXPORT = Word(
     "export",
     "Writes a configuration",
-    (JSON, PLAIN, ALL),
-    (FOLDER, Argument("NAME", "The name of the configuration; needed without `--all`", True)),
+    (JSON, PLAIN),
+    (FOLDER, NAME),
     (
         "The configuration is written in the one style, which quotes `80` and `true`, since they are texts. With"
         " `--json` it is a JSON text, each text a string. With `--plain` such texts stand without quotes, so that"
         " readers with types take them for numbers; then they do so with a version 1.10, too.",
-        "With `--all` each configuration is written into a file of its own: NAME.yaml, or NAME.json with `--json`. DIR"
-        " is made if it is missing. A file is replaced whole, with its mode and owner, and only if it changes; other files"
-        " stay. Two configurations may be of two moments.",
     ),
     (
         "confstorectl export store web",
-        "confstorectl export store --all conf.d",
         "confstorectl export store web --json",
     ),
 )
@@ -374,24 +301,17 @@ NAMES = Word(
 GET = Word(
     "get",
     "Writes the value at a JSON Pointer of a configuration",
-    (RAW, NO_NEWLINE, JSON, PLAIN, ENVIRONMENT, DEFAULT, AT),
-    (FOLDER, NAME, POINTERS),
+    (RAW, NO_NEWLINE, JSON, PLAIN, DEFAULT, AT),
+    (FOLDER, NAME, WHOLE_POINTER),
     (
         "The value is written in the one style. With `--raw` a text is written as it is, with a line feed after it, or"
         " with nothing after it for `--no-newline`; a list or a mapping is refused (NotText). With `--json` the value"
         " is a JSON text, each text a string. With `--plain` texts as 80 and true stand without quotes, for readers"
         " with types. With `--default` that text is written where no configuration has the name, or nothing is at the"
         " pointer.",
-        "Several pointers need `--raw` or `--json`, for a line each, or `--env`. The values are of one moment. With"
-        " `--env` each text at a pointer, or in what is there, is a line `port=\"80\"`, by which sh and systemd"
-        " (EnvironmentFile=) set the variable port to exactly this text. The name is made of the steps that lead to the"
-        " text, with `_` between them and in the place of what a name can't have; two places of one name are refused"
-        " (NameTwice).",
     ),
     (
         "confstorectl get store web /port --raw",
-        "confstorectl get store web /host /port --raw",
-        "confstorectl get store web --env > web.env",
         "confstorectl get store web",
         "confstorectl get store web /port --at 12",
         "confstorectl get store web /port --raw --default 80",
@@ -507,42 +427,6 @@ WATCH = Word(
     True,
 )
 
-DIFF = Word(
-    "diff",
-    "Writes what changed between two commands, or between two files",
-    (SINCE, TO_NUMBER, LINES, HIDE_VALUES, OF_FILES, EXPLAIN),
-    (FOLDER, WATCHED_NAME),
-    (
-        "It begins with the oldest state that the file has, which the last checkpoint left, and goes to the last"
-        " command, unless numbers are given. Without `--lines` it writes the edits that make the second state of the"
-        " first, as a list that `batch` takes; they are made in their order. With `--lines` each place is a line as"
-        " `- /port \"80\"`, or `+ /port \"81\"`, the value as a JSON text, in colours on a terminal (unless NO_COLOR"
-        " is set); without NAME the name stands before the place. The order of keys counts.",
-        "The status is 0 if nothing differs, and 1 if something does, as of diff. `--hide` needs `--lines`.",
-    ),
-    (
-        "confstorectl diff store web --from 11 --lines",
-        "confstorectl diff store --from 11 --to 12",
-        "confstorectl diff --files old.yaml new.yaml --lines",
-    ),
-    common=WITHOUT_SERVER,
-)
-PAGE = Word(
-    "page",
-    "Writes a page of the log, a file of HTML for a browser",
-    (HIDE_VALUES,),
-    (FOLDER,),
-    (
-        "It has each command since the last checkpoint with the values before and after it, and the store at each"
-        " number. It asks nothing of a network. Whoever may read it sees all values but those that `--hide` leaves out.",
-    ),
-    (
-        "confstorectl page store > log.html",
-        "confstorectl page store --hide /db/password > log.html",
-    ),
-    common=WITHOUT_SERVER,
-)
-
 INIT_STORE = Word(
     "init",
     "Makes a folder with an empty store",
@@ -621,13 +505,10 @@ CHECK_TEXT = Word(
     common=(HELP,),
 )
 
-CHANGING = (IMPORT, SET, DELETE, COPY, RENAME, EDIT, BATCH, UNDO, ROLLBACK, SYNC, CHECKPOINT)
+CHANGING = (IMPORT, SET, DELETE, COPY, RENAME, EDIT, BATCH, CHECKPOINT)
 MOVING = (COPY, RENAME)
 READING = (EXPORT, NAMES, KEYS, GET, EXISTS, RENDER)
-LOOKING_BACK = (LOG, DIFF, PAGE, VERIFY, WATCH)
-
-# The words that change a store by what its file says.
-WITH_HISTORY = (UNDO, ROLLBACK, SYNC)
+LOOKING_BACK = (LOG, VERIFY, WATCH)
 
 # The words that only the program does. Of these some read the standard input of confstorectl.
 OF_PROGRAM = (INIT_STORE, RUN, BACKUP, SALVAGE, FORMAT_TEXT, CHECK_TEXT)
@@ -641,7 +522,6 @@ OTHER_NAMES = {
     "del": "delete", "unset": "delete", "cp": "copy", "mv": "rename", "move": "rename", "put": "set", "write": "set",
     "add": "set", "create": "init", "new": "init", "load": "import", "dump": "export", "history": "log",
     "compact": "checkpoint", "follow": "watch", "fmt": "format", "lint": "check", "version": "--version",
-    "revert": "undo", "restore": "rollback", "reset": "rollback", "compare": "diff", "changes": "diff",
 }  # fmt: skip
 
 # Each group of words, with its heading.
@@ -662,11 +542,8 @@ DESCRIPTION = (
     "The socket is the one of `--socket`, else that of the environment's CONFSTORE_SOCKET, else"
     " FOLDER/confstore.sock if a server listens there; and of a FOLDER in /var/lib/confstore it is"
     " /run/confstore/NAME/socket. With one that is given FOLDER only counts for the words and options that look into"
-    " the file of a store: `log`, `diff`, `page`, `verify`, `watch` and `--at`, and those that change something back,"
-    " `undo`, `rollback` and `sync`. These read the folder, also beside a server, by the"
-    " program, which is CONFSTORE or confstore on the PATH; where the folder can't be read, `watch` asks the server."
-    " Where `undo`, `rollback` and `sync` find a server that has another store than FOLDER, nothing is changed"
-    " (OtherStore).",
+    " the file of a store: `log`, `verify`, `watch` and `--at`. These read the folder, also beside a server, by the"
+    " program, which is CONFSTORE or confstore on the PATH; where the folder can't be read, `watch` asks the server.",
     "A socket that is not given is only used where its server has the store in FOLDER, and not where a copy of a folder"
     " has a link to the socket of the first one.",
     "With `--wait SECONDS` a word that finds the store locked, or no server at a socket that is given, tries again for"
@@ -700,7 +577,7 @@ OWN_FAULTS = (
     ("Disconnected", "3", "no server answers at the socket; a change that was sent was made or not"),
     ("TimedOut", "3", "no answer came within a minute; a change was made or not, or will be"),
     ("BadAnswer", "3", "what the server said is no answer to the command, or more than that"),
-    ("OtherStore", "3", "the server has another store than FOLDER, where it has to have that; nothing was sent"),
+    ("OtherStore", "3", "the server at a socket that was found for FOLDER has another store; nothing was sent"),
     ("Replaced", "1", "another store stands in the place of the one that the server held; nothing was changed"),
     ("Failed", "3", "a replicated node could not perform a command; the word behind it says why"),
     ("MissingProgram", "3", "there is no program confstore where it was looked for"),
@@ -712,7 +589,4 @@ OWN_FAULTS = (
     ("CheckFailed", "1", "the command of `--check` has refused a configuration; nothing was changed"),
     ("CommandFailed", "1", "a command that was run has ended with another status than 0"),
     ("NothingToImport", "1", "no file of the folder has an ending of the format"),
-    ("NothingToUndo", "1", "the commands have changed nothing of what was named"),
-    ("NameTwice", "1", "two places would be one variable; nothing was written"),
-    ("NoVariable", "1", "a text can't be a variable; nothing was written"),
 )

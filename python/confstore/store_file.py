@@ -32,26 +32,12 @@ _AT = re.compile(rb'(?:---\n)?at: "([0-9]{1,20})"\n')
 _SURVEY = re.compile(rb'(?m)^base: "([0-9]+)"$')
 
 
-# The lengths of `store.lock` that say that no two records waited for one sync.
-_ALONE = (1, 2)
-
-
-def _may_several_wait(folder: str) -> bool:
-    """Whether several records may have waited for one sync when the machine stopped, by the length of `store.lock`."""
-    try:
-        return os.lstat(os.path.join(folder, "store.lock")).st_size not in _ALONE
-    except OSError:
-        return True
-
-
 class StoreFile:
     """An open `store.yaml`. It is read from its start, a piece at a time, as far as there are whole ones."""
 
     def __init__(self, folder: str, program: str, timeout: float) -> None:
         self._path, self._folder = os.path.join(folder, NAME), folder
         self._program, self._timeout = program, timeout
-        # The note first: who puts a file in the place of one with zeros takes it away.
-        self._may_several_wait = _may_several_wait(folder)
         self._file = io.FileIO(self._opened())
         self._place = 0  # the end of the last whole piece that was read
         #: The number of the last command that was read: at first that of the base.
@@ -107,13 +93,12 @@ class StoreFile:
 
     def records(self) -> Iterator[Tuple[int, bytes]]:
         """The records that follow what was read, with their numbers. Raises `Damaged` where a number is not the next
-        one. A piece with a zero ends them, as a crash leaves one, unless a record stands behind it, and no two waited
-        for one sync."""
+        one. A piece with a zero ends them, as a crash leaves one, unless a record stands behind it."""
         pieces = self._pieces()
         for piece in pieces:
             if b"\0" in piece:
                 begin = self._place - len(piece)
-                if not self._may_several_wait and any(map(self._is_record, pieces)):
+                if any(map(self._is_record, pieces)):
                     raise Damaged(f"Damaged: what follows command {self.number} has a zero, and a record behind it")
                 self._place = begin
                 return

@@ -142,7 +142,7 @@ class Words(unittest.TestCase):
         for word in WORDS.values():
             for example in word.examples:
                 with self.subTest(example):
-                    line = example.rpartition("| ")[2].partition(" && ")[0].partition(" < ")[0].partition(" > ")[0]
+                    line = example.rpartition("| ")[2].partition(" && ")[0].partition(" < ")[0]
                     self.assertEqual(self.asked(line.partition(" ")[2])[0], word.name)
 
     def test_help_has_all(self) -> None:

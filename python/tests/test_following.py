@@ -250,14 +250,6 @@ class Faults(FollowTest):
         with self.assertRaises(Damaged):
             Reader(self.folder).get("web", "/n")
 
-    def test_a_zero_where_several_waited(self) -> None:
-        self.set(1, 2, 3)
-        self.put_zero("2")
-        with open(os.path.join(self.folder, "store.lock"), "wb") as lock:
-            lock.write(b"-\0\0")
-        self.assertEqual(self.all_of(self.follow(2)), [self.was_set(2, 1)])
-        self.assertEqual(Reader(self.folder).get("web", "/n"), "1")
-
     def test_a_zero_before_what_is_no_record(self) -> None:
         self.set(1, 2, 3)
         self.put_zero("2")

@@ -1,7 +1,7 @@
 -- Ends of lines, and lines of their own.
 use Rattle.std.proofs.Common.{◌≡◌, ◌≤◌, ◌<◌, refl, sym, ◌∙◌, ap, ap₂, subst, append_assoc, get_or, length, arith}
 use Rattle.std.proofs.Common.{⊎_elim, inl, inr, Bor}
-use Rattle.std.specs.Prelude.{ℕ, ◌+◌, min, Bool, false, true, List, [], ◌∷◌, ◌++◌, Option, Some, None, codes, encode_utf8_all}
+use Rattle.std.specs.Prelude.{ℕ, ◌+◌, true, List, [], ◌∷◌, ◌++◌, Option, Some, None, codes, encode_utf8_all}
 use Rattle.std.specs.Prelude.{string_bytes, drop, flat_map}
 use Rattle.std.specs.List.{list_all}
 use Rattle.std.specs.Str.{chars}
@@ -21,19 +21,17 @@ use Rattle.comments_kept.specs.declared.weaver.Placed.{Placed}
 use Rattle.comments_kept.specs.declared.weaver.Weaver.{Weaver}
 use Rattle.comments_kept.specs.Weaving.{kept_texts, texts_of, left, extra_of, IsComment, StartsFilled, Woven, Wrote, WroteEnd}
 use Rattle.comments_kept.specs.Weaving.{WroteLines, WroteFilledLines, HasSkipped, WovenEnd}
-use Rattle.comments_kept.specs.Weaving.{left_marks, coming, StartsBehind, StartsElsewhere}
-use Rattle.comments_kept.specs.Places.{Mark, mark_of, marks_of, kept_text}
-use Rattle.comments_kept.specs.Laid.{Below, freely, next, trail_at, filled_if}
-use Rattle.comments_kept.specs.Laid.{marks_to, marks_after, filled_from, line_of, lines_of, behind_of, after_behind}
-use Rattle.comments_kept.proofs.Weaving.{first_none, last_none, texts-append, both_on_lines, wrote_both, kept, coming_by}
-use Rattle.comments_kept.proofs.Marks.{IsLater, later_to, later_after, behind_here, first_to, first_after, first_from, filled_same}
+use Rattle.comments_kept.proofs.Weaving.{first_none, last_none, texts-append, both_on_lines, wrote_both}
+
+-- nothing is left out between two weavers
+pub kept : (a b : Weaver) → b.kept ≡ a.kept → b.taken ≡ a.taken → left a ≡ left b
+kept a b same taken = ap₂ (λ (ps : Bor (List Placed)) (n : ℕ). drop n ps.now) (sym same) (sym taken)
 
 -- the first of what was left was taken, and this was written
 pub record Began (w b : Weaver) (cs : List ℕ) : Type 0 where
   pub spells : string_bytes b.text ≡ string_bytes w.text ++ encode_utf8_all cs
   pub same : b.kept ≡ w.kept
   pub more : b.taken ≡ w.taken + 1
-  pub here : b.place ≡ w.place
 
 -- what was taken is the first of what was left
 pub first_left : (w b : Weaver) (x : Placed) → w.taken < length w.kept.now → x ≡ get_or w.kept.now w.taken x
@@ -42,53 +40,37 @@ first_left w b x within is same more =
     drop_item w.kept.now w.taken x within is
     ∙ ap (λ ps. x ∷ ps) (ap₂ (λ (ps : Bor (List Placed)) (n : ℕ). drop n ps.now) (sym same) (sym more))
 
--- the same in the words of the rule
-pub first_mark : (w b : Weaver) (x : Placed) → w.taken < length w.kept.now → x ≡ get_or w.kept.now w.taken x
-    → b.kept ≡ w.kept → b.taken ≡ w.taken + 1 → left_marks w ≡ mark_of x ∷ left_marks b
-first_mark w b x within is same more = ap marks_of (first_left w b x within is same more)
-
 -- ---- the end of a line
 
 -- with no comment behind it
 pub end_alone : (w b : Weaver) → string_bytes b.text ≡ string_bytes w.text ++ encode_utf8_all (codes "\n") → b.kept ≡ w.kept
-    → b.taken ≡ w.taken → b.place ≡ w.place + 2 → StartsElsewhere (w.place + 1) w → WroteEnd w b
-end_alone w b spells same taken place alone = record {
+    → b.taken ≡ w.taken → WroteEnd w b
+end_alone w b spells same taken = record {
   behind = None;
   used = [];
   spells = spells;
   taken = kept w b same taken;
   texts = refl;
   none = λ none. refl;
-  exact = sym alone.none;
-  leaves = ap marks_of (sym (kept w b same taken)) ∙ sym alone.same;
-  place = place;
 }
 
 -- with one
-pub end_behind : (w b : Weaver) (text : List ℕ) → StartsBehind (w.place + 1) w text
-    → string_bytes b.text ≡ string_bytes w.text ++ encode_utf8_all (end_text (Some text)) → b.kept ≡ w.kept
-    → b.taken ≡ w.taken + 1 → b.place ≡ w.place + 2 → WroteEnd w b
-end_behind w b text starts spells same more place =
-    let x : Placed = starts.first in
-    let first = first_mark w b x starts.within starts.is same more in
-    let here = behind_here (w.place + 1) (mark_of x) (left_marks b) text starts.here starts.comment in
-    record {
-      behind = Some text;
-      used = x ∷ [];
-      spells = spells;
-      taken = first_left w b x starts.within starts.is same more;
-      texts = ap (λ ts. ts ++ []) starts.texts;
-      none = λ none. cc;
-      exact = sym here.0 ∙ ap (behind_of (w.place + 1)) (sym first);
-      leaves = sym here.1 ∙ ap (after_behind (w.place + 1)) (sym first);
-      place = place;
-    }
+pub end_behind : (w b : Weaver) (x : Placed) (text : Bor (List ℕ)) → x.kept ≡ Comment text → w.taken < length w.kept.now
+    → x ≡ get_or w.kept.now w.taken x → Began w b (end_text (Some (chars text.now))) → WroteEnd w b
+end_behind w b x text comment within is began = record {
+  behind = Some (chars text.now);
+  used = x ∷ [];
+  spells = began.spells;
+  taken = first_left w b x within is began.same began.more;
+  texts = ap (λ k. kept_texts k ++ []) comment;
+  none = λ none. cc;
+}
 
 -- ---- lines of their own
 
 -- none
-pub no_lines : (most : ℕ) (w : Weaver) → IsLater w.place (left_marks w) → WroteLines most (left_marks w) w w
-no_lines most w later = record {
+pub no_lines : (most : ℕ) (w : Weaver) → WroteLines most w w
+no_lines most w = record {
   lines = [];
   used = [];
   spells = encoded_none (string_bytes w.text);
@@ -98,20 +80,7 @@ no_lines most w later = record {
   low = refl;
   filled = λ starts. refl;
   none = λ none. refl;
-  exact = ap (lines_of most) (sym (later_to w.place (left_marks w) later));
-  leaves = sym (later_after w.place (left_marks w) later);
-  place = refl;
 }
-
--- what comes first is behind the place
-pub later_first : (w : Weaver) (x : Placed) → w.taken < length w.kept.now → x ≡ get_or w.kept.now w.taken x → w.place < x.place
-    → IsLater w.place (left_marks w)
-later_first w x within is later =
-    subst (IsLater w.place) (sym (ap marks_of (drop_item w.kept.now w.taken x within is))) later
-
--- nothing comes
-pub later_nothing : (w : Weaver) → length w.kept.now ≤ w.taken → IsLater w.place (left_marks w)
-later_nothing w all = subst (IsLater w.place) (sym (ap marks_of (drop_all w.taken w.kept.now all))) tt
 
 -- a comment after spaces
 pub comment_wrote : (n : ℕ) (comment : List ℕ) (a b c d e : Weaver) → Wrote a (spaces n) b → Wrote b (codes "#") c → Wrote c comment d
@@ -123,7 +92,6 @@ comment_wrote n comment a b c d e indent mark text feed =
       all.0 ∙ ap (λ cs. string_bytes a.text ++ encode_utf8_all (cs ++ codes "\n")) (append_assoc (spaces n) (codes "#") comment),
       all.1,
       all.2,
-      all.3,
     )
 
 -- a line has the comment that is kept
@@ -148,28 +116,13 @@ line_filled : (k : Kept) (n : ℕ) (lines : List Extra) → IsComment k → star
 line_filled EmptyLine n lines is = absurd is
 line_filled (Comment text) n lines is = refl
 
--- it is the line that the rule has
-line_laid : (k : Kept) (n most : ℕ) → extra_of k (min n most) ≡ line_of most n (kept_text k)
-line_laid EmptyLine n most = refl
-line_laid (Comment text) n most = refl
-
 -- one more before others
 pub one_line : (most n : ℕ) (w b end : Weaver) (x : Placed) → w.taken < length w.kept.now → x ≡ get_or w.kept.now w.taken x
-    → x.place ≤ w.place → n ≡ min x.indent most → Began w b (extra_text (extra_of x.kept n))
-    → WroteLines most (left_marks b) b end → WroteLines most (left_marks w) w end
-one_line most n w b end x within is here cut began others =
+    → x.place ≤ w.place → n ≤ most → Began w b (extra_text (extra_of x.kept n)) → WroteLines most b end → WroteLines most w end
+one_line most n w b end x within is here low began others =
     let line : Extra = extra_of x.kept n in
-    let low : n ≤ most = omega (arith, cut) in
     let first : left w ≡ x ∷ left b = first_left w b x within is began.same began.more in
-    let marks : left_marks w ≡ mark_of x ∷ left_marks b = ap marks_of first in
     record {
-      exact = ap₂ (λ (line : Extra) (lines : List Extra). line ∷ lines)
-          (ap (extra_of x.kept) cut ∙ line_laid x.kept x.indent most)
-          (others.exact ∙ ap (λ place. lines_of most (marks_to place (left_marks b))) began.here)
-          ∙ ap (lines_of most) (sym (first_to w.place (mark_of x) (left_marks b) here) ∙ ap (marks_to w.place) (sym marks));
-      leaves = others.leaves ∙ ap (λ place. marks_after place (left_marks b)) began.here
-          ∙ sym (first_after w.place (mark_of x) (left_marks b) here) ∙ ap (marks_after w.place) (sym marks);
-      place = others.place ∙ began.here;
       lines = line ∷ others.lines;
       used = x ∷ others.used;
       spells = encoded_both (string_bytes w.text) (string_bytes b.text) (string_bytes end.text) (extra_text line)
@@ -186,12 +139,9 @@ one_line most n w b end x within is here cut began others =
     }
 
 -- empty lines that were left out come before lines of which the first is no empty one
-pub skipped_lines : (most : ℕ) (a b c : Weaver) → HasSkipped a b → WroteLines most (left_marks b) b c → WroteFilledLines most a c
+pub skipped_lines : (most : ℕ) (a b c : Weaver) → HasSkipped a b → WroteLines most b c → WroteFilledLines most a c
 skipped_lines most a b c s l = record {
   wrote = record {
-    exact = l.exact ∙ ap₂ (λ place ms. lines_of most (marks_to place ms)) s.place s.exact;
-    leaves = l.leaves ∙ ap₂ marks_after s.place s.exact;
-    place = l.place ∙ s.place;
     lines = l.lines;
     used = s.used ++ l.used;
     spells = l.spells ∙ ap (λ bs. bs ++ encode_utf8_all (extras_text l.lines)) s.same;
@@ -207,15 +157,7 @@ skipped_lines most a b c s l = record {
 
 -- no empty line is left out
 pub none_skipped : (w : Weaver) → StartsFilled w.place (left w) → HasSkipped w w
-none_skipped w filled = record {
-  used = [];
-  taken = refl;
-  texts = refl;
-  same = refl;
-  filled = filled;
-  exact = sym (filled_same w.place (left w) filled);
-  place = refl;
-}
+none_skipped w filled = record { used = []; taken = refl; texts = refl; same = refl; filled = filled }
 
 -- what comes first is behind the place
 pub starts_later : (w : Weaver) (x : Placed) → w.taken < length w.kept.now → x ≡ get_or w.kept.now w.taken x → w.place < x.place
@@ -235,12 +177,8 @@ starts_nothing w all = subst (StartsFilled w.place) (sym (drop_all w.taken w.kep
 -- one more before others
 pub one_skipped : (w b end : Weaver) (x : Placed) → x.kept ≡ EmptyLine → w.taken < length w.kept.now
     → x ≡ get_or w.kept.now w.taken x → string_bytes b.text ≡ string_bytes w.text → b.kept ≡ w.kept → b.taken ≡ w.taken + 1
-    → b.place ≡ w.place → x.place ≤ w.place → HasSkipped b end → HasSkipped w end
-one_skipped w b end x empty within is text same more at here others = record {
-  exact = others.exact ∙ ap (λ place. filled_from place (left_marks b)) at
-      ∙ sym (first_from w.place (mark_of x) (left_marks b) here (ap kept_text empty))
-      ∙ ap (filled_from w.place) (sym (first_mark w b x within is same more));
-  place = others.place ∙ at;
+    → HasSkipped b end → HasSkipped w end
+one_skipped w b end x empty within is text same more others = record {
   used = x ∷ others.used;
   taken = first_left w b x within is same more ∙ ap (λ ps. x ∷ ps) others.taken;
   texts = ap (λ k. kept_texts k ++ texts_of others.used) empty ∙ others.texts;
@@ -256,18 +194,15 @@ behind_fit None e = refl
 behind_fit (Some comment) e = (and_parts _ _ e).0
 
 -- one trail, of which something was written
-pub trail_woven : (P : Trail → List ℕ) (F : Trail → Type 0) (below : Below) (a b : Weaver) (w : Trail)
-    → (w ≡ trail_at below (coming a)) × (coming b ≡ next below (coming a)) → (used : List Placed)
-    → string_bytes b.text ≡ string_bytes a.text ++ encode_utf8_all (P w) → left a ≡ used ++ left b
+pub trail_woven : (P : Trail → List ℕ) (F : Trail → Type 0) (a b : Weaver) (w : Trail)
+    → (used : List Placed) → string_bytes b.text ≡ string_bytes a.text ++ encode_utf8_all (P w) → left a ≡ used ++ left b
     → trail_comments w ≡ texts_of used → (list_all (list_all nb) (texts_of used) ≡ true → F w) → (used ≡ [] → IsBare w)
-    → Woven (λ ws. P (next_trail ws)) later_trails (λ ws. F (next_trail ws)) (below ∷ []) a b
-trail_woven P F below a b w laid used spells taken texts meets bare = record {
+    → Woven (λ ws. P (next_trail ws)) later_trails (λ ws. F (next_trail ws)) a b
+trail_woven P F a b w used spells taken texts meets bare = record {
   used = used;
   taken = taken;
-  goes = laid.1;
   trails = λ fit us. record {
     trails = w ∷ us;
-    exact = ap (λ w. w ∷ us) laid.0;
     spells = spells;
     leaves = refl;
     meets = meets fit;
@@ -276,7 +211,7 @@ trail_woven P F below a b w laid used spells taken texts meets bare = record {
   };
 }
 
-module _ (most : ℕ) (ms : List Mark) (a b c d : Weaver) (e : WroteEnd a b) (l : WroteLines most ms c d) where
+module _ (most : ℕ) (a b c d : Weaver) (e : WroteEnd a b) (l : WroteLines most c d) where
   -- the trail that was written
   abbrev pub written : Trail
   written = record { behind = e.behind; lines = l.lines }
@@ -289,20 +224,6 @@ module _ (most : ℕ) (ms : List Mark) (a b c d : Weaver) (e : WroteEnd a b) (l 
   pub written_taken : b.kept ≡ c.kept → b.taken ≡ c.taken → left a ≡ written_used ++ left d
   written_taken same taken = e.taken ∙ ap (λ ps. e.used ++ ps) (kept b c (sym same) (sym taken) ∙ l.taken)
       ∙ sym (append_assoc e.used l.used (left d))
-
-  -- it is the trail that the rule has there
-  pub written_laid : (filled : Bool) → ms ≡ filled_if filled c.place (left_marks c) → c.kept ≡ b.kept → c.taken ≡ b.taken
-      → c.place ≡ b.place
-      → (written ≡ trail_at (record { most = most; filled = filled }) (coming a))
-      × (coming d ≡ next (record { most = most; filled = filled }) (coming a))
-  written_laid filled these same taken at =
-      let place : c.place ≡ a.place + 2 = at ∙ e.place in
-      let marks : left_marks c ≡ after_behind (a.place + 1) (left_marks a) = ap marks_of (sym (kept b c same taken)) ∙ e.leaves in
-      let come : ms ≡ filled_if filled (a.place + 2) (after_behind (a.place + 1) (left_marks a)) =
-      these ∙ ap₂ (filled_if filled) place marks in (
-        ap₂ (λ b ls. record { behind = b; lines = ls }) e.exact (l.exact ∙ ap₂ (λ at ms. lines_of most (marks_to at ms)) place come),
-        coming_by d (next (record { most = most; filled = filled }) (coming a)) (l.place ∙ place) (l.leaves ∙ ap₂ marks_after place come),
-      )
 
   -- it has these comments
   pub written_texts : trail_comments written ≡ texts_of written_used
@@ -320,13 +241,10 @@ module _ (most : ℕ) (ms : List Mark) (a b c d : Weaver) (e : WroteEnd a b) (l 
       (e.none (first_none e.used l.used none)) (l.none (last_none e.used l.used none))
 
 -- the end of a line, and the lines below it
-pub line_ended : (a b c : Weaver) → WroteEnd a b → WroteLines 18446744073709551615 (left_marks b) b c → WovenEnd a c
-line_ended a b c e l =
-    let most : ℕ = 18446744073709551615 in
-    let ms : List Mark = left_marks b in
-    trail_woven trail_text (λ w. trail_fits w ≡ true) freely a c (written most ms a b b c e l)
-    (written_laid most ms a b b c e l false refl refl refl refl) (written_used most ms a b b c e l)
+pub line_ended : (most : ℕ) (a b c : Weaver) → WroteEnd a b → WroteLines most b c → WovenEnd a c
+line_ended most a b c e l = trail_woven trail_text (λ w. trail_fits w ≡ true) a c (written most a b b c e l)
+    (written_used most a b b c e l)
     (encoded_both (string_bytes a.text) (string_bytes b.text) (string_bytes c.text) (end_text e.behind) (extras_text l.lines)
     e.spells l.spells)
-    (written_taken most ms a b b c e l refl refl) (written_texts most ms a b b c e l) (written_fits most ms a b b c e l)
-    (written_bare most ms a b b c e l)
+    (written_taken most a b b c e l refl refl) (written_texts most a b b c e l) (written_fits most a b b c e l)
+    (written_bare most a b b c e l)

@@ -1,8 +1,8 @@
 -- Scalars and keys, written with comments.
-use Rattle.std.proofs.Common.{◌≡◌, refl, sym, ◌∙◌, ap, ap₂, subst, arith}
-use Rattle.std.specs.Prelude.{ℕ, zero, suc, ◌+◌, Bool, true, false, not, ◌||◌, nat_le, if◌then◌else◌, List, [], ◌∷◌, ◌++◌, codes}
+use Rattle.std.proofs.Common.{◌≡◌, refl, sym, ◌∙◌, ap}
+use Rattle.std.specs.Prelude.{ℕ, zero, suc, ◌+◌, Bool, true, false, not, ◌||◌, nat_le, if◌then◌else◌, List, ◌++◌, codes}
 use Rattle.std.specs.Prelude.{string_bytes, encode_utf8_all}
-use Rattle.std.proofs.lemmas.Bool.{and_from, or_left, or_right, false≢true, lt-leb}
+use Rattle.std.proofs.lemmas.Bool.{and_from, or_left, or_right, false≢true}
 use Rattle.yaml_writer.specs.Encoded.{encoded_both}
 use Rattle.yaml_writer.specs.ScalarStyles.{literal_style, value_style}
 use Rattle.yaml_writer.specs.declared.scalar_style.ScalarStyle.{ScalarStyle}
@@ -16,12 +16,8 @@ use Rattle.yaml_commented.specs.TrailsFit.{trail_fits, scalar_trail_fits, litera
 use Rattle.comments_kept.specs.declared.weaver.Weaver.{Weaver}
 use Rattle.comments_kept.specs.Weaving.{Woven, Wrote, WroteEnd, WroteLines, WroteFilledLines, WroteLiteral, WovenEnd}
 use Rattle.comments_kept.specs.Weaving.{WovenLine, WovenScalar, WovenKey}
-use Rattle.comments_kept.specs.Weaving.{left_marks, coming, WroteBelow}
-use Rattle.comments_kept.specs.Places.{Mark}
-use Rattle.comments_kept.specs.Laid.{Below, freely, below_literal, filled_if, filled_from, trail_at, next}
-use Rattle.comments_kept.specs.Laid.{ends_blank}
-use Rattle.comments_kept.proofs.Weaving.{both, said, plain, line, wrote_both, kept, coming_kept}
-use Rattle.comments_kept.proofs.LineEnds.{trail_woven, written, written_laid, written_used, written_taken, written_texts}
+use Rattle.comments_kept.proofs.Weaving.{both, said, plain, line, wrote_both}
+use Rattle.comments_kept.proofs.LineEnds.{kept, trail_woven, written, written_used, written_taken, written_texts}
 use Rattle.comments_kept.proofs.LineEnds.{written_fits, written_bare}
 
 -- ---- what a style says of a text
@@ -59,12 +55,11 @@ clip_by false true (suc zero) e = (refl, refl, refl, refl)
 clip_by false true (suc (suc n)) e = cc
 clip_by false false n e = cc
 
-keep_by : (p l : Bool) (n : ℕ) → by_tests p l n ≡ LiteralKeep
-    → (p ≡ false) × (l ≡ true) × (codes "|+" ≡ literal_mark n) × (nat_le n 1 ≡ false)
+keep_by : (p l : Bool) (n : ℕ) → by_tests p l n ≡ LiteralKeep → (p ≡ false) × (l ≡ true) × (codes "|+" ≡ literal_mark n)
 keep_by true l n e = cc
 keep_by false true zero e = cc
 keep_by false true (suc zero) e = cc
-keep_by false true (suc (suc n)) e = (refl, refl, refl, lt-leb (suc (suc n)) 1 (omega arith))
+keep_by false true (suc (suc n)) e = (refl, refl, refl)
 keep_by false false n e = cc
 
 module _ (value : List ℕ) where
@@ -89,7 +84,6 @@ module _ (value : List ℕ) where
 
   pub is_keep : value_style value ≡ LiteralKeep
       → (plain_in_style value ≡ false) × (literal_in_style value ≡ true) × (codes "|+" ≡ literal_mark (feeds_at_end value))
-      × (nat_le (feeds_at_end value) 1 ≡ false)
   is_keep e = keep_by (plain_in_style value) (literal_in_style value) (feeds_at_end value) e
 
 -- ---- scalars
@@ -122,31 +116,15 @@ one_double true l e = refl
 one_double false false e = refl
 one_double false true e = absurd (false≢true (sym e))
 
--- what may be below a text that is no literal
-free_below : (p l : Bool) (b : Below) → p || not l ≡ true → (if p then freely else if l then b else freely) ≡ freely
-free_below true l b e = refl
-free_below false false b e = refl
-free_below false true b e = absurd (false≢true e)
-
--- what may be below a literal
-literal_is_below : (p l : Bool) (b : Below) → p ≡ false → l ≡ true → (if p then freely else if l then b else freely) ≡ b
-literal_is_below true l b e f = absurd (false≢true (sym e))
-literal_is_below false true b e f = refl
-literal_is_below false false b e f = absurd (false≢true f)
-
 module _ (value : List ℕ) (i : ℕ) (a b c : Weaver) where
   -- a text that is no literal, on one line
   flat : (cs : List ℕ) → ((w : Trail) → cs ++ trail_text w ≡ scalar_with (i + 2) value w)
       → plain_in_style value || not (literal_in_style value) ≡ true → WovenLine cs a c → WovenScalar value i a c
-  flat cs texts free w = subst
-      (λ below. Woven (λ ws. scalar_with (i + 2) value (next_trail ws)) later_trails
-      (λ ws. scalar_trail_fits i value (next_trail ws) ≡ true) (below ∷ []) a c)
-      (sym (free_below (plain_in_style value) (literal_in_style value) (below_literal i value) free))
-      (said (λ ws. cs ++ trail_text (next_trail ws)) (λ ws. scalar_with (i + 2) value (next_trail ws))
+  flat cs texts free w = said (λ ws. cs ++ trail_text (next_trail ws)) (λ ws. scalar_with (i + 2) value (next_trail ws))
       later_trails later_trails (λ ws. trail_fits (next_trail ws) ≡ true) (λ ws. scalar_trail_fits i value (next_trail ws) ≡ true) a c
       (λ ws. texts (next_trail ws)) (λ ws. refl)
       (λ ws h. and_from _ _ h (no_condition (plain_in_style value) (literal_in_style value)
-      (literal_trail_fits i value (next_trail ws)) free)) w)
+      (literal_trail_fits i value (next_trail ws)) free)) w
 
   -- a plain text
   pub plain_woven : plain_in_style value ≡ true → Wrote a value b → WovenEnd b c → WovenScalar value i a c
@@ -171,29 +149,19 @@ literal_meets : (i : ℕ) (value : List ℕ) (w : Trail) → trail_fits w ≡ tr
 literal_meets i value w fits low filled = and_from _ _ fits (or_right _ _ (and_from _ _ filled low))
 
 -- a literal, with the lines behind it
-literal_woven : (value : List ℕ) (i : ℕ) (a d e : Weaver) (ms : List Mark) → plain_in_style value ≡ false
-    → literal_in_style value ≡ true → WroteLiteral value i a d → (lines : WroteLines i ms d e)
-    → ms ≡ filled_if (not (nat_le (feeds_at_end value) 1) || ends_blank (encode_utf8_all value)) d.place (left_marks d)
-    → nat_le (feeds_at_end value) 1 || starts_filled lines.lines ≡ true → WovenScalar value i a e
-literal_woven value i a d e ms unplain lit literal lines come filled =
+literal_woven : (value : List ℕ) (i : ℕ) (a d e : Weaver) → plain_in_style value ≡ false → literal_in_style value ≡ true
+    → WroteLiteral value i a d → (lines : WroteLines i d e) → nat_le (feeds_at_end value) 1 || starts_filled lines.lines ≡ true
+    → WovenScalar value i a e
+literal_woven value i a d e unplain lit literal lines filled =
     let b : Weaver = literal.b in
     let c : Weaver = literal.c in
     let end : WroteEnd b c = literal.ended in
     let body : Wrote c (literal_lines (i + 2) true value) d = literal.body in
     let header : Wrote a (literal_mark (feeds_at_end value)) b = literal.header in
-    let w : Trail = written i ms b c d e end lines in
+    let w : Trail = written i b c d e end lines in
     let mark : List ℕ = literal_mark (feeds_at_end value) in
     let all : List ℕ = literal_lines (i + 2) true value in
-    let same : coming b ≡ coming a = coming_kept a b header.1 header.2 header.3 in
-    let free : Below = below_literal i value in
-    let laid = written_laid i ms b c d e end lines free.filled come body.1 body.2 body.3 in
-    let from : (w ≡ trail_at free (coming a)) × (coming e ≡ next free (coming a)) =
-    (laid.0 ∙ ap (trail_at free) same, laid.1 ∙ ap (next free) same) in
-    let below = literal_is_below (plain_in_style value) (literal_in_style value) free unplain lit in
-    subst (λ below. Woven (λ ws. scalar_with (i + 2) value (next_trail ws)) later_trails
-    (λ ws. scalar_trail_fits i value (next_trail ws) ≡ true) (below ∷ []) a e) (sym below)
-    (trail_woven (scalar_with (i + 2) value) (λ w. scalar_trail_fits i value w ≡ true) free a e w from
-    (written_used i ms b c d e end lines)
+    trail_woven (scalar_with (i + 2) value) (λ w. scalar_trail_fits i value w ≡ true) a e w (written_used i b c d e end lines)
     (encoded_both (string_bytes a.text) (string_bytes d.text) (string_bytes e.text) (mark ++ end_text w.behind ++ all) (extras_text w.lines)
     (encoded_both (string_bytes a.text) (string_bytes c.text) (string_bytes d.text) (mark ++ end_text w.behind) all
     (encoded_both (string_bytes a.text) (string_bytes b.text) (string_bytes c.text) mark (end_text w.behind) header.0 end.spells)
@@ -201,44 +169,34 @@ literal_woven value i a d e ms unplain lit literal lines come filled =
     ∙ ap (λ cs. string_bytes a.text ++ encode_utf8_all cs)
     (text_literal (plain_in_style value) (literal_in_style value) (value ++ trail_text w)
     (mark ++ end_text w.behind ++ all ++ extras_text w.lines) (in_double_quotes value ++ trail_text w) unplain lit))
-    (kept a b header.1 header.2 ∙ written_taken i ms b c d e end lines (sym body.1) (sym body.2))
-    (written_texts i ms b c d e end lines)
-    (λ fit. literal_meets i value w (written_fits i ms b c d e end lines fit) lines.low filled)
-    (written_bare i ms b c d e end lines))
+    (kept a b header.1 header.2 ∙ written_taken i b c d e end lines (sym body.1) (sym body.2))
+    (written_texts i b c d e end lines)
+    (λ fit. literal_meets i value w (written_fits i b c d e end lines fit) lines.low filled)
+    (written_bare i b c d e end lines)
 
 module _ (value : List ℕ) (i : ℕ) (a d e : Weaver) (unplain : plain_in_style value ≡ false) (lit : literal_in_style value ≡ true)
     (literal : WroteLiteral value i a d) where
-  -- one that keeps at most one line feed at its end, by its last line
-  short_by : (blank : Bool) → ends_blank (encode_utf8_all value) ≡ blank → nat_le (feeds_at_end value) 1 ≡ true → WroteBelow blank i d e
-      → WovenScalar value i a e
-  short_by true is short lines = literal_woven value i a d e (filled_from d.place (left_marks d)) unplain lit literal lines.wrote
-      (ap₂ (λ short blank. filled_if (not short || blank) d.place (left_marks d)) (sym short) (sym is)) (or_left _ _ short)
-  short_by false is short lines = literal_woven value i a d e (left_marks d) unplain lit literal lines
-      (ap₂ (λ short blank. filled_if (not short || blank) d.place (left_marks d)) (sym short) (sym is)) (or_left _ _ short)
-
   -- one that keeps at most one line feed at its end
-  pub short_literal : nat_le (feeds_at_end value) 1 ≡ true → WroteBelow (ends_blank (encode_utf8_all value)) i d e → WovenScalar value i a e
-  short_literal short lines = short_by (ends_blank (encode_utf8_all value)) refl short lines
+  pub short_literal : nat_le (feeds_at_end value) 1 ≡ true → WroteLines i d e → WovenScalar value i a e
+  short_literal short lines = literal_woven value i a d e unplain lit literal lines (or_left _ _ short)
 
-  -- one that keeps more, with no empty line directly behind it
-  pub filled_literal : nat_le (feeds_at_end value) 1 ≡ false → WroteFilledLines i d e → WovenScalar value i a e
-  filled_literal long lines = literal_woven value i a d e (filled_from d.place (left_marks d)) unplain lit literal lines.wrote
-      (ap (λ short. filled_if (not short || ends_blank (encode_utf8_all value)) d.place (left_marks d)) (sym long))
-      (or_right _ _ lines.filled)
+  -- any, with no empty line directly behind it
+  pub filled_literal : WroteFilledLines i d e → WovenScalar value i a e
+  filled_literal lines = literal_woven value i a d e unplain lit literal lines.wrote (or_right _ _ lines.filled)
 
 -- ---- keys
 
-key_by : (l : Bool) (L S : List Trail → List ℕ) (a b : Weaver) → l ≡ false → Woven S (λ ws. ws) (λ ws. Unit {0}) [] a b
+key_by : (l : Bool) (L S : List Trail → List ℕ) (a b : Weaver) → l ≡ false → Woven S (λ ws. ws) (λ ws. Unit {0}) a b
     → Woven (λ ws. if l then L ws else S ws) (λ ws. if l then later_trails ws else ws)
-    (λ ws. not l || trail_fits (next_trail ws) ≡ true) (if l then freely ∷ [] else []) a b
+    (λ ws. not l || trail_fits (next_trail ws) ≡ true) a b
 key_by true L S a b e w = absurd (false≢true (sym e))
 key_by false L S a b e w = said S S (λ ws. ws) (λ ws. ws) (λ ws. Unit {0}) (λ ws. true || trail_fits (next_trail ws) ≡ true) a b
     (λ ws. refl) (λ ws. refl) (λ ws h. refl) w
 
 key_by_long : (l : Bool) (L S : List Trail → List ℕ) (a b : Weaver) → l ≡ true
-    → Woven L later_trails (λ ws. trail_fits (next_trail ws) ≡ true) (freely ∷ []) a b
+    → Woven L later_trails (λ ws. trail_fits (next_trail ws) ≡ true) a b
     → Woven (λ ws. if l then L ws else S ws) (λ ws. if l then later_trails ws else ws)
-    (λ ws. not l || trail_fits (next_trail ws) ≡ true) (if l then freely ∷ [] else []) a b
+    (λ ws. not l || trail_fits (next_trail ws) ≡ true) a b
 key_by_long true L S a b e w = w
 key_by_long false L S a b e w = absurd (false≢true e)
 

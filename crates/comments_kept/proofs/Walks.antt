@@ -14,7 +14,6 @@ use Rattle.yaml_commented.specs.TrailsFit.{ElementsFit, MembersFit, TreeFits}
 use Rattle.comments_kept.specs.declared.weaver.Weaver.{Weaver}
 use Rattle.comments_kept.specs.Weaving.{Woven, Wrote, WovenEnd, WovenLine, WovenScalar, WovenKey, WovenElement}
 use Rattle.comments_kept.specs.Weaving.{WovenValue, WovenElements, WovenMembers, WovenTop, elements_led, members_led}
-use Rattle.comments_kept.specs.Laid.{freely, below_element, below_tree, below_value}
 use Rattle.comments_kept.proofs.Weaving.{both, said, plain, nothing}
 
 -- ---- elements
@@ -88,7 +87,7 @@ module _ (i : ℕ) (a b : Weaver) where
   -- what it is, is the same part
   pub element_is : (t : Tree) (P : List Trail → List ℕ) (f : List Trail → List Trail) (F : List Trail → Type 0)
       → ((ws : List Trail) → P ws ≡ element_with t i ws) → ((ws : List Trail) → f ws ≡ after_tree t ws)
-      → ((ws : List Trail) → F ws → ElementFits t i ws) → Woven P f F (below_element t i) a b → WovenElement t i a b
+      → ((ws : List Trail) → F ws → ElementFits t i ws) → Woven P f F a b → WovenElement t i a b
   element_is t P f F texts lefts meets w = said P (element_with t i) f (after_tree t) F (ElementFits t i) a b texts lefts meets w
 
   -- a text
@@ -132,7 +131,7 @@ module _ (a b : Weaver) where
   -- what it is, is the same part
   top_is : (t : Tree) (P : List Trail → List ℕ) (f : List Trail → List Trail) (F : List Trail → Type 0)
       → ((ws : List Trail) → P ws ≡ tree_with t ws) → ((ws : List Trail) → f ws ≡ after_tree t ws)
-      → ((ws : List Trail) → F ws → TreeFits t ws) → Woven P f F (below_tree t) a b → WovenTop t a b
+      → ((ws : List Trail) → F ws → TreeFits t ws) → Woven P f F a b → WovenTop t a b
   top_is t P f F texts lefts meets w = said P (tree_with t) f (after_tree t) F (TreeFits t) a b texts lefts meets w
 
   -- a text
@@ -172,7 +171,7 @@ module _ (i : ℕ) where
   -- what it is, is the same part
   value_is : (a b : Weaver) (t : Tree) (P : List Trail → List ℕ) (f : List Trail → List Trail) (F : List Trail → Type 0)
       → ((ws : List Trail) → P ws ≡ value_with t i ws) → ((ws : List Trail) → f ws ≡ after_value t ws)
-      → ((ws : List Trail) → F ws → ValueFits t i ws) → Woven P f F (below_value t i) a b → WovenValue t i a b
+      → ((ws : List Trail) → F ws → ValueFits t i ws) → Woven P f F a b → WovenValue t i a b
   value_is a b t P f F texts lefts meets w = said P (value_with t i) f (after_value t) F (ValueFits t i) a b texts lefts meets w
 
   -- a text, after a space
@@ -200,7 +199,7 @@ module _ (i : ℕ) where
   -- the end of the key's line, and the indentation of the next one
   begun : (a b c : Weaver) → WovenEnd a b → Wrote b (spaces (i + 2)) c
       → Woven (λ ws. trail_text (next_trail ws) ++ spaces (i + 2)) later_trails
-      (λ ws. (trail_fits (next_trail ws) ≡ true) × Unit {0}) (freely ∷ []) a c
+      (λ ws. (trail_fits (next_trail ws) ≡ true) × Unit {0}) a c
   begun a b c e w = both (λ ws. trail_text (next_trail ws)) (λ ws. spaces (i + 2)) later_trails (λ ws. ws)
       (λ ws. trail_fits (next_trail ws) ≡ true) (λ ws. Unit {0}) a b c e (plain (spaces (i + 2)) b c w)
 

@@ -1,25 +1,16 @@
 -- A text that is formatted with its comments.
-use Rattle.std.specs.Prelude.{◌≡◌, ◌⊎◌, ℕ, ◌+◌, ◌≤◌, List, [], ◌∷◌, length, map, encode_utf8_all}
+use Rattle.std.specs.Prelude.{◌≡◌, ℕ, ◌+◌, ◌≤◌, List, [], ◌∷◌, length, map, encode_utf8_all}
 use Rattle.std.specs.Str.{IsUtf8, chars}
 use Rattle.yaml_grammar.specs.Reads.{Limits}
 use Rattle.yaml_grammar.specs.Style.{style_text}
 use Rattle.yaml_grammar.specs.Trees.{Tree}
-use Rattle.yaml_grammar.specs.Events.{Event}
-use Rattle.yaml_grammar.specs.Reads.{Reads}
-use Rattle.yaml_tree.specs.Reading.{IsRead, Refuses}
+use Rattle.yaml_tree.specs.Reading.{IsRead}
 use Rattle.yaml_commented.specs.Trails.{Extra, Trail}
 use Rattle.yaml_commented.specs.Commented.{commented_text}
 use Rattle.yaml_commented.specs.TrailsFit.{Fits}
 use Rattle.yaml_comments.specs.declared.find.Comment.{Comment}
-use Rattle.yaml_comments.specs.Comments.{HasComments, AreComments, comment_at}
-use Rattle.yaml_comments.specs.Found.{place_of, places_of}
-use Rattle.comments_kept.specs.declared.fault.KeepFault.{KeepFault}
-use Rattle.comments_kept.specs.declared.fault.KeepFault.TheVariants.{Read, Unsettled}
-use Rattle.comments_kept.specs.declared.weaver.Placed.{Placed}
-use Rattle.comments_kept.specs.Places.{Mark, marks, marks_of}
-use Rattle.comments_kept.specs.Laid.{left_over, woven_text}
-use Rattle.comments_kept.specs.Weaving.{IsWoven, texts_of}
-use Rattle.yaml_docs.specs.Reading.{RefusesBytes}
+use Rattle.yaml_comments.specs.Comments.{HasComments, comment_at}
+use Rattle.yaml_comments.specs.Found.{place_of}
 use Rattle.comments_kept.specs.Blanks.{HasBlankLine, trimmed}
 
 -- the limits with another one of the length of the text
@@ -61,54 +52,6 @@ abbrev pub IsStyledIfBare : List ℕ → Limits → List ℕ → Type 0
 IsStyledIfBare bytes limits text =
     (t : Tree) → HasNoBlankLine bytes → HasComments bytes [] → IsRead bytes limits t → text ≡ encode_utf8_all (style_text t)
 
--- ---- places
-
--- what the rule keeps of the bytes, by the events that they read as and by their comments
-pub record Plans (bytes : List ℕ) (kept : List Mark) : Type 0 where
-  pub events : List Event
-  pub means : Reads (chars bytes) events
-  pub found : List Comment
-  pub comments : AreComments bytes events 0 (places_of found)
-  pub are : kept ≡ marks bytes events found
-
--- the text is that of the tree with what the rule keeps of the bytes, at its places
-pub record Writes (bytes : List ℕ) (t : Tree) (text : List ℕ) : Type 0 where
-  pub kept : List Mark
-  pub plans : Plans bytes kept
-  pub all : left_over t kept ≡ []
-  pub spells : text ≡ encode_utf8_all (woven_text t kept)
-
--- something of it has no place in the tree
-pub record Leaves (bytes : List ℕ) (t : Tree) : Type 0 where
-  pub kept : List Mark
-  pub plans : Plans bytes kept
-  pub some : left_over t kept ≡ [] → ⊥
-
--- The text is what the rule gives: that of the tree of the bytes, with the comments and empty lines at their places.
-pub record Keeps (bytes : List ℕ) (limits : Limits) (text : List ℕ) : Type 0 where
-  pub tree : Tree
-  pub read : IsRead bytes limits tree
-  pub writes : Writes bytes tree text
-
--- formatted once more within the same limits of depth and style, the text is what it was
-abbrev pub IsSettled : Limits → List ℕ → Type 0
-IsSettled limits text = Keeps text (with_bytes limits (length text)) text
-
--- the text of a tree is another one when it is formatted once more, or has no other
-abbrev pub Changes : Tree → List ℕ → Type 0
-Changes t text = Leaves text t ⊎ ((other : List ℕ) × Writes text t other × (other ≡ text → ⊥))
-
--- the bytes give a tree, of which no text is settled
-pub record GivesUnsettled (bytes : List ℕ) (limits : Limits) : Type 0 where
-  pub tree : Tree
-  pub read : IsRead bytes limits tree
-  pub changes : Leaves bytes tree ⊎ ((text : List ℕ) × Writes bytes tree text × Changes tree text)
-
--- the fault of bytes: that of reading them, or their text is not settled
-abbrev pub RefusesKeeping : List ℕ → Limits → KeepFault → Type 0
-RefusesKeeping bytes limits (Read fault) = Refuses bytes limits fault
-RefusesKeeping bytes limits Unsettled = GivesUnsettled bytes limits
-
 -- ---- comments that were found
 
 -- each is within the bytes, and its text is UTF-8
@@ -121,22 +64,3 @@ AreTexts bytes (c ∷ cs) =
 abbrev pub texts_at : List ℕ → List Comment → List (List ℕ)
 texts_at bytes [] = []
 texts_at bytes (c ∷ cs) = trimmed (chars (comment_at bytes (place_of c))) ∷ texts_at bytes cs
-
--- ---- one text
-
--- The text was written, with what the code kept of the bytes.
-pub record IsWritten (bytes : List ℕ) (t : Tree) (text : List ℕ) : Type 0 where
-  pub events : List Event
-  pub means : Reads (chars bytes) events
-  pub found : List Comment
-  pub comments : AreComments bytes events 0 (places_of found)
-  pub kept : List Placed
-  pub are : marks_of kept ≡ marks bytes events found
-  pub texts : texts_of kept ≡ texts_at bytes found
-  pub bare : HasNoBlankLine bytes → found ≡ [] → kept ≡ []
-  pub woven : IsWoven t kept text
-
--- the fault of writing: that of reading the bytes again, or something is left over
-abbrev pub RefusesWriting : List ℕ → ℕ → Tree → KeepFault → Type 0
-RefusesWriting bytes max t (Read fault) = RefusesBytes bytes max fault
-RefusesWriting bytes max t Unsettled = Leaves bytes t

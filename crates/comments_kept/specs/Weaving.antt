@@ -1,26 +1,6 @@
 -- A tree's text that is woven with comments and empty lines: what a step of the writing adds, and what it takes.
-use Rattle.std.specs.Prelude.{
-  ◌≡◌,
-  ◌⊎◌,
-  ◌<◌,
-  Bool,
-  true,
-  false,
-  ℕ,
-  ◌+◌,
-  List,
-  [],
-  ◌∷◌,
-  ◌++◌,
-  Option,
-  Some,
-  None,
-  codes,
-  encode_utf8_all,
-  string_bytes,
-}
-use Rattle.std.specs.Prelude.{flat_map, drop, length}
-use Rattle.std.proofs.Common.{get_or}
+use Rattle.std.specs.Prelude.{◌≡◌, ◌⊎◌, ◌<◌, true, ℕ, ◌+◌, List, [], ◌∷◌, ◌++◌, Option, None, codes, encode_utf8_all, string_bytes}
+use Rattle.std.specs.Prelude.{flat_map, drop}
 use Rattle.std.specs.List.{AllByRecursion, list_all}
 use Rattle.std.specs.Str.{chars}
 use Rattle.yaml_chars.specs.Classes.{nb}
@@ -39,10 +19,6 @@ use Rattle.comments_kept.specs.declared.weaver.Kept.{Kept}
 use Rattle.comments_kept.specs.declared.weaver.Kept.TheVariants.{EmptyLine, Comment}
 use Rattle.comments_kept.specs.declared.weaver.Placed.{Placed}
 use Rattle.comments_kept.specs.declared.weaver.Weaver.{Weaver}
-use Rattle.comments_kept.specs.Places.{Mark, marks_of, kept_text}
-use Rattle.comments_kept.specs.Laid.{Below, freely, below_scalar, below_key, below_element, below_value, below_elements}
-use Rattle.comments_kept.specs.Laid.{below_members, below_tree, marks_to, marks_after, filled_from, lines_of, behind_of}
-use Rattle.comments_kept.specs.Laid.{after_behind, Coming, trails_at, behind_all, left_over, woven_text}
 
 -- the comment of what is kept, by what is behind its `#`
 abbrev pub kept_texts : Kept → List (List ℕ)
@@ -58,44 +34,30 @@ texts_of (p ∷ ps) = kept_texts p.kept ++ texts_of ps
 abbrev pub left : Weaver → List Placed
 left w = drop w.taken w.kept.now
 
--- the same in the words of the rule
-abbrev pub left_marks : Weaver → List Mark
-left_marks w = marks_of (left w)
-
--- what it still has to write, and at which place it is
-abbrev pub coming : Weaver → Coming
-coming w = record { place = w.place; marks = left_marks w }
-
 -- In what follows, `written` says what trails spell, `after` which of them are left, and `Meets` what they have to meet.
 
--- trails of which this text was written; `used` is what they keep, `those` are the ones that were written, and `us` the
--- trails that come after
+-- trails of which this text was written; `used` is what they keep, and `us` are the trails that come after
 pub record AreTrails (written : List Trail → List ℕ) (after : List Trail → List Trail) (Meets : List Trail → Type 0)
-    (before now : List ℕ) (used : List Placed) (those us : List Trail) : Type 0 where
+    (before now : List ℕ) (used : List Placed) (us : List Trail) : Type 0 where
   pub trails : List Trail
-  pub exact : trails ≡ those ++ us
   pub spells : now ≡ before ++ encode_utf8_all (written trails)
   pub leaves : after trails ≡ us
   pub meets : Meets trails
   pub comments : flat_map trail_comments trails ≡ texts_of used ++ flat_map trail_comments us
   pub bare : used ≡ [] → AllByRecursion IsBare us → AllByRecursion IsBare trails
 
--- The second weaver is the first one after it wrote a text with trails, those behind lines below which this may be. It
--- took what these keep.
+-- The second weaver is the first one after it wrote a text with trails. It took what these keep.
 pub record Woven (written : List Trail → List ℕ) (after : List Trail → List Trail) (Meets : List Trail → Type 0)
-    (below : List Below) (a b : Weaver) : Type 0 where
+    (a b : Weaver) : Type 0 where
   pub used : List Placed
   pub taken : left a ≡ used ++ left b
-  pub goes : coming b ≡ behind_all below (coming a)
   pub trails : list_all (list_all nb) (texts_of used) ≡ true → (us : List Trail)
-      → AreTrails written after Meets (string_bytes a.text) (string_bytes b.text) used
-      (trails_at below (coming a)) us
+      → AreTrails written after Meets (string_bytes a.text) (string_bytes b.text) used us
 
 -- it wrote this text, which has no trail, and took nothing
 abbrev pub Wrote : Weaver → List ℕ → Weaver → Type 0
 Wrote a cs b =
     (string_bytes b.text ≡ string_bytes a.text ++ encode_utf8_all cs) × (b.kept ≡ a.kept) × (b.taken ≡ a.taken)
-    × (b.place ≡ a.place)
 
 -- it ended a line, with the comment that may be behind it
 pub record WroteEnd (a b : Weaver) : Type 0 where
@@ -105,23 +67,6 @@ pub record WroteEnd (a b : Weaver) : Type 0 where
   pub taken : left a ≡ used ++ left b
   pub texts : texts_of used ≡ behind_comments behind
   pub none : used ≡ [] → behind ≡ None
-  pub exact : behind ≡ behind_of (a.place + 1) (left_marks a)
-  pub leaves : left_marks b ≡ after_behind (a.place + 1) (left_marks a)
-  pub place : b.place ≡ a.place + 2
-
--- the first of what is left is a comment at this place
-pub record StartsBehind (place : ℕ) (w : Weaver) (text : List ℕ) : Type 0 where
-  pub first : Placed
-  pub within : w.taken < length w.kept.now
-  pub is : first ≡ get_or w.kept.now w.taken first
-  pub here : first.place ≡ place
-  pub comment : kept_text first.kept ≡ Some text
-  pub texts : kept_texts first.kept ≡ text ∷ []
-
--- it is none, or at another place
-pub record StartsElsewhere (place : ℕ) (w : Weaver) : Type 0 where
-  pub none : behind_of place (left_marks w) ≡ None
-  pub same : after_behind place (left_marks w) ≡ left_marks w
 
 -- what is kept, as a line of its own after n spaces
 abbrev pub extra_of : Kept → ℕ → Extra
@@ -142,8 +87,8 @@ abbrev pub StartsFilled : ℕ → List Placed → Type 0
 StartsFilled place [] = Unit {0}
 StartsFilled place (p ∷ ps) = (place < p.place) ⊎ IsComment p.kept
 
--- it wrote lines of its own, those of `marks` up to its place, each comment after at most `most` spaces
-pub record WroteLines (most : ℕ) (marks : List Mark) (a b : Weaver) : Type 0 where
+-- it wrote lines of its own, the first comment after at most `most` spaces
+pub record WroteLines (most : ℕ) (a b : Weaver) : Type 0 where
   pub lines : List Extra
   pub used : List Placed
   pub spells : string_bytes b.text ≡ string_bytes a.text ++ encode_utf8_all (extras_text lines)
@@ -153,19 +98,11 @@ pub record WroteLines (most : ℕ) (marks : List Mark) (a b : Weaver) : Type 0 w
   pub low : starts_low most lines ≡ true
   pub filled : StartsFilled a.place (left a) → starts_filled lines ≡ true
   pub none : used ≡ [] → lines ≡ []
-  pub exact : lines ≡ lines_of most (marks_to a.place marks)
-  pub leaves : left_marks b ≡ marks_after a.place marks
-  pub place : b.place ≡ a.place
 
 -- such lines, of which the first is no empty one
 pub record WroteFilledLines (most : ℕ) (a b : Weaver) : Type 0 where
-  pub wrote : WroteLines most (filled_from a.place (left_marks a)) a b
+  pub wrote : WroteLines most a b
   pub filled : starts_filled wrote.lines ≡ true
-
--- the lines below a literal, where this says that the last line of its body is blank
-abbrev pub WroteBelow : Bool → ℕ → Weaver → Weaver → Type 0
-WroteBelow true i a b = WroteFilledLines i a b
-WroteBelow false i a b = WroteLines i (left_marks a) a b
 
 -- it took empty lines, and wrote nothing
 pub record HasSkipped (a b : Weaver) : Type 0 where
@@ -174,8 +111,6 @@ pub record HasSkipped (a b : Weaver) : Type 0 where
   pub texts : texts_of used ≡ []
   pub same : string_bytes b.text ≡ string_bytes a.text
   pub filled : StartsFilled b.place (left b)
-  pub exact : left_marks b ≡ filled_from a.place (left_marks a)
-  pub place : b.place ≡ a.place
 
 -- it wrote a literal in a collection at the indentation i, through its last line
 pub record WroteLiteral (value : List ℕ) (i : ℕ) (a d : Weaver) : Type 0 where
@@ -190,33 +125,31 @@ pub record WroteLiteral (value : List ℕ) (i : ℕ) (a d : Weaver) : Type 0 whe
 -- the end of a line that is no literal's header, with what is behind it
 abbrev pub WovenEnd : Weaver → Weaver → Type 0
 WovenEnd = Woven (λ ws. trail_text (next_trail ws)) later_trails (λ ws. trail_fits (next_trail ws) ≡ true)
-    (freely ∷ [])
 
 -- a text that ends its line, with the end
 abbrev pub WovenLine : List ℕ → Weaver → Weaver → Type 0
 WovenLine cs = Woven (λ ws. cs ++ trail_text (next_trail ws)) later_trails (λ ws. trail_fits (next_trail ws) ≡ true)
-    (freely ∷ [])
 
 -- a text as a value, in a collection at the indentation i
 abbrev pub WovenScalar : List ℕ → ℕ → Weaver → Weaver → Type 0
 WovenScalar value i = Woven (λ ws. scalar_with (i + 2) value (next_trail ws)) later_trails
-    (λ ws. scalar_trail_fits i value (next_trail ws) ≡ true) (below_scalar i value ∷ [])
+    (λ ws. scalar_trail_fits i value (next_trail ws) ≡ true)
 
 -- a key through its `:`
 abbrev pub WovenKey : List ℕ → ℕ → Weaver → Weaver → Type 0
-WovenKey key i = Woven (key_with i key) (after_key key) (λ ws. key_trail_fits key ws ≡ true) (below_key key)
+WovenKey key i = Woven (key_with i key) (after_key key) (λ ws. key_trail_fits key ws ≡ true)
 
 -- an element after its `- `
 abbrev pub WovenElement : Tree → ℕ → Weaver → Weaver → Type 0
-WovenElement t i = Woven (element_with t i) (after_tree t) (ElementFits t i) (below_element t i)
+WovenElement t i = Woven (element_with t i) (after_tree t) (ElementFits t i)
 
 -- a value after the `:` of its key
 abbrev pub WovenValue : Tree → ℕ → Weaver → Weaver → Type 0
-WovenValue t i = Woven (value_with t i) (after_value t) (ValueFits t i) (below_value t i)
+WovenValue t i = Woven (value_with t i) (after_value t) (ValueFits t i)
 
 -- a tree at the top
 abbrev pub WovenTop : Tree → Weaver → Weaver → Type 0
-WovenTop t = Woven (tree_with t) (after_tree t) (TreeFits t) (below_tree t)
+WovenTop t = Woven (tree_with t) (after_tree t) (TreeFits t)
 
 -- elements, with this many spaces before the first
 abbrev pub elements_led : ℕ → Elements → ℕ → List Trail → List ℕ
@@ -226,7 +159,7 @@ elements_led lead (element t ts) i ws =
 
 -- such elements
 abbrev pub WovenElements : ℕ → Elements → ℕ → Weaver → Weaver → Type 0
-WovenElements lead ts i = Woven (elements_led lead ts i) (after_elements ts) (ElementsFit ts i) (below_elements ts i)
+WovenElements lead ts i = Woven (elements_led lead ts i) (after_elements ts) (ElementsFit ts i)
 
 -- members, with this many spaces before the first
 abbrev pub members_led : ℕ → Members → ℕ → List Trail → List ℕ
@@ -237,7 +170,7 @@ members_led lead (member key t ms) i ws =
 
 -- such members
 abbrev pub WovenMembers : ℕ → Members → ℕ → Weaver → Weaver → Type 0
-WovenMembers lead ms i = Woven (members_led lead ms i) (after_members ms) (MembersFit ms i) (below_members ms i)
+WovenMembers lead ms i = Woven (members_led lead ms i) (after_members ms) (MembersFit ms i)
 
 -- ---- the whole
 
@@ -248,10 +181,4 @@ pub record IsWoven (t : Tree) (kept : List Placed) (text : List ℕ) : Type 0 wh
   pub fits : Fits lead t trails
   pub spells : text ≡ encode_utf8_all (commented_text lead t trails)
   pub has : comments_of lead trails ≡ texts_of kept
-  pub exact : text ≡ encode_utf8_all (woven_text t (marks_of kept))
-  pub all : left_over t (marks_of kept) ≡ []
   pub bare : kept ≡ [] → (lead ≡ []) × AllByRecursion IsBare trails
-
--- some of it has no place in the tree
-abbrev pub LeavesOver : Tree → List Placed → Type 0
-LeavesOver t kept = left_over t (marks_of kept) ≡ [] → ⊥

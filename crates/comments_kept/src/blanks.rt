@@ -1,11 +1,9 @@
 // Blank lines, and comments without whitespace at their ends.
 ghost use Rattle.std.specs.Prelude.{◌≡◌, ◌≤◌, ◌+◌, IfSome, IsTrue, length, slice_range};
 ghost use Rattle.std.specs.Str.{IsUtf8, chars};
-ghost use Rattle.yaml_chars.specs.Classes.{white};
-ghost use Rattle.comments_kept.specs.Signs as sign;
+ghost use Rattle.yaml_chars.specs.Classes.{line_break, white};
 ghost use Rattle.comments_kept.specs.Blanks.{HasBlankLine, IsLineEnd, IsLineStart, IsWhiteRun, trimmed};
 
-use crate::signs::{is_break, is_marker, line_start};
 use yaml_comments::Comment;
 
 /// What stands behind the `#` of a comment, without spaces and TABs at its end.
@@ -29,19 +27,15 @@ fn trim_end(text: &str) -> &str
     &text[..end]
 }
 
-/// Whether only spaces and TABs are before a byte on its line.
-pub(crate) fn is_first(bytes: &[u8], at: usize) -> bool
-    requires { at ≤ length bytes.now }
-    ensures { result ≡ sign.is_first bytes.now at }
-{
-    blanks_start(bytes, at) == line_start(bytes, at)
+/// Whether there are only spaces and TABs.
+pub(crate) fn is_blank(bytes: &[u8]) -> bool {
+    bytes.iter().all(|byte| is_white(*byte))
 }
 
 /// Whether only spaces and TABs, or these behind a `---`, are before a byte on its line, and the line above has no
 /// more.
 pub(crate) fn is_below_blank_line(bytes: &[u8], at: usize) -> bool
-    ensures is { result ≡ sign.is_below_blank_line bytes.now at }
-    ensures some { IsTrue result → HasBlankLine bytes.now }
+    ensures { IsTrue result → HasBlankLine bytes.now }
 {
     let start = before_marker(bytes, blanks_start(bytes, at.min(bytes.len())));
     match break_before(bytes, start) {
@@ -56,8 +50,7 @@ pub(crate) fn is_below_blank_line(bytes: &[u8], at: usize) -> bool
 /// The byte behind the last one before a byte that is no space or TAB.
 fn blanks_start(bytes: &[u8], at: usize) -> usize
     requires { at ≤ length bytes.now }
-    ensures is { result ≡ sign.blanks_start bytes.now at }
-    ensures run { IsWhiteRun bytes.now result at }
+    ensures { IsWhiteRun bytes.now result at }
 {
     let mut start = at;
     while start > 0 {
@@ -73,10 +66,9 @@ fn blanks_start(bytes: &[u8], at: usize) -> usize
 /// The byte at which a `---` begins that ends at a byte, or the same byte if there is none.
 fn before_marker(bytes: &[u8], at: usize) -> usize
     requires { at ≤ length bytes.now }
-    ensures is { result ≡ sign.before_marker bytes.now at }
-    ensures before { result ≤ at }
+    ensures { result ≤ at }
 {
-    if at >= 3 && is_marker(bytes, at - 3) {
+    if at >= 3 && bytes[..at].ends_with(b"---") {
         return at - 3;
     }
     at
@@ -85,8 +77,7 @@ fn before_marker(bytes: &[u8], at: usize) -> usize
 /// The byte at which the break begins that ends before a byte, if one does.
 fn break_before(bytes: &[u8], at: usize) -> Option<usize>
     requires { at ≤ length bytes.now }
-    ensures is { result ≡ sign.break_before bytes.now at }
-    ensures end { IfSome result (IsLineEnd bytes.now) }
+    ensures { IfSome result (IsLineEnd bytes.now) }
 {
     if at == 0 {
         return None;
@@ -110,8 +101,7 @@ fn break_before(bytes: &[u8], at: usize) -> Option<usize>
 /// Whether a line begins at a byte.
 fn is_line_start(bytes: &[u8], at: usize) -> bool
     requires { at ≤ length bytes.now }
-    ensures is { result ≡ sign.is_line_start bytes.now at }
-    ensures start { IsTrue result → IsLineStart bytes.now at }
+    ensures { IsTrue result → IsLineStart bytes.now at }
 {
     if at == 0 {
         return true;
@@ -124,4 +114,11 @@ fn is_white(byte: u8) -> bool
     ensures { result ≡ white byte }
 {
     byte == b' ' || byte == b'\t'
+}
+
+/// Whether a byte is an LF or a CR.
+fn is_break(byte: u8) -> bool
+    ensures { result ≡ line_break byte }
+{
+    byte == b'\n' || byte == b'\r'
 }

@@ -3,8 +3,8 @@
 //! [`format_keeping`] does what [`format_one`](yaml_tree::format_one) does, and keeps each comment (YAML 1.2.2, 6.6)
 //! and empty lines between. Its contract says that its text gives the same tree, has the same comments in the same
 //! order, is in the one style but for them and for empty lines, and is that of the one style where the text that was
-//! read has neither. The text is the one that this rule gives (`Keeps`), and stays as it is when it is formatted once
-//! more.
+//! read has neither. Where they stand is tested, and not proved, and so is that formatting once more changes nothing.
+//! The places follow this rule.
 //!
 //! A line here is one of the tree in the one style, outside of a literal's body. It ends in the text that was read
 //! where its last token ends: a key with its `:`, a scalar, the header of a block scalar, or an empty collection.
@@ -17,15 +17,13 @@
 //!    that has the greatest column not above its own. Below a literal it is at most as the collection that holds it.
 //! 4. One empty line is kept above a line, or above a comment on a line of its own, if its first token or its `#` is
 //!    the first on its line of the text, perhaps behind a `---`, and the line above that is blank. There is none at the
-//!    start, and none directly behind the body of a literal whose last line is blank, as that of each `|+` is.
+//!    start, and none directly behind the body of a literal `|+`.
 //!
 //! A comment is its `#` and what follows on its line, without spaces and TABs at the end. Directives are not kept.
 #![tactic(auto)]
 
 mod blanks;
-mod fault;
 mod format;
-mod laws;
 mod lines;
 mod literal;
 mod long_key;
@@ -36,6 +34,4 @@ mod signs;
 mod weave;
 mod weaver;
 
-pub use fault::KeepFault;
 pub use format::format_keeping;
-pub use laws::bytes_keep_one;

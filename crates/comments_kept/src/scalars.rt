@@ -2,9 +2,7 @@
 ghost use Rattle.std.specs.Prelude.{◌≡◌, ◌+◌, ◌<◌, ◌^◌, true, OnOk};
 ghost use Rattle.std.specs.Str.{chars};
 ghost use Rattle.yaml_grammar.specs.Style.{long_key, literal_mark, feeds_at_end};
-ghost use Rattle.comments_kept.specs.Laid as laid;
-ghost use Rattle.comments_kept.specs.Laid.{ends_blank};
-ghost use Rattle.comments_kept.specs.Weaving.{WovenKey, WovenScalar, WroteBelow, WroteLiteral};
+ghost use Rattle.comments_kept.specs.Weaving.{WovenKey, WovenScalar, WroteLiteral};
 
 use crate::literal::write_literal_lines;
 use crate::long_key::{is_long_key, write_key_text};
@@ -32,71 +30,16 @@ pub(crate) fn weave_scalar(
         }
         ScalarStyle::LiteralStrip => {
             weave_literal("|-", text, indent, weaver)?;
-            put_below(text, indent, weaver)
+            weaver.put_lines(indent)
         }
         ScalarStyle::LiteralClip => {
             weave_literal("|", text, indent, weaver)?;
-            put_below(text, indent, weaver)
+            weaver.put_lines(indent)
         }
         ScalarStyle::LiteralKeep => {
             weave_literal("|+", text, indent, weaver)?;
             weaver.put_filled_lines(indent)
         }
-    }
-}
-
-/// Writes what is below a literal that keeps at most one line feed at its end. Behind a blank line of its body an empty
-/// line would not be told from that, so that there is none.
-fn put_below(text: &str, indent: u64, weaver: &mut Weaver<'_>) -> Result<(), AllocError>
-    ensures { OnOk result (WroteBelow (ends_blank text.now) indent weaver.old weaver.new) }
-{
-    if is_blank_at_end(text.as_bytes()) {
-        return weaver.put_filled_lines(indent);
-    }
-    weaver.put_lines(indent)
-}
-
-/// A line of a text.
-#[derive(Clone, Copy)]
-pub(crate) struct Line {
-    /// Whether the line before it has only spaces.
-    last: bool,
-    /// Whether it has only spaces so far.
-    blank: bool,
-    /// Whether nothing of it came so far.
-    fed: bool,
-}
-
-/// Whether the last line of a literal's body has only spaces.
-fn is_blank_at_end(text: &[u8]) -> bool
-    ensures { result ≡ ends_blank text.now }
-{
-    let mut line = Line {
-        last: true,
-        blank: true,
-        fed: true,
-    };
-    for byte in text {
-        line = line_after(line, *byte);
-    }
-    if line.fed { line.last } else { line.blank }
-}
-
-/// The line behind one more byte.
-fn line_after(line: Line, byte: u8) -> Line
-    ensures { result ≡ laid.line_after line byte }
-{
-    if byte == b'\n' {
-        return Line {
-            last: line.blank,
-            blank: true,
-            fed: true,
-        };
-    }
-    Line {
-        last: line.last,
-        blank: line.blank && byte == b' ',
-        fed: false,
     }
 }
 

@@ -1,12 +1,12 @@
 // The text of a tree in the one style, written with comments.
-ghost use Rattle.std.specs.Prelude.{◌≡◌, ◌+◌, ◌*◌, ◌^◌, ◌<◌, ◌≤◌, MatchOption, OnOk, IfOk, true, string_bytes};
+ghost use Rattle.std.specs.Prelude.{◌≡◌, ◌+◌, ◌*◌, ◌^◌, ◌<◌, ◌≤◌, OnOk, IfOk, IfSome, true, string_bytes};
 ghost use Rattle.std.specs.List.{list_all};
 ghost use Rattle.yaml_chars.specs.Classes.{nb};
 ghost use Rattle.yaml_data.specs.Seen.{tree_of, elements_of, members_of};
 ghost use Rattle.yaml_data.specs.OwnLimits.{own_limits};
 ghost use Rattle.yaml_grammar.specs.Trees.{depth, elements_depth, members_depth};
 ghost use Rattle.comments_kept.specs.Weaving.{IsWoven, WovenElement, WovenElements, WovenMembers, WovenTop, WovenValue};
-ghost use Rattle.comments_kept.specs.Weaving.{LeavesOver, texts_of};
+ghost use Rattle.comments_kept.specs.Weaving.{texts_of};
 
 use crate::scalars::{weave_key, weave_scalar};
 use crate::weaver::{Placed, Weaver};
@@ -14,23 +14,24 @@ use std::alloc::{AllocError, Global};
 use yaml_data::{Text, Tree};
 use yaml_writer::Sink;
 
-/// The text of a tree in the one style with what is kept at its places, with no empty line at the start. It is `None`
-/// if something is left over.
+/// The text of a tree in the one style with what is kept at its places. What has a place up to `first` comes before the
+/// tree, with no empty line at the start. It is `None` if something is left over.
 pub(crate) fn weave(
     alloc: Global,
     tree: &Tree,
     kept: &[Placed<'_>],
+    first: u64,
 ) -> Result<Option<String>, AllocError>
     requires deep { depth (tree_of tree.now) ≤ own_limits.depth }
     requires lines { list_all (list_all nb) (texts_of kept.now) ≡ true }
-    ensures { IfOk result (λ woven. MatchOption woven (LeavesOver (tree_of tree.now) kept.now) (λ text.
+    ensures { IfOk result (λ woven. IfSome woven (λ text.
         IsWoven (tree_of tree.now) kept.now (string_bytes text))) }
 {
     let mut weaver = Weaver {
         text: String::new(alloc),
         kept,
         taken: 0,
-        place: 0,
+        place: first,
     };
     weaver.put_filled_lines(u64::MAX)?;
     weave_tree(tree, &mut weaver)?;

@@ -1,7 +1,7 @@
 // A text that grows, with what still has to be written between the lines of a tree.
-ghost use Rattle.std.specs.Prelude.{◌≡◌, MatchOption, OnOk, Some};
+ghost use Rattle.std.specs.Prelude.{◌≡◌, OnOk, Some};
 ghost use Rattle.comments_kept.specs.Weaving.{HasSkipped, WovenEnd, WroteEnd, WroteFilledLines, WroteLines};
-ghost use Rattle.comments_kept.specs.Weaving.{StartsBehind, StartsElsewhere, Wrote, WroteExtra, left_marks};
+ghost use Rattle.comments_kept.specs.Weaving.{Wrote, WroteExtra};
 ghost use Rattle.std.specs.Str.{chars};
 ghost use Rattle.yaml_commented.specs.Trails.{comment_line, end_text, extra_text};
 
@@ -53,13 +53,12 @@ impl Sink for Weaver<'_> {
 
     ghost Takes = { Wrote };
 
-    ghost takes_none = { λ s. (encoded_none (string_bytes s.text), refl, refl, refl) };
+    ghost takes_none = { λ s. (encoded_none (string_bytes s.text), refl, refl) };
 
     ghost takes_both = { λ a b c xs ys first second. (
       encoded_both (string_bytes a.text) (string_bytes b.text) (string_bytes c.text) xs ys first.0 second.0,
       second.1 ∙ first.1,
       second.2 ∙ first.2,
-      second.3 ∙ first.3,
     ) };
 
     fn put_text(&mut self, text: &str) -> Result<(), AllocError> {
@@ -75,7 +74,7 @@ impl Sink for Weaver<'_> {
     }
 }
 
-impl<'a> Weaver<'a> {
+impl Weaver<'_> {
     /// Ends a line that is no literal's header, with the comment that is behind it and the lines below.
     pub(crate) fn end_line(&mut self) -> Result<(), AllocError>
         ensures { OnOk result (WovenEnd self.old self.new) }
@@ -88,35 +87,17 @@ impl<'a> Weaver<'a> {
     pub(crate) fn end_header(&mut self) -> Result<(), AllocError>
         ensures { OnOk result (WroteEnd self.old self.new) }
     {
-        // A tree has fewer lines; the contracts do not say so.
-        let Some(below) = self.place.checked_add(2) else {
-            return Err(AllocError);
-        };
-        let behind = self.place + 1;
-        let comment = self.comment_at(behind);
-        self.place = below;
-        match comment {
-            Some(text) => {
-                self.taken += 1;
-                self.put_behind(text)
+        let behind = self.place.saturating_add(1);
+        self.place = self.place.saturating_add(2);
+        if let Some(next) = self.kept.get(self.taken) {
+            if next.place == behind {
+                if let Kept::Comment(text) = next.kept {
+                    self.taken += 1;
+                    return self.put_behind(text);
+                }
             }
-            None => self.put_char('\n'),
         }
-    }
-
-    /// The comment that comes next, if it is at a place.
-    fn comment_at(&self, place: u64) -> Option<&'a str>
-        ensures { MatchOption result (StartsElsewhere place self.now)
-            (λ text. StartsBehind place self.now (chars text.now)) }
-    {
-        let next = self.kept.get(self.taken)?;
-        if next.place != place {
-            return None;
-        }
-        match next.kept {
-            Kept::Comment(text) => Some(text),
-            Kept::EmptyLine => None,
-        }
+        self.put_char('\n')
     }
 
     /// Writes a comment behind what is on the line, and ends the line.
@@ -130,7 +111,7 @@ impl<'a> Weaver<'a> {
 
     /// Writes what is on lines of its own here, each comment after at most `most` spaces.
     pub(crate) fn put_lines(&mut self, most: u64) -> Result<(), AllocError>
-        ensures { OnOk result (WroteLines most (left_marks self.old) self.old self.new) }
+        ensures { OnOk result (WroteLines most self.old self.new) }
     {
         while let Some(next) = self.kept.get(self.taken) {
             if next.place > self.place {

@@ -1,5 +1,6 @@
 // The disk of a real folder: how it is opened, and what its failures are.
-ghost use Rattle.std.specs.Prelude.{◌≡◌, ◌≢◌, IfErr, IfSome};
+ghost use Rattle.std.specs.Prelude.{◌≡◌, ◌≢◌, ◌<◌, ◌+◌, Err, OnOk, IfErr};
+ghost use Rattle.conf_disk.specs.Moments.{CountsFailures};
 
 use crate::files::{Paths, STORE, look_at_files, open_folder, subject_of};
 use crate::host::{HostSystem, Presence};
@@ -7,9 +8,10 @@ use crate::lock::{find_unlocked, lock_store};
 use crate::{FolderError, FolderFault};
 use conf_disk::{Content, Disk, DiskFault, Name};
 use conf_files::{Cause, OpenFolder, Subject};
-use conf_protocol::{DiskState, Refusal, SystemDisk};
+use conf_protocol::{Refusal, Run};
 use std::alloc::Global;
 use std::fs::{File, Metadata};
+use std::io::ErrorKind;
 use std::rt::Files;
 
 /// The disk of a real folder: `store.yaml` and `next.yaml` in it. It holds a lock on `store.lock`, one on the folder,
@@ -28,10 +30,10 @@ use std::rt::Files;
 /// each call but `read` and `failures` fails, and changes nothing.
 #[derive(Drop)]
 pub struct FolderDisk<'r, R: Files<File = File>> {
-    /// The system. There is none only while a call is on its way.
-    system: Option<HostSystem<'r, R>>,
-    /// What the disk over it knows and has counted.
-    state: DiskState,
+    run: Run<HostSystem<'r, R>>,
+    failures: u64,
+    /// Why the call that failed last did.
+    refusal: Option<Refusal>,
 }
 
 /// Why a call failed, by the file or folder that it was.
@@ -121,7 +123,7 @@ impl<'r, R: Files<File = File>> FolderDisk<'r, R> {
         find_unlocked(&folder)?;
         look_at_files(rt, &paths)?;
         let system = HostSystem::new(rt, folder, paths, None, Presence::Unknown, None);
-        Ok(FolderDisk::put_away(SystemDisk::for_reading(system)))
+        Ok(FolderDisk::over(Run::for_reading(system)))
     }
 
     /// The disk of an open folder, once it has the locks.
@@ -137,50 +139,27 @@ impl<'r, R: Files<File = File>> FolderDisk<'r, R> {
     {
         let lock = lock_store(rt, &folder, paths.lock.as_str(), like.as_ref())?;
         let system = HostSystem::new(rt, folder, paths, Some(lock), presence, like);
-        match SystemDisk::open(system) {
-            Ok(disk) => Ok(FolderDisk::put_away(disk)),
+        match Run::open(system) {
+            Ok(run) => Ok(FolderDisk::over(run)),
             Err(refusal) => Err(FolderError::from(cause_of(refusal))),
         }
     }
 
-    /// The disk of a folder, which was put away.
-    fn put_away(disk: SystemDisk<HostSystem<'r, R>>) -> Self
-        ensures { result.state.failures ≡ disk.entry.failures }
-    {
-        let (system, state) = disk.put_away();
+    /// The disk of a run, on which no call has failed.
+    fn over(run: Run<HostSystem<'r, R>>) -> Self {
         FolderDisk {
-            system: Some(system),
-            state,
+            run,
+            failures: 0,
+            refusal: None,
         }
-    }
-
-    /// Takes the disk up for a call. [`keep`](FolderDisk::keep) puts it away again.
-    fn take_up(&mut self) -> Option<SystemDisk<HostSystem<'r, R>>>
-        ensures taken { IfSome result (λ disk. disk.failures ≡ self.old.state.failures) }
-        ensures same { self.new.state ≡ self.old.state }
-    {
-        let system = self.system.take()?;
-        Some(SystemDisk::take_up(system, self.state))
-    }
-
-    /// Puts the disk away, after a call.
-    fn keep(&mut self, disk: SystemDisk<HostSystem<'r, R>>)
-        ensures { self.new.state.failures ≡ disk.entry.failures }
-    {
-        let (system, state) = disk.put_away();
-        self.system = Some(system);
-        self.state = state;
     }
 
     /// Why the call that failed last did, if any did.
     pub fn cause(&self) -> Option<Cause> {
-        let refusal = self.state.cause()?;
-        match &self.system {
-            Some(system) => match system.find_in_place() {
-                Ok(()) => Some(cause_of(refusal)),
-                Err(error) => Some(Subject::Given.cause(error)),
-            },
-            None => Some(cause_of(refusal)),
+        let refusal = self.refusal?;
+        match self.run.system().find_in_place() {
+            Ok(()) => Some(cause_of(refusal)),
+            Err(error) => Some(Subject::Given.cause(error)),
         }
     }
 
@@ -188,11 +167,46 @@ impl<'r, R: Files<File = File>> FolderDisk<'r, R> {
     /// in `store.lock`; where the system refuses that, the next run puts a copy in its place once more. If there is no
     /// `store.yaml`, a `store.lock` and a `next.yaml` that this run made are removed.
     pub fn release(self) {
-        let FolderDisk { system, state } = self;
-        if let Some(system) = system {
-            let system = SystemDisk::take_up(system, state).release();
-            system.finish();
+        let FolderDisk { run, .. } = self;
+        let system = run.release();
+        system.finish();
+    }
+
+    /// Returns if a failure can still be counted.
+    ///
+    /// # Errors
+    /// `Device` if as many were counted as can be.
+    fn may_fail(&self) -> Result<(), DiskFault>
+        ensures counted { OnOk result (self.now.failures < u64.MAX) }
+        ensures spent { IfErr result (λ fault. (fault ≡ DiskFault.Device) × (self.now.failures ≡ u64.MAX)) }
+    {
+        if self.failures == u64::MAX {
+            return Err(DiskFault::Device);
         }
+        Ok(())
+    }
+
+    /// Counts a failure if a call failed, keeps its cause, and returns it as `Device`.
+    fn count(&mut self, done: Result<(), Refusal>) -> Result<(), DiskFault>
+        requires { self.old.failures < u64.MAX }
+        ensures failures { CountsFailures self.old.failures self.new.failures result }
+        ensures fault { result ≢ Err DiskFault.OutOfMemory }
+    {
+        match done {
+            Ok(()) => Ok(()),
+            Err(refusal) => Err(self.fail(refusal)),
+        }
+    }
+
+    /// Counts a failure, and keeps its cause.
+    fn fail(&mut self, refusal: Refusal) -> DiskFault
+        requires { self.old.failures < u64.MAX }
+        ensures failures { self.new.failures ≡ self.old.failures + 1 }
+        ensures fault { result ≡ DiskFault.Device }
+    {
+        self.failures += 1;
+        self.refusal = Some(refusal);
+        DiskFault::Device
     }
 }
 
@@ -205,7 +219,7 @@ impl<'r, R: Files<File = File>> Disk for FolderDisk<'r, R> {
       folder = λ disk. empty_folder;
       moment = λ disk. 0;
       left = λ disk t image. ⊥;
-      failure_count = λ disk. disk.state.failures;
+      failure_count = λ disk. disk.failures;
     } };
 
     ghost counts_now = { λ disk t image honest le is. honest };
@@ -215,73 +229,63 @@ impl<'r, R: Files<File = File>> Disk for FolderDisk<'r, R> {
     ghost whole = { λ disk honest. absurd honest };
 
     fn failures(&self) -> u64 {
-        self.state.failures()
+        self.failures
     }
 
     fn several_waited(&self) -> bool {
-        self.state.several_waited()
+        self.run.several_waited()
     }
 
     fn read(&mut self, alloc: Global, name: Name, max: u64) -> Result<Content, DiskFault> {
-        let Some(mut disk) = self.take_up() else {
-            return Err(self.state.fail());
-        };
-        let done = disk.read(alloc, name, max);
-        self.keep(disk);
-        done
+        self.may_fail()?;
+        match self.run.read(alloc, name, max) {
+            Ok(content) => Ok(content),
+            Err(refusal) if refusal.error.kind() == ErrorKind::OutOfMemory => {
+                Err(DiskFault::OutOfMemory)
+            }
+            Err(refusal) => Err(self.fail(refusal)),
+        }
     }
 
     fn create_next(&mut self) -> Result<(), DiskFault> {
-        let Some(mut disk) = self.take_up() else {
-            return Err(self.state.fail());
-        };
-        let done = disk.create_next();
-        self.keep(disk);
-        done
+        self.may_fail()?;
+        let done = self.run.create_next();
+        self.count(done)
     }
 
     fn append(&mut self, name: Name, bytes: &[u8]) -> Result<(), DiskFault> {
-        let Some(mut disk) = self.take_up() else {
-            return Err(self.state.fail());
+        self.may_fail()?;
+        let done = match name {
+            Name::Store => self.run.append_store(bytes),
+            Name::Next => self.run.append_next(bytes),
         };
-        let done = disk.append(name, bytes);
-        self.keep(disk);
-        done
+        self.count(done)
     }
 
     fn sync(&mut self, name: Name) -> Result<(), DiskFault> {
-        let Some(mut disk) = self.take_up() else {
-            return Err(self.state.fail());
+        self.may_fail()?;
+        let done = match name {
+            Name::Store => self.run.sync_store(),
+            Name::Next => self.run.sync_next(),
         };
-        let done = disk.sync(name);
-        self.keep(disk);
-        done
+        self.count(done)
     }
 
     fn rename_next(&mut self) -> Result<(), DiskFault> {
-        let Some(mut disk) = self.take_up() else {
-            return Err(self.state.fail());
-        };
-        let done = disk.rename_next();
-        self.keep(disk);
-        done
+        self.may_fail()?;
+        let done = self.run.rename_next();
+        self.count(done)
     }
 
     fn remove_next(&mut self) -> Result<(), DiskFault> {
-        let Some(mut disk) = self.take_up() else {
-            return Err(self.state.fail());
-        };
-        let done = disk.remove_next();
-        self.keep(disk);
-        done
+        self.may_fail()?;
+        let done = self.run.remove_next();
+        self.count(done)
     }
 
     fn sync_folder(&mut self) -> Result<(), DiskFault> {
-        let Some(mut disk) = self.take_up() else {
-            return Err(self.state.fail());
-        };
-        let done = disk.sync_folder();
-        self.keep(disk);
-        done
+        self.may_fail()?;
+        let done = self.run.sync_folder();
+        self.count(done)
     }
 }

@@ -82,11 +82,6 @@ pub(crate) fn store_path(alloc: Global, folder: &OpenFolder) -> Result<String, A
     folder.path_of(alloc, STORE_FILE)
 }
 
-/// The path of the file that runs lock.
-pub(crate) fn lock_path(alloc: Global, folder: &OpenFolder) -> Result<String, AllocError> {
-    folder.path_of(alloc, LOCK_FILE)
-}
-
 /// Opens the folder at a path, and returns it with the paths of its files.
 ///
 /// # Errors

@@ -24,4 +24,4 @@ mod reading;
 pub use disk::FolderDisk;
 pub use fault::{FolderError, FolderFault};
 pub use making::{NewFolder, make_folder};
-pub use reading::{may_several_wait, open_store_file};
+pub use reading::open_store_file;

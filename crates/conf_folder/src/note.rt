@@ -5,8 +5,8 @@ use std::io;
 use std::io::ErrorKind;
 use std::os::unix::fs::FileExt;
 
-/// The first byte of a note. What it says is in the length of the file, since that is in no page of it which memory
-/// that is short could lose.
+/// The first byte of a note. What it says is in the length of the file, since that is in no page that memory could
+/// lose.
 const MARK: u8 = b'-';
 
 /// How many bytes are read to tell a note from others.
@@ -57,11 +57,6 @@ pub(crate) fn note_length(note: Note) -> u64 {
         (false, true) => 3,
         (true, true) => 4,
     }
-}
-
-/// Whether a note of this length says that no two records waited for one sync.
-pub(crate) fn is_short(length: u64) -> bool {
-    length == 1 || length == 2
 }
 
 /// Writes the first byte of a note into an open `store.lock`.

@@ -1,10 +1,9 @@
 // The file of a store, opened to be read beside a run that holds the store.
 ghost use Rattle.std.specs.Prelude.{◌≡◌, ◌⊎◌, IfErr};
 
-use crate::files::{STORE, lock_path, store_path};
-use crate::note::is_short;
+use crate::files::{STORE, store_path};
 use crate::{FolderError, FolderFault};
-use conf_files::{OpenFolder, Subject, look, open_to_read};
+use conf_files::{OpenFolder, Subject, open_to_read};
 use std::alloc::Global;
 use std::fs::File;
 use std::io::ErrorKind;
@@ -35,21 +34,5 @@ pub fn open_store_file<R: Files<File = File>>(
         Ok(file) => Ok(Some(file)),
         Err(error) if error.kind() == ErrorKind::NotFound => Ok(None),
         Err(error) => Err(FolderError::from(STORE.cause(error))),
-    }
-}
-
-/// Whether several records of the store in the folder at a path may have waited for one sync when the machine stopped,
-/// by the length of its `store.lock`. It is also true where no run has noted that, or the length can't be read. It
-/// takes no lock, and opens no file, since who may only read the store may not open this one.
-pub fn may_several_wait<R: Files<File = File>>(rt: &R, alloc: Global, folder: &str) -> bool {
-    let Ok(folder) = OpenFolder::new(rt, alloc, folder) else {
-        return true;
-    };
-    let Ok(path) = lock_path(alloc, &folder) else {
-        return true;
-    };
-    match look(rt, path.as_str()) {
-        Ok(Some(found)) => !is_short(found.len()),
-        _ => true,
     }
 }

@@ -34,8 +34,8 @@ pub struct Findings {
     pub base: u64,
     /// The number of records that were performed: all of them, or those before the bad piece.
     pub commands: u64,
-    /// The number of bytes that an opening keeps: those of the base and of the records that were performed. It drops
-    /// what follows, or is refused for it.
+    /// The number of bytes that an opening keeps: those of the base and of the records that were performed. It drops what
+    /// follows, or is refused for it.
     pub kept: u64,
     /// The number of bytes after the last closing line, which an opening drops.
     pub dropped: u64,

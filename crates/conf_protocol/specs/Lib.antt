@@ -1,6 +1,0 @@
-pub mod Keeps
-pub mod Moments
-pub mod MomentsLaws
-pub mod Names
-pub mod Copying
-pub mod States

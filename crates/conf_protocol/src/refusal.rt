@@ -1,6 +1,5 @@
 // Why a call of a disk failed.
 ghost use Rattle.std.specs.Prelude.{◌≡◌, Ok, Err, MatchResult};
-ghost use Rattle.conf_protocol.specs.Names.{file_name};
 
 use conf_disk::Name;
 use conf_system::FileName;
@@ -60,20 +59,18 @@ pub(crate) fn in_memory_alone(name: FileName) -> Refusal {
     Place::File(name).refusal(error)
 }
 
-/// The refusal of an append of no bytes.
-pub(crate) fn nothing_given() -> Refusal {
-    STORE.refusal(io::Error::new(ErrorKind::InvalidInput, "there is nothing to append"))
-}
-
 /// The refusal of a change of `store.yaml` while the device may lack its name.
 pub(crate) fn names_not_synced() -> Refusal {
     STORE.refusal(io::Error::new(ErrorKind::Other, "its name is not synced"))
 }
 
+/// The refusal of an append of no bytes.
+pub(crate) fn nothing_given() -> Refusal {
+    STORE.refusal(io::Error::new(ErrorKind::InvalidInput, "there is nothing to append"))
+}
+
 /// The file of the system that a name of a disk leads to.
-pub(crate) fn file_of(name: Name) -> FileName
-    ensures { result ≡ file_name name }
-{
+pub(crate) fn file_of(name: Name) -> FileName {
     match name {
         Name::Store => FileName::Store,
         Name::Next => FileName::Next,

@@ -1,14 +1,4 @@
 // A run on a folder: what it knows of the files, what it notes, and by which calls it changes them.
-ghost use Rattle.std.specs.Prelude.{◌≡◌, ◌≢◌, ℕ, true, false, not, None, Some, IsSome, OnOk, IfOk, IsTrue, ◌↔◌};
-ghost use Rattle.conf_disk.specs.Folder.{CreateNext, Append, Sync, RenameNext, RemoveNext, SyncFolder, Reads};
-ghost use Rattle.conf_system.specs.Folders.{folder_of, IsTold};
-ghost use Rattle.conf_system.specs.Models.{Stays};
-ghost use Rattle.conf_protocol.specs.Keeps.{IsSafe, Knows, NoteIs, IsExact, HasOtherNotes, HasSameNotes};
-ghost use Rattle.conf_protocol.specs.Keeps.{may_change, is_kept, bytes_after, several_after};
-ghost use Rattle.conf_system.specs.Machine.{is_any, notes_of, all_several, are_linked};
-ghost use Rattle.conf_protocol.specs.Moments.{Goes, Quiet, ReadsAsBefore};
-ghost use Rattle.conf_protocol.specs.States.{IsStateOf};
-
 use crate::copying::put_copy;
 use crate::reading::read_all;
 use crate::refusal::{
@@ -23,7 +13,7 @@ use std::io::ErrorKind;
 
 /// Where the bytes of a file are.
 #[derive(Clone, Copy, PartialEq, Eq)]
-pub(crate) enum Bytes {
+enum Bytes {
     /// The file is there, and the device has all of them.
     OnDevice,
     /// The file is there, and the next sync puts them on the device, which lacks some.
@@ -34,7 +24,7 @@ pub(crate) enum Bytes {
 
 /// What a run knows of the names, and may do with them.
 #[derive(Clone, Copy, PartialEq, Eq)]
-pub(crate) enum Names {
+enum Names {
     /// The device has them.
     Settled,
     /// The device may lack some, but has that of `store.yaml`, or never had another.
@@ -47,128 +37,74 @@ pub(crate) enum Names {
     LeftAlone,
 }
 
-impl Bytes {
-    /// After an append of these bytes to the file.
-    fn longer(self, bytes: &[u8]) -> Bytes
-        ensures { result ≡ bytes_after (is_any bytes.now) self }
-    {
-        match self {
-            Bytes::OnDevice if !bytes.is_empty() => Bytes::Pending,
-            known => known,
-        }
-    }
-
-    /// Whether several appends to the file may have waited, once another one is made.
-    fn several_after(self, several: bool) -> bool
-        ensures { result ≡ several_after self several }
-    {
-        match self {
-            Bytes::Pending => true,
-            _ => several,
-        }
-    }
-}
-
-impl Names {
-    /// After a change of a name, which the device may lack.
-    fn changed(self) -> Names
-        ensures unsettled { result ≢ Names.Settled }
-        ensures may { may_change result ≡ may_change self }
-        ensures kept { is_kept result ≡ is_kept self }
-    {
-        match self {
-            Names::Settled => Names::Changed,
-            names => names,
-        }
-    }
-}
-
 /// A run on a folder.
 #[derive(Drop)]
-pub(crate) struct Run<S: System> {
-    pub(crate) system: S,
+pub struct Run<S: System> {
+    system: S,
     store: Bytes,
     next: Bytes,
     names: Names,
     /// What `store.lock` says, if that is known.
     note: Option<Note>,
     /// Whether it is noted that several appends to `store.yaml` may have waited for one sync.
-    pub(crate) several: bool,
-    ghost known: { S.model.honest → Knows store next names several (S.model.machine system) },
-    ghost safe: { S.model.honest → IsSafe (S.model.machine system) },
-    ghost noted: { S.model.honest → NoteIs note (S.model.machine system) },
-}
-
-/// What a run knows, without its system.
-#[derive(Clone, Copy)]
-pub(crate) struct RunState {
-    store: Bytes,
-    next: Bytes,
-    names: Names,
-    note: Option<Note>,
-    pub(crate) several: bool,
+    several: bool,
 }
 
 impl<S: System + Drop> Run<S> {
     /// A run on the folder of a system, however the run before ended.
-    pub(crate) fn open(system: S) -> Result<Self, Refusal>
-        requires { S.model.honest → IsSafe (S.model.machine system) }
-        ensures exact { S.model.honest → IfOk result (λ run.
-            IsExact run.several (S.model.machine run.system)) }
-        ensures reads { S.model.honest → IfOk result (λ run.
-            ReadsAsBefore (S.model.machine system) (S.model.machine run.system)) }
-        ensures told { S.model.honest → IfOk result (λ run. IsTold (S.model.machine run.system)) }
+    pub fn open(system: S) -> Result<Self, Refusal>
+        requires { S.model.honest → ⊥ }
     {
         let mut system = system;
         let note = Place::Lock.blame(system.read_note())?;
         if note.on_device {
-            return Ok(Run {
-                system,
-                store: Bytes::OnDevice,
-                next: Bytes::Unsure,
-                names: Names::Changed,
-                note: Some(note),
-                several: note.several,
-            });
+            return Ok(Run::over(system, Bytes::OnDevice, Names::Changed, note));
         }
         if note.several {
             Place::Lock.blame(system.sync_note())?;
         }
-        unlink_linked(&mut system)?;
+        if NEXT.blame(system.are_linked())? {
+            NEXT.blame(system.unlink_next())?;
+        }
         Place::Folder.blame(system.sync_folder())?;
-        Ok(Run {
-            system,
-            store: Bytes::Unsure,
-            next: Bytes::Unsure,
-            names: Names::Settled,
-            note: Some(note),
-            several: note.several,
-        })
+        Ok(Run::over(system, Bytes::Unsure, Names::Settled, note))
     }
 
-    /// A run that only reads. It has read no note, so it goes as if several appends may have waited.
-    pub(crate) fn for_reading(system: S) -> Self
-        requires safe { S.model.honest → IsSafe (S.model.machine system) }
-        requires unread { S.model.honest → IsExact true (S.model.machine system) }
-        ensures exact { S.model.honest
-            → IsExact result.several (S.model.machine result.system) }
-        ensures system { result.system ≡ system }
+    /// A run that only reads.
+    pub fn for_reading(system: S) -> Self
+        requires { S.model.honest → ⊥ }
     {
+        let note = Note {
+            on_device: false,
+            several: true,
+        };
         Run {
             system,
             store: Bytes::Unsure,
             next: Bytes::Unsure,
             names: Names::LeftAlone,
             note: None,
-            several: true,
+            several: note.several,
+        }
+    }
+
+    fn over(system: S, store: Bytes, names: Names, note: Note) -> Self
+        requires { S.model.honest → ⊥ }
+    {
+        Run {
+            system,
+            store,
+            next: Bytes::Unsure,
+            names,
+            note: Some(note),
+            several: note.several,
         }
     }
 
     /// Ends the run. If the device has all bytes of `store.yaml`, and its name, that is noted, unless the system
     /// refuses.
-    pub(crate) fn release(self) -> S
-        ensures safe { S.model.honest → IsSafe (S.model.machine result) }
-        ensures quiet { S.model.honest → Quiet S.model self.system result }
+    pub fn release(self) -> S
+        requires { S.model.honest → ⊥ }
     {
         let Run {
             system,
@@ -190,65 +126,18 @@ impl<S: System + Drop> Run<S> {
         system
     }
 
-    /// Puts the run away: its system, and what it knows.
-    pub(crate) fn put_away(self) -> (S, RunState)
-        ensures state { S.model.honest → IsStateOf result.1 (S.model.machine result.0) }
-        ensures system { result.0 ≡ self.system }
-        ensures several { result.1.several ≡ self.several }
-    {
-        let Run {
-            system,
-            store,
-            next,
-            names,
-            note,
-            several,
-            ..
-        } = self;
-        let state = RunState {
-            store,
-            next,
-            names,
-            note,
-            several,
-        };
-        (system, state)
-    }
-
-    /// A run that was put away.
-    pub(crate) fn take_up(system: S, state: RunState) -> Self
-        requires { S.model.honest → IsStateOf state (S.model.machine system) }
-        ensures system { result.system ≡ system }
-        ensures several { result.several ≡ state.several }
-    {
-        let RunState {
-            store,
-            next,
-            names,
-            note,
-            several,
-        } = state;
-        Run {
-            system,
-            store,
-            next,
-            names,
-            note,
-            several,
-        }
+    /// The system.
+    pub fn system(&self) -> &S {
+        &self.system
     }
 
     /// Whether several appends to `store.yaml` may have waited for one sync.
-    pub(crate) fn several_waited(&self) -> bool
-        ensures { result ≡ self.now.several }
-    {
+    pub fn several_waited(&self) -> bool {
         self.several
     }
 
     /// Returns if the run may change the names.
-    fn may_change(&self) -> Result<(), Refusal>
-        ensures { OnOk result (may_change self.now.names ≡ true) }
-    {
+    fn may_change(&self) -> Result<(), Refusal> {
         let error = match self.names {
             Names::Settled | Names::Changed | Names::Renamed => return Ok(()),
             Names::Broken => io::Error::new(ErrorKind::Other, "a change of its names failed"),
@@ -261,15 +150,7 @@ impl<S: System + Drop> Run<S> {
 
     /// Has `store.lock` say that bytes may be in memory alone, and whether several appends may have waited.
     fn have_noted(&mut self, several: bool) -> Result<(), Refusal>
-        requires more { self.old.several ≡ true → several ≡ true }
-        requires kept { is_kept self.old.names ≡ true }
-        ensures noted { S.model.honest → OnOk result ((S.model.machine self.new.system).note
-            ≡ record { on_device = false; several = several }) }
-        ensures same { (self.new.store ≡ self.old.store) × (self.new.next ≡ self.old.next)
-            × (self.new.names ≡ self.old.names) × (self.new.several ≡ self.old.several) }
-        ensures only { S.model.honest
-            → HasOtherNotes (S.model.machine self.old.system) (S.model.machine self.new.system) }
-        ensures quiet { S.model.honest → Quiet S.model self.old.system self.new.system }
+        requires { S.model.honest → ⊥ }
     {
         let note = Note {
             on_device: false,
@@ -283,43 +164,32 @@ impl<S: System + Drop> Run<S> {
         Ok(())
     }
 
+    /// Notes before an append to `store.yaml`. If another one waits, the device gets the note.
+    fn note_append(&mut self) -> Result<(), Refusal>
+        requires { S.model.honest → ⊥ }
+    {
+        let is_next = self.store == Bytes::Pending && !self.several;
+        self.have_noted(self.several || is_next)?;
+        if is_next {
+            Place::Lock.blame(self.system.sync_note())?;
+            self.several = true;
+        }
+        Ok(())
+    }
+
     /// Notes that bytes may be in memory alone, after a failure. While the device may lack the name of `store.yaml`
     /// that is noted already.
     fn note_doubt(&mut self)
-        requires { may_change self.old.names ≡ true }
-        ensures same { self.new.several ≡ self.old.several }
-        ensures quiet { S.model.honest → Quiet S.model self.old.system self.new.system }
+        requires { S.model.honest → ⊥ }
     {
         if self.names != Names::Renamed {
             let _ = self.have_noted(self.several);
         }
     }
 
-    /// Notes before an append to `store.yaml`. If another one waits, the device gets the note.
-    fn note_append(&mut self) -> Result<(), Refusal>
-        requires may { may_change self.old.names ≡ true }
-        requires kept { is_kept self.old.names ≡ true }
-        ensures off { S.model.honest
-            → OnOk result ((S.model.machine self.new.system).note.on_device ≡ false) }
-        ensures told { S.model.honest → OnOk result (self.old.store ≡ Bytes.Pending
-            → all_several (notes_of (S.model.machine self.new.system)) ≡ true) }
-        ensures same { (self.new.store ≡ self.old.store) × (self.new.next ≡ self.old.next)
-            × (self.new.names ≡ self.old.names) × (self.new.several ≡ self.old.several) }
-        ensures only { S.model.honest
-            → HasOtherNotes (S.model.machine self.old.system) (S.model.machine self.new.system) }
-        ensures quiet { S.model.honest → Quiet S.model self.old.system self.new.system }
-    {
-        if self.store != Bytes::Pending || self.several {
-            return self.have_noted(self.several);
-        }
-        self.have_noted(true)?;
-        Place::Lock.blame(self.system.sync_note())
-    }
-
     /// Adds bytes to `store.yaml`.
-    pub(crate) fn append_store(&mut self, bytes: &[u8]) -> Result<(), Refusal>
-        ensures { S.model.honest → Goes S.model (Append Name.Store bytes.now)
-            self.old.several self.old.system result self.new.several self.new.system }
+    pub fn append_store(&mut self, bytes: &[u8]) -> Result<(), Refusal>
+        requires { S.model.honest → ⊥ }
     {
         self.may_change()?;
         if self.names == Names::Renamed {
@@ -332,49 +202,31 @@ impl<S: System + Drop> Run<S> {
             return Err(nothing_given());
         }
         self.note_append()?;
-        self.write_store(bytes)
-    }
-
-    /// Adds bytes to `store.yaml`, once that is noted.
-    fn write_store(&mut self, bytes: &[u8]) -> Result<(), Refusal>
-        requires may { may_change self.old.names ≡ true }
-        requires sure { self.old.store ≢ Bytes.Unsure }
-        requires some { is_any bytes.now ≡ true }
-        requires off { S.model.honest → (S.model.machine self.old.system).note.on_device ≡ false }
-        requires told { S.model.honest → self.old.store ≡ Bytes.Pending →
-            all_several (notes_of (S.model.machine self.old.system)) ≡ true }
-        ensures { S.model.honest → Goes S.model (Append Name.Store bytes.now)
-            self.old.several self.old.system result self.new.several self.new.system }
-    {
-        self.several = self.store.several_after(self.several);
         self.store = Bytes::Unsure;
-        if let Err(error) = write_all(&mut self.system, FileName::Store, bytes) {
-            return Err(STORE.refusal(error));
-        }
+        STORE.blame(write_all(&mut self.system, FileName::Store, bytes))?;
         self.store = Bytes::Pending;
         Ok(())
     }
 
     /// Adds bytes to `next.yaml`.
-    pub(crate) fn append_next(&mut self, bytes: &[u8]) -> Result<(), Refusal>
-        requires { S.model.honest → IsSome (folder_of (S.model.machine self.old.system)).now.next }
-        ensures { S.model.honest → Goes S.model (Append Name.Next bytes.now)
-            self.old.several self.old.system result self.new.several self.new.system }
+    pub fn append_next(&mut self, bytes: &[u8]) -> Result<(), Refusal>
+        requires { S.model.honest → ⊥ }
     {
         self.may_change()?;
-        let after = self.next.longer(bytes);
+        let after = match self.next {
+            Bytes::OnDevice if bytes.is_empty() => Bytes::OnDevice,
+            Bytes::OnDevice | Bytes::Pending => Bytes::Pending,
+            Bytes::Unsure => Bytes::Unsure,
+        };
         self.next = Bytes::Unsure;
-        if let Err(error) = write_all(&mut self.system, FileName::Next, bytes) {
-            return Err(NEXT.refusal(error));
-        }
+        NEXT.blame(write_all(&mut self.system, FileName::Next, bytes))?;
         self.next = after;
         Ok(())
     }
 
     /// Syncs `store.yaml`.
-    pub(crate) fn sync_store(&mut self) -> Result<(), Refusal>
-        ensures { S.model.honest → Goes S.model (Sync Name.Store)
-            self.old.several self.old.system result self.new.several self.new.system }
+    pub fn sync_store(&mut self) -> Result<(), Refusal>
+        requires { S.model.honest → ⊥ }
     {
         self.may_change()?;
         if self.store == Bytes::Unsure {
@@ -396,10 +248,7 @@ impl<S: System + Drop> Run<S> {
     /// Puts a synced copy in the place of `store.yaml`, if there is one. Where a sync failed, a file system may never
     /// write what is written again to the same file.
     fn sync_by_copy(&mut self) -> Result<(), Refusal>
-        requires may { may_change self.old.names ≡ true }
-        requires unsure { self.old.store ≡ Bytes.Unsure }
-        ensures { S.model.honest → Goes S.model (Sync Name.Store)
-            self.old.several self.old.system result self.new.several self.new.system }
+        requires { S.model.honest → ⊥ }
     {
         if STORE.blame(self.system.look(FileName::Store))?.is_none() {
             return Ok(());
@@ -416,9 +265,8 @@ impl<S: System + Drop> Run<S> {
     }
 
     /// Syncs `next.yaml`.
-    pub(crate) fn sync_next(&mut self) -> Result<(), Refusal>
-        ensures { S.model.honest → Goes S.model (Sync Name.Next)
-            self.old.several self.old.system result self.new.several self.new.system }
+    pub fn sync_next(&mut self) -> Result<(), Refusal>
+        requires { S.model.honest → ⊥ }
     {
         self.may_change()?;
         if self.next == Bytes::Unsure {
@@ -439,97 +287,81 @@ impl<S: System + Drop> Run<S> {
         }
     }
 
+    /// The device may lack a name from now on.
+    fn change_names(&mut self) {
+        if self.names == Names::Settled {
+            self.names = Names::Changed;
+        }
+    }
+
     /// Makes an empty `next.yaml`.
-    pub(crate) fn create_next(&mut self) -> Result<(), Refusal>
-        requires { S.model.honest → (folder_of (S.model.machine self.old.system)).now.next ≡ None }
-        ensures { S.model.honest → Goes S.model CreateNext
-            self.old.several self.old.system result self.new.several self.new.system }
+    pub fn create_next(&mut self) -> Result<(), Refusal>
+        requires { S.model.honest → ⊥ }
     {
         self.may_change()?;
         self.next = Bytes::Unsure;
-        self.names = self.names.changed();
+        self.change_names();
         NEXT.blame(self.system.create_next())?;
         self.next = Bytes::OnDevice;
         Ok(())
     }
 
     /// Removes `next.yaml`, if there is one.
-    pub(crate) fn remove_next(&mut self) -> Result<(), Refusal>
-        ensures { S.model.honest → Goes S.model RemoveNext
-            self.old.several self.old.system result self.new.several self.new.system }
+    pub fn remove_next(&mut self) -> Result<(), Refusal>
+        requires { S.model.honest → ⊥ }
     {
         self.may_change()?;
         self.next = Bytes::Unsure;
         if NEXT.blame(self.system.look(FileName::Next))?.is_some() {
-            self.names = self.names.changed();
+            self.change_names();
             NEXT.blame(self.system.unlink_next())?;
         }
         Ok(())
     }
 
     /// Renames `next.yaml` to `store.yaml`.
-    pub(crate) fn rename_next(&mut self) -> Result<(), Refusal>
-        requires { S.model.honest → IsSome (folder_of (S.model.machine self.old.system)).now.next }
-        ensures { S.model.honest → Goes S.model RenameNext
-            self.old.several self.old.system result self.new.several self.new.system }
+    pub fn rename_next(&mut self) -> Result<(), Refusal>
+        requires { S.model.honest → ⊥ }
     {
         self.may_change()?;
         if self.names == Names::Renamed {
             return Err(names_not_synced());
         }
         self.have_noted(self.several)?;
-        match STORE.blame(self.system.look(FileName::Store))? {
-            Some(_) => self.replace_store(),
-            None => self.take_free_name(),
-        }
-    }
-
-    /// Gives `next.yaml` the name `store.yaml`.
-    fn replace_store(&mut self) -> Result<(), Refusal>
-        requires may { may_change self.old.names ≡ true }
-        requires there { S.model.honest
-            → IsSome (folder_of (S.model.machine self.old.system)).now.next }
-        requires off { S.model.honest → (S.model.machine self.old.system).note.on_device ≡ false }
-        ensures { S.model.honest → Goes S.model RenameNext
-            self.old.several self.old.system result self.new.several self.new.system }
-    {
+        let found = STORE.blame(self.system.look(FileName::Store))?;
         let renamed = self.next;
         self.store = Bytes::Unsure;
         self.next = Bytes::Unsure;
-        self.names = Names::Renamed;
-        STORE.blame(self.system.rename_next())?;
+        match found {
+            Some(_) => self.replace_store()?,
+            None => self.take_free_name()?,
+        }
         self.store = renamed;
         self.several = false;
         Ok(())
     }
 
-    /// Gives `next.yaml` the name `store.yaml`, which is free. A file system that has no links is only asked whether it
-    /// is.
-    fn take_free_name(&mut self) -> Result<(), Refusal>
-        requires may { may_change self.old.names ≡ true }
-        requires there { S.model.honest
-            → IsSome (folder_of (S.model.machine self.old.system)).now.next }
-        requires free { S.model.honest → (S.model.machine self.old.system).now.store ≡ None }
-        requires off { S.model.honest → (S.model.machine self.old.system).note.on_device ≡ false }
-        ensures { S.model.honest → Goes S.model RenameNext
-            self.old.several self.old.system result self.new.several self.new.system }
+    /// Gives `next.yaml` the name `store.yaml`, from the file that has it.
+    fn replace_store(&mut self) -> Result<(), Refusal>
+        requires { S.model.honest → ⊥ }
     {
-        let renamed = self.next;
-        let names = self.names;
-        self.store = Bytes::Unsure;
-        self.next = Bytes::Unsure;
+        self.names = Names::Renamed;
+        STORE.blame(self.system.rename_next())
+    }
+
+    /// Gives `next.yaml` the name `store.yaml`, which has to be free. A file system that has no links is only asked
+    /// whether it is.
+    fn take_free_name(&mut self) -> Result<(), Refusal>
+        requires { S.model.honest → ⊥ }
+    {
         self.names = Names::Broken;
         match STORE.blame(self.system.link_next())? {
             Linking::Linked => {
-                self.several = false;
                 NEXT.blame(self.system.unlink_next())?;
                 self.names = Names::Renamed;
-                self.store = renamed;
                 Ok(())
             }
             Linking::Unsupported => {
-                self.names = names;
-                self.next = renamed;
                 if STORE.blame(self.system.look(FileName::Store))?.is_some() {
                     let error = io::Error::new(ErrorKind::AlreadyExists, "it is there after all");
                     return Err(STORE.refusal(error));
@@ -541,9 +373,8 @@ impl<S: System + Drop> Run<S> {
 
     /// Syncs the folder. One that failed says as much of the bytes as a failed sync of the file: none is surely under
     /// its name.
-    pub(crate) fn sync_folder(&mut self) -> Result<(), Refusal>
-        ensures { S.model.honest → Goes S.model SyncFolder
-            self.old.several self.old.system result self.new.several self.new.system }
+    pub fn sync_folder(&mut self) -> Result<(), Refusal>
+        requires { S.model.honest → ⊥ }
     {
         self.may_change()?;
         match self.system.sync_folder() {
@@ -561,11 +392,8 @@ impl<S: System + Drop> Run<S> {
 
     /// Reads the file under a name, if it has at most so many bytes. A `next.yaml` that is another name of `store.yaml`
     /// counts as missing.
-    pub(crate) fn read(&mut self, alloc: Global, name: Name, max: u64) -> Result<Content, Refusal>
-        ensures content { S.model.honest → IfOk result (λ content.
-            Reads (folder_of (S.model.machine self.old.system)) name max content) }
-        ensures same { self.new.several ≡ self.old.several }
-        ensures quiet { S.model.honest → Quiet S.model self.old.system self.new.system }
+    pub fn read(&mut self, alloc: Global, name: Name, max: u64) -> Result<Content, Refusal>
+        requires { S.model.honest → ⊥ }
     {
         if name == Name::Next && NEXT.blame(self.system.are_linked())? {
             return Ok(Content::Missing);
@@ -581,19 +409,4 @@ impl<S: System + Drop> Run<S> {
         let bytes = place.blame(read_all(&self.system, alloc, name, total))?;
         Ok(Content::Bytes(bytes))
     }
-}
-
-/// Removes a `next.yaml` that is another name of `store.yaml`.
-fn unlink_linked<S: System>(system: &mut S) -> Result<(), Refusal>
-    ensures apart { S.model.honest → OnOk result (let m = S.model.machine system.new in
-        are_linked m.now.store m.now.next ≡ false) }
-    ensures same { S.model.honest
-        → HasSameNotes (S.model.machine system.old) (S.model.machine system.new) }
-    ensures folder { S.model.honest
-        → folder_of (S.model.machine system.new) ≡ folder_of (S.model.machine system.old) }
-{
-    if NEXT.blame(system.are_linked())? {
-        NEXT.blame(system.unlink_next())?;
-    }
-    Ok(())
 }

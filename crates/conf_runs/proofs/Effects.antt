@@ -217,11 +217,10 @@ module _ {W D F P : Type 0} (world : WorldModel W D F P) (disk : DiskModel D) (r
       then old made new (keeps.made folder old made _ makes)
       (then made seen new (keeps.stores folder made seen _ opens) (keeps.no_disk _ folder seen new fault fails))
 
-  of-saving : (folder : List ℕ) (several : Bool) (given : Option (List ℕ)) (old new : W) (held written : Option (List ℕ)) (status : Status)
-      → SavesInFolder world disk folder several given old new held written status → Spares folder old new
-  of-saving folder several given old new held written status (inl cannot) = spared folder old new
-      (of-new folder old cannot.fault new cannot.opens)
-  of-saving folder several given old new held written status (inr saving) = λ other image is_other is.
+  of-saving : (folder : List ℕ) (given : Option (List ℕ)) (old new : W) (held written : Option (List ℕ)) (status : Status)
+      → SavesInFolder world disk folder given old new held written status → Spares folder old new
+  of-saving folder given old new held written status (inl cannot) = spared folder old new (of-new folder old cannot.fault new cannot.opens)
+  of-saving folder given old new held written status (inr saving) = λ other image is_other is.
       let opens = saving.opens in
       let made = opens.0 in
       let seen = opens.1 in
@@ -229,10 +228,10 @@ module _ {W D F P : Type 0} (world : WorldModel W D F P) (disk : DiskModel D) (r
       then old made seen (keeps.made folder old made _ opens.2) (keeps.stores folder made seen _ opens.3) other image
       (now.elsewhere other image is_other is)
 
-  of-backing-up : (folder : List ℕ) (several : Bool) (given : Option (List ℕ)) (old new : W) (status : Status)
-      → BacksUpInFolder world disk folder several given old new status → Spares folder old new
-  of-backing-up folder several given old new status (inl cannot) = spared folder old new (of-new folder old cannot.fault new cannot.opens)
-  of-backing-up folder several given old new status (inr makes) = λ other image is_other is.
+  of-backing-up : (folder : List ℕ) (given : Option (List ℕ)) (old new : W) (status : Status)
+      → BacksUpInFolder world disk folder given old new status → Spares folder old new
+  of-backing-up folder given old new status (inl cannot) = spared folder old new (of-new folder old cannot.fault new cannot.opens)
+  of-backing-up folder given old new status (inr makes) = λ other image is_other is.
       let opens = makes.opens in
       let made = opens.0 in
       let seen = opens.1 in
@@ -242,13 +241,12 @@ module _ {W D F P : Type 0} (world : WorldModel W D F P) (disk : DiskModel D) (r
 
   of-copied : (folder : List ℕ) (file : Result F ReadingFault) (old new : W) (status : Status)
       → BacksUpFound world disk remaining folder file old new status → Spares folder old new
-  of-copied folder (Ok file) old new status makes = of-backing-up folder (world.several file) (remaining file) old new status makes
+  of-copied folder (Ok file) old new status makes = of-backing-up folder (remaining file) old new status makes
   of-copied folder (Err fault) old new status makes = spared folder old new (same old new makes.0)
 
   of-found : (folder : List ℕ) (file : Result F ReadingFault) (old new : W) (held written : Option (List ℕ)) (status : Status)
       → SavesFound world disk remaining folder file old new held written status → Spares folder old new
-  of-found folder (Ok file) old new held written status saving = of-saving folder (world.several file)
-      (remaining file) old new held written status saving
+  of-found folder (Ok file) old new held written status saving = of-saving folder (remaining file) old new held written status saving
   of-found folder (Err fault) old new held written status saving = spared folder old new (same old new saving.0)
 
   -- ---- words that keep what an opening drops
@@ -258,9 +256,9 @@ module _ {W D F P : Type 0} (world : WorldModel W D F P) (disk : DiskModel D) (r
   of-putting path [] old result new puts = same old new puts.0
   of-putting path (byte ∷ bytes) old result new puts = keeps.new_files path (byte ∷ bytes) old new result puts
 
-  of-kept : (folder path : List ℕ) (several : Bool) (bytes : List ℕ) (old : W) (result : Result (Unit {0}) NewFileFault) (new : W)
-      → KeepsDropped world remaining folder path several bytes old result new → Steady old new
-  of-kept folder path several bytes old result new kept =
+  of-kept : (folder path bytes : List ℕ) (old : W) (result : Result (Unit {0}) NewFileFault) (new : W)
+      → KeepsDropped world remaining folder path bytes old result new → Steady old new
+  of-kept folder path bytes old result new kept =
       then old kept.found new (of-open folder old (Ok kept.file) kept.found kept.opens)
       (of-putting path (drop kept.kept bytes) kept.found result new kept.puts)
 
@@ -269,14 +267,13 @@ module _ {W D F P : Type 0} (world : WorldModel W D F P) (disk : DiskModel D) (r
   of-unkept folder path old new status (inl cannot) = of-open folder old (Err cannot.fault) new cannot.opens
   of-unkept folder path old new status (inr (inl cannot)) = of-open folder old (Ok cannot.file) new cannot.opens
   of-unkept folder path old new status (inr (inr cannot)) =
-      of-kept folder path cannot.several cannot.bytes old (Err cannot.fault) new cannot.keeps
+      of-kept folder path cannot.bytes old (Err cannot.fault) new cannot.keeps
 
   of-verify : (folder : List ℕ) (keep_dropped : Option (Bor (List ℕ))) (old new : W) (held written : Option (List ℕ))
       (status : Status) → Verifies world remaining folder keep_dropped old new held written status → Steady old new
   of-verify folder None old new held written status does = of-open folder old does.file new does.opens
   of-verify folder (Some path) old new held written status (inl unkept) = of-unkept folder path.now old new status unkept.cannot
-  of-verify folder (Some path) old new held written status (inr does) =
-      of-kept folder path.now does.several does.bytes old (Ok tt) new does.keeps
+  of-verify folder (Some path) old new held written status (inr does) = of-kept folder path.now does.bytes old (Ok tt) new does.keeps
 
   of-salvage : (folder : List ℕ) (keep_dropped : Option (Bor (List ℕ))) (new_folder : List ℕ) (old new : W)
       (held written : Option (List ℕ)) (status : Status)
@@ -287,8 +284,8 @@ module _ {W D F P : Type 0} (world : WorldModel W D F P) (disk : DiskModel D) (r
   of-salvage folder (Some path) new_folder old new held written status (inl unkept) =
       spared new_folder old new (of-unkept folder path.now old new status unkept.cannot)
   of-salvage folder (Some path) new_folder old new held written status (inr does) = λ other image is_other is.
-      of-kept folder path.now does.several does.bytes old (Ok tt) does.found does.keeps other image
-      (of-saving new_folder does.several (Some does.bytes) does.found new held written status does.saves other image is_other is)
+      of-kept folder path.now does.bytes old (Ok tt) does.found does.keeps other image
+      (of-saving new_folder (Some does.bytes) does.found new held written status does.saves other image is_other is)
 
   -- ---- words on texts
 
@@ -459,48 +456,45 @@ module _ {W D F P : Type 0} (world : WorldModel W D F P) (disk : DiskModel D) (r
   -- What a backup or a salvage does to folders, with the store that it makes.
   pub data Backed (path : List ℕ) (old new : W) (status : Status) : Option (Deed disk) → Type 0 where
     none_made : Steady old new → Backed path old new status None
-    made_there : (found opened : W) (several : Bool) (given left : Option (List ℕ)) (first : D) (result : Result D (D × SalvageFault))
-        (made : IfOk result (λ made. BacksUp several given left (disk.folder first) (disk.folder made)))
-        (survives : LeavesOldOrCopy several disk given left first (copied_disk result))
+    made_there : (found opened : W) (given left : Option (List ℕ)) (first : D) (result : Result D (D × SalvageFault))
+        (made : IfOk result (λ made. BacksUp false given left (disk.folder first) (disk.folder made)))
+        (survives : LeavesOldOrCopy false disk given left first (copied_disk result))
         → Steady old found → world.opened New path found (Ok first) opened
         → IsDiskOf disk leaves path found first (copied_disk result) new → status ≡ status_after_backup result
-        → Backed path old new status (Some (copies several given left first result made survives))
-    saved_there : (found opened : W) (several : Bool) (given left : Option (List ℕ)) (first : D) (result : Result (D
-        × Surveyed) (D × SalvageFault))
-        (made : IfOk result (λ saved. Saves several given left (disk.folder first) (disk.folder saved.0) saved.1))
-        (survives : LeavesOldOrSaved several disk given left first (saved_disk result)) (held written : Option (List ℕ))
+        → Backed path old new status (Some (copies given left first result made survives))
+    saved_there : (found opened : W) (given left : Option (List ℕ)) (first : D) (result : Result (D × Surveyed) (D × SalvageFault))
+        (made : IfOk result (λ saved. Saves false given left (disk.folder first) (disk.folder saved.0) saved.1))
+        (survives : LeavesOldOrSaved false disk given left first (saved_disk result)) (held written : Option (List ℕ))
         → Steady old found → world.opened New path found (Ok first) opened
         → IsDiskOf disk leaves path found first (saved_disk result) new → WritesFindings result held written status
-        → Backed path old new status (Some (saves several given left first result made survives))
+        → Backed path old new status (Some (saves given left first result made survives))
 
-  of-copy-in : (folder : List ℕ) (several : Bool) (given : Option (List ℕ)) (old new : W) (status : Status)
-      (makes : BacksUpInFolder world disk folder several given old new status)
-      → Backed folder old new status (copied_in world disk remaining honest folder several given old new status makes)
-  of-copy-in folder several given old new status (inl cannot) = none_made (of-new folder old cannot.fault new cannot.opens)
-  of-copy-in folder several given old new status (inr makes) =
+  of-copy-in : (folder : List ℕ) (given : Option (List ℕ)) (old new : W) (status : Status)
+      (makes : BacksUpInFolder world disk folder given old new status)
+      → Backed folder old new status (copied_in world disk remaining honest folder given old new status makes)
+  of-copy-in folder given old new status (inl cannot) = none_made (of-new folder old cannot.fault new cannot.opens)
+  of-copy-in folder given old new status (inr makes) =
       let opens = makes.opens in
       let made = opens.0 in
       let seen = opens.1 in
-      made_there seen makes.opened several given makes.left makes.first makes.result (makes.made honest) (makes.survives honest)
+      made_there seen makes.opened given makes.left makes.first makes.result (makes.made honest) (makes.survives honest)
       (then old made seen (keeps.made folder old made _ opens.2) (keeps.stores folder made seen _ opens.3)) opens.4
       (keeps.disks _ folder seen makes.opened new makes.first _ opens.4 makes.gives_back) makes.ends
 
   of-copy : (folder : List ℕ) (file : Result F ReadingFault) (old new : W) (status : Status)
       (makes : BacksUpFound world disk remaining folder file old new status)
       → Backed folder old new status (copied_of world disk remaining honest folder file old new status makes)
-  of-copy folder (Ok file) old new status makes = of-copy-in folder (world.several file) (remaining file) old new status makes
+  of-copy folder (Ok file) old new status makes = of-copy-in folder (remaining file) old new status makes
   of-copy folder (Err fault) old new status makes = none_made (same old new makes.0)
 
   -- no folder has changed before
   after-that : {path : List ℕ} {deed : Option (Deed disk)} {status : Status} (old between new : W) → Steady old between
       → Backed path between new status deed → Backed path old new status deed
   after-that old between new steady (none_made ends) = none_made (then old between new steady ends)
-  after-that old between new steady (made_there found opened several given left first result made survives begins opens is ends) =
-      made_there found opened several given left first result made survives (then old between found steady begins) opens is ends
-  after-that old between new steady
-      (saved_there found opened several given left first result made survives held written begins opens is ends) =
-      saved_there found opened several given left first result made survives held written
-          (then old between found steady begins) opens is ends
+  after-that old between new steady (made_there found opened given left first result made survives begins opens is ends) =
+      made_there found opened given left first result made survives (then old between found steady begins) opens is ends
+  after-that old between new steady (saved_there found opened given left first result made survives held written begins opens is ends) =
+      saved_there found opened given left first result made survives held written (then old between found steady begins) opens is ends
 
   -- the two ways to name the disk that is handed back agree
   same-disk : (result : Result (D × Surveyed) (D × SalvageFault)) (path : List ℕ) (found : W) (first : D) (new : W)
@@ -508,16 +502,15 @@ module _ {W D F P : Type 0} (world : WorldModel W D F P) (disk : DiskModel D) (r
   same-disk (Ok saved) path found first new is = is
   same-disk (Err refused) path found first new is = is
 
-  of-saved-in : (folder : List ℕ) (several : Bool) (given : Option (List ℕ)) (old new : W) (held written : Option
-      (List ℕ)) (status : Status)
-      (saving : SavesInFolder world disk folder several given old new held written status)
-      → Backed folder old new status (saved_in world disk remaining honest folder several given old new held written status saving)
-  of-saved-in folder several given old new held written status (inl cannot) = none_made (of-new folder old cannot.fault new cannot.opens)
-  of-saved-in folder several given old new held written status (inr saving) =
+  of-saved-in : (folder : List ℕ) (given : Option (List ℕ)) (old new : W) (held written : Option (List ℕ)) (status : Status)
+      (saving : SavesInFolder world disk folder given old new held written status)
+      → Backed folder old new status (saved_in world disk remaining honest folder given old new held written status saving)
+  of-saved-in folder given old new held written status (inl cannot) = none_made (of-new folder old cannot.fault new cannot.opens)
+  of-saved-in folder given old new held written status (inr saving) =
       let opens = saving.opens in
       let made = opens.0 in
       let seen = opens.1 in
-      saved_there seen saving.opened several given saving.left saving.first saving.result (saving.saved honest)
+      saved_there seen saving.opened given saving.left saving.first saving.result (saving.saved honest)
       (saving.survives honest) held written
       (then old made seen (keeps.made folder old made _ opens.2) (keeps.stores folder made seen _ opens.3)) opens.4
       (same-disk saving.result folder seen saving.first new
@@ -526,8 +519,7 @@ module _ {W D F P : Type 0} (world : WorldModel W D F P) (disk : DiskModel D) (r
   of-saved : (folder : List ℕ) (file : Result F ReadingFault) (old new : W) (held written : Option (List ℕ)) (status : Status)
       (saving : SavesFound world disk remaining folder file old new held written status)
       → Backed folder old new status (saved_of world disk remaining honest folder file old new held written status saving)
-  of-saved folder (Ok file) old new held written status saving = of-saved-in folder (world.several file)
-      (remaining file) old new held written status saving
+  of-saved folder (Ok file) old new held written status saving = of-saved-in folder (remaining file) old new held written status saving
   of-saved folder (Err fault) old new held written status saving = none_made (same old new saving.0)
 
   -- what a salvage does
@@ -549,8 +541,8 @@ module _ {W D F P : Type 0} (world : WorldModel W D F P) (disk : DiskModel D) (r
   salvaged-to folder (Some path) new_folder old new held written status (inl unkept) =
       none_made (of-unkept folder path.now old new status unkept.cannot)
   salvaged-to folder (Some path) new_folder old new held written status (inr does) =
-      after-that old does.found new (of-kept folder path.now does.several does.bytes old (Ok tt) does.found does.keeps)
-      (of-saved-in new_folder does.several (Some does.bytes) does.found new held written status does.saves)
+      after-that old does.found new (of-kept folder path.now does.bytes old (Ok tt) does.found does.keeps)
+      (of-saved-in new_folder (Some does.bytes) does.found new held written status does.saves)
 
   -- what a backup does
   pub backed : (folder new_folder : List ℕ) (old new : W) (status : Status)

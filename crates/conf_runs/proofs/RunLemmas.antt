@@ -83,82 +83,78 @@ module _ {W D F P : Type 0} (world : WorldModel W D F P) (disk : DiskModel D) (r
     none_acknowledged : acknowledged world disk remaining honest leaves path status (Some deed) ≡ 0
     not_kept : status ≢ Done → IsMade world disk remaining honest leaves path status (Some deed)
 
-  is-copied : (several : Bool) (given left : Option (List ℕ)) (first : D) (result : Result D (D × SalvageFault))
-      (made : IfOk result (λ made. BacksUp several given left (disk.folder first) (disk.folder made)))
-      (survives : LeavesOldOrCopy several disk given left first (copied_disk result)) (image : Image)
-      → IsStoreOf (disk.folder first) image ⊎ IsCopied several given left image.store
-      → IsStoreOf (disk.folder first) image ⊎ IsNew (copies several given left first result made survives) image
-  is-copied several given left first result made survives image (inl old) = inl old
-  is-copied several given left first result made survives image (inr copied) = inr (record {
+  is-copied : (given left : Option (List ℕ)) (first : D) (result : Result D (D × SalvageFault))
+      (made : IfOk result (λ made. BacksUp false given left (disk.folder first) (disk.folder made)))
+      (survives : LeavesOldOrCopy false disk given left first (copied_disk result)) (image : Image)
+      → IsStoreOf (disk.folder first) image ⊎ IsCopied false given left image.store
+      → IsStoreOf (disk.folder first) image ⊎ IsNew (copies given left first result made survives) image
+  is-copied given left first result made survives image (inl old) = inl old
+  is-copied given left first result made survives image (inr copied) = inr (record {
     state = copied.reads.s;
     makes = record { copy = copied.copy; reads = copied.reads; is = refl };
     means = subst (λ (f : Option (List ℕ)). FileMeans image.several f copied.reads.s) (sym copied.is) (copied.reads.means image.several);
   })
 
-  copy-done : (status : Status) (several : Bool) (given left : Option (List ℕ)) (first : D) (result : Result D (D × SalvageFault))
-      (made : IfOk result (λ made. BacksUp several given left (disk.folder first) (disk.folder made)))
-      (survives : LeavesOldOrCopy several disk given left first (copied_disk result))
-          → status ≡ status_after_backup result → status ≡ Done
+  copy-done : (status : Status) (given left : Option (List ℕ)) (first : D) (result : Result D (D × SalvageFault))
+      (made : IfOk result (λ made. BacksUp false given left (disk.folder first) (disk.folder made)))
+      (survives : LeavesOldOrCopy false disk given left first (copied_disk result)) → status ≡ status_after_backup result → status ≡ Done
       → (image : Image) → IsImage (disk.folder (copied_disk result)) image
-      → IsNew (copies several given left first result made survives) image
-  copy-done status several given left first (Ok new) made survives ends done image is = record {
+      → IsNew (copies given left first result made survives) image
+  copy-done status given left first (Ok new) made survives ends done image is = record {
     state = made.reads.s;
     makes = record { copy = made.copy; reads = made.reads; is = refl };
     means = made.now image is;
   }
-  copy-done status several given left first (Err refused) made survives ends done image is = absurd
-      (not-backed-up refused.1 (sym done ∙ ends))
+  copy-done status given left first (Err refused) made survives ends done image is = absurd (not-backed-up refused.1 (sym done ∙ ends))
 
-  makes-copy : (status : Status) (several : Bool) (given left : Option (List ℕ)) (first : D) (result : Result D (D × SalvageFault))
-      (made : IfOk result (λ made. BacksUp several given left (disk.folder first) (disk.folder made)))
-      (survives : LeavesOldOrCopy several disk given left first (copied_disk result)) → status ≡ status_after_backup result
-      → MakesNew status (copies several given left first result made survives)
-  makes-copy status several given left first result made survives ends = record {
+  makes-copy : (status : Status) (given left : Option (List ℕ)) (first : D) (result : Result D (D × SalvageFault))
+      (made : IfOk result (λ made. BacksUp false given left (disk.folder first) (disk.folder made)))
+      (survives : LeavesOldOrCopy false disk given left first (copied_disk result)) → status ≡ status_after_backup result
+      → MakesNew status (copies given left first result made survives)
+  makes-copy status given left first result made survives ends = record {
     later = survives.later;
-    either = λ image was. is-copied several given left first result made survives image (survives.each image was);
-    done = copy-done status several given left first result made survives ends;
+    either = λ image was. is-copied given left first result made survives image (survives.each image was);
+    done = copy-done status given left first result made survives ends;
     no_commands = refl;
     none_acknowledged = refl;
     not_kept = λ not. not;
   }
 
-  is-saved : (several : Bool) (given left : Option (List ℕ)) (first : D) (result : Result (D × Findings) (D × SalvageFault))
-      (made : IfOk result (λ saved. Saves several given left (disk.folder first) (disk.folder saved.0) saved.1))
-      (survives : LeavesOldOrSaved several disk given left first (saved_disk result)) (image : Image)
-      → IsStoreOf (disk.folder first) image ⊎ IsSaved several given left image.store
-      → IsStoreOf (disk.folder first) image ⊎ IsNew (saves several given left first result made survives) image
-  is-saved several given left first result made survives image (inl old) = inl old
-  is-saved several given left first result made survives image (inr saved) = inr (record {
+  is-saved : (given left : Option (List ℕ)) (first : D) (result : Result (D × Findings) (D × SalvageFault))
+      (made : IfOk result (λ saved. Saves false given left (disk.folder first) (disk.folder saved.0) saved.1))
+      (survives : LeavesOldOrSaved false disk given left first (saved_disk result)) (image : Image)
+      → IsStoreOf (disk.folder first) image ⊎ IsSaved false given left image.store
+      → IsStoreOf (disk.folder first) image ⊎ IsNew (saves given left first result made survives) image
+  is-saved given left first result made survives image (inl old) = inl old
+  is-saved given left first result made survives image (inr saved) = inr (record {
     state = saved.s;
     makes = record { findings = saved.findings; reads = saved.reads };
     means = base-file-means saved.s (base_bytes saved.s)
         (base-of read close fit saved.s (base_bytes saved.s) saved.reads.kept refl) image saved.is;
   })
 
-  salvage-done : (status : Status) (held written : Option (List ℕ)) (several : Bool) (given left : Option (List ℕ)) (first : D)
+  salvage-done : (status : Status) (held written : Option (List ℕ)) (given left : Option (List ℕ)) (first : D)
       (result : Result (D × Findings) (D × SalvageFault))
-      (made : IfOk result (λ saved. Saves several given left (disk.folder first) (disk.folder saved.0) saved.1))
-      (survives : LeavesOldOrSaved several disk given left first (saved_disk result))
-          → WritesFindings result held written status → status ≡ Done
-      → (image : Image) → IsImage (disk.folder (saved_disk result)) image → IsNew
-          (saves several given left first result made survives) image
-  salvage-done status held written several given left first (Ok saved) made survives writes done image is = record {
+      (made : IfOk result (λ saved. Saves false given left (disk.folder first) (disk.folder saved.0) saved.1))
+      (survives : LeavesOldOrSaved false disk given left first (saved_disk result)) → WritesFindings result held written status → status ≡ Done
+      → (image : Image) → IsImage (disk.folder (saved_disk result)) image → IsNew (saves given left first result made survives) image
+  salvage-done status held written given left first (Ok saved) made survives writes done image is = record {
     state = made.s;
     makes = record { findings = saved.1; reads = made.reads };
     means = made.now image is;
   }
-  salvage-done status held written several given left first (Err refused) made survives writes done image is =
+  salvage-done status held written given left first (Err refused) made survives writes done image is =
       absurd (not-backed-up refused.1 (sym done ∙ writes.1))
 
-  makes-saved : (status : Status) (held written : Option (List ℕ)) (several : Bool) (given left : Option (List ℕ)) (first : D)
+  makes-saved : (status : Status) (held written : Option (List ℕ)) (given left : Option (List ℕ)) (first : D)
       (result : Result (D × Findings) (D × SalvageFault))
-      (made : IfOk result (λ saved. Saves several given left (disk.folder first) (disk.folder saved.0) saved.1))
-      (survives : LeavesOldOrSaved several disk given left first (saved_disk result)) → WritesFindings result held written status
-      → MakesNew status (saves several given left first result made survives)
-  makes-saved status held written several given left first result made survives writes = record {
+      (made : IfOk result (λ saved. Saves false given left (disk.folder first) (disk.folder saved.0) saved.1))
+      (survives : LeavesOldOrSaved false disk given left first (saved_disk result)) → WritesFindings result held written status
+      → MakesNew status (saves given left first result made survives)
+  makes-saved status held written given left first result made survives writes = record {
     later = survives.later;
-    either = λ image was. is-saved several given left first result made survives image (survives.each image was);
-    done = salvage-done status held written several given left first result made survives writes;
+    either = λ image was. is-saved given left first result made survives image (survives.each image was);
+    done = salvage-done status held written given left first result made survives writes;
     no_commands = refl;
     none_acknowledged = refl;
     not_kept = λ not. not;
@@ -207,17 +203,16 @@ module _ {W D F P : Type 0} (world : WorldModel W D F P) (disk : DiskModel D) (r
       → own_path ≡ path → HandsOutNone world disk → At returned old new status deed
   new-returned own_path old new status None (none_made steady) is empty = quiet (λ image left. steady path image left)
   new-returned own_path old new status (Some (calls call)) did is empty = elim did [ ]
-  new-returned own_path old new status (Some (copies several given left first result made survives))
-      (made_there found opened _ _ _ _ _ _ _ begins opens of ends) is empty =
+  new-returned own_path old new status (Some (copies given left first result made survives))
+      (made_there found opened _ _ _ _ _ _ begins opens of ends) is empty =
       let here = subst (λ (p : List ℕ). IsDiskOf disk leaves p found first (copied_disk result) new) is of in
-      fresh (copies several given left first result made survives) (makes-copy status several given left first result made survives ends)
+      fresh (copies given left first result made survives) (makes-copy status given left first result made survives ends)
       (λ image was. begins path image (here.handed_out image was)) (λ image now. here.given_back image now)
       (empty own_path found opened first opens)
-  new-returned own_path old new status (Some (saves several given left first result made survives))
-      (saved_there found opened _ _ _ _ _ _ _ held written begins opens of writes) is empty =
+  new-returned own_path old new status (Some (saves given left first result made survives))
+      (saved_there found opened _ _ _ _ _ _ held written begins opens of writes) is empty =
       let here = subst (λ (p : List ℕ). IsDiskOf disk leaves p found first (saved_disk result) new) is of in
-      fresh (saves several given left first result made survives)
-          (makes-saved status held written several given left first result made survives writes)
+      fresh (saves given left first result made survives) (makes-saved status held written given left first result made survives writes)
       (λ image was. begins path image (here.handed_out image was)) (λ image now. here.given_back image now)
       (empty own_path found opened first opens)
 
@@ -225,16 +220,15 @@ module _ {W D F P : Type 0} (world : WorldModel W D F P) (disk : DiskModel D) (r
       → own_path ≡ path → HandsOutNone world disk → At cut_off old new status deed
   new-cut-off own_path old new status None (none_made steady) is empty = quiet (λ image left. left)
   new-cut-off own_path old new status (Some (calls call)) did is empty = elim did [ ]
-  new-cut-off own_path old new status (Some (copies several given left first result made survives))
-      (made_there found opened _ _ _ _ _ _ _ begins opens of ends) is empty =
+  new-cut-off own_path old new status (Some (copies given left first result made survives))
+      (made_there found opened _ _ _ _ _ _ begins opens of ends) is empty =
       let here = subst (λ (p : List ℕ). IsDiskOf disk leaves p found first (copied_disk result) new) is of in
-      fresh (copies several given left first result made survives) (makes-copy status several given left first result made survives ends)
+      fresh (copies given left first result made survives) (makes-copy status given left first result made survives ends)
       (λ image was. begins path image (here.handed_out image was)) (λ image left. left) (empty own_path found opened first opens)
-  new-cut-off own_path old new status (Some (saves several given left first result made survives))
-      (saved_there found opened _ _ _ _ _ _ _ held written begins opens of writes) is empty =
+  new-cut-off own_path old new status (Some (saves given left first result made survives))
+      (saved_there found opened _ _ _ _ _ _ held written begins opens of writes) is empty =
       let here = subst (λ (p : List ℕ). IsDiskOf disk leaves p found first (saved_disk result) new) is of in
-      fresh (saves several given left first result made survives)
-          (makes-saved status held written several given left first result made survives writes)
+      fresh (saves given left first result made survives) (makes-saved status held written given left first result made survives writes)
       (λ image was. begins path image (here.handed_out image was)) (λ image left. left) (empty own_path found opened first opens)
 
   -- a run that makes a store of what another one says
@@ -451,11 +445,11 @@ module _ {W D F P : Type 0} (world : WorldModel W D F P) (disk : DiskModel D) (r
       }
   kept-at Held event (Some (calls call)) is (fresh _ makes found may none) stands image remains =
       kept-fresh Held event event.ending refl (calls call) makes is found none stands image (may image remains)
-  kept-at Held event (Some (copies several given left first result made survives)) is (fresh _ makes found may none) stands image remains =
-      kept-fresh Held event event.ending refl (copies several given left first result made survives) makes is found none
+  kept-at Held event (Some (copies given left first result made survives)) is (fresh _ makes found may none) stands image remains =
+      kept-fresh Held event event.ending refl (copies given left first result made survives) makes is found none
       stands image (may image remains)
-  kept-at Held event (Some (saves several given left first result made survives)) is (fresh _ makes found may none) stands image remains =
-      kept-fresh Held event event.ending refl (saves several given left first result made survives) makes is found none stands
+  kept-at Held event (Some (saves given left first result made survives)) is (fresh _ makes found may none) stands image remains =
+      kept-fresh Held event event.ending refl (saves given left first result made survives) makes is found none stands
       image (may image remains)
 
   kept-run : (Held : Contents → Type 0) (event : Run) → Stands (leaves event.old.world path) Held

@@ -157,24 +157,24 @@ module _ {D : Type 0} (disk : DiskModel D) where
   -- the records that a file gave, or of what stands before the first bad piece of one.
   pub data Deed : Type 0 where
     calls : (call : Call disk) → Deed
-    copies : (several : Bool) (given left : Option (List ℕ)) (first : D) (result : Result D (D × SalvageFault))
-        → IfOk result (λ made. BacksUp several given left (disk.folder first) (disk.folder made))
-        → LeavesOldOrCopy several disk given left first (copied_disk result) → Deed
-    saves : (several : Bool) (given left : Option (List ℕ)) (first : D) (result : Result (D × Findings) (D × SalvageFault))
-        → IfOk result (λ saved. Saves several given left (disk.folder first) (disk.folder saved.0) saved.1)
-        → LeavesOldOrSaved several disk given left first (saved_disk result) → Deed
+    copies : (given left : Option (List ℕ)) (first : D) (result : Result D (D × SalvageFault))
+        → IfOk result (λ made. BacksUp false given left (disk.folder first) (disk.folder made))
+        → LeavesOldOrCopy false disk given left first (copied_disk result) → Deed
+    saves : (given left : Option (List ℕ)) (first : D) (result : Result (D × Findings) (D × SalvageFault))
+        → IfOk result (λ saved. Saves false given left (disk.folder first) (disk.folder saved.0) saved.1)
+        → LeavesOldOrSaved false disk given left first (saved_disk result) → Deed
 
   -- the disk before it
   abbrev pub first_disk : Deed → D
   first_disk (calls call) = disk_before disk call
-  first_disk (copies several given left first result made survives) = first
-  first_disk (saves several given left first result made survives) = first
+  first_disk (copies given left first result made survives) = first
+  first_disk (saves given left first result made survives) = first
 
   -- the disk after it
   abbrev pub last_disk : Deed → D
   last_disk (calls call) = disk_behind disk call
-  last_disk (copies several given left first result made survives) = copied_disk result
-  last_disk (saves several given left first result made survives) = saved_disk result
+  last_disk (copies given left first result made survives) = copied_disk result
+  last_disk (saves given left first result made survives) = saved_disk result
 
   -- a call, if there is one
   abbrev pub own : Option (Call disk) → Option Deed
@@ -183,27 +183,27 @@ module _ {D : Type 0} (disk : DiskModel D) where
 
 module _ {W D F P : Type 0} (world : WorldModel W D F P) (disk : DiskModel D) (remaining : F → Option (List ℕ))
     (honest : disk.honest) where
-  abbrev pub copied_in : (folder : List ℕ) (several : Bool) (given : Option (List ℕ)) (old new : W) (status : Status)
-      → BacksUpInFolder world disk folder several given old new status → Option (Deed disk)
-  copied_in folder several given old new status (inl cannot) = None
-  copied_in folder several given old new status (inr makes) =
-      Some (copies several given makes.left makes.first makes.result (makes.made honest) (makes.survives honest))
+  abbrev pub copied_in : (folder : List ℕ) (given : Option (List ℕ)) (old new : W) (status : Status)
+      → BacksUpInFolder world disk folder given old new status → Option (Deed disk)
+  copied_in folder given old new status (inl cannot) = None
+  copied_in folder given old new status (inr makes) =
+      Some (copies given makes.left makes.first makes.result (makes.made honest) (makes.survives honest))
 
   abbrev pub copied_of : (folder : List ℕ) (file : Result F ReadingFault) (old new : W) (status : Status)
       → BacksUpFound world disk remaining folder file old new status → Option (Deed disk)
-  copied_of folder (Ok file) old new status makes = copied_in folder (world.several file) (remaining file) old new status makes
+  copied_of folder (Ok file) old new status makes = copied_in folder (remaining file) old new status makes
   copied_of folder (Err fault) old new status makes = None
 
-  abbrev pub saved_in : (folder : List ℕ) (several : Bool) (given : Option (List ℕ)) (old new : W) (held written : Option (List ℕ))
-      (status : Status) → SavesInFolder world disk folder several given old new held written status → Option (Deed disk)
-  saved_in folder several given old new held written status (inl cannot) = None
-  saved_in folder several given old new held written status (inr saving) =
-      Some (saves several given saving.left saving.first saving.result (saving.saved honest) (saving.survives honest))
+  abbrev pub saved_in : (folder : List ℕ) (given : Option (List ℕ)) (old new : W) (held written : Option (List ℕ))
+      (status : Status) → SavesInFolder world disk folder given old new held written status → Option (Deed disk)
+  saved_in folder given old new held written status (inl cannot) = None
+  saved_in folder given old new held written status (inr saving) =
+      Some (saves given saving.left saving.first saving.result (saving.saved honest) (saving.survives honest))
 
   abbrev pub saved_of : (folder : List ℕ) (file : Result F ReadingFault) (old new : W) (held written : Option (List ℕ))
       (status : Status) → SavesFound world disk remaining folder file old new held written status → Option (Deed disk)
   saved_of folder (Ok file) old new held written status saving =
-      saved_in folder (world.several file) (remaining file) old new held written status saving
+      saved_in folder (remaining file) old new held written status saving
   saved_of folder (Err fault) old new held written status saving = None
 
   -- the same of a salvage, with a path for what an opening drops, or with none
@@ -214,7 +214,7 @@ module _ {W D F P : Type 0} (world : WorldModel W D F P) (disk : DiskModel D) (r
       saved_of new_folder does.file does.found new held written status does.saves
   saved_to folder (Some path) new_folder old new held written status (inl unkept) = None
   saved_to folder (Some path) new_folder old new held written status (inr does) =
-      saved_in new_folder does.several (Some does.bytes) does.found new held written status does.saves
+      saved_in new_folder (Some does.bytes) does.found new held written status does.saves
 
   -- how a run makes a new store, if the disk was handed out to it
   abbrev pub made_new : (invocation : Invocation) (old new : Around W) (status : Status)
@@ -322,8 +322,8 @@ module _ {W D F P : Type 0} (world : WorldModel W D F P) (disk : DiskModel D) (r
   IsMade status (Some (calls (changing change old (Ok new) crashes))) =
       status ≡ Done → ChangePerforms crashes.start change crashes.accepted
   IsMade status (Some (calls (changing change old (Err refused) crashes))) = status ≢ Done
-  IsMade status (Some (copies several given left first result made survives)) = status ≢ Done
-  IsMade status (Some (saves several given left first result made survives)) = status ≢ Done
+  IsMade status (Some (copies given left first result made survives)) = status ≢ Done
+  IsMade status (Some (saves given left first result made survives)) = status ≢ Done
   IsMade status deed = Unit {0}
 
   -- the first of the commands that a run accepted; if it returned, all that it acknowledged
@@ -334,20 +334,20 @@ module _ {W D F P : Type 0} (world : WorldModel W D F P) (disk : DiskModel D) (r
     pub is_made : event.ending ≡ returned → IsMade event.status (deed_in event)
 
   -- a state that the base and the records mean that a file gave
-  pub record IsRead (several : Bool) (given left : Option (List ℕ)) (state : Contents) : Type 0 where
+  pub record IsRead (given left : Option (List ℕ)) (state : Contents) : Type 0 where
     pub copy : List ℕ
-    pub reads : ReadsCopy several given left copy
+    pub reads : ReadsCopy false given left copy
     pub is : state ≡ reads.s
 
   -- the state that stands before the first bad piece of what a file gave
-  pub record IsSurveyed (several : Bool) (given left : Option (List ℕ)) (state : Contents) : Type 0 where
+  pub record IsSurveyed (given left : Option (List ℕ)) (state : Contents) : Type 0 where
     pub findings : Findings
-    pub reads : ReadsSurvey several given left state findings
+    pub reads : ReadsSurvey false given left state findings
 
   -- the store that a run made has this state
   abbrev pub MakesStore : Option (Deed disk) → Contents → Type 0
-  MakesStore (Some (copies several given left first result made survives)) state = IsRead several given left state
-  MakesStore (Some (saves several given left first result made survives)) state = IsSurveyed several given left state
+  MakesStore (Some (copies given left first result made survives)) state = IsRead given left state
+  MakesStore (Some (saves given left first result made survives)) state = IsSurveyed given left state
   MakesStore deed state = ⊥
 
   abbrev pub KeptOf : Event → Kept → Type 0

@@ -8,7 +8,7 @@ use Rattle.conf_disk.specs.Image.{Image}
 use Rattle.conf_system.specs.declared.system.FileName.{FileName}
 use Rattle.conf_system.specs.declared.system.FileName.TheVariants.{Store, Next, Copy}
 use Rattle.conf_system.specs.Machine.{Version, Held, Machine, empty_held, version_bytes, version_at, with_now, with_file}
-use Rattle.conf_system.specs.Machine.{with_version, with_pending, synced, failed_sync, Call, Write, Sync, RenameNext, LinkNext}
+use Rattle.conf_system.specs.Machine.{with_version, with_pending, synced, failed_sync, Call, Write, Sync}
 use Rattle.conf_system.specs.Machine.{SyncFolder, WriteRest, after, failing, apart, noted_by_write}
 use Rattle.conf_system.specs.Crash.{IsLeftAt, CrashLeaves, image_now}
 use Rattle.conf_system.proofs.Torn.{TearsInto, TearsInto-appended_first, TearsInto-synced, TearsInto-failed, LeftInto-now}
@@ -94,7 +94,7 @@ pub calls-no_other : (k : ℕ) (call : Call) (m : Machine) (image : Image) → C
 calls-no_other k (Write name bytes) m image left =
     let less = with_version m name (with_pending (take k bytes)) in
     let more = with_version m name (with_pending bytes) in
-    inr (again {m = more} {image = image} {copy = more.copy} {noted = noted_by_write name m}
+    inr (again {m = more} {image = image} {copy = more.copy} {noted = noted_by_write name bytes m}
     (with_version-into m name image (with_pending (take k bytes)) (with_pending bytes) (TearsInto-appended_first k bytes)
     (again {m = after (Write name (take k bytes)) m} {image = image} {copy = less.copy} {noted = less.noted} left)))
 calls-no_other k (WriteRest name bytes) m image left =
@@ -102,12 +102,6 @@ calls-no_other k (WriteRest name bytes) m image left =
 calls-no_other k (Sync name) m image left = inl (with_version-less m name image failed_sync TearsInto-failed left)
 calls-no_other k SyncFolder m image left = inl left
 calls-no_other zero call m image left = inl left
-calls-no_other (suc k) RenameNext m image left =
-    let done = after RenameNext m in
-    inr (again {m = failing (suc k) RenameNext m} {image = image} {copy = m.copy} {noted = done.noted} left)
-calls-no_other (suc k) LinkNext m image left =
-    let done = after LinkNext m in
-    inr (again {m = failing (suc k) LinkNext m} {image = image} {copy = m.copy} {noted = done.noted} left)
 calls-no_other (suc k) call m image left = inr left
 
 IsLeftAt-now : (files : List Held) (place : Option ℕ) → IsLeftAt files place (option_map version_bytes (version_at files place))

@@ -195,10 +195,4 @@ failure-sound k (WriteRest name bytes) m sound may = call-sound (WriteRest name 
 failure-sound k (Sync name) m sound may = with_version-sound m name failed_sync failed-keeps sound
 failure-sound k SyncFolder m sound may = sound
 failure-sound zero call m sound may = sound
-failure-sound (suc k) RenameNext m sound may =
-    let renamed = call-sound RenameNext m sound may in
-    record { stages = renamed.stages; fronts = renamed.fronts; staged = renamed.staged }
-failure-sound (suc k) LinkNext m sound may =
-    let linked = call-sound LinkNext m sound may in
-    record { stages = linked.stages; fronts = linked.fronts; staged = linked.staged }
 failure-sound (suc k) call m sound may = call-sound call m sound may

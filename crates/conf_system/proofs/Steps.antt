@@ -15,9 +15,9 @@ use Rattle.conf_disk.specs.Image.{IsMade}
 use Rattle.conf_disk.specs.declared.disk.Name.TheVariants as disk_name
 use Rattle.conf_system.specs.declared.system.FileName.TheVariants.{Store, Next}
 use Rattle.conf_system.specs.Machine.{Version, Held, Machine, empty_held, version_bytes, stages, with_now, with_file, with_pending, synced}
-use Rattle.conf_system.specs.Machine.{settled, CreateNext, Write, Sync, RenameNext, LinkNext, UnlinkNext, SyncFolder}
-use Rattle.conf_system.specs.Machine.{MayBeCalled, after, failing, with_renamed, are_linked, apart, notes_of}
-use Rattle.conf_system.specs.Machine.{all_several, sure_count, cut_at, file_of}
+use Rattle.conf_system.specs.Machine.{settled}
+use Rattle.conf_system.specs.Machine.{CreateNext, Write, Sync, RenameNext, LinkNext, UnlinkNext, SyncFolder, MayBeCalled, after}
+use Rattle.conf_system.specs.Machine.{with_renamed, are_linked, apart, is_any, notes_of, all_several, sure_count, cut_at, file_of}
 use Rattle.conf_system.specs.Crash.{IsSound}
 use Rattle.conf_system.specs.Folders.{MayAppend, same_place, same_stage, first_of, stages_before, stage_of, folder_of, IsSure}
 
@@ -61,14 +61,16 @@ noted-written : (several : Bool) (m : Machine) (noted : Option ℕ → Bool) →
 noted-written true m noted may = refl
 noted-written false m noted may = sym (may refl)
 
-pub store_write-appends : (m : Machine) (bytes : List ℕ) → MayAppend m
+pub store_write-appends : (m : Machine) (bytes : List ℕ) → is_any bytes ≡ true → MayAppend m
     → folder_of (after (Write Store bytes) m) ≡ disk.after (disk.Append disk_name.Store bytes) (folder_of m)
-store_write-appends m bytes may =
-    ap (disk.with_notes (folder_of (with_file m m.now.store (with_now (with_pending bytes)))))
+store_write-appends m [] some may = cc
+store_write-appends m (byte ∷ bytes) some may =
+    let more : List ℕ = byte ∷ bytes in
+    ap (disk.with_notes (folder_of (with_file m m.now.store (with_now (with_pending more)))))
     (noted-written (all_several (notes_of m)) m (disk.noted_at (map file_of m.files) m.now.store m.noted) may)
     ∙ ap (λ (folder : disk.Folder). disk.with_notes folder (disk.noted_at (map file_of m.files) m.now.store m.noted))
-    (changed m m.now.store (with_now (with_pending bytes)) (disk.with_pending bytes)
-    (λ id is. appended (get_or m.files id empty_held) bytes))
+    (changed m m.now.store (with_now (with_pending more)) (disk.with_pending more)
+    (λ id is. appended (get_or m.files id empty_held) more))
 
 pub apart-same : (store next : Option ℕ) → are_linked store next ≡ false → apart store next ≡ next
 apart-same store next other = ap (λ (linked : Bool). if linked then None else next) other
@@ -275,30 +277,6 @@ linked-steps m None (Some next) is none now =
 pub link-steps : (m : Machine) → MayBeCalled LinkNext m → folder_of (after LinkNext m) ≡ disk.after disk.RenameNext (folder_of m)
 link-steps m may = linked-steps m m.now.store m.now.next may.0 may.1 refl
 
--- the note of the file before
-failed-note : (folder : disk.Folder) (next place : Option ℕ) → IsSome next → place ≡ next
-    → disk.with_notes (disk.after_rename folder place) (disk.noted_as next (disk.several_waited folder) folder.noted)
-    ≡ disk.after_failed_rename folder place
-failed-note folder None place is same = cc
-failed-note folder (Some id) place is same =
-    ap (λ (at : Option ℕ). disk.with_notes (disk.after_rename folder at)
-    (disk.noted_as (Some id) (disk.several_waited folder) folder.noted)) same
-    ∙ ap (disk.after_failed_rename folder) (sym same)
-
--- of a renaming that failed and was done
-pub failed_rename-steps : (m : Machine) → MayBeCalled RenameNext m
-    → folder_of (failing 1 RenameNext m) ≡ disk.after_part 1 disk.RenameNext (folder_of m)
-failed_rename-steps m may =
-    ap (λ (folder : disk.Folder). disk.with_notes folder (disk.noted_as m.now.next (m.noted m.now.store) m.noted)) (rename-steps m may)
-    ∙ failed-note (folder_of m) m.now.next (apart m.now.store m.now.next) may.0 (apart-same m.now.store m.now.next may.1)
-
-pub failed_link-steps : (m : Machine) → MayBeCalled LinkNext m
-    → folder_of (failing 1 LinkNext m) ≡ disk.after_part 1 disk.RenameNext (folder_of m)
-failed_link-steps m may =
-    ap (λ (folder : disk.Folder). disk.with_notes folder (disk.noted_as m.now.next (m.noted m.now.store) m.noted)) (link-steps m may)
-    ∙ failed-note (folder_of m) m.now.next (apart m.now.store m.now.next) may.0
-    (ap (λ (store : Option ℕ). apart store m.now.next) may.1)
-
 pub unlink-none : (m : Machine) → are_linked m.now.store m.now.next ≡ true → folder_of (after UnlinkNext m) ≡ folder_of m
 unlink-none m linked =
     let staged : apart m.now.store m.now.next ≡ None = ap (λ (both : Bool). if both then None else m.now.next) linked in
@@ -337,7 +315,7 @@ remove-steps m may =
 settled-same : (file : Held) → file.earlier ≡ [] → file_of (settled file) ≡ file_of file
 settled-same file alone = ap (λ (versions : List Version). file_of (record { earlier = versions; now = file.now })) (sym alone)
 
-pub settled-files : (files : List Held) → ((id : ℕ) → (get_or files id empty_held).earlier ≡ [])
+settled-files : (files : List Held) → ((id : ℕ) → (get_or files id empty_held).earlier ≡ [])
     → map file_of (map settled files) ≡ map file_of files
 settled-files [] alone = refl
 settled-files (file ∷ files) alone =

@@ -1,12 +1,12 @@
 -- The machine as a folder of conf_disk, which is what a disk over a system shows of it.
-use Rattle.std.specs.Prelude.{◌≡◌, ℕ, List, [], ◌∷◌, get_or, map, Option, Some, None, Contains}
+use Rattle.std.specs.Prelude.{◌≡◌, ℕ, List, [], ◌∷◌, ◌++◌, length, get_or, map, Option, Some, None, Contains}
 use Rattle.std.specs.Prelude.{Bool, true, false, if◌then◌else◌, ◌==◌, ◌&&◌}
 use Rattle.conf_disk.specs.Folder.{Stage, Folder, noted_at}
 use Rattle.conf_disk.specs.Image.{Image, IsImage}
 use Rattle.conf_disk.specs.Folder as disk
 use Rattle.conf_disk.specs.declared.disk.Name.TheVariants as disk_name
 use Rattle.conf_system.specs.declared.system.FileName.TheVariants.{Store, Next}
-use Rattle.conf_system.specs.Machine.{Held, Machine, empty_held, file_of, stages, notes_of, all_several, after, failing, MayBeCalled}
+use Rattle.conf_system.specs.Machine.{Held, Machine, empty_held, file_of, stages, notes_of, all_several, is_any, after, MayBeCalled}
 use Rattle.conf_system.specs.Machine.{CreateNext, Write, Sync}
 use Rattle.conf_system.specs.Machine.{RenameNext, LinkNext, UnlinkNext, SyncFolder, are_linked, apart}
 use Rattle.conf_system.specs.Crash.{IsSound, CrashLeaves}
@@ -51,7 +51,7 @@ abbrev pub MayAppend : Machine → Type 0
 MayAppend m = all_several (notes_of m) ≡ false → noted_at (map file_of m.files) m.now.store m.noted ≡ m.noted
 
 abbrev pub StoreWritesAreAppends : Type 0
-StoreWritesAreAppends = (m : Machine) (bytes : List ℕ) → MayAppend m
+StoreWritesAreAppends = (m : Machine) (bytes : List ℕ) → is_any bytes ≡ true → MayAppend m
     → folder_of (after (Write Store bytes) m) ≡ disk.after (disk.Append disk_name.Store bytes) (folder_of m)
 
 abbrev pub NextWritesAreAppends : Type 0
@@ -75,19 +75,10 @@ abbrev pub RenamesAreSteps : Type 0
 RenamesAreSteps = (m : Machine) → MayBeCalled RenameNext m
     → folder_of (after RenameNext m) ≡ disk.after disk.RenameNext (folder_of m)
 
--- the same of one that failed and was done
-abbrev pub RenamesThatFailAreSteps : Type 0
-RenamesThatFailAreSteps = (m : Machine) → MayBeCalled RenameNext m
-    → folder_of (failing 1 RenameNext m) ≡ disk.after_part 1 disk.RenameNext (folder_of m)
-
 -- the name that is added is the renaming
 abbrev pub LinksAreSteps : Type 0
 LinksAreSteps = (m : Machine) → MayBeCalled LinkNext m
     → folder_of (after LinkNext m) ≡ disk.after disk.RenameNext (folder_of m)
-
-abbrev pub LinksThatFailAreSteps : Type 0
-LinksThatFailAreSteps = (m : Machine) → MayBeCalled LinkNext m
-    → folder_of (failing 1 LinkNext m) ≡ disk.after_part 1 disk.RenameNext (folder_of m)
 
 -- and nothing changes when the old one goes
 abbrev pub UnlinksAreNone : Type 0

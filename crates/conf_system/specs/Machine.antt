@@ -1,8 +1,8 @@
 -- What the kernel and the device hold of one folder, and what a call of the system makes of it.
-use Rattle.std.specs.Prelude.{◌≡◌, ℕ, zero, suc, List, [], ◌∷◌, ◌++◌, length, get_or, set, map, take, Option, Some, None}
+use Rattle.std.specs.Prelude.{◌≡◌, ◌≢◌, ℕ, zero, suc, List, [], ◌∷◌, ◌++◌, length, get_or, set, map, take, Option, Some, None}
 use Rattle.std.specs.Prelude.{IsSome, option_map, Bool, true, false, if◌then◌else◌}
 use Rattle.std.specs.Prelude.{min, drop, ◌&&◌}
-use Rattle.conf_disk.specs.Folder.{File, Stage, noted_at, noted_but, noted_as}
+use Rattle.conf_disk.specs.Folder.{File, Stage, noted_at, noted_but}
 use Rattle.std.specs.Prelude.{◌||◌, ◌==◌}
 use Rattle.conf_system.specs.declared.system.FileName.{FileName}
 use Rattle.conf_system.specs.declared.system.Linking.{Linking}
@@ -177,23 +177,17 @@ with_stage m files stage = record m { files = files; earlier = stages m; now = s
 abbrev pub with_renamed : Machine → Stage → Machine
 with_renamed m stage = record (with_stage m m.files stage) { noted = noted_but m.now.next m.noted }
 
--- the same where that failed: the run goes by the note that the `store.yaml` before had
-abbrev pub with_failed_rename : Machine → Stage → Machine
-with_failed_rename m stage =
-    record (with_stage m m.files stage) { noted = noted_as m.now.next (m.noted m.now.store) m.noted }
-
 abbrev pub with_version : Machine → FileName → (Version → Version) → Machine
 with_version m Store change = with_file m m.now.store (with_now change)
 with_version m Next change = with_file m m.now.next (with_now change)
 with_version m Copy change = with_copy m (option_map change m.copy)
 
--- For which files it is noted, once bytes are written, if only none. A write behind pending bytes of `store.yaml` counts,
--- if all that a crash may have `store.lock` say is that several appends may have waited.
-abbrev pub noted_by_write : FileName → Machine → Option ℕ → Bool
-noted_by_write Store m =
+-- For which files it is noted, once bytes are written. The first byte behind pending ones of `store.yaml` counts, if all
+-- that a crash may have `store.lock` say is that several appends may have waited.
+abbrev pub noted_by_write : FileName → List ℕ → Machine → Option ℕ → Bool
+noted_by_write Store (byte ∷ bytes) m =
     if all_several (notes_of m) then noted_at (map file_of m.files) m.now.store m.noted else m.noted
-noted_by_write Next m = m.noted
-noted_by_write Copy m = m.noted
+noted_by_write name bytes m = m.noted
 
 -- after a call that returned Ok
 abbrev pub after : Call → Machine → Machine
@@ -201,7 +195,7 @@ after CreateNext m =
     with_stage m (m.files ++ empty_held ∷ []) (record { store = m.now.store; next = Some (length m.files) })
 after CreateCopy m = with_copy m (Some empty_version)
 after (Write name bytes) m =
-    record (with_version m name (with_pending bytes)) { noted = noted_by_write name m }
+    record (with_version m name (with_pending bytes)) { noted = noted_by_write name bytes m }
 after (WriteRest name bytes) m = with_version m name (with_pending bytes)
 after (Sync name) m = with_version m name synced
 after RenameNext m = with_renamed m (record { store = m.now.next; next = None })
@@ -219,15 +213,13 @@ after_linking Linked m = after LinkNext m
 after_linking Unsupported m = m
 
 -- After a call that failed. Of a write a prefix may be there. Of another call at 0 nothing is done, and from 1 on all; but
--- of a sync nothing more is sure, and a new `store.yaml` keeps the note of the one before.
+-- of a sync nothing more is sure.
 abbrev pub failing : ℕ → Call → Machine → Machine
 failing k (Write name bytes) m = after (Write name (take k bytes)) m
 failing k (WriteRest name bytes) m = after (WriteRest name (take k bytes)) m
 failing k (Sync name) m = with_version m name failed_sync
 failing k SyncFolder m = m
 failing zero call m = m
-failing (suc k) RenameNext m = with_failed_rename m (record { store = m.now.next; next = None })
-failing (suc k) LinkNext m = with_failed_rename m (record { store = m.now.next; next = m.now.next })
 failing (suc k) call m = after call m
 
 -- after the note was read, by which the run goes

@@ -2,7 +2,6 @@
 ghost use Rattle.conf_system.specs.Laws.{PrefixesAreLeft, ReadingIsLeft, DeviceIsLeft, ImagesRead, ImagesAreStable};
 ghost use Rattle.conf_system.specs.Laws.{CallsLeaveNoOther, SyncsLeaveLess, FailedSyncsLast, CallsKeepSound};
 ghost use Rattle.conf_system.specs.Laws.{FailuresKeepSound};
-ghost use Rattle.conf_system.specs.Folders.{RenamesThatFailAreSteps, LinksThatFailAreSteps};
 ghost use Rattle.conf_system.specs.Folders.{StoreWritesAreAppends, NextWritesAreAppends, SyncsAreSteps};
 ghost use Rattle.conf_system.specs.Folders.{NextSyncsAreSteps, CreatesAreSteps, RenamesAreSteps, LinksAreSteps};
 ghost use Rattle.conf_system.specs.Folders.{UnlinksAreNone, RemovesAreSteps, FolderSyncsAreSteps, CrashesAreImages};
@@ -60,9 +59,7 @@ pub fn calls_are_steps()
     ensures next_syncs { NextSyncsAreSteps }
     ensures creates { CreatesAreSteps }
     ensures renames { RenamesAreSteps }
-    ensures failed_renames { RenamesThatFailAreSteps }
     ensures links { LinksAreSteps }
-    ensures failed_links { LinksThatFailAreSteps }
     ensures unlinks { UnlinksAreNone }
     ensures removes { RemovesAreSteps }
     ensures folder_syncs { FolderSyncsAreSteps }

@@ -58,8 +58,8 @@ pub trait System {
         ensures { model.honest → IfOk result (λ linked.
             linked ≡ are_linked (model.machine self.now).now.store (model.machine self.now).now.next) };
 
-    /// Opens the file under a name for [`read_at`](System::read_at), and returns its length, if there is one:
-    /// `open(2)`.
+    /// Opens the file under a name for [`read_at`](System::read_at), and returns its length: `open(2)`. `None` if there
+    /// is none.
     fn open(&mut self, name: FileName) -> io::Result<Option<u64>>
         ensures found { model.honest → IfOk result (λ found.
             found ≡ option_map length (bytes_under (model.machine self.old) name)) }
@@ -130,8 +130,8 @@ pub trait System {
     fn sync_folder(&mut self) -> io::Result<()>
         ensures { Goes model SyncFolder self.old result self.new };
 
-    /// Has `store.lock` say this, in its length: `ftruncate(2)`, after `pwrite(2)` of its one byte if that changes. It
-    /// is not synced.
+    /// Has `store.lock` say this, in its length: `ftruncate(2)`, and then `pwrite(2)` of its first byte if it was no
+    /// note. It is not synced.
     fn write_note(&mut self, note: Note) -> io::Result<()>
         ensures { Goes model (WriteNote note) self.old result self.new };
 

@@ -9,11 +9,8 @@ use Rattle.yaml_events.specs.declared.read_fault.ReadFault.{ReadFault}
 use Rattle.yaml_style.specs.declared.finding.Finding.{Finding}
 use Rattle.yaml_docs.specs.Reading.{RefusesBytes}
 use Rattle.yaml_tree.specs.Reading.{Refuses}
-use Rattle.conf_tools.specs.Prelude.{Comments}
-use Rattle.conf_tools.specs.FileTexts.{Adds, StopsInFile, StopsRestyling, file_line, file_report}
-use Rattle.conf_tools.specs.{Styles.HasNoStyle, Tools.Stops, declared.texts.ToolFault.ToolFault}
-use Rattle.conf_tools.specs.declared.texts.ToolFault.TheVariants.{Input, Output, Read, Unsettled}
-use Rattle.conf_tools.specs.declared.texts.ToolFault.TheVariants.{Comments as HasComments}
+use Rattle.conf_tools.specs.FileTexts.{Adds, StopsInFile, file_line, file_report}
+use Rattle.conf_tools.specs.declared.texts.ToolFault.TheVariants.{Read}
 
 -- ---- bytes that are known
 
@@ -40,32 +37,6 @@ refused_file bytes held KeyTwice refuses = (refuses, Keeps-refl held)
 refused_file bytes held TooDeep refuses = (refuses, Keeps-refl held)
 refused_file bytes held LargeInStyle refuses = (refuses, Keeps-refl held)
 refused_file bytes held OutOfMemory refuses = adds_none held held (Keeps-refl held)
-
--- a text that is nothing in a style, of which nothing was written
-pub no_style : (bytes : List ℕ) (held : Option (List ℕ)) (fault : ToolFault) → HasNoStyle bytes fault → Stops bytes held held fault
-no_style bytes held Input none = absurd none
-no_style bytes held Output none = absurd none
-no_style bytes held (Read fault) none = (none, Keeps-refl held)
-no_style bytes held (HasComments place) none = absurd none
-no_style bytes held Unsettled none = (none, Keeps-refl held)
-
--- of which no line was written
-pub no_style_of_file : (bytes : List ℕ) (held : Option (List ℕ)) (fault : ToolFault) → HasNoStyle bytes fault
-    → StopsInFile bytes held held fault
-no_style_of_file bytes held Input none = absurd none
-no_style_of_file bytes held Output none = absurd none
-no_style_of_file bytes held (Read fault) none = refused_file bytes held fault none
-no_style_of_file bytes held (HasComments place) none = absurd none
-no_style_of_file bytes held Unsettled none = (none, Keeps-refl held)
-
--- which has no other text in its place
-pub no_style_to_take : (comments : Comments) (bytes : List ℕ) (fault : ToolFault) → HasNoStyle bytes fault
-    → StopsRestyling comments bytes fault
-no_style_to_take comments bytes Input none = absurd none
-no_style_to_take comments bytes Output none = absurd none
-no_style_to_take comments bytes (Read fault) none = none
-no_style_to_take comments bytes (HasComments place) none = absurd none
-no_style_to_take comments bytes Unsettled none = none
 
 -- what is refused as a stream is refused as a text
 pub refused_stream : (bytes : List ℕ) (fault : ReadFault) → RefusesBytes bytes config_limits.bytes fault → Refuses bytes config_limits fault

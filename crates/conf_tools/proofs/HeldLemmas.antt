@@ -1,6 +1,6 @@
 -- What is written of one configuration that a file holds.
 use Rattle.std.proofs.Common.{◌≡◌, ap, subst, refl, ℕ, List}
-use Rattle.std.specs.Prelude.{Bool, Option, Some, None, option_copied, option_map}
+use Rattle.std.specs.Prelude.{false, Option, Some, None, option_copied, option_map}
 use Rattle.conf_tools.proofs.Prelude.{Appends, Keeps, tree_of, Tree, Contents, config_named, value_at_path, MissingValue, ValueForm}
 use Rattle.std.specs.Borrow.{Bor}
 use Rattle.conf_history.specs.Histories.{ReadsState}
@@ -20,10 +20,10 @@ pub keeps_same : (held : Option (List ℕ)) → Keeps held held
 keeps_same None = tt
 keeps_same (Some bytes) = refl
 
-module _ (several : Bool) (given left : Option (List ℕ)) (at : Option ℕ) where
+module _ (given left : Option (List ℕ)) (at : Option ℕ) where
   -- the tree of the configuration under a name of a state that the file holds was found, if there is one
   abbrev pub TreeFound : List ℕ → Option Tree → Type 0
-  TreeFound name tree = (s : Contents) × ReadsState several given left at s × (tree ≡ config_named s.configs name)
+  TreeFound name tree = (s : Contents) × ReadsState false given left at s × (tree ≡ config_named s.configs name)
 
   module _ (name pointer : List ℕ) (tree : Option Tree) (found : TreeFound name tree) where
     -- so the value at a pointer in it is that of the state
@@ -33,7 +33,7 @@ module _ (several : Bool) (given left : Option (List ℕ)) (at : Option ℕ) whe
     -- it was written, or what stands for it
     pub value_written : (missing : MissingValue) (form : ValueForm) (bytes : List ℕ) (held written : Option (List ℕ))
         → ShowsFound (found_or missing (value_in tree name pointer)) form bytes → Appends held written bytes
-        → WritesValue several given at name pointer missing form held written
+        → WritesValue given at name pointer missing form held written
     value_written missing form bytes held written shows writes = record {
       state = found.0;
       holds = found.1.holds;
@@ -45,14 +45,14 @@ module _ (several : Bool) (given left : Option (List ℕ)) (at : Option ℕ) whe
     -- less than all of it was written
     pub value_cut : (missing : MissingValue) (form : ValueForm) (bytes : List ℕ) (held written : Option (List ℕ))
         → ShowsFound (found_or missing (value_in tree name pointer)) form bytes
-        → RefusesValue several given at name pointer missing form held written reading.Output
+        → RefusesValue given at name pointer missing form held written reading.Output
     value_cut missing form bytes held written shows =
         (found.0, found.1.holds, (bytes, subst (λ r. ShowsFound (found_or missing r) form bytes) same_value shows))
 
     -- it can't be shown
     pub value_refused : (missing : MissingValue) (form : ValueForm) (held written : Option (List ℕ)) → Keeps held written
         → (fault : ReadingFault) → LacksFound (found_or missing (value_in tree name pointer)) form fault
-        → RefusesValue several given at name pointer missing form held written fault
+        → RefusesValue given at name pointer missing form held written fault
     value_refused missing form held written keeps (reading.Value fault) lacks =
         (found.0, found.1.holds, subst (λ r. LacksFound (found_or missing r) form (reading.Value fault)) same_value lacks, keeps)
     value_refused missing form held written keeps reading.NotText lacks =

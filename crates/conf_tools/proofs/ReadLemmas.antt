@@ -1,6 +1,6 @@
 -- What the words that read a store write, piece after piece.
 use Rattle.std.proofs.Common.{◌≡◌, ℕ, List, [], ◌∷◌, ◌++◌, refl, sym, ap, ◌∙◌, append_assoc, arith, ◌≤◌, codes, Ok, Err}
-use Rattle.std.specs.Prelude.{Bool, encode_utf8_all, Result, OnOk, is_ok, suc, if◌then◌else◌, Option, Some, None}
+use Rattle.std.specs.Prelude.{encode_utf8_all, Result, OnOk, is_ok, suc, if◌then◌else◌, Option, Some, None}
 use Rattle.conf_tools.proofs.Prelude.{IsUtf8, chars, Tree, depth, IsKept, own_limits, Contents}
 use Rattle.std.proofs.lemmas.Str.{encodes-chars}
 use Rattle.tree_path.specs.Paths.{at, at_from, at_step, child, refusal}
@@ -44,19 +44,18 @@ value-shallow t v tokens kept e =
 -- ---- findings
 
 -- why the findings of a file were not written whole
-pub cannot_write : (several : Bool) (given held written : Option (List ℕ)) (state : Contents) (findings : Findings)
-    → FileIsAs several given state findings
-    → (fault : ReadingFault) → CannotWrite held written fault → RefusesWriting several given held written fault
-cannot_write several None held written state findings is (reading.History history.OutOfMemory) kept = (tt, kept)
-cannot_write several (Some bytes) held written state findings is (reading.History history.OutOfMemory) kept = (tt, kept)
-cannot_write several given held written state findings is reading.Output cannot = (state, findings, is)
-cannot_write several given held written state findings is (reading.History history.Input) cannot = absurd cannot
-cannot_write several given held written state findings is (reading.History history.Output) cannot = absurd cannot
-cannot_write several given held written state findings is (reading.History history.NotAStore) cannot = absurd cannot
-cannot_write several given held written state findings is (reading.History (history.Damaged bad)) cannot = absurd cannot
-cannot_write several given held written state findings is (reading.History history.NoSuchCommand) cannot = absurd cannot
-cannot_write several given held written state findings is (reading.Folder fault) cannot = absurd cannot
-cannot_write several given held written state findings is (reading.Value fault) cannot = absurd cannot
-cannot_write several given held written state findings is reading.NotText cannot = absurd cannot
-cannot_write several given held written state findings is reading.NotCollection cannot = absurd cannot
-cannot_write several given held written state findings is (reading.Salvage fault) cannot = absurd cannot
+pub cannot_write : (given held written : Option (List ℕ)) (state : Contents) (findings : Findings) → FileIsAs given state findings
+    → (fault : ReadingFault) → CannotWrite held written fault → RefusesWriting given held written fault
+cannot_write None held written state findings is (reading.History history.OutOfMemory) kept = (tt, kept)
+cannot_write (Some bytes) held written state findings is (reading.History history.OutOfMemory) kept = (tt, kept)
+cannot_write given held written state findings is reading.Output cannot = (state, findings, is)
+cannot_write given held written state findings is (reading.History history.Input) cannot = absurd cannot
+cannot_write given held written state findings is (reading.History history.Output) cannot = absurd cannot
+cannot_write given held written state findings is (reading.History history.NotAStore) cannot = absurd cannot
+cannot_write given held written state findings is (reading.History (history.Damaged bad)) cannot = absurd cannot
+cannot_write given held written state findings is (reading.History history.NoSuchCommand) cannot = absurd cannot
+cannot_write given held written state findings is (reading.Folder fault) cannot = absurd cannot
+cannot_write given held written state findings is (reading.Value fault) cannot = absurd cannot
+cannot_write given held written state findings is reading.NotText cannot = absurd cannot
+cannot_write given held written state findings is reading.NotCollection cannot = absurd cannot
+cannot_write given held written state findings is (reading.Salvage fault) cannot = absurd cannot

@@ -7,12 +7,11 @@ use Rattle.yaml_events.specs.declared.read_fault.ReadFault.{ReadFault}
 use Rattle.yaml_style.specs.declared.finding.Rule.{Rule}
 use Rattle.yaml_style.specs.declared.finding.Rule.TheVariants.{TrailingWhitespace, LineEnd, LongLine, NotInStyle}
 use Rattle.conf_words.specs.declared.invocation.Comments.TheVariants.{Refused, Dropped, Kept}
-use Rattle.comments_kept.specs.Keeping.{GivesUnsettled}
 use Rattle.conf_tools.specs.Styles.{IsCheckedIn, IsStyled, style_of}
 use Rattle.conf_tools.specs.declared.texts.ToolFault.TheVariants.{Comments as HasComments}
 use Rattle.conf_tools.specs.{Tools.GivesTree, declared.file_texts.Restyled.Restyled, declared.texts.ToolFault.ToolFault}
 use Rattle.conf_tools.specs.declared.file_texts.Restyled.TheVariants.{Same, Changed}
-use Rattle.conf_tools.specs.declared.texts.ToolFault.TheVariants.{Input, Output, Read, Unsettled}
+use Rattle.conf_tools.specs.declared.texts.ToolFault.TheVariants.{Input, Output, Read}
 
 -- ---- the text in a style
 
@@ -39,14 +38,12 @@ pub record Restyles (comments : Comments) (bytes : List ℕ) (restyled : Restyle
   pub styled : IsRestyled bytes text restyled
   pub loses : MayBecome comments bytes restyled
 
--- Why there is nothing that may take the place of a text: it is refused, or it has a comment, and is to have none, or it
--- would change if it were formatted once more.
+-- why there is nothing that may take the place of a text: it is refused, or it has a comment, and is to have none
 abbrev pub StopsRestyling : Comments → List ℕ → ToolFault → Type 0
 StopsRestyling comments bytes Input = ⊥
 StopsRestyling comments bytes Output = ⊥
 StopsRestyling comments bytes (Read fault) = Refuses bytes config_limits fault
 StopsRestyling comments bytes (HasComments place) = (comments ≡ Refused) × HasComment bytes
-StopsRestyling comments bytes Unsettled = GivesUnsettled bytes config_limits
 
 -- what is written of a file: a line of its name, if its text would change
 abbrev pub name_line : List ℕ → Bool → List ℕ
@@ -103,4 +100,3 @@ StopsInFile bytes held written Output = GivesTree bytes
 StopsInFile bytes held written (Read ReadFault.OutOfMemory) = Adds held written
 StopsInFile bytes held written (Read fault) = Refuses bytes config_limits fault × Keeps held written
 StopsInFile bytes held written (HasComments place) = ⊥
-StopsInFile bytes held written Unsettled = GivesUnsettled bytes config_limits × Keeps held written

@@ -1,6 +1,6 @@
 -- What `verify` and `salvage` keep in a new file: the bytes that an opening drops of a store's file, or is refused for. And
 -- what they do then, which is what they do without.
-use Rattle.std.specs.Prelude.{◌≡◌, ◌⊎◌, ℕ, Bool, List, [], ◌∷◌, drop, Option, Some, None, Result, Ok, Err, IfSome}
+use Rattle.std.specs.Prelude.{◌≡◌, ◌⊎◌, ℕ, false, List, [], ◌∷◌, drop, Option, Some, None, Result, Ok, Err, IfSome}
 use Rattle.std.specs.Borrow.{Bor}
 use Rattle.conf_files.specs.declared.create.NewFileFault.{NewFileFault}
 use Rattle.conf_tools.specs.Prelude.{Contents, DiskModel, Findings, HistoryFault, IsSurvey, RefusesSurvey}
@@ -11,11 +11,11 @@ use Rattle.conf_tools.specs.StoreWords.{OpensFile, Reads, Salvages, SavesInFolde
 use Rattle.conf_tools.specs.{NewFiles.status_of_new_file}
 
 -- What a store's file gives, where that is known, are these bytes, and an opening keeps so many of them.
-pub record KeepsOf (several : Bool) (given : Option (List ℕ)) (bytes : List ℕ) (kept : ℕ) : Type 0 where
+pub record KeepsOf (given : Option (List ℕ)) (bytes : List ℕ) (kept : ℕ) : Type 0 where
   pub all : IfSome given (λ known. known ≡ bytes)
   pub state : Contents
   pub findings : Findings
-  pub finds : IsSurvey several bytes state findings
+  pub finds : IsSurvey false bytes state findings
   pub is : kept ≡ findings.kept
 
 module _ {W D F P : Type 0} (world : WorldModel W D F P) where
@@ -27,14 +27,13 @@ module _ {W D F P : Type 0} (world : WorldModel W D F P) where
 module _ {W D F P : Type 0} (world : WorldModel W D F P) (remaining : F → Option (List ℕ)) where
   -- The file of the store in the folder was read, which has these bytes. Those that an opening drops, or is refused for,
   -- were put into a new file at the path, or why not.
-  pub record KeepsDropped (folder path : List ℕ) (several : Bool) (bytes : List ℕ) (old : W)
-      (result : Result (Unit {0}) NewFileFault) (new : W) : Type 0 where
+  pub record KeepsDropped (folder path bytes : List ℕ) (old : W) (result : Result (Unit {0}) NewFileFault) (new : W)
+      : Type 0 where
     pub file : F
-    pub noted : several ≡ world.several file
     pub found : W
     pub opens : OpensFile world folder old (Ok file) found
     pub kept : ℕ
-    pub keeps : KeepsOf several (remaining file) bytes kept
+    pub keeps : KeepsOf (remaining file) bytes kept
     pub puts : PutsFile world path (drop kept bytes) found result new
 
   -- the file of the store in the folder was not opened
@@ -53,10 +52,9 @@ module _ {W D F P : Type 0} (world : WorldModel W D F P) (remaining : F → Opti
 
   -- the new file was not made
   pub record CannotPut (folder path : List ℕ) (old new : W) (status : Status) : Type 0 where
-    pub several : Bool
     pub bytes : List ℕ
     pub fault : NewFileFault
-    pub keeps : KeepsDropped folder path several bytes old (Err fault) new
+    pub keeps : KeepsDropped folder path bytes old (Err fault) new
     pub ends : status ≡ status_of_new_file fault
 
   -- why nothing is kept
@@ -73,10 +71,9 @@ module _ {W D F P : Type 0} (world : WorldModel W D F P) (remaining : F → Opti
   -- `verify`, where what an opening drops is kept first
   pub record VerifiesKept (folder path : List ℕ) (old new : W) (held written : Option (List ℕ)) (status : Status)
       : Type 0 where
-    pub several : Bool
     pub bytes : List ℕ
-    pub keeps : KeepsDropped folder path several bytes old (Ok tt) new
-    pub says : SaysSurvey several (Some bytes) held written status
+    pub keeps : KeepsDropped folder path bytes old (Ok tt) new
+    pub says : SaysSurvey (Some bytes) held written status
 
   -- `verify`, with a path for what an opening drops, or with none
   abbrev pub Verifies : List ℕ → Option (Bor (List ℕ)) → W → W → Option (List ℕ) → Option (List ℕ) → Status → Type 0
@@ -88,11 +85,10 @@ module _ {W D F P : Type 0} (world : WorldModel W D F P) (disk : DiskModel D) (r
   -- `salvage`, where what an opening drops is kept first
   pub record SalvagesKept (folder path new_folder : List ℕ) (old new : W) (held written : Option (List ℕ))
       (status : Status) : Type 0 where
-    pub several : Bool
     pub bytes : List ℕ
     pub found : W
-    pub keeps : KeepsDropped world remaining folder path several bytes old (Ok tt) found
-    pub saves : SavesInFolder world disk new_folder several (Some bytes) found new held written status
+    pub keeps : KeepsDropped world remaining folder path bytes old (Ok tt) found
+    pub saves : SavesInFolder world disk new_folder (Some bytes) found new held written status
 
   -- `salvage`, with a path for what an opening drops, or with none
   abbrev pub SalvagesTo : List ℕ → Option (Bor (List ℕ)) → List ℕ → W → W → Option (List ℕ) → Option (List ℕ) → Status

@@ -1,5 +1,5 @@
 -- What the program does for an invocation, with the world around it, its input and its output, and how it ends.
-use Rattle.std.specs.Prelude.{◌≡◌, ℕ, Bool, List, [], ◌∷◌, map, Option, Some, None, Result, Ok, Err, codes}
+use Rattle.std.specs.Prelude.{◌≡◌, ℕ, List, [], ◌∷◌, map, Option, Some, None, Result, Ok, Err, codes}
 use Rattle.conf_tools.specs.Prelude.{chars, DiskModel, After, Asked, Comments, Conditions, Invocation}
 use Rattle.conf_tools.specs.Prelude.{Init, Import, Set, Delete, Copy, Rename, Checkpoint, Run, Export, Names, Get}
 use Rattle.conf_tools.specs.Prelude.{Exists, Log, Verify, Salvage, Backup, Format, Check, Style, Value}
@@ -104,7 +104,7 @@ module _ {W D F P : Type 0} (world : WorldModel W D F P) (disk : DiskModel D) wh
 
 module _ {W D F P : Type 0} (world : WorldModel W D F P) (remaining : F → Option (List ℕ)) where
   -- `names`, `get` and `exists`
-  abbrev pub Asks : List ℕ → (Bool → Option (List ℕ) → Option (List ℕ) → Option (List ℕ) → Status → Type 0)
+  abbrev pub Asks : List ℕ → (Option (List ℕ) → Option (List ℕ) → Option (List ℕ) → Status → Type 0)
       → Around W → Around W → Status → Type 0
   Asks folder says old new status =
       Reads world remaining folder says old.world new.world old.output new.output status × (new.input ≡ old.input)

@@ -87,16 +87,15 @@ value_in tree name pointer = and_then (tree_or tree name)
 
 -- ---- what was written
 
--- The bytes of the file, where they are known, hold the state at this command. Several records may have waited for one
--- sync, or one at most.
-abbrev pub FileHolds : Bool → Option (List ℕ) → Option ℕ → Contents → Type 0
-FileHolds several given at state = IfSome given (λ bytes. HoldsAt several bytes at state)
+-- the bytes of the file, where they are known, hold the state at this command
+abbrev pub FileHolds : Option (List ℕ) → Option ℕ → Contents → Type 0
+FileHolds given at state = IfSome given (λ bytes. HoldsAt false bytes at state)
 
 -- the names of the configurations that the file holds were written
-pub record WritesNames (several : Bool) (given : Option (List ℕ)) (at : Option ℕ) (form : NamesForm)
-    (held written : Option (List ℕ)) : Type 0 where
+pub record WritesNames (given : Option (List ℕ)) (at : Option ℕ) (form : NamesForm) (held written : Option (List ℕ))
+    : Type 0 where
   pub state : Contents
-  pub holds : FileHolds several given at state
+  pub holds : FileHolds given at state
   pub writes : Appends held written (names_text form (names_of state.configs))
 
 -- the bytes are the value in this form, in UTF-8
@@ -136,44 +135,44 @@ abbrev pub value_or : MissingValue → Contents → List ℕ → List ℕ → Re
 value_or missing state name pointer = found_or missing (value_at_path state name pointer)
 
 -- the value at the pointer that the file holds was written
-pub record WritesValue (several : Bool) (given : Option (List ℕ)) (at : Option ℕ) (name pointer : List ℕ) (missing : MissingValue)
+pub record WritesValue (given : Option (List ℕ)) (at : Option ℕ) (name pointer : List ℕ) (missing : MissingValue)
     (form : ValueForm) (held written : Option (List ℕ)) : Type 0 where
   pub state : Contents
-  pub holds : FileHolds several given at state
+  pub holds : FileHolds given at state
   pub bytes : List ℕ
   pub shows : ShowsFound (value_or missing state name pointer) form bytes
   pub writes : Appends held written bytes
 
 -- the file doesn't answer, and nothing was written
-abbrev pub RefusesFile : Bool → Option (List ℕ) → Option ℕ → Option (List ℕ) → Option (List ℕ) → ReadingFault → Type 0
-RefusesFile several given at held written (History fault) =
-    IfSome given (λ bytes. RefusesReading several bytes at fault) × Keeps held written
-RefusesFile several given at held written fault = ⊥
+abbrev pub RefusesFile : Option (List ℕ) → Option ℕ → Option (List ℕ) → Option (List ℕ) → ReadingFault → Type 0
+RefusesFile given at held written (History fault) =
+    IfSome given (λ bytes. RefusesReading false bytes at fault) × Keeps held written
+RefusesFile given at held written fault = ⊥
 
 -- why not all names were written: the file doesn't answer, or the writer failed
-abbrev pub RefusesNames : Bool → Option (List ℕ) → Option ℕ → Option (List ℕ) → Option (List ℕ) → ReadingFault → Type 0
-RefusesNames several given at held written Output = (state : Contents) × FileHolds several given at state
-RefusesNames several given at held written fault = RefusesFile several given at held written fault
+abbrev pub RefusesNames : Option (List ℕ) → Option ℕ → Option (List ℕ) → Option (List ℕ) → ReadingFault → Type 0
+RefusesNames given at held written Output = (state : Contents) × FileHolds given at state
+RefusesNames given at held written fault = RefusesFile given at held written fault
 
 -- Why not all of the value was written: the file doesn't answer, its state has no such value, or the writer failed.
-abbrev pub RefusesValue : Bool → Option (List ℕ) → Option ℕ → List ℕ → List ℕ → MissingValue → ValueForm
-    → Option (List ℕ) → Option (List ℕ) → ReadingFault → Type 0
-RefusesValue several given at name pointer missing form held written (History fault) =
-    RefusesFile several given at held written (History fault)
-RefusesValue several given at name pointer missing form held written Output =
-    (state : Contents) × FileHolds several given at state
+abbrev pub RefusesValue : Option (List ℕ) → Option ℕ → List ℕ → List ℕ → MissingValue → ValueForm → Option (List ℕ)
+    → Option (List ℕ) → ReadingFault → Type 0
+RefusesValue given at name pointer missing form held written (History fault) =
+    RefusesFile given at held written (History fault)
+RefusesValue given at name pointer missing form held written Output =
+    (state : Contents) × FileHolds given at state
     × ((bytes : List ℕ) × ShowsFound (value_or missing state name pointer) form bytes)
-RefusesValue several given at name pointer missing form held written fault =
-    (state : Contents) × FileHolds several given at state × LacksFound (value_or missing state name pointer) form fault
+RefusesValue given at name pointer missing form held written fault =
+    (state : Contents) × FileHolds given at state × LacksFound (value_or missing state name pointer) form fault
     × Keeps held written
 
 -- ---- whether something is there
 
 -- the file holds something at the pointer, or nothing
-pub record FindsPresence (several : Bool) (given : Option (List ℕ)) (at : Option ℕ) (name pointer : List ℕ) (presence : Presence)
+pub record FindsPresence (given : Option (List ℕ)) (at : Option ℕ) (name pointer : List ℕ) (presence : Presence)
     : Type 0 where
   pub state : Contents
-  pub holds : FileHolds several given at state
+  pub holds : FileHolds given at state
   pub is : presence_of (value_at_path state name pointer) ≡ Ok presence
 
 -- why that can't be told: memory ran out, or for this reason
@@ -181,10 +180,9 @@ abbrev pub HidesPresence : Result Presence StoreFault → StoreFault → Type 0
 HidesPresence presence fault = (fault ≡ OutOfMemory) ⊎ (presence ≡ Err fault)
 
 -- the file doesn't answer, or the name or the pointer can't be one
-abbrev pub RefusesPresence : Bool → Option (List ℕ) → Option ℕ → List ℕ → List ℕ → ReadingFault → Type 0
-RefusesPresence several given at name pointer (History fault) =
-    IfSome given (λ bytes. RefusesReading several bytes at fault)
-RefusesPresence several given at name pointer (Value fault) =
-    (state : Contents) × FileHolds several given at state
+abbrev pub RefusesPresence : Option (List ℕ) → Option ℕ → List ℕ → List ℕ → ReadingFault → Type 0
+RefusesPresence given at name pointer (History fault) = IfSome given (λ bytes. RefusesReading false bytes at fault)
+RefusesPresence given at name pointer (Value fault) =
+    (state : Contents) × FileHolds given at state
     × HidesPresence (presence_of (value_at_path state name pointer)) fault
-RefusesPresence several given at name pointer fault = ⊥
+RefusesPresence given at name pointer fault = ⊥

@@ -1,5 +1,5 @@
 -- What the words on a store do: which disk or file the world hands out, what is done with it, and that it is given back.
-use Rattle.std.specs.Prelude.{◌≡◌, ◌⊎◌, ℕ, Bool, List, Option, Some, None, Result, Ok, Err, IfOk, IfErr, OnOk, String}
+use Rattle.std.specs.Prelude.{◌≡◌, ◌⊎◌, ℕ, false, List, Option, Some, None, Result, Ok, Err, IfOk, IfErr, OnOk, String}
 use Rattle.std.specs.Prelude.{string_bytes}
 use Rattle.conf_tools.specs.Prelude.{Global, chars, Appends, DiskModel, LeavesOnly, FolderFault, HistoryFault}
 use Rattle.conf_tools.specs.Prelude.{NotAStore, SalvageFault, LogForm, Findings, Tally, MeantAtEntry, MissingValue}
@@ -204,66 +204,64 @@ module _ {W D F P : Type 0} (world : WorldModel W D F P) where
   OpensFile folder old (Err (ReadingFolder fault)) new = world.opened_store folder old (Err fault) new
   OpensFile folder old (Err fault) new = ⊥
 
-module _ {F : Type 0} (several : F → Bool) (remaining : F → Option (List ℕ)) where
-  -- What a word on the file writes is as `says` of its note and of what it gives, where it was opened; else nothing is
-  -- written.
-  abbrev pub SaysOfFile : (Bool → Option (List ℕ) → Option (List ℕ) → Option (List ℕ) → Status → Type 0)
+module _ {F : Type 0} (remaining : F → Option (List ℕ)) where
+  -- What a word on the file writes is as `says` of what the file gives, where it was opened; else nothing is written.
+  abbrev pub SaysOfFile : (Option (List ℕ) → Option (List ℕ) → Option (List ℕ) → Status → Type 0)
       → Result F ReadingFault → Option (List ℕ) → Option (List ℕ) → Status → Type 0
-  SaysOfFile says (Ok file) held written status = says (several file) (remaining file) held written status
+  SaysOfFile says (Ok file) held written status = says (remaining file) held written status
   SaysOfFile says (Err fault) held written status = (written ≡ held) × (status ≡ status_of_reading fault)
 
 module _ {W D F P : Type 0} (world : WorldModel W D F P) (remaining : F → Option (List ℕ)) where
   -- A word on the file of the store in a folder.
-  pub record Reads (folder : List ℕ)
-      (says : Bool → Option (List ℕ) → Option (List ℕ) → Option (List ℕ) → Status → Type 0)
+  pub record Reads (folder : List ℕ) (says : Option (List ℕ) → Option (List ℕ) → Option (List ℕ) → Status → Type 0)
       (old new : W) (held written : Option (List ℕ)) (status : Status) : Type 0 where
     pub file : Result F ReadingFault
     pub opens : OpensFile world folder old file new
-    pub does : SaysOfFile world.several remaining says file held written status
+    pub does : SaysOfFile remaining says file held written status
 
 -- the names that the file holds
-pub record SaysNames (at : Option ℕ) (form : NamesForm) (several : Bool) (given held written : Option (List ℕ))
-    (status : Status) : Type 0 where
+pub record SaysNames (at : Option ℕ) (form : NamesForm) (given held written : Option (List ℕ)) (status : Status)
+    : Type 0 where
   pub result : Result (Unit {0}) ReadingFault
   pub ends : status ≡ status_after_reading result
-  pub done : OnOk result (WritesNames several given at form held written)
-  pub refused : IfErr result (RefusesNames several given at held written)
+  pub done : OnOk result (WritesNames given at form held written)
+  pub refused : IfErr result (RefusesNames given at held written)
 
 -- a value that it holds
 pub record SaysValue (at : Option ℕ) (name pointer : List ℕ) (missing : MissingValue) (form : ValueForm)
-    (several : Bool) (given held written : Option (List ℕ)) (status : Status) : Type 0 where
+    (given held written : Option (List ℕ)) (status : Status) : Type 0 where
   pub result : Result (Unit {0}) ReadingFault
   pub ends : status ≡ status_after_reading result
-  pub done : OnOk result (WritesValue several given at (chars name) (chars pointer) missing form held written)
-  pub refused : IfErr result (RefusesValue several given at (chars name) (chars pointer) missing form held written)
+  pub done : OnOk result (WritesValue given at (chars name) (chars pointer) missing form held written)
+  pub refused : IfErr result (RefusesValue given at (chars name) (chars pointer) missing form held written)
 
 -- whether something is at a place; nothing is written
-pub record SaysPresence (at : Option ℕ) (name pointer : List ℕ) (several : Bool)
-    (given held written : Option (List ℕ)) (status : Status) : Type 0 where
+pub record SaysPresence (at : Option ℕ) (name pointer : List ℕ) (given held written : Option (List ℕ)) (status : Status)
+    : Type 0 where
   pub result : Result Presence ReadingFault
   pub ends : status ≡ status_after_presence result
-  pub done : IfOk result (FindsPresence several given at (chars name) (chars pointer))
-  pub refused : IfErr result (RefusesPresence several given at (chars name) (chars pointer))
+  pub done : IfOk result (FindsPresence given at (chars name) (chars pointer))
+  pub refused : IfErr result (RefusesPresence given at (chars name) (chars pointer))
   pub keeps : written ≡ held
 
 -- its commands
-pub record SaysLog (at : Option ℕ) (form : LogForm) (several : Bool) (given held written : Option (List ℕ))
-    (status : Status) : Type 0 where
+pub record SaysLog (at : Option ℕ) (form : LogForm) (given held written : Option (List ℕ)) (status : Status)
+    : Type 0 where
   pub result : Result (Unit {0}) HistoryFault
   pub ends : status ≡ status_after_log result
   pub left : Option (List ℕ)
-  pub done : OnOk result (LogsAll several at form given left held written)
-  pub refused : IfErr result (FailsToLog several at form given held written)
+  pub done : OnOk result (LogsAll false at form given left held written)
+  pub refused : IfErr result (FailsToLog false at form given held written)
 
 -- what an opening would find in it
-pub record SaysSurvey (several : Bool) (given held written : Option (List ℕ)) (status : Status) : Type 0 where
+pub record SaysSurvey (given held written : Option (List ℕ)) (status : Status) : Type 0 where
   pub result : Result Soundness ReadingFault
   pub ends : status ≡ status_after_survey result
-  pub done : IfOk result (WritesSurvey several given held written)
-  pub refused : IfErr result (RefusesWriting several given held written)
+  pub done : IfOk result (WritesSurvey given held written)
+  pub refused : IfErr result (RefusesWriting given held written)
 
 -- what is written of a file to answer a question
-abbrev pub Says : Question → Bool → Option (List ℕ) → Option (List ℕ) → Option (List ℕ) → Status → Type 0
+abbrev pub Says : Question → Option (List ℕ) → Option (List ℕ) → Option (List ℕ) → Status → Type 0
 Says (asks.Names at form) = SaysNames at form
 Says (asks.Value place missing form) = SaysValue place.at place.name.now place.pointer.now missing form
 Says (asks.Presence place) = SaysPresence place.at place.name.now place.pointer.now
@@ -299,8 +297,8 @@ module _ {W D F P : Type 0} (world : WorldModel W D F P) where
 
 module _ {W D F P : Type 0} (world : WorldModel W D F P) (disk : DiskModel D) where
   -- A store was made on the disk of the new folder of what the file gives, or why not; and the disk was given back.
-  pub record SavesTo (folder : List ℕ) (several : Bool) (given : Option (List ℕ)) (old new : W)
-      (held written : Option (List ℕ)) (status : Status) : Type 0 where
+  pub record SavesTo (folder : List ℕ) (given : Option (List ℕ)) (old new : W) (held written : Option (List ℕ))
+      (status : Status) : Type 0 where
     pub first : D
     pub opened : W
     pub opens : OpensNew world folder old (Ok first) opened
@@ -309,10 +307,10 @@ module _ {W D F P : Type 0} (world : WorldModel W D F P) (disk : DiskModel D) wh
     pub writes : WritesFindings result held written status
     pub left : Option (List ℕ)
     pub saved : disk.honest → IfOk result
-        (λ saved. Saves several given left (disk.folder first) (disk.folder saved.0) saved.1)
+        (λ saved. Saves false given left (disk.folder first) (disk.folder saved.0) saved.1)
     pub refused : disk.honest → IfErr result
-        (λ refused. RefusesSalvage several given left (disk.folder first) (disk.folder refused.0) refused.1)
-    pub survives : disk.honest → LeavesOldOrSaved several disk given left first (disk_of result)
+        (λ refused. RefusesSalvage false given left (disk.folder first) (disk.folder refused.0) refused.1)
+    pub survives : disk.honest → LeavesOldOrSaved false disk given left first (disk_of result)
 
   -- the new folder can't hold a store
   pub record CannotSaveTo (folder : List ℕ) (old new : W) (held written : Option (List ℕ)) (status : Status)
@@ -323,16 +321,15 @@ module _ {W D F P : Type 0} (world : WorldModel W D F P) (disk : DiskModel D) wh
     pub ends : status ≡ status_of_reading fault
 
   -- a store in a new folder, of what a store's file gives
-  abbrev pub SavesInFolder : List ℕ → Bool → Option (List ℕ) → W → W → Option (List ℕ) → Option (List ℕ) → Status
-      → Type 0
-  SavesInFolder folder several given old new held written status =
-      CannotSaveTo folder old new held written status ⊎ SavesTo folder several given old new held written status
+  abbrev pub SavesInFolder : List ℕ → Option (List ℕ) → W → W → Option (List ℕ) → Option (List ℕ) → Status → Type 0
+  SavesInFolder folder given old new held written status =
+      CannotSaveTo folder old new held written status ⊎ SavesTo folder given old new held written status
 
 module _ {W D F P : Type 0} (world : WorldModel W D F P) (disk : DiskModel D) (remaining : F → Option (List ℕ)) where
   -- what is made of the file of a store, where it was opened
   abbrev pub SavesFound : List ℕ → Result F ReadingFault → W → W → Option (List ℕ) → Option (List ℕ) → Status → Type 0
   SavesFound folder (Ok file) old new held written status =
-      SavesInFolder world disk folder (world.several file) (remaining file) old new held written status
+      SavesInFolder world disk folder (remaining file) old new held written status
   SavesFound folder (Err fault) old new held written status =
       (new ≡ old) × (written ≡ held) × (status ≡ status_of_reading fault)
 

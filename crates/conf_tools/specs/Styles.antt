@@ -1,26 +1,20 @@
 -- What a text is in a style, and what is told of comments that are left out.
 use Rattle.std.specs.Prelude.{◌≡◌, ◌⊎◌, ℕ, List, ◌++◌, codes, decimal, encode_utf8_all, length}
-use Rattle.conf_tools.specs.Prelude.{chars, config_limits, Tree, IsRead, Refuses, style_text, IsChecked, Finding, Style, Comments}
-use Rattle.conf_tools.specs.declared.texts.ToolFault.{ToolFault}
-use Rattle.conf_tools.specs.declared.texts.ToolFault.TheVariants.{Read, Unsettled}
+use Rattle.conf_tools.specs.Prelude.{chars, config_limits, Tree, IsRead, style_text, IsChecked, Finding, Style, Comments}
 use Rattle.conf_words.specs.declared.invocation.Style.TheVariants.{Bare, WithComments}
 use Rattle.conf_words.specs.declared.invocation.Comments.TheVariants.{Refused, Dropped, Kept}
 use Rattle.comments_kept.specs.Keeping.{GivesSameTree, HasSameComments, IsStyledIfBare, IsStyledWithComments}
-use Rattle.comments_kept.specs.Keeping.{GivesUnsettled, IsSettled, Keeps}
 use Rattle.yaml_comments.specs.Comments.{AreComments, Place}
 use Rattle.yaml_grammar.specs.Events.{Event}
 use Rattle.yaml_grammar.specs.Reads.{Reads}
 use Rattle.yaml_style.specs.Findings.{findings}
 
--- The text has the tree of the bytes and their comments, at the places of the rule, and is in the one style but for these.
--- Formatted once more it stays as it is.
+-- the text has the tree of the bytes and their comments, and is in the one style but for these
 pub record KeepsComments (bytes text : List ℕ) : Type 0 where
   pub tree : GivesSameTree bytes config_limits text
   pub comments : HasSameComments bytes text
   pub style : IsStyledWithComments bytes config_limits text
   pub bare : IsStyledIfBare bytes config_limits text
-  pub places : Keeps bytes config_limits text
-  pub again : IsSettled config_limits text
 
 -- the text is the tree of the bytes in the one style
 pub record IsBare (bytes text : List ℕ) : Type 0 where
@@ -32,12 +26,6 @@ pub record IsBare (bytes text : List ℕ) : Type 0 where
 abbrev pub IsStyled : Style → List ℕ → List ℕ → Type 0
 IsStyled Bare bytes text = IsBare bytes text
 IsStyled WithComments bytes text = KeepsComments bytes text
-
--- why bytes are nothing in a style: they are refused, or would change if they were formatted once more
-abbrev pub HasNoStyle : List ℕ → ToolFault → Type 0
-HasNoStyle bytes (Read fault) = Refuses bytes config_limits fault
-HasNoStyle bytes Unsettled = GivesUnsettled bytes config_limits
-HasNoStyle bytes fault = ⊥
 
 -- the style of what takes the place of a file
 abbrev pub style_of : Comments → Style

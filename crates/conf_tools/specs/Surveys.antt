@@ -1,5 +1,5 @@
 -- What is written of a store's file by `verify`: what an opening would find in it.
-use Rattle.std.specs.Prelude.{◌≡◌, ℕ, Bool, List, [], ◌++◌, Option, Some, None, IfSome, codes, decimal}
+use Rattle.std.specs.Prelude.{◌≡◌, ℕ, false, List, [], ◌++◌, Option, Some, None, IfSome, codes, decimal}
 use Rattle.conf_tools.specs.Prelude.{Keeps, Appends, Contents, fault_name, IsSurvey, RefusesSurvey, Findings}
 use Rattle.conf_history.specs.declared.fault.HistoryFault.TheVariants.{OutOfMemory}
 use Rattle.conf_store.specs.declared.records.NoRecord.{NoRecord}
@@ -67,8 +67,8 @@ findings_text found =
 -- ---- what was written
 
 -- the bytes of the file, where they are known, are as the findings say
-abbrev pub FileIsAs : Bool → Option (List ℕ) → Contents → Findings → Type 0
-FileIsAs several given state findings = IfSome given (λ bytes. IsSurvey several bytes state findings)
+abbrev pub FileIsAs : Option (List ℕ) → Contents → Findings → Type 0
+FileIsAs given state findings = IfSome given (λ bytes. IsSurvey false bytes state findings)
 
 -- the findings were not written whole: memory ran out before, or the writer failed
 abbrev pub CannotWrite : Option (List ℕ) → Option (List ℕ) → ReadingFault → Type 0
@@ -77,17 +77,16 @@ CannotWrite held written Output = Unit {0}
 CannotWrite held written fault = ⊥
 
 -- what an opening would find in the file was written
-pub record WritesSurvey (several : Bool) (given held written : Option (List ℕ)) (sound : Soundness) : Type 0 where
+pub record WritesSurvey (given held written : Option (List ℕ)) (sound : Soundness) : Type 0 where
   pub state : Contents
   pub findings : Findings
-  pub finds : FileIsAs several given state findings
+  pub finds : FileIsAs given state findings
   pub writes : Appends held written (findings_text findings)
   pub says : sound ≡ soundness_of findings.bad
 
 -- why that was not written whole: the file doesn't answer, and nothing was written; or the writer failed
-abbrev pub RefusesWriting : Bool → Option (List ℕ) → Option (List ℕ) → Option (List ℕ) → ReadingFault → Type 0
-RefusesWriting several given held written (History fault) =
+abbrev pub RefusesWriting : Option (List ℕ) → Option (List ℕ) → Option (List ℕ) → ReadingFault → Type 0
+RefusesWriting given held written (History fault) =
     IfSome given (λ bytes. RefusesSurvey bytes fault) × Keeps held written
-RefusesWriting several given held written Output =
-    (state : Contents) × (findings : Findings) × FileIsAs several given state findings
-RefusesWriting several given held written fault = ⊥
+RefusesWriting given held written Output = (state : Contents) × (findings : Findings) × FileIsAs given state findings
+RefusesWriting given held written fault = ⊥

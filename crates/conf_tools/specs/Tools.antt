@@ -4,10 +4,9 @@ use Rattle.std.specs.Prelude.{◌≡◌, ◌⊎◌, ℕ, ◌+◌, ◌<◌, ◌�
 use Rattle.std.specs.Prelude.{codes, decimal}
 use Rattle.conf_tools.specs.Prelude.{Global, Consumes, IsAtEnd, Keeps, Appends, Tree, IsRead, Refuses, OutOfMemory}
 use Rattle.conf_tools.specs.Prelude.{config_limits, name_of, Finding, Style}
-use Rattle.comments_kept.specs.Keeping.{GivesUnsettled}
 use Rattle.conf_tools.specs.Styles.{IsCheckedIn, IsStyled}
 use Rattle.conf_tools.specs.declared.texts.ToolFault.{ToolFault}
-use Rattle.conf_tools.specs.declared.texts.ToolFault.TheVariants.{Input, Output, Read, Comments, Unsettled}
+use Rattle.conf_tools.specs.declared.texts.ToolFault.TheVariants.{Input, Output, Read, Comments}
 
 -- ---- what was read
 
@@ -72,4 +71,3 @@ Stops bytes held written Input = ⊥
 Stops bytes held written Output = GivesTree bytes
 Stops bytes held written (Read fault) = Refuses bytes config_limits fault × Keeps held written
 Stops bytes held written (Comments place) = ⊥
-Stops bytes held written Unsettled = GivesUnsettled bytes config_limits × Keeps held written

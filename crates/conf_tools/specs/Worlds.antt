@@ -1,5 +1,5 @@
 -- What is around the program, by what contracts see of it.
-use Rattle.std.specs.Prelude.{◌≡◌, ℕ, Bool, List, Option, Result}
+use Rattle.std.specs.Prelude.{◌≡◌, ℕ, List, Option, Result}
 use Rattle.conf_files.specs.declared.create.NewFileFault.{NewFileFault}
 use Rattle.conf_tools.specs.Prelude.{ReplaceFault, FolderFault}
 use Rattle.conf_tools.specs.declared.world.Access.{Access}
@@ -15,8 +15,6 @@ pub record WorldModel (W D F P : Type 0) : Type 1 where
   pub given_back : D → W → W → Type 0
   -- the file of the store in the folder at a path was opened; `None` if there is none
   pub opened_store : List ℕ → W → Result (Option F) FolderFault → W → Type 0
-  -- whether it is noted of an open file of a store that several records may have waited for one sync
-  pub several : F → Bool
   -- the file at a path was opened; `None` if it can't be
   pub opened_file : List ℕ → W → Option F → W → Type 0
   -- the same, with the place where another file may be put

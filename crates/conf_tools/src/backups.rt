@@ -1,6 +1,5 @@
 // The word of the program that makes a store with the base and the records of another one.
 ghost use Rattle.std.specs.Prelude.{◌≡◌};
-ghost use Rattle.conf_store.specs.Holes.{is_several};
 ghost use Rattle.conf_tools.specs.Prelude.{disk_handed_back};
 ghost use Rattle.conf_tools.specs.Backups.{BacksUpInFolder, BacksUpStore, status_after_backup};
 ghost use Rattle.conf_tools.specs.Outcomes.{status_of_outcome};
@@ -24,10 +23,7 @@ pub(crate) fn back_up_folder<A: World>(
         world.old world.new (status_of_outcome result) }
 {
     match open_file(world, alloc, folder) {
-        Ok(mut file) => {
-            let waiting = world.waiting(&file);
-            back_up_in_folder(world, alloc, &mut file, waiting, new)
-        }
+        Ok(mut file) => back_up_in_folder(world, alloc, &mut file, new),
         Err(fault) => Outcome::Reading(fault),
     }
 }
@@ -37,16 +33,14 @@ fn back_up_in_folder<A: World>(
     world: &mut A,
     alloc: Global,
     file: &mut A::File,
-    waiting: Waiting,
     new: &str,
 ) -> Outcome<'static>
-    ensures { BacksUpInFolder A.model A.Disk.model new.now (is_several waiting)
-        (A.File.remaining file.old)
+    ensures { BacksUpInFolder A.model A.Disk.model new.now (A.File.remaining file.old)
         world.old world.new (status_of_outcome result) }
 {
     match open_new(world, alloc, file, new) {
         Ok(disk) => {
-            let ended = back_up(alloc, file, waiting, disk);
+            let ended = back_up(alloc, file, Waiting::One, disk);
             end_backup(world, ended)
         }
         Err(fault) => Outcome::Reading(fault),

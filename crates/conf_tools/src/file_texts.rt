@@ -36,7 +36,7 @@ pub fn restyle(alloc: Global, text: &[u8], comments: Comments) -> Result<Restyle
 {
     let styled = match styled_text(alloc, text, style_of(comments)) {
         Ok(styled) => styled,
-        Err(fault) => return Err(fault),
+        Err(fault) => return Err(ToolFault::Read(fault)),
     };
     if styled.as_bytes() == text {
         return Ok(Restyled::Same);
@@ -89,7 +89,7 @@ pub fn list_changed<W: Write>(
 {
     let styled = match styled_text(alloc, text, style) {
         Ok(styled) => styled,
-        Err(fault) => return Err(fault),
+        Err(fault) => return Err(ToolFault::Read(fault)),
     };
     if styled.as_bytes() == text {
         return Ok(false);
@@ -138,7 +138,7 @@ pub fn check_file<W: Write>(
 {
     let findings = match findings_in(alloc, text, style) {
         Ok(findings) => findings,
-        Err(fault) => return Err(fault),
+        Err(refused) => return Err(ToolFault::Read(refused)),
     };
     match write_file_report(alloc, writer, file, &findings) {
         Ok(()) => Ok(findings.len() as u64),

@@ -5,11 +5,8 @@ use conf_files::{
     Cause, NewFileFault, Place, ReplaceFault, Subject, create_file, open_input, open_to_replace,
     replace_file,
 };
-use conf_folder::{
-    FolderDisk, FolderError, FolderFault, NewFolder, make_folder, may_several_wait, open_store_file,
-};
+use conf_folder::{FolderDisk, FolderError, FolderFault, NewFolder, make_folder, open_store_file};
 use conf_journal::STORE_LIMIT;
-use conf_store::Waiting as Records;
 use conf_words::Reporting;
 use std::alloc::Global;
 use std::cell::Cell;
@@ -27,8 +24,6 @@ pub type ReadFailure = Cell<Option<io::Error>>;
 pub struct InputFile<'r> {
     file: File,
     failure: &'r ReadFailure,
-    /// How many records may have waited for one sync, if it is the file of a store.
-    records: Records,
 }
 
 impl Read for InputFile<'_> {
@@ -84,12 +79,11 @@ impl<'r, F: Files<File = File> + Clock> Host<'r, F> {
     }
 
     /// A file that was opened, of which no read has failed.
-    fn input(&self, file: File, records: Records) -> InputFile<'r> {
+    fn input(&self, file: File) -> InputFile<'r> {
         self.read_failure.set(None);
         InputFile {
             file,
             failure: self.read_failure,
-            records,
         }
     }
 
@@ -192,8 +186,6 @@ impl<'r, F: Files<File = File> + Clock> Host<'r, F> {
 }
 
 impl<'r, F: Files<File = File> + Clock> World for Host<'r, F> {
-    ghost use Rattle.conf_store.specs.Holes.{is_several};
-
     type Disk = FolderDisk<'r, F>;
 
     type File = InputFile<'r>;
@@ -205,7 +197,6 @@ impl<'r, F: Files<File = File> + Clock> World for Host<'r, F> {
       opened = λ access folder old result new. Unit {0};
       given_back = λ disk old new. Unit {0};
       opened_store = λ folder old result new. Unit {0};
-      several = λ file. is_several file.records;
       opened_file = λ path old result new. Unit {0};
       opened_to_replace = λ path old result new. Unit {0};
       created_file = λ path bytes old result new. Unit {0};
@@ -271,31 +262,21 @@ impl<'r, F: Files<File = File> + Clock> World for Host<'r, F> {
         folder: &str,
     ) -> Result<Option<InputFile<'r>>, FolderFault> {
         self.begin(alloc, folder);
-        // First the note, since a run that puts a file in the place of one with a hole takes the note away.
-        let records = if may_several_wait(self.rt, alloc, folder) {
-            Records::Several
-        } else {
-            Records::One
-        };
         match open_store_file(self.rt, alloc, folder) {
             Ok(Some(file)) if is_too_long(&file) => {
                 Err(self.refuse(FolderError::from(FolderFault::NotAStore)))
             }
-            Ok(Some(file)) => Ok(Some(self.input(file, records))),
+            Ok(Some(file)) => Ok(Some(self.input(file))),
             Ok(None) => Ok(None),
             Err(error) => Err(self.refuse(error)),
         }
-    }
-
-    fn waiting(&self, file: &InputFile<'r>) -> Records {
-        file.records
     }
 
     fn open_file(&mut self, path: &str) -> Option<InputFile<'r>> {
         self.read_failure.set(None);
         let opened = open_input(self.rt, path);
         let file = self.keep_of_file(opened).ok()?;
-        Some(self.input(file, Records::One))
+        Some(self.input(file))
     }
 
     fn open_to_replace(
@@ -306,7 +287,7 @@ impl<'r, F: Files<File = File> + Clock> World for Host<'r, F> {
         self.read_failure.set(None);
         let opened = open_to_replace(self.rt, alloc, path);
         let (file, place) = self.keep_of_file(opened)?;
-        Ok((self.input(file, Records::One), place))
+        Ok((self.input(file), place))
     }
 
     fn create_file(&mut self, alloc: Global, path: &str, bytes: &[u8]) -> Result<(), NewFileFault> {

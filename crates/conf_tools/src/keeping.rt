@@ -1,6 +1,5 @@
 // What `verify` and `salvage` do where what an opening of a store drops is to be kept in a new file.
 ghost use Rattle.std.specs.Prelude.{◌≡◌, ◌≤◌, Ok, Some, IfOk, IfErr, IfSome, length};
-ghost use Rattle.conf_store.specs.Holes.{is_several};
 ghost use Rattle.conf_tools.specs.Keeping.{CannotKeep, KeepsDropped, KeepsOf, PutsFile, SalvagesTo, Verifies};
 ghost use Rattle.conf_tools.specs.Outcomes.{status_of_outcome};
 ghost use Rattle.conf_tools.specs.Prelude.{RefusesSurvey};
@@ -41,9 +40,9 @@ pub(crate) fn verify_folder<'w, A: World, W: Write>(
         return answer_on_folder(world, alloc, folder, Question::Survey, output);
     };
     match keep_dropped_of(world, alloc, folder, path) {
-        Ok((_, waiting, bytes)) => {
+        Ok((_, bytes)) => {
             let mut given = bytes.as_slice();
-            answer(alloc, &mut given, waiting, folder, Question::Survey, output)
+            answer(alloc, &mut given, folder, Question::Survey, output)
         }
         Err(outcome) => outcome,
     }
@@ -67,9 +66,7 @@ pub(crate) fn salvage_to<A: World, W: Write>(
         return salvage_folder(world, alloc, folder, new, output);
     };
     match keep_dropped_of(world, alloc, folder, path) {
-        Ok((file, waiting, bytes)) => {
-            save_bytes(world, alloc, &file, waiting, &bytes, new, output)
-        }
+        Ok((file, bytes)) => save_bytes(world, alloc, &file, &bytes, new, output),
         Err(outcome) => outcome,
     }
 }
@@ -80,19 +77,18 @@ fn save_bytes<A: World, W: Write>(
     world: &mut A,
     alloc: Global,
     like: &A::File,
-    waiting: Waiting,
     bytes: &[u8],
     new: &str,
     output: &mut W,
 ) -> Outcome<'static>
-    ensures { SavesInFolder A.model A.Disk.model new.now (is_several waiting) (Some bytes.now)
+    ensures { SavesInFolder A.model A.Disk.model new.now (Some bytes.now)
         world.old world.new (W.contents output.old) (W.contents output.new)
         (status_of_outcome result) }
 {
     match open_new(world, alloc, like, new) {
         Ok(disk) => {
             let mut given = bytes;
-            let saved = salvage(alloc, &mut given, waiting, disk);
+            let saved = salvage(alloc, &mut given, Waiting::One, disk);
             write_saved(world, alloc, saved, output)
         }
         Err(fault) => Outcome::Reading(fault),
@@ -100,8 +96,7 @@ fn save_bytes<A: World, W: Write>(
 }
 
 /// Puts what an opening of the store in a folder would drop, or be refused for, into a new file at a path, if that is
-/// anything. Returns the store's file, which was read, how many of its records may have waited for one sync, and all of
-/// its bytes.
+/// anything. Returns the store's file, which was read, and all of its bytes.
 ///
 /// # Errors
 /// How the word ends then: the store's file can't be read or does not answer, or the new file can't be made.
@@ -110,9 +105,9 @@ fn keep_dropped_of<A: World>(
     alloc: Global,
     folder: &str,
     path: &str,
-) -> Result<(A::File, Waiting, Vec<u8>), Outcome<'static>>
+) -> Result<(A::File, Vec<u8>), Outcome<'static>>
     ensures kept { IfOk result (λ read. KeepsDropped A.model A.File.remaining folder.now path.now
-        (is_several read.1) read.2.items world.old (Ok tt) world.new) }
+        read.1.items world.old (Ok tt) world.new) }
     ensures refused { IfErr result (λ outcome. CannotKeep A.model A.File.remaining folder.now path.now
         world.old world.new (status_of_outcome outcome)) }
 {
@@ -120,13 +115,12 @@ fn keep_dropped_of<A: World>(
         Ok(file) => file,
         Err(fault) => return Err(Outcome::Reading(fault)),
     };
-    let waiting = world.waiting(&file);
-    let (bytes, kept) = match read_store(alloc, &mut file, waiting) {
+    let (bytes, kept) = match read_store(alloc, &mut file) {
         Ok(read) => read,
         Err(fault) => return Err(Outcome::Reading(ReadingFault::History(fault))),
     };
     match put_file(world, alloc, path, &bytes[kept..]) {
-        Ok(()) => Ok((file, waiting, bytes)),
+        Ok(()) => Ok((file, bytes)),
         Err(fault) => Err(Outcome::Keeping(fault)),
     }
 }
@@ -154,12 +148,8 @@ fn put_file<A: World>(
 ///
 /// # Errors
 /// Those of [`find_in_store`].
-fn read_store<R: Read>(
-    alloc: Global,
-    reader: &mut R,
-    waiting: Waiting,
-) -> Result<(Vec<u8>, usize), HistoryFault>
-    ensures ok { IfOk result (λ read. KeepsOf (is_several waiting) (R.remaining reader.old) read.0.items read.1) }
+fn read_store<R: Read>(alloc: Global, reader: &mut R) -> Result<(Vec<u8>, usize), HistoryFault>
+    ensures ok { IfOk result (λ read. KeepsOf (R.remaining reader.old) read.0.items read.1) }
     ensures within { IfOk result (λ read. read.1 ≤ length read.0.items) }
     ensures refused { IfErr result (λ fault.
         IfSome (R.remaining reader.old) (λ bytes. RefusesSurvey bytes fault)) }
@@ -170,7 +160,7 @@ fn read_store<R: Read>(
         Err(_) => return Err(HistoryFault::OutOfMemory),
     };
     let mut given = bytes.as_slice();
-    match find_in_store(alloc, &mut given, waiting) {
+    match find_in_store(alloc, &mut given, Waiting::One) {
         Ok(findings) => Ok((bytes, findings.kept as usize)),
         Err(fault) => Err(fault),
     }

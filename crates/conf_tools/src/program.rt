@@ -426,7 +426,7 @@ pub(crate) fn status_of(fault: ToolFault) -> Status
 {
     match fault {
         ToolFault::Input | ToolFault::Output => Status::Device,
-        ToolFault::Read(_) | ToolFault::Comments(_) | ToolFault::Unsettled => Status::Refused,
+        ToolFault::Read(_) | ToolFault::Comments(_) => Status::Refused,
     }
 }
 

@@ -2,7 +2,6 @@
 ghost use Rattle.std.specs.Prelude.{◌≡◌};
 ghost use Rattle.conf_tools.specs.Outcomes.{status_of_outcome};
 ghost use Rattle.conf_tools.specs.ReadingStatuses.{status_of_history, status_of_reading};
-ghost use Rattle.conf_store.specs.Holes.{is_several};
 ghost use Rattle.conf_tools.specs.Exports.{disk_back};
 ghost use Rattle.conf_tools.specs.StoreWords.{OpensFile, OpensNew, Reads, Salvages, SavesInFolder, Says, WritesFindings, status_after_log, status_after_presence, status_after_reading, status_after_survey};
 
@@ -56,10 +55,7 @@ pub(crate) fn answer_on_folder<'w, A: World, W: Write>(
         (W.contents output.old) (W.contents output.new) (status_of_outcome result) }
 {
     match open_file(world, alloc, folder) {
-        Ok(mut file) => {
-            let waiting = world.waiting(&file);
-            answer(alloc, &mut file, waiting, folder, question, output)
-        }
+        Ok(mut file) => answer(alloc, &mut file, folder, question, output),
         Err(fault) => Outcome::Reading(fault),
     }
 }
@@ -68,17 +64,16 @@ pub(crate) fn answer_on_folder<'w, A: World, W: Write>(
 pub(crate) fn answer<'w, R: Read, W: Write>(
     alloc: Global,
     file: &mut R,
-    waiting: Waiting,
     folder: &'w str,
     question: Question<'_>,
     output: &mut W,
 ) -> Outcome<'w>
-    ensures { Says question.entry (is_several waiting) (R.remaining file.old) (W.contents output.old)
+    ensures { Says question.entry (R.remaining file.old) (W.contents output.old)
         (W.contents output.new) (status_of_outcome result) }
 {
     match question {
         Question::Names { at, form } => {
-            let ended = write_names(alloc, file, waiting, at, form, output);
+            let ended = write_names(alloc, file, at, form, output);
             outcome_of_reading(ended)
         }
         Question::Value {
@@ -86,19 +81,19 @@ pub(crate) fn answer<'w, R: Read, W: Write>(
             missing,
             form,
         } => {
-            let ended = write_value(alloc, file, waiting, place, missing, form, output);
+            let ended = write_value(alloc, file, place, missing, form, output);
             outcome_of_reading(ended)
         }
         Question::Presence(place) => {
-            let found = find_presence(alloc, file, waiting, place);
+            let found = find_presence(alloc, file, place);
             outcome_of_presence(found)
         }
         Question::Log { at, form } => {
-            let ended = write_log(alloc, file, waiting, at, form, output);
+            let ended = write_log(alloc, file, Waiting::One, at, form, output);
             outcome_of_log(ended)
         }
         Question::Survey => {
-            let ended = write_survey(alloc, file, waiting, output);
+            let ended = write_survey(alloc, file, output);
             outcome_of_survey(folder, ended)
         }
     }
@@ -158,10 +153,7 @@ pub(crate) fn salvage_folder<A: World, W: Write>(
         (W.contents output.old) (W.contents output.new) (status_of_outcome result) }
 {
     match open_file(world, alloc, folder) {
-        Ok(mut file) => {
-            let waiting = world.waiting(&file);
-            save_in_folder(world, alloc, &mut file, waiting, new, output)
-        }
+        Ok(mut file) => save_in_folder(world, alloc, &mut file, new, output),
         Err(fault) => Outcome::Reading(fault),
     }
 }
@@ -171,17 +163,16 @@ fn save_in_folder<A: World, W: Write>(
     world: &mut A,
     alloc: Global,
     file: &mut A::File,
-    waiting: Waiting,
     new: &str,
     output: &mut W,
 ) -> Outcome<'static>
-    ensures { SavesInFolder A.model A.Disk.model new.now (is_several waiting) (A.File.remaining file.old)
+    ensures { SavesInFolder A.model A.Disk.model new.now (A.File.remaining file.old)
         world.old world.new (W.contents output.old) (W.contents output.new)
         (status_of_outcome result) }
 {
     match open_new(world, alloc, file, new) {
         Ok(disk) => {
-            let saved = salvage(alloc, file, waiting, disk);
+            let saved = salvage(alloc, file, Waiting::One, disk);
             write_saved(world, alloc, saved, output)
         }
         Err(fault) => Outcome::Reading(fault),

@@ -3,7 +3,6 @@ ghost use Rattle.std.specs.Prelude.{◌≡◌, ◌≤◌, ◌⊎◌, ◌++◌, O
 ghost use Rattle.std.specs.Prelude.{encode_utf8_all, codes};
 ghost use Rattle.conf_tools.specs.Prelude.{chars, style_text, json_texts, depth, own_limits, tree_of, text_of};
 ghost use Rattle.yaml_grammar.specs.Trees.{text as one_text};
-ghost use Rattle.conf_store.specs.Holes.{is_several};
 ghost use Rattle.conf_tools.specs.Reads.{CannotShow, FindsPresence, HidesPresence, LacksFound, RefusesNames, RefusesPresence, RefusesValue, ShowsFound, ShowsTree, WritesNames, WritesValue, found_or, is_absent, name_lines, names_text, presence_of, tree_found, tree_or, tree_text, value_in};
 
 use crate::reading_fault::ReadingFault;
@@ -27,17 +26,16 @@ use yaml_tree::{Config, Sink, Text, Tree, write_style};
 pub fn write_names<R: Read, W: Write>(
     alloc: Global,
     reader: &mut R,
-    waiting: Waiting,
     at: Option<u64>,
     form: NamesForm,
     writer: &mut W,
 ) -> Result<(), ReadingFault>
-    ensures ok { OnOk result (WritesNames (is_several waiting) (R.remaining reader.old) at form
+    ensures ok { OnOk result (WritesNames (R.remaining reader.old) at form
         (W.contents writer.old) (W.contents writer.new)) }
-    ensures refused { IfErr result (RefusesNames (is_several waiting) (R.remaining reader.old) at
+    ensures refused { IfErr result (RefusesNames (R.remaining reader.old) at
         (W.contents writer.old) (W.contents writer.new)) }
 {
-    let names = match names_at(alloc, reader, waiting, at) {
+    let names = match names_at(alloc, reader, Waiting::One, at) {
         Ok(names) => names,
         Err(fault) => return Err(ReadingFault::History(fault)),
     };
@@ -128,20 +126,19 @@ pub struct Place<'w> {
 pub fn write_value<R: Read, W: Write>(
     alloc: Global,
     reader: &mut R,
-    waiting: Waiting,
     place: Place<'_>,
     missing: MissingValue<'_>,
     form: ValueForm,
     writer: &mut W,
 ) -> Result<(), ReadingFault>
-    ensures ok { OnOk result (WritesValue (is_several waiting) (R.remaining reader.old) place.entry.at
+    ensures ok { OnOk result (WritesValue (R.remaining reader.old) place.entry.at
         (chars place.entry.name.now) (chars place.entry.pointer.now) missing.entry form
         (W.contents writer.old) (W.contents writer.new)) }
-    ensures refused { IfErr result (RefusesValue (is_several waiting) (R.remaining reader.old) place.entry.at
+    ensures refused { IfErr result (RefusesValue (R.remaining reader.old) place.entry.at
         (chars place.entry.name.now) (chars place.entry.pointer.now) missing.entry form
         (W.contents writer.old) (W.contents writer.new)) }
 {
-    let config = match config_at(alloc, reader, waiting, place.at, place.name) {
+    let config = match config_at(alloc, reader, Waiting::One, place.at, place.name) {
         Ok(config) => config,
         Err(fault) => return Err(ReadingFault::History(fault)),
     };
@@ -172,15 +169,14 @@ pub enum Presence {
 pub fn find_presence<R: Read>(
     alloc: Global,
     reader: &mut R,
-    waiting: Waiting,
     place: Place<'_>,
 ) -> Result<Presence, ReadingFault>
-    ensures ok { IfOk result (FindsPresence (is_several waiting) (R.remaining reader.old) place.entry.at
+    ensures ok { IfOk result (FindsPresence (R.remaining reader.old) place.entry.at
         (chars place.entry.name.now) (chars place.entry.pointer.now)) }
-    ensures refused { IfErr result (RefusesPresence (is_several waiting) (R.remaining reader.old) place.entry.at
+    ensures refused { IfErr result (RefusesPresence (R.remaining reader.old) place.entry.at
         (chars place.entry.name.now) (chars place.entry.pointer.now)) }
 {
-    let found = match config_at(alloc, reader, waiting, place.at, place.name) {
+    let found = match config_at(alloc, reader, Waiting::One, place.at, place.name) {
         Ok(found) => found,
         Err(fault) => return Err(ReadingFault::History(fault)),
     };

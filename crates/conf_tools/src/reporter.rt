@@ -61,7 +61,7 @@ impl Reporter {
             ToolFault::Read(ReadFault::TooLong) => self.tell_length(errors, name),
             ToolFault::Read(fault) => self.tell_refusal(errors, name, text, fault),
             ToolFault::Comments(place) => self.tell_comments(errors, name, text, place),
-            ToolFault::Input | ToolFault::Output | ToolFault::Unsettled => {
+            ToolFault::Input | ToolFault::Output => {
                 let _ = writeln!(errors, "{name}: {fault}");
             }
         }

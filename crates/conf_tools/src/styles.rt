@@ -1,11 +1,11 @@
 // What a text is in a style, its findings there, and how many comments are left out of it.
 ghost use Rattle.std.specs.Prelude.{◌≡◌, IfErr, IfOk, OnOk, string_bytes};
-ghost use Rattle.conf_tools.specs.Styles.{CountsComments, HasNoStyle, IsBare, IsCheckedIn, IsStyled, KeepsComments, TellsLeftOutOf, left_out_line, style_of};
+ghost use Rattle.conf_tools.specs.Prelude.{Refuses, config_limits};
+ghost use Rattle.conf_tools.specs.Styles.{CountsComments, IsCheckedIn, IsStyled, TellsLeftOutOf, left_out_line, style_of};
 ghost use Rattle.conf_tools.specs.Tools.{GivesTree};
 
 use crate::listener::Listener;
-use crate::texts::ToolFault;
-use comments_kept::{KeepFault, format_keeping};
+use comments_kept::format_keeping;
 use conf_words::{Comments, Style};
 use itoa::Buffer;
 use std::alloc::Global;
@@ -27,91 +27,44 @@ pub(crate) fn style_of(comments: Comments) -> Style
 /// What a text is in a style.
 ///
 /// # Errors
-/// - [`ToolFault::Read`] if the text is refused, or memory runs out.
-/// - [`ToolFault::Unsettled`] as [`format_keeping`] says.
-pub(crate) fn styled_text(alloc: Global, text: &[u8], style: Style) -> Result<String, ToolFault>
+/// Those of [`format_one`].
+pub(crate) fn styled_text(alloc: Global, text: &[u8], style: Style) -> Result<String, ReadFault>
     ensures ok { IfOk result (λ styled. IsStyled style text.now (string_bytes styled)) }
     ensures gives { OnOk result (GivesTree text.now) }
-    ensures refused { IfErr result (HasNoStyle text.now) }
+    ensures refused { IfErr result (Refuses text.now config_limits) }
 {
     match style {
-        Style::Bare => bare_text(alloc, text),
-        Style::WithComments => kept_text(alloc, text),
-    }
-}
-
-/// The tree of a text in the one style.
-///
-/// # Errors
-/// [`ToolFault::Read`] if the text is refused, or memory runs out.
-fn bare_text(alloc: Global, text: &[u8]) -> Result<String, ToolFault>
-    ensures ok { IfOk result (λ bare. IsBare text.now (string_bytes bare)) }
-    ensures refused { IfErr result (HasNoStyle text.now) }
-{
-    match format_one(alloc, text, &Limits::CONFIGURATION) {
-        Ok(bare) => Ok(bare),
-        Err(fault) => Err(ToolFault::Read(fault)),
-    }
-}
-
-/// A text in the one style with its comments.
-///
-/// # Errors
-/// Those of [`styled_text`].
-fn kept_text(alloc: Global, text: &[u8]) -> Result<String, ToolFault>
-    ensures ok { IfOk result (λ kept. KeepsComments text.now (string_bytes kept)) }
-    ensures refused { IfErr result (HasNoStyle text.now) }
-{
-    match format_keeping(alloc, text, &Limits::CONFIGURATION) {
-        Ok(kept) => Ok(kept),
-        Err(KeepFault::Read(fault)) => Err(ToolFault::Read(fault)),
-        Err(KeepFault::Unsettled) => Err(ToolFault::Unsettled),
+        Style::Bare => format_one(alloc, text, &Limits::CONFIGURATION),
+        Style::WithComments => format_keeping(alloc, text, &Limits::CONFIGURATION),
     }
 }
 
 /// The findings of a text that is compared with what it is in a style, in the order of [`check`].
 ///
 /// # Errors
-/// Those of [`styled_text`].
+/// Those of [`check`].
 pub(crate) fn findings_in(
     alloc: Global,
     text: &[u8],
     style: Style,
-) -> Result<Vec<Finding>, ToolFault>
+) -> Result<Vec<Finding>, ReadFault>
     ensures found { IfOk result (λ found. IsCheckedIn style text.now found.items) }
     ensures gives { OnOk result (GivesTree text.now) }
-    ensures refused { IfErr result (HasNoStyle text.now) }
+    ensures refused { IfErr result (Refuses text.now config_limits) }
 {
     match style {
-        Style::Bare => check_bare(alloc, text),
+        Style::Bare => check(alloc, text),
         Style::WithComments => check_keeping(alloc, text),
     }
 }
 
-/// The findings of a text that is compared with what it is in the one style.
-///
-/// # Errors
-/// [`ToolFault::Read`] if the text is refused, or memory runs out.
-fn check_bare(alloc: Global, text: &[u8]) -> Result<Vec<Finding>, ToolFault>
-    ensures found { IfOk result (λ found. IsCheckedIn Style.Bare text.now found.items) }
-    ensures refused { IfErr result (HasNoStyle text.now) }
-{
-    match check(alloc, text) {
-        Ok(found) => Ok(found),
-        Err(fault) => Err(ToolFault::Read(fault)),
-    }
-}
-
 /// The findings of a text that is compared with what it is with its comments.
-///
-/// # Errors
-/// Those of [`styled_text`].
-fn check_keeping(alloc: Global, text: &[u8]) -> Result<Vec<Finding>, ToolFault>
+fn check_keeping(alloc: Global, text: &[u8]) -> Result<Vec<Finding>, ReadFault>
     ensures found { IfOk result (λ found. IsCheckedIn Style.WithComments text.now found.items) }
     ensures gives { OnOk result (GivesTree text.now) }
-    ensures refused { IfErr result (HasNoStyle text.now) }
+    ensures refused { IfErr result (Refuses text.now config_limits) }
 {
-    let kept = match kept_text(alloc, text) {
+    let kept = match format_keeping(alloc, text, &Limits::CONFIGURATION) {
         Ok(kept) => kept,
         Err(fault) => return Err(fault),
     };

@@ -1,6 +1,5 @@
 // What stands in a store's file, over any reader and writer.
 ghost use Rattle.std.specs.Prelude.{◌≡◌, IfOk, IfErr, OnOk};
-ghost use Rattle.conf_store.specs.Holes.{is_several};
 ghost use Rattle.conf_tools.specs.Prelude.{Appends};
 ghost use Rattle.conf_tools.specs.Surveys.{CannotWrite, RefusesWriting, WritesSurvey, findings_text, soundness_of, soundness_of_kind};
 
@@ -30,15 +29,14 @@ pub enum Soundness {
 pub fn write_survey<R: Read, W: Write>(
     alloc: Global,
     reader: &mut R,
-    waiting: Waiting,
     writer: &mut W,
 ) -> Result<Soundness, ReadingFault>
-    ensures ok { IfOk result (WritesSurvey (is_several waiting) (R.remaining reader.old)
+    ensures ok { IfOk result (WritesSurvey (R.remaining reader.old)
         (W.contents writer.old) (W.contents writer.new)) }
-    ensures refused { IfErr result (RefusesWriting (is_several waiting) (R.remaining reader.old)
+    ensures refused { IfErr result (RefusesWriting (R.remaining reader.old)
         (W.contents writer.old) (W.contents writer.new)) }
 {
-    let findings = match find_in_store(alloc, reader, waiting) {
+    let findings = match find_in_store(alloc, reader, Waiting::One) {
         Ok(findings) => findings,
         Err(fault) => return Err(ReadingFault::History(fault)),
     };

@@ -31,8 +31,6 @@ pub enum ToolFault {
     Read(ReadFault),
     /// The text has comments, of which the first is here. Nothing was written.
     Comments(Place),
-    /// The text with its comments would change if it were formatted once more. Nothing was written.
-    Unsettled,
 }
 
 impl ToolFault {
@@ -47,7 +45,6 @@ impl ToolFault {
             ToolFault::Output => "Output",
             ToolFault::Read(fault) => StoreFault::Read(fault).name(),
             ToolFault::Comments(_) => "Comments",
-            ToolFault::Unsettled => "Unsettled",
         }
     }
 }
@@ -92,7 +89,6 @@ pub fn read_text<R: Read>(alloc: Global, reader: &mut R) -> Result<Vec<u8>, Tool
 /// # Errors
 ///
 /// - [`ToolFault::Read`] if the text is refused, or memory runs out. Nothing is written.
-/// - [`ToolFault::Unsettled`] as [`format_keeping`](comments_kept::format_keeping) says. Nothing is written.
 /// - [`ToolFault::Output`] if the writer fails. Some of the text may be written.
 pub fn format_text<W: Write>(
     alloc: Global,
@@ -105,7 +101,7 @@ pub fn format_text<W: Write>(
 {
     let styled = match styled_text(alloc, text, style) {
         Ok(styled) => styled,
-        Err(fault) => return Err(fault),
+        Err(fault) => return Err(ToolFault::Read(fault)),
     };
     write_whole(writer, styled.as_bytes())?;
     Ok(())
@@ -119,7 +115,6 @@ pub fn format_text<W: Write>(
 /// # Errors
 ///
 /// - [`ToolFault::Read`] if the text is refused, or memory runs out. Nothing is written.
-/// - [`ToolFault::Unsettled`] as [`format_keeping`](comments_kept::format_keeping) says. Nothing is written.
 /// - [`ToolFault::Output`] if the writer fails. Some of the lines may be written.
 pub fn check_text<W: Write>(
     alloc: Global,
@@ -132,7 +127,7 @@ pub fn check_text<W: Write>(
 {
     let findings = match findings_in(alloc, text, style) {
         Ok(findings) => findings,
-        Err(fault) => return Err(fault),
+        Err(refused) => return Err(ToolFault::Read(refused)),
     };
     let lines = report(alloc, &findings)?;
     write_whole(writer, &lines)?;

@@ -1,12 +1,9 @@
 // What is around the program besides its three streams.
-ghost use Rattle.std.specs.Prelude.{◌≡◌};
-ghost use Rattle.conf_store.specs.Holes.{is_several};
 ghost use Rattle.conf_tools.specs.Worlds.{WorldModel};
 
 use conf_disk::Disk;
 use conf_files::{Cause, NewFileFault, ReplaceFault};
 use conf_folder::FolderFault;
-use conf_store::Waiting;
 use conf_words::Reporting;
 use std::alloc::Global;
 use std::io::Read;
@@ -96,10 +93,6 @@ pub trait World {
     /// and `OutOfMemory`.
     fn open_store(&mut self, alloc: Global, folder: &str) -> Result<Option<Self::File>, FolderFault>
         ensures { model.opened_store folder.now self.old result self.new };
-
-    /// How many records of a store may have waited for one sync when its file was opened, as its folder notes it.
-    fn waiting(&self, file: &Self::File) -> Waiting
-        ensures { is_several result ≡ model.several file.now };
 
     /// Opens a file to be read. `None` if it can't be opened.
     fn open_file(&mut self, path: &str) -> Option<Self::File>

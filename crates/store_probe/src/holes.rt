@@ -71,7 +71,7 @@ fn each_subset(alloc: Global, commands: u64, page: usize, note: Note) -> Result<
     let Some(pending) = disk.pending(0, Name::Store)? else {
         return Err(Wrong::NoImage);
     };
-    for subset in 0..subsets(pages_in(pending, page)) {
+    for subset in 0..subsets(pending.div_ceil(page)) {
         let places = places(alloc, pending, page, subset)?;
         let image = worn(alloc, &disk, pending, places, note)?;
         holed.note(open_image(alloc, image, expected))?;
@@ -93,22 +93,6 @@ fn subsets(pages: usize) -> u64 {
     1 << pages.min(PAGES)
 }
 
-/// How many pages so many bytes have, where pages have so many.
-fn pages_in(bytes: usize, page: usize) -> usize {
-    match page {
-        0 => 0,
-        page => bytes.div_ceil(page),
-    }
-}
-
-/// The number of the page that a place is in, where pages have so many bytes.
-fn page_of(place: usize, page: usize) -> usize {
-    match page {
-        0 => 0,
-        page => place / page,
-    }
-}
-
 /// The places of so many pending bytes whose pages are in a subset.
 fn places(
     alloc: Global,
@@ -118,7 +102,7 @@ fn places(
 ) -> Result<Vec<usize>, AllocError> {
     let mut places = Vec::new(alloc);
     for place in 0..pending {
-        let number = page_of(place, page);
+        let number = place / page;
         if number < PAGES && (subset >> number) % 2 == 1 {
             places.push(place)?;
         }

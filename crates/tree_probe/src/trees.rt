@@ -1,7 +1,7 @@
 // Orders on trees.
 use crate::edits::{at_path, delete_len_at, delete_path, set_len_at, set_path};
 use crate::texts::{config_of, meant, measured};
-use comments_kept::{KeepFault, format_keeping};
+use comments_kept::format_keeping;
 use probe_words::{no_order, shown, text_of, wrong_escape};
 use std::alloc::{AllocError, Global};
 use tree_path::Path;
@@ -99,11 +99,10 @@ fn formatted_keeping(alloc: Global, text: &str) -> Result<String, AllocError> {
     let Some(text) = text_of(alloc, text)? else {
         return wrong_escape(alloc);
     };
-    match format_keeping(alloc, text.as_bytes(), &Limits::CONFIGURATION) {
-        Ok(text) => measured(alloc, &text),
-        Err(KeepFault::Read(fault)) => shown(alloc, &fault),
-        Err(KeepFault::Unsettled) => shown(alloc, &KeepFault::Unsettled),
-    }
+    measured_or_not(
+        alloc,
+        format_keeping(alloc, text.as_bytes(), &Limits::CONFIGURATION),
+    )
 }
 
 /// The style of a text as a value or as a key.

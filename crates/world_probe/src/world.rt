@@ -2,7 +2,6 @@
 use conf_disk::{Content, Disk, DiskFault, Name};
 use conf_files::{Cause, NewFileFault, ReplaceFault};
 use conf_folder::FolderFault;
-use conf_store::Waiting;
 use conf_tools::{Access, World};
 use conf_words::Reporting;
 use std::alloc::{AllocError, Global};
@@ -171,8 +170,6 @@ fn store_file(
 }
 
 impl World for MemoryWorld {
-    ghost use Rattle.std.specs.Prelude.{false};
-
     type Disk = FusedDisk<MemoryDisk>;
 
     type File = Cursor<Vec<u8>>;
@@ -185,7 +182,6 @@ impl World for MemoryWorld {
       opened = λ access folder old result new. Unit {0};
       given_back = λ disk old new. Unit {0};
       opened_store = λ folder old result new. Unit {0};
-      several = λ file. false;
       opened_file = λ path old result new. Unit {0};
       opened_to_replace = λ path old result new. Unit {0};
       created_file = λ path bytes old result new. Unit {0};
@@ -263,10 +259,6 @@ impl World for MemoryWorld {
             self.leave_nothing();
         }
         opened
-    }
-
-    fn waiting(&self, _file: &Cursor<Vec<u8>>) -> Waiting {
-        Waiting::One
     }
 
     fn open_file(&mut self, path: &str) -> Option<Cursor<Vec<u8>>> {

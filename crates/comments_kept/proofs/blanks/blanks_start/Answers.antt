@@ -1,4 +1,4 @@
-use Rattle.std.proofs.Common.{◌-◌, sym, subst, arith, rules}
+use Rattle.std.proofs.Common.{◌-◌, sym, subst, arith}
 use Rattle.std.specs.Prelude.{false, slice_index}
 use Rattle.yaml_chars.specs.Classes.{white}
 use Rattle.std.proofs.Common.{◌≡◌}
@@ -10,19 +10,18 @@ loop-start-preserved c = (
   omega arith,
   run_more c.args.bytes.now c.loop-start.start c.args.at (omega arith) (sym c.if-is_white.ensures)
       c.loop-start.invariant.1,
-  search rules,
 )
 
-pub returns-else-is_white-clause-run : goal.returns-else-is_white-clause-run
-returns-else-is_white-clause-run c = record {
+pub returns-else-is_white : goal.returns-else-is_white
+returns-else-is_white c = record {
   ordered = c.loop-start.invariant.0;
   run = c.loop-start.invariant.1;
   first = λ before e. subst (λ n. white (slice_index c.args.bytes.now n) ≡ false)
       (let same : c.loop-start.start - 1 ≡ before = omega (arith, e) in same) (sym c.if-is_white.ensures);
 }
 
-pub returns-clause-run : goal.returns-clause-run
-returns-clause-run c = record {
+pub returns : goal.returns
+returns c = record {
   ordered = c.loop-start.invariant.0;
   run = c.loop-start.invariant.1;
   first = λ before e. absurd (omega (arith, e));

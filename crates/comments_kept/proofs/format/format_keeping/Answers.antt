@@ -1,90 +1,69 @@
-use Rattle.std.proofs.Common.{sym, subst, string_bytes, inr}
-use Rattle.std.specs.Prelude.{MatchBool}
+use Rattle.std.proofs.Common.{sym, ◌∙◌, ap, subst, map, encode_utf8_all, string_bytes}
+use Rattle.std.specs.List.{list_all}
 use Rattle.std.proofs.lemmas.Str.{IsUtf8-string_bytes}
+use Rattle.yaml_chars.specs.Classes.{nb}
 use Rattle.yaml_config.specs.Kept.{limits_of}
 use Rattle.yaml_data.specs.Seen.{tree_of}
+use Rattle.yaml_comments.specs.Comments.{comment_at}
+use Rattle.yaml_comments.specs.Found.{places_of}
 use Rattle.yaml_tree.specs.Reading.{IsRead}
-use Rattle.comments_kept.specs.Keeping.{Writes, Changes}
-use Rattle.comments_kept.proofs.Keeping.{read_again, same_tree, settled, writes, written_bare, written_comments, written_style}
+use Rattle.comments_kept.specs.Weaving.{texts_of}
+use Rattle.comments_kept.proofs.FoundTexts.{none_found, written_at}
+use Rattle.comments_kept.proofs.Keeping.{AreFound, found, same_tree, same_comments, styled_if_bare}
 use Rattle.comments_kept.proofs.format.format_keeping.Goals as goal
 
-pub returns-then-branch-clause-tree : goal.returns-then-branch-clause-tree
-returns-then-branch-clause-tree c =
+pub plan-requires : goal.plan-requires
+plan-requires c =
+    let bytes = c.args.bytes.now in
+    let reads = c.in_ok-events.ensures.reads in
+    let all = subst (AreFound bytes) (sym c.deref.ensures.value)
+    (found bytes _ c.in_ok-found.found.items reads.text.utf8 reads.reads c.in_ok-found.ensures c.comments_on_lines.ensures) in
+    all.are
+
+pub woven-requires-clause-lines : goal.woven-requires-clause-lines
+woven-requires-clause-lines c =
+    let bytes = c.args.bytes.now in
+    let reads = c.in_ok-events.ensures.reads in
+    let all = subst (AreFound bytes) (sym c.deref.ensures.value)
+    (found bytes _ c.in_ok-found.found.items reads.text.utf8 reads.reads c.in_ok-found.ensures c.comments_on_lines.ensures) in
+    ap (list_all (list_all nb)) (ap texts_of c.deref-2.ensures.value ∙ c.in_ok-kept.ensures.texts) ∙ all.lines
+
+pub returns-clause-tree : goal.returns-clause-tree
+returns-clause-tree c =
     let bytes = c.args.bytes.now in
     let limits = limits_of c.args.limits.now in
-    let t = tree_of c.tree-tree.result.now in
-    let read = subst (λ t. IsRead bytes limits (tree_of t)) (sym c.tree-tree.ensures.same) c.in_ok-config.ensures.given in
-    let text = string_bytes c.in_ok-text.text in
-    let w = c.in_ok-text.ensures.written in
-    same_tree bytes text limits t w.kept w.woven read c.commented_reads.ensures (IsUtf8-string_bytes c.in_ok-text.text)
+    let read = subst (λ t. IsRead bytes limits (tree_of t)) (sym c.tree.ensures.same) c.in_ok-config.ensures.given in
+    let text = string_bytes c.in_ok-woven.field-0 in
+    let t = tree_of c.tree.result.now in
+    same_tree bytes text limits t c.deref-2.result.now c.in_ok-woven.ensures read c.commented_reads.ensures
+    (IsUtf8-string_bytes c.in_ok-woven.field-0)
 
-pub returns-then-branch-clause-comments : goal.returns-then-branch-clause-comments
-returns-then-branch-clause-comments c =
+pub returns-clause-comments : goal.returns-clause-comments
+returns-clause-comments c =
     let bytes = c.args.bytes.now in
+    let reads = c.in_ok-events.ensures.reads in
+    let all = subst (AreFound bytes) (sym c.deref.ensures.value)
+    (found bytes _ c.in_ok-found.found.items reads.text.utf8 reads.reads c.in_ok-found.ensures c.comments_on_lines.ensures) in
     let limits = limits_of c.args.limits.now in
-    let t = tree_of c.tree-tree.result.now in
-    let read = subst (λ t. IsRead bytes limits (tree_of t)) (sym c.tree-tree.ensures.same) c.in_ok-config.ensures.given in
-    let text = string_bytes c.in_ok-text.text in
-    written_comments bytes t text c.in_ok-text.ensures.written limits read c.commented_comments.ensures
+    let read = subst (λ t. IsRead bytes limits (tree_of t)) (sym c.tree.ensures.same) c.in_ok-config.ensures.given in
+    let text = string_bytes c.in_ok-woven.field-0 in
+    let t = tree_of c.tree.result.now in
+    let same = ap texts_of c.deref-2.ensures.value ∙ c.in_ok-kept.ensures.texts in
+    let are = written_at bytes c.deref.result.now ∙ ap (map encode_utf8_all) (sym same) in
+    let those = map (comment_at bytes) (places_of c.deref.result.now) in
+    same_comments bytes text limits t c.deref-2.result.now c.in_ok-woven.ensures read c.commented_comments.ensures those are all.has
 
-pub returns-then-branch-clause-style : goal.returns-then-branch-clause-style
-returns-then-branch-clause-style c =
+pub returns-clause-bare : goal.returns-clause-bare
+returns-clause-bare c =
     let bytes = c.args.bytes.now in
+    let reads = c.in_ok-events.ensures.reads in
+    let all = subst (AreFound bytes) (sym c.deref.ensures.value)
+    (found bytes _ c.in_ok-found.found.items reads.text.utf8 reads.reads c.in_ok-found.ensures c.comments_on_lines.ensures) in
     let limits = limits_of c.args.limits.now in
-    let t = tree_of c.tree-tree.result.now in
-    let read = subst (λ t. IsRead bytes limits (tree_of t)) (sym c.tree-tree.ensures.same) c.in_ok-config.ensures.given in
-    let text = string_bytes c.in_ok-text.text in
-    written_style bytes t text c.in_ok-text.ensures.written limits read
-
-pub returns-then-branch-clause-bare : goal.returns-then-branch-clause-bare
-returns-then-branch-clause-bare c =
-    let bytes = c.args.bytes.now in
-    let limits = limits_of c.args.limits.now in
-    let t = tree_of c.tree-tree.result.now in
-    let read = subst (λ t. IsRead bytes limits (tree_of t)) (sym c.tree-tree.ensures.same) c.in_ok-config.ensures.given in
-    let text = string_bytes c.in_ok-text.text in
-    written_bare bytes t text c.in_ok-text.ensures.written limits read c.bare_is_style.ensures c.comments_once.ensures
-    c.bytes_give_one.ensures
-
-pub returns-then-branch-clause-places : goal.returns-then-branch-clause-places
-returns-then-branch-clause-places c =
-    let bytes = c.args.bytes.now in
-    let limits = limits_of c.args.limits.now in
-    let t = tree_of c.tree-tree.result.now in
-    let read = subst (λ t. IsRead bytes limits (tree_of t)) (sym c.tree-tree.ensures.same) c.in_ok-config.ensures.given in
-    let text = string_bytes c.in_ok-text.text in
-    record { tree = t; read = read; writes = writes bytes t text c.in_ok-text.ensures.written }
-
-pub returns-then-branch-clause-again : goal.returns-then-branch-clause-again
-returns-then-branch-clause-again c =
-    let bytes = c.args.bytes.now in
-    let limits = limits_of c.args.limits.now in
-    let t = tree_of c.tree-tree.result.now in
-    let read = subst (λ t. IsRead bytes limits (tree_of t)) (sym c.tree-tree.ensures.same) c.in_ok-config.ensures.given in
-    let text = string_bytes c.in_ok-text.text in
-    let w = c.in_ok-text.ensures.written in
-    let again = read_again bytes text limits t w.kept w.woven read c.commented_reads.ensures (IsUtf8-string_bytes c.in_ok-text.text) in
-    let writes = subst (λ b. MatchBool b (Writes c.deref.result.now t c.deref.result.now) (Changes t c.deref.result.now))
-    c.if-branch.true c.in_ok-is_settled.ensures.settled in
-    settled limits t text again (subst (λ bytes. Writes bytes t bytes) c.deref.ensures writes)
-
-pub returns-clause-refused : goal.returns-clause-refused
-returns-clause-refused c =
-    let bytes = c.args.bytes.now in
-    let limits = limits_of c.args.limits.now in
-    let t = tree_of c.tree-tree.result.now in
-    let read = subst (λ t. IsRead bytes limits (tree_of t)) (sym c.tree-tree.ensures.same) c.in_ok-config.ensures.given in
-    let text = string_bytes c.in_ok-text.text in
-    let changes = subst (λ b. MatchBool b (Writes c.deref.result.now t c.deref.result.now) (Changes t c.deref.result.now))
-    c.if-branch.false c.in_ok-is_settled.ensures.settled in
-    record {
-      tree = t;
-      read = read;
-      changes = inr (text, writes bytes t text c.in_ok-text.ensures.written, subst (Changes t) c.deref.ensures changes);
-    }
-
-pub is_settled-requires-clause-written : goal.is_settled-requires-clause-written
-is_settled-requires-clause-written c =
-    let bytes = c.args.bytes.now in
-    let t = tree_of c.tree-tree.result.now in
-    subst (Writes bytes t) (sym c.deref.ensures) (writes bytes t (string_bytes c.in_ok-text.text) c.in_ok-text.ensures.written)
+    let read = subst (λ t. IsRead bytes limits (tree_of t)) (sym c.tree.ensures.same) c.in_ok-config.ensures.given in
+    let text = string_bytes c.in_ok-woven.field-0 in
+    let t = tree_of c.tree.result.now in
+    let those = map (comment_at bytes) (places_of c.deref.result.now) in
+    styled_if_bare bytes text limits t c.deref-2.result.now c.in_ok-woven.ensures read c.bare_is_style.ensures
+    c.comments_once.ensures c.bytes_give_one.ensures those all.has
+    (λ lines none. c.deref-2.ensures.value ∙ c.in_ok-kept.ensures.bare lines (none_found bytes c.deref.result.now none))

@@ -6,7 +6,7 @@ use Rattle.comments_kept.proofs.plan.push_empty_line.Goals as goal
 pub returns-clause-texts : goal.returns-clause-texts
 returns-clause-texts c =
     ap texts_of c.in_ok-push.ensures.items
-    ∙ empty_line_added c.args.kept.now.items c.in_ok-placed_above.field-0 c.in_ok-placed_above.ensures.kept
+    ∙ empty_line_added c.args.kept.now.items c.placed_before.result c.placed_before.ensures
 
 pub returns-clause-none : goal.returns-clause-none
-returns-clause-none c = λ lines. absurd (lines (c.is_below_blank_line.ensures.some (search rules)))
+returns-clause-none c = λ lines. absurd (lines (c.is_below_blank_line.ensures (search rules)))

@@ -1,7 +1,4 @@
-use Rattle.std.proofs.Common.{codes, refl, sym, subst, ◌∙◌}
-use Rattle.std.proofs.lemmas.Str.{encodes-chars}
-use Rattle.comments_kept.specs.Laid.{ends_blank}
-use Rattle.comments_kept.specs.Weaving.{WroteBelow}
+use Rattle.std.proofs.Common.{codes, refl, sym, ◌∙◌}
 use Rattle.std.specs.Str.{chars}
 use Rattle.yaml_writer.proofs.Prelude.{on_ok_weaker, chars-literal}
 use Rattle.comments_kept.proofs.ScalarParts.{is_plain, is_double, is_strip, is_clip, is_keep, plain_woven, double_woven}
@@ -24,22 +21,18 @@ pub returns-in_ok-weave_literal-in-LiteralStrip : goal.returns-in_ok-weave_liter
 returns-in_ok-weave_literal-in-LiteralStrip c =
     let value = chars c.args.text.now in
     let p = is_strip value (sym c.in-LiteralStrip.ensures) in
-    on_ok_weaker c.put_below.result
-    (λ lines. short_literal value c.args.indent c.args.weaver.now c.weave_literal.new.weaver c.put_below.new.weaver p.0 p.1
-    c.in_ok-weave_literal-in-LiteralStrip.ensures p.3
-    (subst (λ bytes. WroteBelow (ends_blank bytes) c.args.indent c.weave_literal.new.weaver c.put_below.new.weaver)
-    (sym (encodes-chars c.args.text.now c.utf8.text)) lines)) c.put_below.ensures
+    on_ok_weaker c.put_lines.result
+    (short_literal value c.args.indent c.args.weaver.now c.weave_literal.new.weaver c.put_lines.new.self p.0 p.1
+    c.in_ok-weave_literal-in-LiteralStrip.ensures p.3) c.put_lines.ensures
 
 pub returns-in_ok-weave_literal-in-LiteralClip : goal.returns-in_ok-weave_literal-in-LiteralClip
 returns-in_ok-weave_literal-in-LiteralClip c =
     let value = chars c.args.text.now in
     let p = is_clip value (sym c.in-LiteralClip.ensures) in
-    on_ok_weaker c.put_below-in-LiteralClip.result
-    (λ lines. short_literal value c.args.indent c.args.weaver.now c.weave_literal-in-LiteralClip.new.weaver
-    c.put_below-in-LiteralClip.new.weaver p.0 p.1 c.in_ok-weave_literal-in-LiteralClip.ensures p.3
-    (subst (λ bytes. WroteBelow (ends_blank bytes) c.args.indent c.weave_literal-in-LiteralClip.new.weaver
-    c.put_below-in-LiteralClip.new.weaver) (sym (encodes-chars c.args.text.now c.utf8.text)) lines))
-    c.put_below-in-LiteralClip.ensures
+    on_ok_weaker c.put_lines-in-LiteralClip.result
+    (short_literal value c.args.indent c.args.weaver.now c.weave_literal-in-LiteralClip.new.weaver
+    c.put_lines-in-LiteralClip.new.self p.0 p.1 c.in_ok-weave_literal-in-LiteralClip.ensures p.3)
+    c.put_lines-in-LiteralClip.ensures
 
 pub returns-in_ok-weave_literal-in-LiteralKeep : goal.returns-in_ok-weave_literal-in-LiteralKeep
 returns-in_ok-weave_literal-in-LiteralKeep c =
@@ -47,7 +40,7 @@ returns-in_ok-weave_literal-in-LiteralKeep c =
     let p = is_keep value (sym c.in-LiteralKeep.ensures) in
     on_ok_weaker c.put_filled_lines.result
     (filled_literal value c.args.indent c.args.weaver.now c.weave_literal-in-LiteralKeep.new.weaver c.put_filled_lines.new.self
-    p.0 p.1 c.in_ok-weave_literal-in-LiteralKeep.ensures p.3) c.put_filled_lines.ensures
+    p.0 p.1 c.in_ok-weave_literal-in-LiteralKeep.ensures) c.put_filled_lines.ensures
 
 pub returns-in_ok-put_text-in-Plain : goal.returns-in_ok-put_text-in-Plain
 returns-in_ok-put_text-in-Plain c =

@@ -1,5 +1,5 @@
 -- The file is made where there was none, and a crash leaves an old store or all of it.
-use Rattle.std.proofs.Common.{ap}
+use Rattle.std.proofs.Common.{◌∙◌, ap, Some}
 use Rattle.conf_store.proofs.CreateLemmas.{creation-leaves, creation-reads}
 use Rattle.conf_store.proofs.Prelude.{LeavesOnly-now}
 use Rattle.conf_history.specs.Prelude.{Image, IsImage}

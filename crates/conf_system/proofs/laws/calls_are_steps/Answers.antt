@@ -1,5 +1,5 @@
 use Rattle.conf_system.proofs.Steps.{store_write-appends, next_write-appends, sync-steps, create-steps, rename-steps, remove-steps}
-use Rattle.conf_system.proofs.Steps.{next_sync-steps, link-steps, unlink-none, failed_rename-steps, failed_link-steps}
+use Rattle.conf_system.proofs.Steps.{next_sync-steps, link-steps, unlink-none}
 use Rattle.conf_system.proofs.Steps.{folder_sync-steps}
 use Rattle.conf_system.proofs.laws.calls_are_steps.Goals as goal
 
@@ -23,12 +23,6 @@ returns-clause-next_syncs c = next_sync-steps
 
 pub returns-clause-links : goal.returns-clause-links
 returns-clause-links c = link-steps
-
-pub returns-clause-failed_renames : goal.returns-clause-failed_renames
-returns-clause-failed_renames c = failed_rename-steps
-
-pub returns-clause-failed_links : goal.returns-clause-failed_links
-returns-clause-failed_links c = failed_link-steps
 
 pub returns-clause-unlinks : goal.returns-clause-unlinks
 returns-clause-unlinks c = unlink-none

@@ -6,22 +6,27 @@ use Rattle.yaml_writer.proofs.ByteLemmas.{byte_len-chars}
 use Rattle.conf_tools.proofs.styles.check_keeping.Goals as goal
 
 pub from_utf8_unchecked-shown-requires : goal.from_utf8_unchecked-shown-requires
-from_utf8_unchecked-shown-requires c = c.in-Ok.ensures.ok.tree.reads.utf8
+from_utf8_unchecked-shown-requires c = c.in-Ok.ensures.tree.reads.utf8
 
 pub check_beside-requires : goal.check_beside-requires
 check_beside-requires c =
-    let reads = c.in-Ok.ensures.ok.tree.reads in
+    let reads = c.in-Ok.ensures.tree.reads in
     subst (λ (bytes : List ℕ). length bytes ≤ config_limits.bytes) (sym c.from_utf8_unchecked-shown.ensures)
     (subst (λ n. n ≤ config_limits.bytes) (byte_len-chars c.args.text.now reads.utf8) reads.gives.short)
 
 pub returns-clause-found : goal.returns-clause-found
 returns-clause-found c = (
   string_bytes c.in-Ok.kept,
-  c.in-Ok.ensures.ok,
+  record {
+    tree = c.in-Ok.ensures.tree;
+    comments = c.in-Ok.ensures.comments;
+    style = c.in-Ok.ensures.style;
+    bare = c.in-Ok.ensures.bare;
+  },
   c.in_ok-check_beside.ensures
       ∙ ap (λ (bytes : List ℕ). findings (chars bytes) (chars c.deref.result.now)) c.from_utf8_unchecked-shown.ensures
       ∙ ap (λ (bytes : List ℕ). findings (chars c.args.text.now) (chars bytes)) c.deref.ensures,
 )
 
 pub returns-clause-gives : goal.returns-clause-gives
-returns-clause-gives c = (c.in-Ok.ensures.ok.tree.tree, c.in-Ok.ensures.ok.tree.reads)
+returns-clause-gives c = (c.in-Ok.ensures.tree.tree, c.in-Ok.ensures.tree.reads)

@@ -1,5 +1,4 @@
 -- What was found is what was written; or why it was not.
-use Rattle.conf_store.specs.Holes.{is_several}
 use Rattle.conf_tools.proofs.ReadLemmas.{cannot_write}
 use Rattle.conf_tools.proofs.surveys.write_survey.Goals as goal
 
@@ -14,7 +13,7 @@ returns-in-Ok-write_findings-clause-ok g c = record {
 
 pub returns-in-Err-write_findings-clause-refused : goal.returns-in-Err-write_findings-clause-refused
 returns-in-Err-write_findings-clause-refused g c =
-    cannot_write (is_several c.args.waiting) (g.R.Read.remaining c.args.reader.now) (g.W.Write.contents c.args.writer.now)
+    cannot_write (g.R.Read.remaining c.args.reader.now) (g.W.Write.contents c.args.writer.now)
     (g.W.Write.contents c.write_findings.new.writer)
     c.in-Ok.ensures.ok.0 c.in-Ok.findings c.in-Ok.ensures.ok.1.holds c.in-Err-write_findings.fault
     c.in-Err-write_findings.ensures.refused

@@ -1,13 +1,11 @@
 -- Nothing is written of a text that is refused, and else what it is in the style.
 use Rattle.std.proofs.Common.{subst}
 use Rattle.std.specs.Prelude.{string_bytes}
-use Rattle.conf_tools.proofs.Prelude.{Appends}
-use Rattle.conf_tools.proofs.FileLemmas.{no_style}
+use Rattle.conf_tools.proofs.Prelude.{Appends, Keeps-refl}
 use Rattle.conf_tools.proofs.texts.format_text.Goals as goal
 
 pub returns-in-Err-clause-stops : goal.returns-in-Err-clause-stops
-returns-in-Err-clause-stops g c =
-    no_style c.args.text.now (g.W.Write.contents c.args.writer.now) c.in-Err.fault c.in-Err.ensures.refused
+returns-in-Err-clause-stops g c = (c.in-Err.ensures.refused, Keeps-refl (g.W.Write.contents c.args.writer.now))
 
 pub returns-clause-ok : goal.returns-clause-ok
 returns-clause-ok g c = record {

@@ -4,5 +4,5 @@ use Rattle.comments_kept.proofs.weaver.Weaver.end_line.Goals as goal
 
 pub returns : goal.returns
 returns c = on_ok_weaker c.put_lines.result
-    (λ lines. line_ended c.args.self.now c.end_header.new.self c.put_lines.new.self c.in_ok-end_header.ensures lines)
+    (λ lines. line_ended 18446744073709551615 c.args.self.now c.end_header.new.self c.put_lines.new.self c.in_ok-end_header.ensures lines)
     c.put_lines.ensures

@@ -8,8 +8,7 @@ loop-next-preserved c =
     let x = c.in-Some.next.now in
     let found = c.in-Some.ensures.lookup in (
       c.loop-next.invariant.0,
-      λ end others. c.loop-next.invariant.1 end
-          (one_skipped w _ end x c.in-EmptyLine.is found.3.0 found.1 refl refl refl refl (omega arith) others),
+      λ end others. c.loop-next.invariant.1 end (one_skipped w _ end x c.in-EmptyLine.is found.3.0 found.1 refl refl refl others),
     )
 
 pub returns-then-next-self : goal.returns-then-next-self

@@ -28,6 +28,4 @@ returns-clause-ok g c = λ given s pieces start commands p here base count kept.
       following = c.in_ok-pieces.field-0.pieces;
       kind = c.in_ok-pieces.field-0.kind;
     })
-    p here (c.zeros_of-zeros.ensures ∙ ap
-    (zeros_of c.args.self.now.place.byte) c.piece.ensures) c.in_ok-pieces.field-0 refl follows c.args.base
-    c.args.count base count kept c.findings.result c.findings.ensures
+    p here (c.zeros_of-zeros.ensures ∙ ap (zeros_of c.args.self.now.place.byte) c.piece.ensures) c.in_ok-pieces.field-0 refl follows c.args.base c.args.count base count kept c.findings.result c.findings.ensures

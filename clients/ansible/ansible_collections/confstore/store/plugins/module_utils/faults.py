@@ -1,5 +1,4 @@
-"""The faults of tasks: what each name says, and what to do. The program's names are those of docs/FAULTS.md, and what
-to do about a text is what the program says with `--explain`."""
+"""The faults of tasks: what each name says, and what to do. The program's names are those of docs/FAULTS.md."""
 
 from __future__ import annotations
 
@@ -10,10 +9,7 @@ REFUSALS: Dict[str, Tuple[str, str]] = {
     "TooLong": ("the text has more than 4,194,304 bytes", "make more than one configuration of it"),
     "NotUtf8": ("the bytes are not UTF-8", "save it as UTF-8"),
     "Syntax": ("YAML 1.2.2, or the profile, does not allow it", "look at the place"),
-    "Documents": (
-        "the text has no document, or more than one",
-        "keep one, or let `confstorectl import --from yaml --split` take each",
-    ),
+    "Documents": ("the text has no document, or more than one", "keep one"),
     "KeyNotText": ("a key is a list or a mapping", "write the key as a text"),
     "KeyTwice": ("a mapping has a key twice", "drop one, or give it another key"),
     "TooDeep": ("collections are nested more than 128 deep", "make it flatter"),
@@ -37,14 +33,10 @@ REFUSALS: Dict[str, Tuple[str, str]] = {
 
 # Of a `Syntax`: the reason, what it says, and what to do.
 REASONS: Dict[str, Tuple[str, str]] = {
-    "Alias": (
-        "`*name`, which the profile has not", "`confstorectl import --from yaml` expands them, or quote the text",
-    ),
-    "Anchor": (
-        "`&name`, which the profile has not", "`confstorectl import --from yaml` expands them, or quote the text",
-    ),
-    "Tag": ("`!name`, which the profile has not", "`confstorectl import --from yaml` drops them, or quote the text"),
-    "Directive": ("a `%` line that is not `%YAML 1.1` or `1.2` before a `---`", "take it out, or quote the value"),
+    "Alias": ("`*name`, `&name` or `!name`", "write the value out, or quote it"),
+    "Anchor": ("`*name`, `&name` or `!name`", "write the value out, or quote it"),
+    "Tag": ("`*name`, `&name` or `!name`", "write the value out, or quote it"),
+    "Directive": ("a `%` line that is not `%YAML 1.1` or `1.2` before a `---`", "take it out"),
     "OmittedKey": ("a value without a key", 'write a key, or `""`'),
     "ByteOrderMark": ("a byte order mark that is not the first character", "take it out"),
     "Character": ("a control character, or another that is not allowed", "escape it in double quotes"),
@@ -59,14 +51,9 @@ REASONS: Dict[str, Tuple[str, str]] = {
     "BlockHeader": (
         "what is after a `|` or `>` is no header", "only a digit, `+` or `-`, and a comment may be there",
     ),
-    "Marker": (
-        "`---` or `...` at the start of a line inside a value", "indent it, or close the quote or bracket above it",
-    ),
+    "Marker": ("`---` or `...` at the start of a line inside a value", "indent it, or quote the value"),
     "Other": ("none of these", "compare the place with the line above"),
 }  # fmt: skip
-
-# Of `Documents` at the start of a text: what it says, and what to do.
-NO_DOCUMENT = ("the text has no document", "write one: `{}` is an empty mapping")
 
 # Why a session ended: the name, what it says, and what to do.
 ENDS: Dict[str, Tuple[str, str]] = {
@@ -146,8 +133,6 @@ class Fault(Exception):
         if self.place is not None and self.place.reason:
             name = f"{name} {self.place.reason}"
             says, remedy = REASONS.get(self.place.reason, (says, remedy))
-        elif self.name == "Documents" and self.place is not None and self.place[:2] == (1, 1):
-            says, remedy = NO_DOCUMENT
         about = f"{self.about}: " if self.about else ""
         return f"{about}{name}: {says}. What to do: {remedy}."
 

@@ -23,11 +23,10 @@ from ansible_collections.confstore.store.plugins.module_utils.style import Tree,
 
 package: Optional[ModuleType]
 try:
-    import confstore
-
-    _USED = (confstore.Store, confstore.Reader, confstore.Test)  # the package imports each once it is asked for
-    package = confstore
-except (ImportError, AttributeError):  # it is not installed, or PyYAML is not, or it is one without conditions
+    import confstore as package
+except ImportError:  # it is not installed, or PyYAML is not
+    package = None
+if not hasattr(package, "Test"):  # an old one, without conditions
     package = None
 
 CLOSING = b"...\n"
