@@ -3,10 +3,11 @@
 from __future__ import annotations
 
 from .commands import CHECKPOINT, NAMES, delete_of, get_of, import_of, is_name, set_of
+from .ctl_faults import REFUSED, TextFault, shown
 from .ctl_outputs import has_form
 from .ctl_program import styled
 from .ctl_streams import MOST_INPUT
-from .ctl_words import CONDITIONS, YAML_VALUE
+from .ctl_words import ANY_ROOT, CONDITIONS, YAML_VALUE
 from .pieces import LONGEST_COMMAND
 
 TYPE_CHECKING = False  # PyYAML and conditions take longer to import than all of this
@@ -14,6 +15,7 @@ if TYPE_CHECKING:
     from collections.abc import Callable
 
     from .ctl import Work
+    from .ctl_program import Source
     from .ctl_sockets import Command
     from .style import Tree
 
@@ -42,6 +44,8 @@ def _import_command(work: Work) -> Command:
     name = work.asked.arguments["NAME"]
     if not is_name(name):
         return import_of(name, EMPTY)  # so that the name is what is refused
+    if not work.asked.has(ANY_ROOT):
+        _refuse_one_value(work.text, work.source)
     try:
         text = work.text.decode()
     except UnicodeDecodeError:
@@ -49,6 +53,29 @@ def _import_command(work: Work) -> Command:
     if len(text) * LONGEST_CHARACTER > LONGEST_COMMAND:
         text = styled(work.text, work.source).decode()
     return import_of(name, text)
+
+
+def _refuse_one_value(text: bytes, source: Source) -> None:
+    """Raises the `Fault` of a text that is one value alone. Where that can be, the program reads it."""
+    if _begins_more(text):
+        return
+    from .ctl_texts import tree_of
+
+    if isinstance(tree_of(text, source), str):
+        lines = f"{shown(source.name)}: OneValue (neither a mapping nor a list)\n"
+        if source.is_explained:
+            lines += "help: a configuration is mostly a mapping; --any-root takes one value, too\n"
+        raise TextFault(lines, REFUSED)
+
+
+def _begins_more(text: bytes) -> bool:
+    """Whether the first line of a text that is no comment begins a mapping or a list, if it is no text to be refused."""
+    for line in text.split(b"\n"):
+        line = line.strip()
+        if line and line != b"---" and not line.startswith((b"#", b"%")):
+            is_mapping = b": " in line or line.endswith(b":")
+            return line.startswith((b"- ", b"{", b"[", b"? ")) or (is_mapping and line[:1] not in b"\"'|>-\xef")
+    return False
 
 
 def _set_command(work: Work) -> Command:

@@ -11,7 +11,7 @@ use Rattle.conf_tools.specs.Styles.{IsCheckedIn, IsStyled, style_of}
 use Rattle.conf_tools.specs.declared.texts.ToolFault.TheVariants.{Comments as HasComments}
 use Rattle.conf_tools.specs.{Tools.GivesTree, declared.file_texts.Restyled.Restyled, declared.texts.ToolFault.ToolFault}
 use Rattle.conf_tools.specs.declared.file_texts.Restyled.TheVariants.{Same, Changed}
-use Rattle.conf_tools.specs.declared.texts.ToolFault.TheVariants.{Input, Output, Read}
+use Rattle.conf_tools.specs.declared.texts.ToolFault.TheVariants.{Input, OneValue, Output, Read}
 
 -- ---- the text in a style
 
@@ -44,6 +44,7 @@ StopsRestyling comments bytes Input = ⊥
 StopsRestyling comments bytes Output = ⊥
 StopsRestyling comments bytes (Read fault) = Refuses bytes config_limits fault
 StopsRestyling comments bytes (HasComments place) = (comments ≡ Refused) × HasComment bytes
+StopsRestyling comments bytes OneValue = ⊥
 
 -- what is written of a file: a line of its name, if its text would change
 abbrev pub name_line : List ℕ → Bool → List ℕ
@@ -100,3 +101,4 @@ StopsInFile bytes held written Output = GivesTree bytes
 StopsInFile bytes held written (Read ReadFault.OutOfMemory) = Adds held written
 StopsInFile bytes held written (Read fault) = Refuses bytes config_limits fault × Keeps held written
 StopsInFile bytes held written (HasComments place) = ⊥
+StopsInFile bytes held written OneValue = ⊥

@@ -6,7 +6,7 @@ use Rattle.conf_tools.specs.Prelude.{Global, Consumes, IsAtEnd, Keeps, Appends, 
 use Rattle.conf_tools.specs.Prelude.{config_limits, name_of, Finding, Style}
 use Rattle.conf_tools.specs.Styles.{IsCheckedIn, IsStyled}
 use Rattle.conf_tools.specs.declared.texts.ToolFault.{ToolFault}
-use Rattle.conf_tools.specs.declared.texts.ToolFault.TheVariants.{Input, Output, Read, Comments}
+use Rattle.conf_tools.specs.declared.texts.ToolFault.TheVariants.{Input, Output, Read, Comments, OneValue}
 
 -- ---- what was read
 
@@ -71,3 +71,4 @@ Stops bytes held written Input = ⊥
 Stops bytes held written Output = GivesTree bytes
 Stops bytes held written (Read fault) = Refuses bytes config_limits fault × Keeps held written
 Stops bytes held written (Comments place) = ⊥
+Stops bytes held written OneValue = ⊥

@@ -31,6 +31,8 @@ pub enum ToolFault {
     Read(ReadFault),
     /// The text has comments, of which the first is here. Nothing was written.
     Comments(Place),
+    /// The text is one value alone, and a mapping or a list was wanted. Nothing was written.
+    OneValue,
 }
 
 impl ToolFault {
@@ -45,6 +47,7 @@ impl ToolFault {
             ToolFault::Output => "Output",
             ToolFault::Read(fault) => StoreFault::Read(fault).name(),
             ToolFault::Comments(_) => "Comments",
+            ToolFault::OneValue => "OneValue",
         }
     }
 }
