@@ -16,13 +16,18 @@ from .refusals import DONE, OUT_OF_MEMORY, Run, Trial
 from .store_runs import Ended
 from .word_rows import FILES, WORDS, Word, files_in, new_folder
 
-FAULT = ": OutOfMemory\n"
+FAULT = ": OutOfMemory"
+# The option of words whose report has a line of what to do behind the fault.
+EXPLAINED = "--explain"
+HELP = "help: "
 
 
 def expect_out_of_memory(run: Run, word: Word, ended: Ended, files: dict[str, bytes]) -> None:
     """The word said that memory ran out, and left everything as it was."""
     status, output, errors = ended
-    run.expect(f"{errors!r} tells of memory", errors.removesuffix(FAULT) in ("confstore", word.file), True)
+    said, _, remedy = errors.partition("\n")
+    run.expect(f"{errors!r} tells of memory", said.removesuffix(FAULT) in ("confstore", word.file), True)
+    run.expect(f"{errors!r} is explained", remedy == "" or (EXPLAINED in word.words and remedy.startswith(HELP)), True)
     run.expect("status", status, 1)
     if not word.ends_by_writing or files != word.files():
         run.expect("files", files, FILES)
