@@ -500,7 +500,7 @@ module _ {W D F P : Type 0} (world : WorldModel W D F P) (disk : DiskModel D) (r
   after-that old between new steady
       (saved_there found opened several given left first result made survives held written begins opens is ends) =
       saved_there found opened several given left first result made survives held written
-          (then old between found steady begins) opens is ends
+      (then old between found steady begins) opens is ends
 
   -- the two ways to name the disk that is handed back agree
   same-disk : (result : Result (D × Surveyed) (D × SalvageFault)) (path : List ℕ) (found : W) (first : D) (new : W)

@@ -98,7 +98,7 @@ module _ {W D F P : Type 0} (world : WorldModel W D F P) (disk : DiskModel D) (r
   copy-done : (status : Status) (several : Bool) (given left : Option (List ℕ)) (first : D) (result : Result D (D × SalvageFault))
       (made : IfOk result (λ made. BacksUp several given left (disk.folder first) (disk.folder made)))
       (survives : LeavesOldOrCopy several disk given left first (copied_disk result))
-          → status ≡ status_after_backup result → status ≡ Done
+      → status ≡ status_after_backup result → status ≡ Done
       → (image : Image) → IsImage (disk.folder (copied_disk result)) image
       → IsNew (copies several given left first result made survives) image
   copy-done status several given left first (Ok new) made survives ends done image is = record {
@@ -139,9 +139,9 @@ module _ {W D F P : Type 0} (world : WorldModel W D F P) (disk : DiskModel D) (r
       (result : Result (D × Findings) (D × SalvageFault))
       (made : IfOk result (λ saved. Saves several given left (disk.folder first) (disk.folder saved.0) saved.1))
       (survives : LeavesOldOrSaved several disk given left first (saved_disk result))
-          → WritesFindings result held written status → status ≡ Done
+      → WritesFindings result held written status → status ≡ Done
       → (image : Image) → IsImage (disk.folder (saved_disk result)) image → IsNew
-          (saves several given left first result made survives) image
+      (saves several given left first result made survives) image
   salvage-done status held written several given left first (Ok saved) made survives writes done image is = record {
     state = made.s;
     makes = record { findings = saved.1; reads = made.reads };
@@ -217,7 +217,7 @@ module _ {W D F P : Type 0} (world : WorldModel W D F P) (disk : DiskModel D) (r
       (saved_there found opened _ _ _ _ _ _ _ held written begins opens of writes) is empty =
       let here = subst (λ (p : List ℕ). IsDiskOf disk leaves p found first (saved_disk result) new) is of in
       fresh (saves several given left first result made survives)
-          (makes-saved status held written several given left first result made survives writes)
+      (makes-saved status held written several given left first result made survives writes)
       (λ image was. begins path image (here.handed_out image was)) (λ image now. here.given_back image now)
       (empty own_path found opened first opens)
 
@@ -234,7 +234,7 @@ module _ {W D F P : Type 0} (world : WorldModel W D F P) (disk : DiskModel D) (r
       (saved_there found opened _ _ _ _ _ _ _ held written begins opens of writes) is empty =
       let here = subst (λ (p : List ℕ). IsDiskOf disk leaves p found first (saved_disk result) new) is of in
       fresh (saves several given left first result made survives)
-          (makes-saved status held written several given left first result made survives writes)
+      (makes-saved status held written several given left first result made survives writes)
       (λ image was. begins path image (here.handed_out image was)) (λ image left. left) (empty own_path found opened first opens)
 
   -- a run that makes a store of what another one says

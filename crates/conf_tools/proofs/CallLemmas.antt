@@ -1,10 +1,31 @@
 -- What calls of the program keep, one call after the other.
 use Rattle.std.proofs.Common.{◌≡◌, ◌≤◌, ℕ, Bool, true, false, if◌then◌else◌, List, [], ◌∷◌, ◌++◌, length, take, Option, None, Some, Result}
 use Rattle.std.proofs.Common.{Ok, Err, refl, sym, ap, ◌∙◌, subst, ⊎_elim, arith}
-use Rattle.conf_tools.proofs.Prelude.{bytes_under, several_waited, Image, IsImage, image_now, ReadingIsAnImage,
-    DiskModel, LeavesOnly, Store, Command}
-use Rattle.conf_tools.proofs.Prelude.{Contents, after, and_then, FileMeans, FolderMeans, ImageMeans, MeansPrefix,
-    MeantAtEntry, OneMeaning, SessionFault, Tally}
+use Rattle.conf_tools.proofs.Prelude.{
+  bytes_under,
+  several_waited,
+  Image,
+  IsImage,
+  image_now,
+  ReadingIsAnImage,
+  DiskModel,
+  LeavesOnly,
+  Store,
+  Command,
+}
+use Rattle.conf_tools.proofs.Prelude.{
+  Contents,
+  after,
+  and_then,
+  FileMeans,
+  FolderMeans,
+  ImageMeans,
+  MeansPrefix,
+  MeantAtEntry,
+  OneMeaning,
+  SessionFault,
+  Tally,
+}
 use Rattle.conf_tools.proofs.Prelude.{Streams}
 use Rattle.conf_state.proofs.RunLaws.{after-append}
 use Rattle.conf_store.specs.Lives.{all_commands}

@@ -1,11 +1,33 @@
 -- What an export finds, whether the store was opened or its file was read.
 use Rattle.std.proofs.Common.{◌≡◌, ◌≤◌, ◌⊎◌, ℕ, Bool, true, false, List, Ok, Err, inl, inr, refl, sym, ap, subst, arith, ⊎_elim}
 use Rattle.std.specs.Prelude.{Option, Some, None, Result, IfOk, IfErr, OnErr, OnOk, Vec}
-use Rattle.conf_tools.proofs.Prelude.{Folder, Reads, Tells, bytes_under, several_waited, Image, IsImage, image_now,
-    ReadingIsAnImage, DiskModel, LeavesOnly}
+use Rattle.conf_tools.proofs.Prelude.{
+  Folder,
+  Reads,
+  Tells,
+  bytes_under,
+  several_waited,
+  Image,
+  IsImage,
+  image_now,
+  ReadingIsAnImage,
+  DiskModel,
+  LeavesOnly,
+}
 use Rattle.conf_tools.proofs.Prelude.{Content, Bytes, Missing, Store, LeavesOnly-joined, LeavesOnly-now, LeavesOnly-start}
-use Rattle.conf_tools.proofs.Prelude.{LeavesOnly-weaker, store_limit, Contents, StoreFault, HasFailed, tree_named,
-    FileMeans, FolderMeans, ImageMeans, empty_state, WholeIsMeant}
+use Rattle.conf_tools.proofs.Prelude.{
+  LeavesOnly-weaker,
+  store_limit,
+  Contents,
+  StoreFault,
+  HasFailed,
+  tree_named,
+  FileMeans,
+  FolderMeans,
+  ImageMeans,
+  empty_state,
+  WholeIsMeant,
+}
 use Rattle.conf_tools.proofs.Prelude.{MeantAtEntry, RecoversTo, RefusesBytes, RefusesOpening, StoreView, OpenFault, image-meant, not-read}
 use Rattle.std.specs.declared.alloc.Global.{Global}
 use Rattle.conf_state.specs.declared.fault.StoreFault.TheVariants.{OutOfMemory as OutOfMemoryHere}
@@ -211,7 +233,7 @@ module _ {D : Type 0} (model : DiskModel D) where
             failed-before new base.0,
             ⊎_elim (λ kept. inl (subst (λ (image : Image). FileMeans true image.store state) (reads h) kept))
                 (λ is. inr (subst (λ (image : Image). IsNewBase image.several image.store (bytes_under
-                    (model.folder new) Store)) (reads h) is))
+                (model.folder new) Store)) (reads h) is))
                 base.1,
           ))
           (found.at_start h);

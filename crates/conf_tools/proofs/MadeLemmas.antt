@@ -1,8 +1,19 @@
 -- A store that was opened where there was no file is an empty one.
 use Rattle.std.proofs.Common.{◌≡◌, ℕ, List, refl, sym, ◌∙◌, ap, subst}
 use Rattle.std.specs.Prelude.{Option, Some, None}
-use Rattle.conf_tools.proofs.Prelude.{Folder, Reads, Tells, bytes_under, several_waited, DiskModel, Missing, Store,
-    Contents, AllImagesMean, empty_state}
+use Rattle.conf_tools.proofs.Prelude.{
+  Folder,
+  Reads,
+  Tells,
+  bytes_under,
+  several_waited,
+  DiskModel,
+  Missing,
+  Store,
+  Contents,
+  AllImagesMean,
+  empty_state,
+}
 use Rattle.conf_tools.proofs.Prelude.{StoreView, stored_of}
 use Rattle.conf_state.specs.BaseTexts.{base_bytes}
 use Rattle.conf_tools.specs.{Changes.MakesStore, Stores.OpensOn, Stores.OpensTo}
@@ -18,7 +29,7 @@ pub made-empty : {D : Type 0} (model : DiskModel D) (old mid new : D) (store : S
 made-empty {D} model old mid new store max h reads same opens is =
     let missing = was-missing (bytes_under (model.folder old) Store) max reads in
     let opened = subst (λ (f : Option (List ℕ)). OpensTo (several_waited (model.folder mid)) f (stored_of store)
-        (bytes_under (model.folder store.disk) Store))
+    (bytes_under (model.folder store.disk) Store))
     (ap (λ (f : Folder). bytes_under f Store) same ∙ missing) (opens.opens h) in
     let empty : store.state ≡ empty_state = opened.means in
     subst (λ (d : D). MakesStore model.folder old d) (sym is) (record {

@@ -1,7 +1,17 @@
 -- The configuration is that of the state that the bytes mean.
 use Rattle.std.proofs.Common.{◌≡◌, ◌∙◌, ◌⊎◌, Bool, Ok, Err, inl, sym, arith, subst}
-use Rattle.conf_tools.proofs.Prelude.{chars, Reads, bytes_under, several_waited, Content, Store, store_limit,
-    OutOfMemory, FileMeans, RecoversTo}
+use Rattle.conf_tools.proofs.Prelude.{
+  chars,
+  Reads,
+  bytes_under,
+  several_waited,
+  Content,
+  Store,
+  store_limit,
+  OutOfMemory,
+  FileMeans,
+  RecoversTo,
+}
 use Rattle.conf_tools.specs.Reads.{tree_or}
 use Rattle.conf_store.specs.Holes.{is_several}
 use Rattle.conf_tools.proofs.ExportLemmas.{bytes-find, bytes-lack, bytes-whole, leaves-same, whole-bytes-mean}
@@ -54,13 +64,13 @@ returns-in-Ok-found_text-clause-lasting g c h =
     (c.requires.content h) in
     let none : c.in-Ok.read.1.dropped ≡ 0 = omega (arith, c.if-opened-gt0.false) in
     let whole = subst (λ n. RecoversTo
-        (is_several c.noted_on-waiting.result) c.in-Bytes.bytes.items read.0 c.in-Ok.read.1.commands n) none read.1 in
+    (is_several c.noted_on-waiting.result) c.in-Bytes.bytes.items read.0 c.in-Ok.read.1.commands n) none read.1 in
     inl (
       record {
         state = read.0;
         images = λ image is. subst (λ store. FileMeans image.several store read.0) (sym (c.requires.synced h image is))
             (whole-bytes-mean c.bytes_mean_one_state.ensures.whole
-                (is_several c.noted_on-waiting.result) image.several file c.in-Bytes.bytes read.0
+            (is_several c.noted_on-waiting.result) image.several file c.in-Bytes.bytes read.0
             c.in-Ok.read.1.commands tells whole);
         exports = record {
           tree = found.0;

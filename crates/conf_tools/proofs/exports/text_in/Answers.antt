@@ -12,7 +12,7 @@ pub returns-in-Missing-clause-ok : goal.returns-in-Missing-clause-ok
 returns-in-Missing-clause-ok c =
     exports-text (is_several c.args.waiting) c.args.content (chars c.args.name.now) empty_state
     (λ file tells. missing-means (is_several c.args.waiting) file (subst (λ
-        (content : Content). Tells file store_limit content) c.in-Missing.is tells))
+    (content : Content). Tells file store_limit content) c.in-Missing.is tells))
     string_bytes c.args.form c.found_text.result c.export_or_fault.result c.export_or_fault.ensures.ok
     (found-named string_bytes c.args.form empty_state (chars c.args.name.now) c.found_text.result c.found_text.ensures.ok)
 
@@ -20,13 +20,13 @@ pub returns-in-Missing-clause-refused : goal.returns-in-Missing-clause-refused
 returns-in-Missing-clause-refused c =
     exports-none (is_several c.args.waiting) c.args.content (chars c.args.name.now) empty_state
     (λ file tells. missing-means (is_several c.args.waiting) file (subst (λ
-        (content : Content). Tells file store_limit content) c.in-Missing.is tells))
+    (content : Content). Tells file store_limit content) c.in-Missing.is tells))
     c.found_text.result c.export_or_fault.result c.export_or_fault.ensures.fault c.found_text.ensures.refused
 
 pub returns-in-Err-clause-refused : goal.returns-in-Err-clause-refused
 returns-in-Err-clause-refused c =
     bytes-none (is_several c.args.waiting) c.args.content c.in-Bytes.bytes
-        (chars c.args.name.now) c.in-Err.fault c.in-Bytes.is c.in-Err.ensures.refused
+    (chars c.args.name.now) c.in-Err.fault c.in-Bytes.is c.in-Err.ensures.refused
 
 pub returns-clause-ok : goal.returns-clause-ok
 returns-clause-ok c =

@@ -13,7 +13,7 @@ returns-in-Ok-write_whole-clause-ok g c =
     let held = g.W.Write.contents c.args.writer.now in
     let ok = c.in-Ok.ensures.ok in
     let found : TreeFound (is_several c.args.waiting) given left c.args.place.at (chars c.args.place.name.now)
-        (tree_found c.as_ref.result) =
+    (tree_found c.as_ref.result) =
     (ok.0, ok.1, tree_lent c.as_ref.result c.in-Ok.config c.as_ref.ensures.value ∙ ok.2) in
     value_written (is_several c.args.waiting) given left c.args.place.at (chars c.args.place.name.now) (chars c.args.place.pointer.now)
     (tree_found c.as_ref.result) found c.args.missing c.args.form (string_bytes c.in-Ok-value_text.text) held
@@ -27,7 +27,7 @@ returns-in-Err-value_text-clause-refused g c =
     let held = g.W.Write.contents c.args.writer.now in
     let ok = c.in-Ok.ensures.ok in
     let found : TreeFound (is_several c.args.waiting) given left c.args.place.at (chars c.args.place.name.now)
-        (tree_found c.as_ref.result) =
+    (tree_found c.as_ref.result) =
     (ok.0, ok.1, tree_lent c.as_ref.result c.in-Ok.config c.as_ref.ensures.value ∙ ok.2) in
     value_refused (is_several c.args.waiting) given left c.args.place.at (chars c.args.place.name.now) (chars c.args.place.pointer.now)
     (tree_found c.as_ref.result) found c.args.missing c.args.form held held (keeps_same held) c.in-Err-value_text.fault
@@ -40,7 +40,7 @@ returns-clause-refused g c =
     let held = g.W.Write.contents c.args.writer.now in
     let ok = c.in-Ok.ensures.ok in
     let found : TreeFound (is_several c.args.waiting) given left c.args.place.at (chars c.args.place.name.now)
-        (tree_found c.as_ref.result) =
+    (tree_found c.as_ref.result) =
     (ok.0, ok.1, tree_lent c.as_ref.result c.in-Ok.config c.as_ref.ensures.value ∙ ok.2) in
     value_cut (is_several c.args.waiting) given left c.args.place.at (chars c.args.place.name.now) (chars c.args.place.pointer.now)
     (tree_found c.as_ref.result) found c.args.missing c.args.form (string_bytes c.in-Ok-value_text.text) held
