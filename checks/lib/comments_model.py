@@ -9,7 +9,7 @@ from __future__ import annotations
 import bisect
 import re
 from dataclasses import dataclass, field
-from typing import Any
+from typing import TYPE_CHECKING, Any
 
 import yaml
 from yaml.nodes import MappingNode, ScalarNode, SequenceNode
@@ -79,7 +79,28 @@ class Line:
     ends_blank: bool = False
 
 
-class Loader(yaml.BaseLoader):
+if TYPE_CHECKING:
+
+    class BaseLoader(yaml.BaseLoader):
+        """PyYAML's loader, with the types of what is called here."""
+
+        index: int
+        line: int
+        column: int
+        flow_level: int
+        allow_simple_key: bool
+
+        def __init__(self, stream: str) -> None: ...
+        def get_token(self) -> Any: ...
+        def peek(self, index: int = 0) -> str: ...
+        def forward(self, length: int = 1) -> None: ...
+        def scan_line_break(self) -> str: ...
+
+else:
+    BaseLoader = yaml.BaseLoader
+
+
+class Loader(BaseLoader):
     """PyYAML's loader, which notes the comments and the tokens."""
 
     def __init__(self, text: str) -> None:
@@ -281,14 +302,14 @@ class Document:
             at = bisect.bisect_right(self.starts, start - 1) - 1
         while not isinstance(self.tokens[at], yaml.tokens.BlockEntryToken):
             at -= 1
-        return self.starts[at]
+        return int(self.starts[at])
 
     def key_start(self, key: Node) -> int:
         """Where a key begins, or its `?`."""
         start = key.start_mark.index
         at = bisect.bisect_left(self.starts, start) - 1
         if at >= 0 and isinstance(self.tokens[at], yaml.tokens.KeyToken):
-            return self.starts[at]
+            return int(self.starts[at])
         return int(start)
 
     def add_line(self, indent: int, text: str, start: int, end: int, path: Path, levels: tuple[Level, ...]) -> Line:

@@ -266,21 +266,22 @@ def meaning(
     if not contents or not isinstance(contents[0], tuple):
         return None
     records, at = list(contents[0]), 1
-    while is_record(contents, at, parts):
-        records.append(contents[at])
+    while (record := record_at(contents, at, parts)) is not None:
+        records.append(record)
         at += parts
     rest = contents[at:]
     is_damaged = any(isinstance(content, tuple) for content in rest) or (bool(rest) and starts_wrong(rest[0]))
-    if is_damaged or (not several and any(is_record(rest, place, parts) for place in range(len(rest)))):
+    if is_damaged or (not several and any(record_at(rest, place, parts) is not None for place in range(len(rest)))):
         return None
     return tuple(records), bool(rest)
 
 
-def is_record(contents: Sequence[Content], at: int, parts: int) -> bool:
-    """Whether a whole record stands at a place."""
+def record_at(contents: Sequence[Content], at: int, parts: int) -> Optional[int]:
+    """The record at a place, if a whole one stands there."""
     record = contents[at] if at < len(contents) else None
-    is_first = isinstance(record, int) and record >= 0
-    return is_first and tuple(contents[at : at + parts]) == pages_of(record, parts)
+    if not isinstance(record, int) or record < 0 or tuple(contents[at : at + parts]) != pages_of(record, parts):
+        return None
+    return record
 
 
 def starts_wrong(content: Content) -> bool:
