@@ -26,7 +26,7 @@ import subprocess
 import sys
 import tempfile
 from collections import Counter
-from collections.abc import Iterator
+from collections.abc import Callable, Iterator
 
 import yaml
 
@@ -68,7 +68,8 @@ def paths(folder: str) -> Iterator[str]:
 def comments_of(text: str) -> list[str]:
     """The comments of a text: each `#` between two tokens of scalars that begins a row or has whitespace before it."""
     spans: list[tuple[int, int]] = []
-    for token in yaml.scan(text, yaml.BaseLoader):
+    scan: Callable[[str, object], Iterator[yaml.Token]] = yaml.scan
+    for token in scan(text, yaml.BaseLoader):
         if isinstance(token, yaml.ScalarToken):
             start, end = token.start_mark.index, token.end_mark.index
             if token.style in ("|", ">"):
