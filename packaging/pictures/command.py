@@ -18,7 +18,7 @@ COLUMN, STEP = 21, 2
 # In pixels: a call that calls nothing here, a row, the box in it, the margin, and the lines above and below.
 LEAF, ROW, HEIGHT, MARGIN, ABOVE, BELOW = 106, 56, 52, 16, 40, 44
 OF_TEXTS = re.compile("yaml_|tree_path")
-OF_DISKS = re.compile("conf_journal|conf_folder")
+OF_DISKS = re.compile("conf_journal|conf_folder|conf_protocol")
 
 
 @dataclass
