@@ -67,10 +67,13 @@ in_root() {
     dpkg --root="$tree" --force-script-chrootless --force-depends --log=/dev/null "$@"
 }
 
-# Makes the packages of the sources in a folder. Prints their paths.
+# Makes the packages of the sources in a folder, those that they have a script for. Prints their paths.
 packages() { # SOURCES PROGRAM FOLDER
-    "$1/packaging/deb/build.sh" "$3" "$2" && "$1/packaging/deb/build_python.sh" "$3" &&
-        "$1/packaging/deb/build_replicated.sh" "$3"
+    local script
+    "$1/packaging/deb/build.sh" "$3" "$2" || return
+    for script in "$1"/packaging/deb/build_{python,replicated}.sh; do
+        [ ! -e "$script" ] || "$script" "$3" || return
+    done
 }
 # The sources of the older release, with its program.
 unpack_older() {
@@ -139,10 +142,12 @@ stop_sending() {
     wait "$client" || { cat "$folder/client"; return 1; }
 }
 
-has_version() { # VERSION
-    local name
-    for name in confstore python3-confstore confstore-replicated; do
-        [ "$(in_root --status "$name" | sed -n 's/^Version: //p')" = "$1" ] && in_root --verify "$name" || return
+has_version() { # VERSION PACKAGE..
+    local version=$1 package name
+    shift
+    for package; do
+        name=$(dpkg-deb --field "$package" Package)
+        [ "$(in_root --status "$name" | sed -n 's/^Version: //p')" = "$version" ] && in_root --verify "$name" || return
     done
 }
 ctl() { env -u CONFSTORE PYTHONPATH="$tree/usr/lib/python3/dist-packages" "$tree/usr/bin/confstorectl" "$@"; }
@@ -158,18 +163,18 @@ has_all() {
 is_removed() { [ -z "$(find "$tree/usr" "$tree/etc/confstore-replicated" -type f -o -type l 2>/dev/null)" ]; }
 
 mkdir -p "$tree/etc" "$tree/var/lib/dpkg/info" "$tree/var/lib/dpkg/updates" && : >"$tree/var/lib/dpkg/status"
-unpack_older && [ "${#olds[@]}" -eq 3 ] || exit 1
+unpack_older && [ "${#olds[@]}" -ge 1 ] || exit 1
 mapfile -t news < <(packages "$top" "$program" "$folder/new-packages")
 [ "${#news[@]}" -eq 3 ] || exit 1
-echo "from $old, of $(git -C "$top" log -1 --format=%h "$commit"), to $new"
+echo "from $old, of $(git -C "$top" log -1 --format=%h "$commit"), in ${#olds[@]} packages, to $new"
 try "install $old" in_root --install "${olds[@]}"
-try "the versions" has_version "$old"
+try "the versions" has_version "$old" "${olds[@]}"
 mkdir "$store" && echo 'n: "0"' | "$tree/usr/bin/confstore" import --init "$store" web || exit 1
 serve || exit 1
 try "the old program" runs "$old"
 send || exit 1
 try "upgrade, while the store is served" in_root --install "${news[@]}"
-try "the versions" has_version "$new"
+try "the versions" has_version "$new" "${news[@]}"
 try "the old session goes on" goes_on
 try "it is the old program" runs "$old"
 try "the new confstorectl through the old server" shares
