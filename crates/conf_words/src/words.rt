@@ -22,7 +22,7 @@ use clap::{ArgMatches, Command, Error};
 use std::alloc::{AllocError, Global};
 use std::time::Duration;
 
-const VERSION: &str = "0.2.0";
+const VERSION: &str = "0.3.0";
 
 const ABOUT: &str = "A crash-safe store of named configuration trees, and tools for their texts.";
 
