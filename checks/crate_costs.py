@@ -3,8 +3,8 @@
 
     rm -rf crates/*/out out/proof-costs && ./prove && python3 checks/crate_costs.py [FILE]
 
-`./prove` keeps in out/proof-costs, or FILE of another checkout, how long the proof of each crate took, by the clock and of processors; from nothing and
-with nothing else running these are its costs. The lines are those of src/, specs/ and proofs/, with comments and empty
+`./prove` keeps in out/proof-costs, or in FILE of another checkout, how many seconds of processors the proof of each crate
+took; from nothing these are its costs, whatever else runs. The lines are those of src/, specs/ and proofs/, with comments and empty
 ones. The status is 1 if a crate of the program was not proved in that run, and the page is left alone.
 """
 
@@ -17,7 +17,7 @@ from pathlib import Path
 TOP = Path(__file__).resolve().parent.parent
 COSTS = TOP / "out" / "proof-costs"
 PAGE = TOP / "docs" / "PROOFS.md"
-WIDTHS = (-19, 8, 7, 12)
+WIDTHS = (-19, 8, 9)
 
 
 def lines_in(crate: str, folder: str, ending: str) -> int:
@@ -36,7 +36,7 @@ def row(*words: str) -> str:
     return "".join(f"{word:{'>' if width > 0 else '<'}{abs(width)}}" for word, width in zip(words, WIDTHS)) + "\n"
 
 
-HEADING = "```text\n" + row("crate", "lines", "clock", "processors")
+HEADING = "```text\n" + row("crate", "lines", "seconds")
 
 
 def table(crates: list[str], costs: dict[str, list[int]]) -> str:
@@ -52,8 +52,8 @@ def main() -> int:
     crates = product()
     costs = {}
     for line in (Path(sys.argv[1]) if sys.argv[1:] else COSTS).read_text("utf-8").splitlines():
-        name, clock, processors, _ = line.split()
-        costs[name] = [int(clock), int(processors)]
+        name, _, processors, _ = line.split()
+        costs[name] = [int(processors)]
     missing = [crate for crate in crates if crate not in costs]
     if missing:
         print(f"there is no line for {' '.join(missing)}", file=sys.stderr)

@@ -41,7 +41,7 @@ from collections.abc import Iterator
 TOP = os.path.dirname(os.path.dirname(os.path.abspath(__file__)))
 CODE = re.compile(r"`([^`]+)`")
 CELL_ENDS = re.compile(r"(?<!\\)\|")
-# Crates of docs/ARCHITECTURE.md: an item of a list that begins with their names, and the files in its brackets.
+# Crates of docs/ARCHITECTURE.md and checks/README.md: an item of a list that begins with their names, and the files in its brackets.
 CRATES_ITEM = re.compile(r"(?ms)^- ((?:`\w+`,?\s)*`\w+`): (?:[^(]*?)(?:\(([^)]*)\))?\n(?=- |$)")
 # What is to be read, in docs/TRUSTED.md: an item of a numbered list.
 READ_ITEM = re.compile(r"(?ms)^\d+\. (.*?)(?=^\d+\. |^$)")
@@ -52,7 +52,8 @@ UNNAMED = {"example_edit": {"yaml_data"}, "conf_history": {"yaml_data"}}
 MOST_WAYS = 18000
 # The pages whose names of other files are looked up.
 PAGES = (
-    "[!C]*.md", "CONTRIBUTING.md", "docs/*.md", "[!c]*/README.md", "checks/README.md", "replicated/model/README.md",
+    "[!C]*.md", "CONTRIBUTING.md", "docs/*.md", "python/GUIDE.md", "[!c]*/README.md", "checks/README.md",
+    "clients/editors/README.md", "replicated/model/README.md",
 )  # fmt: skip
 # Files that have to be the same: each stands by itself where the other one is not.
 COPIES = (
@@ -225,14 +226,14 @@ def is_file_of(crate: str, name: str) -> bool:
 
 def wrong_in_architecture() -> Iterator[str]:
     named: set[str] = set()
-    for names, files in CRATES_ITEM.findall(page("docs/ARCHITECTURE.md")):
+    for names, files in CRATES_ITEM.findall(page("docs/ARCHITECTURE.md") + page("checks/README.md")):
         here = CODE.findall(names)
         named.update(here)
         for name in CODE.findall(files):
             if not is_file_of(here[0], name):
                 yield f"docs/ARCHITECTURE.md: {here[0]} has no file `{name}`"
     for crate in sorted(named ^ set(libraries_of_crates())):
-        yield f"docs/ARCHITECTURE.md: `{crate}` is not in both its lists and crates.txt"
+        yield f"docs/ARCHITECTURE.md: `{crate}` is not in both its list, or that of checks/README.md, and crates.txt"
 
 
 def files_of_cell(cell: str) -> Iterator[tuple[str, str]]:
