@@ -41,7 +41,8 @@ from collections.abc import Iterator
 TOP = os.path.dirname(os.path.dirname(os.path.abspath(__file__)))
 CODE = re.compile(r"`([^`]+)`")
 CELL_ENDS = re.compile(r"(?<!\\)\|")
-# Crates of docs/ARCHITECTURE.md and checks/README.md: an item of a list that begins with their names, and the files in its brackets.
+# Crates of docs/ARCHITECTURE.md and checks/README.md: an item of a list that begins with their names, and the files in
+# its brackets.
 CRATES_ITEM = re.compile(r"(?ms)^- ((?:`\w+`,?\s)*`\w+`): (?:[^(]*?)(?:\(([^)]*)\))?\n(?=- |$)")
 # What is to be read, in docs/TRUSTED.md: an item of a numbered list.
 READ_ITEM = re.compile(r"(?ms)^\d+\. (.*?)(?=^\d+\. |^$)")
