@@ -219,7 +219,8 @@ module _ {W D F P : Type 0} (world : WorldModel W D F P) (disk : DiskModel D) (r
 
   says-set : (invocation : Invocation) → SaysSet invocation → (old new : Around W) (status : Status)
       (does : Performs world disk remaining invocation old new status)
-      → Put world disk remaining honest leaves (codes "shop") (codes "web") (codes "/port") (text (codes "81")) invocation old new status does
+      → Put world disk remaining honest leaves (codes "shop") (codes "web") (codes "/port") (text (codes "81")) invocation old new
+      status does
   says-set (Set folder named place (Text word) conditions reporting) (of_folder, of_name, of_place, of_word) old new status does =
       (of_folder, of_name, of_place, by does.0.change does.0.is.2)
     where
@@ -277,8 +278,8 @@ module _ {W D F P : Type 0} (world : WorldModel W D F P) (disk : DiskModel D) (r
         (set ∷ []) (port_is (codes "81")) (
           port_is (codes "81"),
           (λ kept keeps_kept. turns-port kept
-              (set-kept world disk remaining honest leaves (codes "shop") (codes "web") (codes "/port") (text (codes "81")) set sets.ended sets.done
-              (says-set set.invocation sets.says set.old set.new set.status set.does) kept keeps_kept)),
+              (set-kept world disk remaining honest leaves (codes "shop") (codes "web") (codes "/port") (text (codes "81")) set
+              sets.ended sets.done (says-set set.invocation sets.says set.old set.new set.status set.does) kept keeps_kept)),
           refl,
         )
         get old new status does (Whole Styled) (says-get get gets) ((λ image is. is), runs.1.1) (codes "port: \"81\"\n") shown-so

@@ -304,7 +304,8 @@ module _ {W D F P : Type 0} (world : WorldModel W D F P) (disk : DiskModel D) (r
 
       got : (file : Result F ReadingFault) → OpensFile world path now file new
           → (says : SaysOfFile world.several remaining (SaysValue None name pointer missing form) file held written status)
-          → Outcome (GetRanOut world.several remaining None name pointer missing form file held written status says) text held written status
+          → Outcome (GetRanOut world.several remaining None name pointer missing form file held written status says) text held
+          written status
       got (Ok file) opens says =
           let has = opened-file file (shows_folders.file path now new file opens) in
           says-at file (remaining file) has.bytes has.gives has.state has.there has.means says
@@ -431,7 +432,8 @@ module _ {W D F P : Type 0} (world : WorldModel W D F P) (disk : DiskModel D) (r
           (shows_folders.unused path now new cannot.cannot.fault cannot.cannot.opens) text status cannot.cannot.ends
       exported new (inr exports) =
           exported-of exports.first exports.result
-          (last-holds exports.opened new exports.first (disk_back exports.result) exports.opens exports.gives_back (exports.survives honest))
+          (last-holds exports.opened new exports.first (disk_back exports.result) exports.opens exports.gives_back
+          (exports.survives honest))
           exports.writes exports.found exports.refused
 
 module _ {W D F P : Type 0} (world : WorldModel W D F P) (disk : DiskModel D) (remaining : F → Option (List ℕ))

@@ -84,7 +84,8 @@ put-checked : (configs after : List Entry) (name : List ℕ) (t : Tree) → with
 put-checked configs after name t is =
     let done = and_then-Ok (checked_tree t) (λ u. Ok (put_config configs name u)) after is in
     let same = checked-Ok t done.0 done.1 in
-    let made : put_config configs name done.0 ≡ after = both-Ok (Ok (put_config configs name done.0)) (put_config configs name done.0) after refl done.2 in
+    let made : put_config configs name done.0 ≡ after =
+    both-Ok (Ok (put_config configs name done.0)) (put_config configs name done.0) after refl done.2 in
     subst (λ (c : List Entry). config_named c name ≡ Some t) made
     (named-put-same configs name done.0 ∙ ap Some same)
 

@@ -43,7 +43,8 @@ use Rattle.conf_runs.specs.Folders.{KeepsFolders}
 use Rattle.conf_runs.specs.FoldersRead.{ShowsFolders}
 use Rattle.conf_runs.specs.Others.{AllSpare}
 use Rattle.conf_runs.specs.Reads.{Asks, IsSteady, Puts, Shows, Turn, TurnInto, Writes}
-use Rattle.conf_runs.specs.Runs.{AreRuns, Ending, Event, Kept, KeepsCommands, KeptOf, LeavesAfter, MayLeave, accepted_in, commands, cut_off, deed_in, new_store}
+use Rattle.conf_runs.specs.Runs.{AreRuns, Ending, Event, Kept, KeepsCommands, KeptOf, LeavesAfter, MayLeave, accepted_in}
+use Rattle.conf_runs.specs.Runs.{commands, cut_off, deed_in, new_store}
 use Rattle.conf_runs.specs.Runs.{not_begun, returned}
 use Rattle.conf_runs.proofs.OtherLemmas.{first-spare, value-stays}
 use Rattle.conf_runs.proofs.ReadLemmas.{StandsIn, There, asked, stands-as}

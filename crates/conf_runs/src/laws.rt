@@ -50,12 +50,15 @@ pub fn runs_hold<A: Folders>()
 
 /// What a run wrote, a later one reads.
 ///
-/// Take a run of `set` or `import` whose status was [`Done`](conf_tools::Status::Done), and the value that it put at its
-/// place. Then come any runs, with any words, which returned or were cut off: whatever is kept of each one's commands
-/// turns the value there into the next one, or leaves it. Crashes may have come within these runs, after any of them,
-/// or not at all. Then a run of `get`, or of `export` if the place is a whole configuration, writes the last value as it
-/// stands in the form asked for, with the status `Done`. Or it writes nothing, since memory ran out. Or its status is
-/// [`Device`](conf_tools::Status::Device), since the device, a stream or the lock of the folder failed.
+/// Take a run of `set` or `import` whose status was [`Done`](conf_tools::Status::Done), and the value that it put at
+/// its place. The last step of the pointer of a `set` may not be `-`, which is another place for each `set`. Then come
+/// any runs, with any words, which returned or were cut off. Whatever is kept of each one's commands turns the value
+/// there into the next one, or leaves it. Crashes may have come within these runs, after any of them, or not at all.
+///
+/// Then a run of `get` of the store as it is, or of `export` if the place is a whole configuration, writes the last
+/// value in the form asked for, if the form shows it, and its status is `Done`. Or it writes nothing, since memory ran
+/// out. Or its status is [`Device`](conf_tools::Status::Device), since the device, a stream or the folder's lock
+/// failed.
 ///
 /// A run leaves the value if all commands that it accepted are of other configurations, or if it accepted none
 /// (`others`).
