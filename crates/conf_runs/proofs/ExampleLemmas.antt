@@ -13,7 +13,7 @@ use Rattle.yaml_grammar.specs.Separation.{inline, lf}
 use Rattle.yaml_grammar.specs.Streams.{Stream, bare, stream_events}
 use Rattle.yaml_grammar.specs.Texts.{spaces}
 use Rattle.yaml_grammar.specs.Trees.{Tree, mapping, member, no_member, text}
-use Rattle.yaml_tree.specs.Reading.{IsRead}
+use Rattle.conf_tools.specs.Prelude.{IsRead}
 
 abbrev pub port_is : List ℕ → Tree
 port_is value = mapping (member (codes "port") (text value) no_member)

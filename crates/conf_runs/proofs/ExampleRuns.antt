@@ -53,7 +53,7 @@ use Rattle.conf_runs.proofs.StatusLemmas.{not-done}
 use Rattle.conf_runs.proofs.WriteLemmas.{OneTree, not-read, reads-see-writes}
 use Rattle.yaml_config.specs.Limits.{config_limits}
 use Rattle.yaml_grammar.specs.Trees.{Tree, text}
-use Rattle.yaml_tree.specs.Reading.{IsRead}
+use Rattle.conf_tools.specs.Prelude.{IsRead}
 
 -- ---- what is kept of a set that was done
 

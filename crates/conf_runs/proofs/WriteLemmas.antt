@@ -53,7 +53,7 @@ use Rattle.conf_runs.proofs.StateLemmas.{empty-lacks, import-there, set-there}
 use Rattle.conf_runs.proofs.StatusLemmas.{not-done}
 use Rattle.yaml_config.specs.Limits.{config_limits}
 use Rattle.yaml_grammar.specs.Trees.{Tree}
-use Rattle.yaml_tree.specs.Reading.{IsRead}
+use Rattle.conf_tools.specs.Prelude.{IsRead}
 
 pub not-read : (fault : ToolFault) → Done ≡ status_of fault → ⊥
 not-read tool_fault.Input is = cc

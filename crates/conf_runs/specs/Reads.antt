@@ -38,7 +38,7 @@ use Rattle.json_pointer.specs.Pointers.{path_of}
 use Rattle.tree_path.specs.Paths.{index_of, after_last}
 use Rattle.yaml_config.specs.Limits.{config_limits}
 use Rattle.yaml_grammar.specs.Trees.{Tree}
-use Rattle.yaml_tree.specs.Reading.{IsRead}
+use Rattle.conf_tools.specs.Prelude.{IsRead}
 
 -- ---- why a run that reads stops where the value is there
 

@@ -9,8 +9,8 @@ use conf_disk::reading_is_an_image;
 use conf_record::{documents_are_read, documents_close};
 use conf_store::bytes_mean_one_state;
 use conf_tools::{World, call_holds};
+use yaml_grammar::one_tree;
 use yaml_recognizers::texts::unambiguous;
-use yaml_tree::bytes_give_one;
 
 /// A world of which one knows what a crash leaves of its folders.
 pub trait Folders: World {
@@ -75,7 +75,7 @@ pub fn reads_see_writes<A: Folders>()
     documents_are_read();
     documents_close();
     call_holds::<A::Disk>();
-    bytes_give_one();
+    one_tree();
 }
 
 /// README's first example: once `init`, `import` of `port: 80` and `set` of `/port` to `81` are done, `get` prints
@@ -91,6 +91,6 @@ pub fn first_example_holds<A: Folders>()
     documents_are_read();
     documents_close();
     call_holds::<A::Disk>();
-    bytes_give_one();
+    one_tree();
     unambiguous();
 }
