@@ -3,11 +3,13 @@ use Rattle.std.proofs.Common.{◌≡◌, refl, sym, ◌∙◌, ap, ℕ, zero, su
 use Rattle.conf_system.specs.declared.system.FileName.{FileName}
 use Rattle.conf_system.specs.declared.system.FileName.TheVariants.{Store, Next, Copy}
 use Rattle.conf_system.specs.Machine.{Version, Held, Machine, Call, CreateNext, CreateCopy, Write, WriteRest, Sync, RenameNext, LinkNext}
-use Rattle.conf_system.specs.Machine.{UnlinkNext, PlaceCopy, UnlinkCopy, SyncFolder, WriteNote, SyncNote, with_file, with_version, with_copy}
+use Rattle.conf_system.specs.Machine.{UnlinkNext, PlaceCopy, UnlinkCopy, SyncFolder, WriteNote, SyncNote}
+use Rattle.conf_system.specs.Machine.{with_file, with_version, with_copy}
 use Rattle.conf_system.specs.Machine.{with_pending, synced, failed_sync, replaced, after, failing}
 use Rattle.test_system.specs.Replay.{Entry, Called, NoteRead, NoteUnread, bare, machine_made}
 
-file-bare : (m : Machine) (place : Option ℕ) (change : Held → Held) → bare (with_file (bare m) place change) ≡ bare (with_file m place change)
+file-bare : (m : Machine) (place : Option ℕ) (change : Held → Held)
+    → bare (with_file (bare m) place change) ≡ bare (with_file m place change)
 file-bare m None change = refl
 file-bare m (Some id) change = refl
 

@@ -1,6 +1,7 @@
 -- What is kept where there is no memory: syncs that fail, and writes that add nothing. Each changes nothing more once it
 -- was made.
-use Rattle.std.proofs.Common.{◌≡◌, refl, sym, ◌∙◌, ap, arith, ℕ, zero, suc, ◌+◌, List, [], ◌∷◌, ◌++◌, get_or, set, map, take, Option, Some, None}
+use Rattle.std.proofs.Common.{◌≡◌, refl, sym, ◌∙◌, ap, arith, ℕ, zero, suc, ◌+◌, List, [], ◌∷◌, ◌++◌}
+use Rattle.std.proofs.Common.{get_or, set, map, take, Option, Some, None}
 use Rattle.std.proofs.Common.{Bool, true, false, ◌||◌, ◌⊎◌, inl, inr, subst}
 use Rattle.std.specs.Prelude.{option_map, if◌then◌else◌}
 use Rattle.std.proofs.lemmas.List.{set-get_or, append-nil}
@@ -77,8 +78,9 @@ copy-twice : (copy : Option Version) → option_map failed_sync (option_map fail
 copy-twice None = refl
 copy-twice (Some version) = ap (λ (v : Version). Some v) (failed-twice version)
 
-twice : (name : FileName) (files : List Held) (earlier : List Stage) (store next : Option ℕ) (copy : Option Version) (note : Note) (notes : List Note) (noted : Option ℕ → Bool)
-    → fail name (fail name (machine files earlier store next copy note notes noted)) ≡ fail name (machine files earlier store next copy note notes noted)
+twice : (name : FileName) (files : List Held) (earlier : List Stage) (store next : Option ℕ) (copy : Option Version) (note : Note)
+    → (notes : List Note) (noted : Option ℕ → Bool) → fail name (fail name (machine files earlier store next copy note notes noted))
+    ≡ fail name (machine files earlier store next copy note notes noted)
 twice Store files earlier None next copy note notes noted = refl
 twice Store files earlier (Some id) next copy note notes noted =
     ap (λ (l : List Held). machine l earlier (Some id) next copy note notes noted) (unsure-twice id files)
@@ -89,8 +91,8 @@ twice Copy files earlier store next copy note notes noted =
     ap (λ (c : Option Version). machine files earlier store next c note notes noted) (copy-twice copy)
 
 -- the two names one after the other, in either order
-both : (store next : Option ℕ) (files : List Held) (earlier : List Stage) (copy : Option Version) (note : Note) (notes : List Note) (noted : Option ℕ → Bool)
-    → fail Store (fail Next (machine files earlier store next copy note notes noted))
+both : (store next : Option ℕ) (files : List Held) (earlier : List Stage) (copy : Option Version) (note : Note)
+    → (notes : List Note) (noted : Option ℕ → Bool) → fail Store (fail Next (machine files earlier store next copy note notes noted))
     ≡ fail Next (fail Store (machine files earlier store next copy note notes noted))
 both None None files earlier copy note notes noted = refl
 both None (Some j) files earlier copy note notes noted = refl
@@ -98,14 +100,14 @@ both (Some i) None files earlier copy note notes noted = refl
 both (Some i) (Some j) files earlier copy note notes noted =
     ap (λ (l : List Held). machine l earlier (Some i) (Some j) copy note notes noted) (unsure-unsure i j files)
 
-store-copy : (store next : Option ℕ) (files : List Held) (earlier : List Stage) (copy : Option Version) (note : Note) (notes : List Note) (noted : Option ℕ → Bool)
-    → fail Store (fail Copy (machine files earlier store next copy note notes noted))
+store-copy : (store next : Option ℕ) (files : List Held) (earlier : List Stage) (copy : Option Version) (note : Note)
+    → (notes : List Note) (noted : Option ℕ → Bool) → fail Store (fail Copy (machine files earlier store next copy note notes noted))
     ≡ fail Copy (fail Store (machine files earlier store next copy note notes noted))
 store-copy None next files earlier copy note notes noted = refl
 store-copy (Some i) next files earlier copy note notes noted = refl
 
-next-copy : (store next : Option ℕ) (files : List Held) (earlier : List Stage) (copy : Option Version) (note : Note) (notes : List Note) (noted : Option ℕ → Bool)
-    → fail Next (fail Copy (machine files earlier store next copy note notes noted))
+next-copy : (store next : Option ℕ) (files : List Held) (earlier : List Stage) (copy : Option Version) (note : Note)
+    → (notes : List Note) (noted : Option ℕ → Bool) → fail Next (fail Copy (machine files earlier store next copy note notes noted))
     ≡ fail Copy (fail Next (machine files earlier store next copy note notes noted))
 next-copy store None files earlier copy note notes noted = refl
 next-copy store (Some j) files earlier copy note notes noted = refl

@@ -1,5 +1,6 @@
 -- What a test chooses of a crash, a crash may leave.
-use Rattle.std.proofs.Common.{◌≡◌, ◌<◌, ◌≤◌, ◌+◌, zero, suc, arith, add-one, take, refl, sym, ◌∙◌, ap, subst, inl, inr, ℕ, List, [], ◌∷◌, ◌++◌, length, get_or, Option, Some, None}
+use Rattle.std.proofs.Common.{◌≡◌, ◌<◌, ◌≤◌, ◌+◌, zero, suc, arith, add-one, take, refl, sym, ◌∙◌, ap, subst, inl, inr, ℕ}
+use Rattle.std.proofs.Common.{List, [], ◌∷◌, ◌++◌, length, get_or, Option, Some, None}
 use Rattle.std.proofs.Common.{Bool, true, false, ◌&&◌}
 use Rattle.std.specs.Prelude.{slice_get, if◌then◌else◌, nat_le}
 use Rattle.std.specs.List.{Contains}
@@ -33,7 +34,11 @@ left-version file place kept None is fits =
     let no : false ≡ true = rw is at fits in cc
 left-version file place kept (Some version) is fits =
     let same : version_in file place ≡ version = get_or_from_slice_get (versions file) place version empty_version is in
-    record { version = version_in file place; among = rw same (found-in (versions file) place version is); torn = torn-is (version_in file place) kept }
+    record {
+      version = version_in file place;
+      among = rw same (found-in (versions file) place version is);
+      torn = torn-is (version_in file place) kept;
+    }
 
 left-file : (files : List Held) (id place : ℕ) (kept : List Bool) (found : Option Held) → slice_get files id ≡ found
     → has_room (pending_of (slice_get files id) place) (length kept) ≡ true
@@ -74,7 +79,8 @@ chosen-left m crash stage note among noted fits =
 -- what a next run finds is what a crash leaves
 fitting-left : (m : Machine) (crash : Crash) (stage : Stage) (note : Note) (next : Machine) → Contains (stages m) stage
     → Contains (notes_of m) note → (fits : Bool) → fits_both m crash stage ≡ fits
-    → (if fits then Some (machine_of (left_of m crash stage note) (copy_of crash.copy) note.on_device) else None) ≡ Some next → Restarts m next
+    → (if fits then Some (machine_of (left_of m crash stage note) (copy_of crash.copy) note.on_device) else None) ≡ Some next
+    → Restarts m next
 fitting-left m crash stage note next among noted true fits is =
     let same : machine_of (left_of m crash stage note) (copy_of crash.copy) note.on_device ≡ next = cc in
     record {

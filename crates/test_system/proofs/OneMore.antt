@@ -175,7 +175,12 @@ wrote-none old mid new call bytes same wrote =
         later = omega (arith, wrote.time.later, count);
         nothing_else = λ t m le held. ⊎_elim
             (λ was. inl (subst (λ (l : List Entry). WasSince l t m) same was))
-            (λ is. inr (0, omega arith, is.2 ∙ took-none call is.0 (memory_machine mid) is.1 ∙ ap (λ (x : Machine). after (call []) x) before))
+            (λ is. inr (
+              0,
+              omega arith,
+              is.2 ∙ took-none call is.0 (memory_machine mid) is.1
+                  ∙ ap (λ (x : Machine). after (call []) x) before,
+            ))
             (wrote.time.nothing_else t m (omega (arith, le, count)) held);
         keeps = λ t m le was. wrote.time.keeps t m (omega (arith, le, count)) (subst (λ (l : List Entry). WasSince l t m) (sym same) was);
       };

@@ -8,7 +8,7 @@ use Rattle.std.proofs.Props.{props}
 use Rattle.test_system.specs.declared.spares.Spare.{Spare}
 use Rattle.test_system.specs.declared.spares.Spare.TheVariants.{FailedSync, EmptyWrite}
 use Rattle.test_system.specs.declared.spares.Spent.{Spent}
-use Rattle.test_system.specs.Replay.{Entry, Called, machine_made}
+use Rattle.test_system.specs.Replay.{Entry, Called, machine_made, machine_after, new_machine}
 
 abbrev pub spare_entry : Spare → Entry
 spare_entry (FailedSync name) = Called (Sync name) (Some 0)
@@ -43,5 +43,12 @@ ChangesNothing spent m = (spare : Spare) → has_spent spent spare ≡ true → 
 Machine-set : IsSet Machine
 Machine-set = hlevel props
 
-pub ChangesNothing-prop : (spent : Spent) (m : Machine) → IsProp (ChangesNothing spent m)
+ChangesNothing-prop : (spent : Spent) (m : Machine) → IsProp (ChangesNothing spent m)
 ChangesNothing-prop spent m = Π_prop (λ spare. →_prop (Machine-set (machine_made (spare_entry spare) m) m))
+
+-- so it is after these calls
+abbrev pub IsSpent : Spent → List Entry → Type 0
+IsSpent spent entries = ChangesNothing spent (machine_after entries new_machine)
+
+pub IsSpent-prop : (spent : Spent) (entries : List Entry) → IsProp (IsSpent spent entries)
+IsSpent-prop spent entries = ChangesNothing-prop spent (machine_after entries new_machine)

@@ -2,8 +2,8 @@
 ghost use Rattle.std.specs.Prelude.{◌≡◌, ◌≤◌};
 ghost use Rattle.test_system.specs.Faults.{outcome_at, failed_of, offered_count, fails_to_read};
 
-/// What becomes of the calls of a [`MemorySystem`](crate::MemorySystem) from a chosen one on. Those that change something
-/// are counted from 0.
+/// What becomes of the calls of a [`MemorySystem`](crate::MemorySystem) from a chosen one on. Those that change
+/// something, and readings of the note, are counted from 0.
 #[derive(Clone, Copy, Debug, PartialEq, Eq)]
 pub enum Fault {
     /// Each call is done.

@@ -1,5 +1,6 @@
 //! A system for tests: one folder in memory, as [`System`](conf_system::System) says of the kernel and the device. Any
-//! call of it can be made to fail, the process can be killed between any two calls or in one, and the machine can crash.
+//! call of it can be made to fail, the process can be killed between any two calls or in one, and the machine can
+//! crash.
 #![tactic(auto)]
 
 mod change;

@@ -1,8 +1,8 @@
 // The calls that a system keeps.
 ghost use Rattle.std.specs.Prelude.{ℕ, ◌+◌, ◌≤◌, vec_len, vec_capacity};
-ghost use Rattle.test_system.specs.Replay.{entries_of, machine_after, new_machine};
+ghost use Rattle.test_system.specs.Replay.{entries_of};
 ghost use Rattle.test_system.specs.Runs.{IsAlwaysSound, IsAlwaysSound-prop};
-ghost use Rattle.test_system.specs.Spares.{rooms, ChangesNothing, ChangesNothing-prop};
+ghost use Rattle.test_system.specs.Spares.{rooms, IsSpent, IsSpent-prop};
 
 use crate::change::{Change, Made};
 use crate::machine::MachineData;
@@ -17,7 +17,7 @@ pub(crate) struct CallLog {
     spent: Spent,
     ghost sound: { IsAlwaysSound (entries_of calls) } by { IsAlwaysSound-prop (entries_of calls) },
     ghost room: { vec_len calls + rooms spent ≤ vec_capacity calls },
-    ghost spare: { ChangesNothing spent (machine_after (entries_of calls) new_machine) } by { ChangesNothing-prop spent (machine_after (entries_of calls) new_machine) },
+    ghost spare: { IsSpent spent (entries_of calls) } by { IsSpent-prop spent (entries_of calls) },
 }
 
 impl CallLog {

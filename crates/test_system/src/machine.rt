@@ -56,8 +56,8 @@ impl StageData {
     }
 }
 
-/// All files that were ever made; the stages before the one now since the last sync of the folder, oldest first, and the
-/// one now; the copy; what `store.lock` says, and what it said since its last sync, oldest first.
+/// All files that were ever made; the stages before the one now since the last sync of the folder, oldest first, and
+/// the one now; the copy; what `store.lock` says, and what it said since its last sync, oldest first.
 #[derive(Drop)]
 pub(crate) struct MachineData {
     pub(crate) files: Vec<HeldData>,

@@ -14,9 +14,10 @@ use std::alloc::{AllocError, Global};
 use std::io;
 use std::io::ErrorKind;
 
-/// A system in memory, for tests. It keeps a list of the calls that changed something, so what it was at each moment is
-/// known. If there is no memory for keeping a call, that call fails, and does nothing. A call that looks or reads plays
-/// all the others again, so its time is linear in their number and their bytes.
+/// A system in memory, for tests. It keeps a list of the calls that changed something, and of the readings of the note,
+/// so what it was at each moment is known. If there is no memory for keeping a call, that call fails, and does nothing;
+/// but a sync then counts as one that failed, and a write as one of no bytes. A call that looks or reads plays all the
+/// others again, so its time is linear in their number and their bytes.
 #[derive(Drop)]
 pub struct MemorySystem {
     pub(crate) alloc: Global,
@@ -68,8 +69,8 @@ impl MemorySystem {
         Ok(MemorySystem::of_log(alloc, log))
     }
 
-    /// The same system, with a fault that chooses a call by its number. A number below [`calls`](MemorySystem::calls) is
-    /// that of a call that was made already.
+    /// The same system, with a fault that chooses a call by its number. A number below [`calls`](MemorySystem::calls)
+    /// is that of a call that was made already.
     pub fn with_fault(self, call: usize, fault: Fault) -> Self
         ensures calls { kept_calls result ≡ kept_calls self }
         ensures fault { plan_of result ≡ record { call = call; fault = fault } }
@@ -82,15 +83,15 @@ impl MemorySystem {
         }
     }
 
-    /// How many calls were made that change something, those that failed among them.
+    /// How many calls were made that change something, and how many readings of the note, those that failed among them.
     pub fn calls(&self) -> usize
         ensures { result ≡ length (kept_calls self.now) }
     {
         self.log.len()
     }
 
-    /// What a next run finds if the process was killed when so many calls had been made, of which none fails then. If so
-    /// many were not made, it is what the folder is now.
+    /// What a next run finds if the process was killed when so many calls had been made, of which none fails then. If
+    /// so many were not made, it is what the folder is now.
     ///
     /// # Errors
     /// If there is no memory for it.
@@ -125,8 +126,8 @@ impl MemorySystem {
         Ok(machine.note_count())
     }
 
-    /// How many bytes are pending in a version of the file under a name at a stage, or `None` if there is no such stage,
-    /// file or version. Stages and versions are counted as in a [`Crash`]. The copy has none.
+    /// How many bytes are pending in a version of the file under a name at a stage, or `None` if there is no such
+    /// stage, file or version. Stages and versions are counted as in a [`Crash`]. The copy has none.
     ///
     /// # Errors
     /// If there is no memory for looking.

@@ -65,8 +65,8 @@ impl VersionData {
         Ok(bytes)
     }
 
-    /// What a crash leaves of it: of the pending bytes as many as `kept` has places, each as it was if its place says so,
-    /// and else zero.
+    /// What a crash leaves of it: of the pending bytes as many as `kept` has places, each as it was if its place says
+    /// so, and else zero.
     pub(crate) fn torn(&self, alloc: Global, kept: &[bool]) -> Result<Vec<u8>, AllocError>
         requires { length kept.now ≤ length self.now.pending.items }
         ensures { IfOk result (λ bytes. bytes.items ≡ torn_bytes (version_of self.now) kept.now) }
