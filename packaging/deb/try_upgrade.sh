@@ -5,9 +5,10 @@
 #     packaging/deb/try_upgrade.sh [PROGRAM [COMMIT]]
 #
 # The older release is that of COMMIT, or the newest in the history that has another version; it is packed by its own
-# scripts. If the history has none, that is said, and nothing is tried. No command fails, none that was answered is
-# lost, and the server that is started next runs the new program. It needs dpkg, git, and root or fakeroot. Nothing
-# outside of a temporary folder is changed. The last line is 'N passed, M failed', and the status is 0 if M is 0.
+# scripts. If the history has none, that is said, and nothing is tried. No command fails, none that was answered is lost,
+# the server that is started next runs the new program, and what was linked with the old library runs with the new. It
+# needs dpkg, git, and root or fakeroot; and for the library make, cc, objdump and pkg-config. Nothing outside of a
+# temporary folder is changed. The last line is 'N passed, M failed', and the status is 0 if M is 0.
 set -u
 top=$(cd "$(dirname "${BASH_SOURCE[0]}")/../.." && pwd)
 # shellcheck source=packaging/program.sh
@@ -47,6 +48,11 @@ finish() {
     rm -rf "$folder"
 }
 trap finish EXIT
+compiler=  # for the library, if all is there that it is built with
+if command -v make >/dev/null && command -v objdump >/dev/null && command -v pkg-config >/dev/null; then
+    compiler=$(command -v "${CC:-cc}") || compiler=
+fi
+[ -n "$compiler" ] || echo "left out: the library, as not all is installed that it is built with"
 tree=$folder/unpacked store=$folder/store socket=$folder/socket
 passed=0
 failed=0
@@ -69,9 +75,10 @@ in_root() {
 
 # Makes the packages of the sources in a folder, those that they have a script for. Prints their paths.
 packages() { # SOURCES PROGRAM FOLDER
-    local script
+    local script scripts=("$1"/packaging/deb/build_{python,replicated}.sh)
     "$1/packaging/deb/build.sh" "$3" "$2" || return
-    for script in "$1"/packaging/deb/build_{python,replicated}.sh; do
+    if [ -n "$compiler" ]; then scripts+=("$1/packaging/deb/build_library.sh"); fi
+    for script in "${scripts[@]}"; do
         [ ! -e "$script" ] || "$script" "$3" || return
     done
 }
@@ -82,6 +89,15 @@ unpack_older() {
         tar -xJf "$folder"/older/release/confstore-*.tar.xz -C "$program_of" --strip-components=1 &&
         mapfile -t olds < <(packages "$folder/older" "$program_of/bin/confstore" "$folder/old")
 }
+
+# A program that is linked with the library of the older release, and runs with that of the new one.
+links() {
+    local libraries=$tree/usr/lib/$("$compiler" -print-multiarch)
+    printf '%s\n' '#include <confstore.h>' 'int main(void) { return !confstore_status_name(CONFSTORE_OK); }' \
+        >"$folder/linked.c"
+    "$compiler" -I"$tree/usr/include" -o "$folder/linked" "$folder/linked.c" -L"$libraries" -lconfstore -pthread && starts
+}
+starts() { LD_LIBRARY_PATH=$tree/usr/lib/$("$compiler" -print-multiarch) "$folder/linked"; }
 
 # A server of the packages that are installed; `server` is its number.
 serve() {
@@ -160,21 +176,27 @@ has_all() {
     [ "$("$tree/usr/bin/confstore" get "$store" web /n --raw)" = "$(answered)" ] &&
         [ "$("$tree/usr/bin/confstore" log "$store" | wc -l)" -eq $(($(answered) + 2)) ]
 }
+names_of() { # PACKAGE..
+    local package
+    for package; do dpkg-deb --field "$package" Package; done
+}
 is_removed() { [ -z "$(find "$tree/usr" "$tree/etc/confstore-replicated" -type f -o -type l 2>/dev/null)" ]; }
 
 mkdir -p "$tree/etc" "$tree/var/lib/dpkg/info" "$tree/var/lib/dpkg/updates" && : >"$tree/var/lib/dpkg/status"
 unpack_older && [ "${#olds[@]}" -ge 1 ] || exit 1
 mapfile -t news < <(packages "$top" "$program" "$folder/new-packages")
-[ "${#news[@]}" -eq 3 ] || exit 1
+[ "${#news[@]}" -ge 3 ] || exit 1
 echo "from $old, of $(git -C "$top" log -1 --format=%h "$commit"), in ${#olds[@]} packages, to $new"
 try "install $old" in_root --install "${olds[@]}"
 try "the versions" has_version "$old" "${olds[@]}"
+[ -z "$compiler" ] || try "a program that is linked with the library" links
 mkdir "$store" && echo 'n: "0"' | "$tree/usr/bin/confstore" import --init "$store" web || exit 1
 serve || exit 1
 try "the old program" runs "$old"
 send || exit 1
 try "upgrade, while the store is served" in_root --install "${news[@]}"
 try "the versions" has_version "$new" "${news[@]}"
+[ -z "$compiler" ] || try "that program with the new library" starts
 try "the old session goes on" goes_on
 try "it is the old program" runs "$old"
 try "the new confstorectl through the old server" shares
@@ -189,7 +211,8 @@ try "no command failed" stop_sending
 try "the new server ends" end_server
 try "the store" is_whole
 try "what was answered" has_all
-try "remove" in_root --purge confstore-replicated python3-confstore confstore
+mapfile -t names < <(names_of "${news[@]}")
+try "remove" in_root --purge "${names[@]}"
 try "nothing is left" is_removed
 try "but the store" test -s "$store/store.yaml"
 echo "$passed passed, $failed failed"
