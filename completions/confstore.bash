@@ -7,7 +7,7 @@ _confstore_options() {
     case $1 in
     init | checkpoint) echo '--wait --help' ;;
     run) echo '--group --checkpoint-after --wait --help' ;;
-    import) echo "--init --explain $conditions --wait --help" ;;
+    import) echo "--init --any-root --explain $conditions --wait --help" ;;
     set) echo "--yaml --file --whole --explain $conditions --wait --help" ;;
     delete) echo "--whole $conditions --wait --help" ;;
     copy) echo "--replace $conditions --wait --help" ;;

@@ -69,6 +69,7 @@ complete -c confstore -n '__confstore_at 2 import' -F
 complete -c confstore -n '__fish_seen_subcommand_from run' -l group -d 'Sync once for all commands at hand'
 complete -c confstore -n '__fish_seen_subcommand_from run' -l checkpoint-after -x -d 'Make checkpoints meanwhile'
 complete -c confstore -n '__fish_seen_subcommand_from import' -l init -d 'Make a store where there is none'
+complete -c confstore -n '__fish_seen_subcommand_from import' -l any-root -d 'Take one value alone, too'
 complete -c confstore -n '__fish_seen_subcommand_from set' -l yaml -d 'Read the value as a text'
 complete -c confstore -n '__fish_seen_subcommand_from set' -l file -r -F -d 'Take the text of a file'
 complete -c confstore -n "__fish_seen_subcommand_from $conditional" -l if-value -x -d 'Change only if this text is there'

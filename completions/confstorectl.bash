@@ -6,7 +6,7 @@ _confstorectl_words='import set delete copy rename edit batch undo rollback sync
 
 _confstorectl_options() {
     case $1 in
-    import) echo '--init --explain --edits --if-value --if-absent --if-count --check --dry-run --from --document --split --dir --socket --wait --help' ;;
+    import) echo '--init --any-root --explain --edits --if-value --if-absent --if-count --check --dry-run --from --document --split --dir --socket --wait --help' ;;
     set) echo '--yaml --file --whole --explain --parents --insert --if-value --if-absent --if-count --check --dry-run --socket --wait --help' ;;
     delete) echo '--whole --if-value --if-absent --if-count --check --dry-run --socket --wait --help' ;;
     copy) echo '--replace --if-value --if-absent --if-count --check --dry-run --socket --wait --help' ;;

@@ -100,6 +100,8 @@ complete -c confstorectl -l help -d 'Says what the word does'
 complete -c confstorectl -n '__confstorectl_at -1' -l version -d 'Writes the version'
 complete -c confstorectl -n '__confstorectl_is import' -l init \
     -d 'Makes a store in the folder, if it has none'
+complete -c confstorectl -n '__confstorectl_is import' -l any-root \
+    -d 'Takes a text that is one value alone, too, as `80`'
 complete -c confstorectl -n '__confstorectl_is import' -l explain \
     -d 'Shows the line at fault of a refused text, and says what to do'
 complete -c confstorectl -n '__confstorectl_is import' -l edits \

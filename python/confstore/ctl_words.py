@@ -60,6 +60,7 @@ AT = Option("--at", "Reads the store as it was after command number N", "N")
 FROM = Option("--from", "Begins with change number N, which may have been made already", "N")
 RAW = Option("--raw", "Writes a text as it is, with a line feed after it")
 INIT = Option("--init", "Makes a store in the folder, if it has none")
+ANY_ROOT = Option("--any-root", "Takes a text that is one value alone, too, as `80`")
 WHOLE = Option("--whole", 'Allows the pointer "", which stands for the whole configuration')
 FORMAT = Option("--from", "Reads a text of another format, as yaml, toml, ini, env, properties or json5", "FORMAT")
 DOCUMENT = Option("--document", "Of a YAML text with several documents takes number N, from 1", "N")
@@ -147,12 +148,13 @@ WATCHED_NAME = Argument("NAME", "The configuration; all of them if it is left ou
 IMPORT = Word(
     "import",
     "Reads a YAML text, and puts its tree under a name",
-    (INIT, EXPLAIN, EDITS, *CONDITIONS, *PLANNED, *FOREIGN),
+    (INIT, ANY_ROOT, EXPLAIN, EDITS, *CONDITIONS, *PLANNED, *FOREIGN),
     (FOLDER, NAME, FILE),
     (
         "A configuration that has the name is replaced. Nothing is printed where it is done. Comments and quotes are"
         " not kept, and `3` is written `\"3\"`. A folder without a store is refused (NotAStore), and stays as it is,"
-        " unless `--init` is given. If a condition does not hold, nothing changes (Unmet).",
+        " unless `--init` is given. A text that is one value alone, as `80`, is refused (OneValue) unless `--any-root` is"
+        " given: mostly it is a file of another format. If a condition does not hold, nothing changes (Unmet).",
         "With `--from` the text is of another format, or is YAML with what a store does not have: aliases and merges"
         " are expanded, tags are dropped, and standard error says which. Several documents or files are imported all or"
         " none, and what comes of them is read by the program. In yaml, json5, ini, env and properties each value keeps"

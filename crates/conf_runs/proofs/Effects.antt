@@ -15,7 +15,7 @@ use Rattle.conf_history.specs.declared.fault.SalvageFault.{SalvageFault}
 use Rattle.conf_history.specs.declared.fault.SalvageFault.TheVariants as salvage
 use Rattle.conf_history.specs.declared.survey.Findings.{Findings as Surveyed}
 use Rattle.conf_words.specs.declared.invocation.Conditions.{Conditions}
-use Rattle.conf_words.specs.declared.invocation.Invocation.{Invocation}
+use Rattle.conf_words.specs.declared.invocation.{Invocation.Invocation, Root.Root}
 use Rattle.conf_words.specs.declared.invocation.TreeForm.{TreeForm}
 use Rattle.conf_words.specs.declared.invocation.Invocation.TheVariants.{Init, Import, Set, Delete, Copy, Rename}
 use Rattle.conf_words.specs.declared.invocation.Invocation.TheVariants.{Checkpoint, Run, Export, Names, Get, Exists}
@@ -135,12 +135,12 @@ module _ {W D F P : Type 0} (world : WorldModel W D F P) (disk : DiskModel D) (r
       of-conditional access folder does.conditions change old new status does.makes
   of-asked wanted access folder name path (Err fault) old new status does = nothing (Some folder) (same old new does.0)
 
-  of-import : (wanted : Conditions) (access : Access) (folder name : List ℕ) (read : Taken) (old new : W) (status : Status)
-      (does : ImportsRead world disk wanted access folder name read old new status)
-      → Effect old new status (Some folder) (imported world disk honest wanted access folder name read old new status does)
-  of-import wanted access folder name (Ok bytes) old new status does =
+  of-import : (wanted : Conditions) (root : Root) (access : Access) (folder name : List ℕ) (read : Taken) (old new : W) (status : Status)
+      (does : ImportsRead world disk wanted root access folder name read old new status)
+      → Effect old new status (Some folder) (imported world disk honest wanted root access folder name read old new status does)
+  of-import wanted root access folder name (Ok bytes) old new status does =
       of-asked wanted access folder name [] does.change old new status does.changes
-  of-import wanted access folder name (Err fault) old new status does = nothing (Some folder) (same old new does.0)
+  of-import wanted root access folder name (Err fault) old new status does = nothing (Some folder) (same old new does.0)
 
   of-run : (folder : List ℕ) (grouping : Grouping) (old new : Around W) (status : Status)
       (does : RunsOnFolder world disk folder grouping old new status)
@@ -368,9 +368,9 @@ module _ {W D F P : Type 0} (world : WorldModel W D F P) (disk : DiskModel D) (r
       → makes_new invocation ≡ false
       → Effect old.world new.world status (folder_of invocation) (call_of world disk remaining honest invocation old new status does)
   effect (Init folder) old new status does not_new = of-init folder.now old.world new.world status does.0
-  effect (Import folder name file absent conditions reporting) old new status does not_new =
+  effect (Import folder name file root absent conditions reporting) old new status does not_new =
       after old.world does.seen new.world (of-text file.now does.read old.world does.seen old.input new.input does.takes)
-      (of-import conditions (access_of absent) folder.now name.now does.read does.seen new.world status does.imports)
+      (of-import conditions root (access_of absent) folder.now name.now does.read does.seen new.world status does.imports)
   effect (Set folder name pointer value conditions reporting) old new status does not_new =
       after old.world does.0.seen new.world (of-value name.now pointer.now value does.0.change old.world does.0.seen
       old.input new.input does.0.is)
@@ -421,8 +421,8 @@ module _ {W D F P : Type 0} (world : WorldModel W D F P) (disk : DiskModel D) (r
       (λ same. is_other (ap Some (sym same))) is)
   spares path (Init folder) old new status does is_other image is =
       beside path old.world new.world (effect (Init folder) old new status does refl) is_other image is
-  spares path (Import folder name file absent conditions reporting) old new status does is_other image is =
-      beside path old.world new.world (effect (Import folder name file absent conditions reporting) old new status
+  spares path (Import folder name file root absent conditions reporting) old new status does is_other image is =
+      beside path old.world new.world (effect (Import folder name file root absent conditions reporting) old new status
       does refl) is_other image is
   spares path (Set folder name pointer value conditions reporting) old new status does is_other image is =
       beside path old.world new.world (effect (Set folder name pointer value conditions reporting) old new status does

@@ -130,7 +130,7 @@ module _ {E : Type 0} (hears : E → List ℕ → E → Type 0) where
   -- told how many, and nothing else is told.
   abbrev pub Leaves : Invocation → E → Ending → E → Type 0
   Leaves (Init folder) old ending new = LeavesOpened old ending new
-  Leaves (Import folder name file absent conditions reporting) old ending new = LeavesImport old ending new
+  Leaves (Import folder name file root absent conditions reporting) old ending new = LeavesImport old ending new
   Leaves (Set folder name pointer value conditions reporting) old ending new = LeavesSet old ending new
   Leaves (Delete folder name pointer conditions) old ending new = LeavesOpened old ending new
   Leaves (Copy folder name to conditions) old ending new = LeavesOpened old ending new

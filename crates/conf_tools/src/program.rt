@@ -135,6 +135,7 @@ fn perform_word<'w, A: World, R: Read, W: Write, E: Listener>(
             folder,
             name,
             file,
+            root,
             missing,
             conditions,
             reporting,
@@ -145,6 +146,7 @@ fn perform_word<'w, A: World, R: Read, W: Write, E: Listener>(
                 folder,
                 name,
                 file,
+                root,
                 missing,
                 conditions,
             };
@@ -426,7 +428,9 @@ pub(crate) fn status_of(fault: ToolFault) -> Status
 {
     match fault {
         ToolFault::Input | ToolFault::Output => Status::Device,
-        ToolFault::Read(_) | ToolFault::Comments(_) | ToolFault::Unsettled => Status::Refused,
+        ToolFault::Read(_) | ToolFault::Comments(_) | ToolFault::Unsettled | ToolFault::OneValue => {
+            Status::Refused
+        }
     }
 }
 

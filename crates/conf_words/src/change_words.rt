@@ -10,7 +10,7 @@ use crate::conditions::{
     IF_ABSENT, IF_ABSENT_ARGUMENT, IF_COUNT_ARGUMENT, IF_VALUE_ARGUMENT, conditions_of,
 };
 use crate::invocation::{
-    Conditions, Grouping, Invocation, MissingStore, STANDARD_INPUT, Value, Wanted,
+    Conditions, Grouping, Invocation, MissingStore, Root, STANDARD_INPUT, Value, Wanted,
 };
 use crate::listing::Listing;
 use crate::refusal::refused;
@@ -45,6 +45,12 @@ pub(crate) const IMPORT: Listing = Listing {
             form: Form::Flag,
             relation: Relation::Free,
         },
+        Argument {
+            name: ANY_ROOT,
+            help: "Takes a text that is one value alone, too, as `80`",
+            form: Form::Flag,
+            relation: Relation::Free,
+        },
         EXPLAIN_ARGUMENT,
         IF_VALUE_ARGUMENT,
         IF_ABSENT_ARGUMENT,
@@ -62,7 +68,9 @@ pub(crate) const IMPORT: Listing = Listing {
     help: "\
 A configuration that has the name is replaced. Nothing is printed where it is done. Comments and
 quotes are not kept, and `3` is written `\"3\"`. A folder without a store is refused (NotAStore), and
-stays as it is, unless --init is given. If a condition does not hold, nothing changes (Unmet).
+stays as it is, unless --init is given. A text that is one value alone, as `80`, is refused (OneValue)
+unless --any-root is given: mostly it is a file of another format. If a condition does not hold, nothing
+changes (Unmet).
 
 A text that is refused is reported on standard error with its file, `-` for standard input, as
 `web.yaml:501:1: KeyTwice \"key250\" (first at 17:1)`. With --explain, or where standard error is a
@@ -85,10 +93,22 @@ pub(crate) fn import_invocation<'w>(words: &ArgMatches<'w>) -> Option<Invocation
         folder: words.get_str(FOLDER)?,
         name: words.get_str(NAME)?,
         file: words.get_str(FILE).unwrap_or(STANDARD_INPUT),
+        root: root_of(words),
         missing: missing_of(words),
         conditions: conditions_of(words),
         reporting: reporting_of(words),
     })
+}
+
+/// The word of `import` that has any text taken.
+const ANY_ROOT: &str = "any-root";
+
+fn root_of(words: &ArgMatches<'_>) -> Root {
+    if words.get_flag(ANY_ROOT) {
+        Root::Any
+    } else {
+        Root::Collection
+    }
 }
 
 fn missing_of(words: &ArgMatches<'_>) -> MissingStore {

@@ -17,6 +17,7 @@ pub enum Invocation<'w> {
         folder: &'w str,
         name: &'w str,
         file: &'w str,
+        root: Root,
         missing: MissingStore,
         conditions: Conditions<'w>,
         reporting: Reporting,
@@ -252,6 +253,15 @@ pub enum Style {
     Bare,
     /// The same with the comments of the text.
     WithComments,
+}
+
+/// What an imported text may be.
+#[derive(Clone, Copy, Debug, PartialEq, Eq)]
+pub enum Root {
+    /// A mapping or a list. One value alone is refused.
+    Collection,
+    /// Any value.
+    Any,
 }
 
 /// What is done where the folder has no store.
