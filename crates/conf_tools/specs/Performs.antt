@@ -7,7 +7,7 @@ use Rattle.conf_words.specs.declared.invocation.Grouping.{Grouping as AskedGroup
 use Rattle.conf_words.specs.declared.invocation.{MissingStore.MissingStore, Root.Root}
 use Rattle.conf_words.specs.declared.invocation.Formatting.{Formatting}
 use Rattle.conf_tools.specs.{Asking.AskedConditions, Asking.AsksFor, Backups.BacksUpStore, Keeping.SalvagesTo}
-use Rattle.conf_tools.specs.{Keeping.Verifies, LogWords.Logs, Tools.IsTaken}
+use Rattle.conf_tools.specs.{Keeping.Verifies, LogWords.Logs, LogWords.commands_of, Tools.IsTaken}
 use Rattle.conf_tools.specs.{Statuses.status_of, Tools.Taken, Worlds.Around, Worlds.LeavesStreams, Worlds.WorldModel}
 use Rattle.conf_tools.specs.{declared.changes.Change.Change, declared.file_words.Report.TheVariants.Findings}
 use Rattle.conf_tools.specs.{declared.file_words.Report.TheVariants.Name, declared.program.Status.Status}
@@ -16,7 +16,8 @@ use Rattle.conf_tools.specs.{declared.stores.Grouping.TheVariants.Single, declar
 use Rattle.conf_tools.specs.{declared.texts.ToolFault.ToolFault, declared.world.Access.Access}
 use Rattle.conf_tools.specs.{declared.world.Access.TheVariants.Changing, declared.world.Access.TheVariants.Making}
 use Rattle.conf_tools.specs.StoreWords.{ChangesInFolder, ExportsFromFolder, Inits, MakesChange, Reads, RunsOnFolder}
-use Rattle.conf_tools.specs.StoreWords.{SaysNames, SaysPresence, SaysValue}
+use Rattle.conf_tools.specs.StoreWords.{SaysNames, SaysPresence, SaysValues}
+use Rattle.conf_tools.specs.Reads.{pointers_of}
 use Rattle.conf_tools.specs.TextWords.{ChecksRead, FormatsFile, FormatsRead, IsCopy, IsDelete, IsImport, IsRename}
 use Rattle.conf_tools.specs.TextWords.{IsSet, ReportsOnAll, RestylesAll, TakesText}
 use Rattle.conf_words.specs.declared.invocation.Formatting.TheVariants as formatting
@@ -166,12 +167,13 @@ module _ {W D F P : Type 0} (world : WorldModel W D F P) (disk : DiskModel D) (r
       ExportsFromFolder world disk form folder.now name.now old.world new.world old.output new.output status
       × (new.input ≡ old.input)
   Performs (Names folder at form) old new status = Asks world remaining folder.now (SaysNames at form) old new status
-  Performs (Get folder name pointer at absent form) old new status =
-      Asks world remaining folder.now (SaysValue at name.now pointer.now absent form) old new status
+  Performs (Get folder name pointers at absent form) old new status =
+      Asks world remaining folder.now (SaysValues at name.now (pointers_of pointers.items) absent form) old new status
   Performs (Exists folder name pointer at) old new status =
       Asks world remaining folder.now (SaysPresence at name.now pointer.now) old new status
-  Performs (Log folder at form) old new status =
-      Logs world remaining folder.now at form old.world new.world old.output new.output status × (new.input ≡ old.input)
+  Performs (Log folder name from at form) old new status =
+      Logs world remaining folder.now (commands_of name from at) form old.world new.world old.output new.output status
+      × (new.input ≡ old.input)
   Performs (Verify folder keep_dropped) old new status =
       Verifies world remaining folder.now keep_dropped old.world new.world old.output new.output status
       × (new.input ≡ old.input)
