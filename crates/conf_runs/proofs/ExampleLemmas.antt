@@ -1,6 +1,7 @@
 -- The bytes and trees of README's first example.
 use Rattle.std.proofs.Common.{◌≡◌, ℕ, false, List, [], ◌∷◌, None, Some, refl, sym, subst, codes, arith}
 use Rattle.std.specs.Str.{IsUtf8, chars}
+use Rattle.conf_tools.specs.Prelude.{IsRead}
 use Rattle.json_pointer.specs.Pointers.{path_of}
 use Rattle.std.specs.Prelude.{Ok}
 use Rattle.tree_path.specs.Paths.{set, put}
@@ -13,7 +14,6 @@ use Rattle.yaml_grammar.specs.Separation.{inline, lf}
 use Rattle.yaml_grammar.specs.Streams.{Stream, bare, stream_events}
 use Rattle.yaml_grammar.specs.Texts.{spaces}
 use Rattle.yaml_grammar.specs.Trees.{Tree, mapping, member, no_member, text}
-use Rattle.conf_tools.specs.Prelude.{IsRead}
 
 abbrev pub port_is : List ℕ → Tree
 port_is value = mapping (member (codes "port") (text value) no_member)

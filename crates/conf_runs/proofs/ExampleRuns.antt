@@ -25,6 +25,7 @@ use Rattle.conf_words.specs.declared.invocation.ValueForm.TheVariants.{Whole}
 use Rattle.conf_tools.specs.Asking.{AskedConditions}
 use Rattle.conf_tools.specs.Changes.{ChangeSurvives, Performs as ChangePerforms}
 use Rattle.conf_tools.specs.Performs.{ChangesAt, Performs}
+use Rattle.conf_tools.specs.Prelude.{IsRead}
 use Rattle.conf_tools.specs.ProgramCalls.{CallHolds, changing}
 use Rattle.conf_tools.specs.Reads.{ShowsTree}
 use Rattle.conf_tools.specs.StoreWords.{ChangesInFolder, Condition, MakesChange, conditions_of, status_at_end}
@@ -53,7 +54,6 @@ use Rattle.conf_runs.proofs.StatusLemmas.{not-done}
 use Rattle.conf_runs.proofs.WriteLemmas.{OneTree, not-read, reads-see-writes}
 use Rattle.yaml_config.specs.Limits.{config_limits}
 use Rattle.yaml_grammar.specs.Trees.{Tree, text}
-use Rattle.conf_tools.specs.Prelude.{IsRead}
 
 -- ---- what is kept of a set that was done
 
@@ -202,7 +202,7 @@ module _ {W D F P : Type 0} (world : WorldModel W D F P) (disk : DiskModel D) (r
   says-import : (invocation : Invocation) → SaysImport invocation → (old new : Around W) (status : Status)
       (does : Performs world disk remaining invocation old new status) → old.input ≡ Some (codes "port: 80\n")
       → Puts world disk remaining honest leaves (codes "shop") (codes "web") [] (port_is (codes "80")) invocation old new status does
-  says-import (Import folder named file absent conditions reporting) (of_folder, of_name, of_file) old new status does given =
+  says-import (Import folder named file root absent conditions reporting) (of_folder, of_name, of_file) old new status does given =
       (of_folder, of_name, refl, by does.takes)
     where
       gives : (read : Taken) → IfOk read (λ taken. taken.items ≡ codes "port: 80\n")
@@ -235,7 +235,8 @@ module _ {W D F P : Type 0} (world : WorldModel W D F P) (disk : DiskModel D) (r
 
   says-get : (invocation : Invocation) → SaysGet invocation
       → Asks world disk remaining honest leaves (codes "shop") (codes "web") [] invocation (Whole Styled)
-  says-get (Get folder named place None missing (Whole Styled)) (of_folder, of_name, of_place) = (of_folder, of_name, of_place, refl)
+  says-get (Get folder named pointers None missing (Whole Styled)) (of_folder, of_name, of_place) =
+      (of_folder, of_name, of_place ∙ ap (λ (q : List ℕ). q ∷ []) (sym chars-nil), refl)
   says-get invocation says = absurd says
 
   module _ (keeps : KeepsFolders world disk leaves) (gives_one : OneTree) (one : OneMeaning) (reads_one : ReadingIsAnImage)

@@ -1,6 +1,7 @@
 -- What a run that reads a value writes of a folder that has it in whatever state a crash leaves.
-use Rattle.std.proofs.Common.{◌≡◌, ◌≤◌, ◌⊎◌, inl, inr, ℕ, ◌+◌, Bool, List, [], length, Option, None, Some}
+use Rattle.std.proofs.Common.{◌≡◌, ◌≤◌, ◌⊎◌, inl, inr, ℕ, ◌+◌, Bool, List, [], ◌∷◌, ◌++◌, length, Option, None, Some}
 use Rattle.std.proofs.Common.{Result, Ok, Err, OnOk, IfOk, IfErr, IsErrAnd, option_map, refl, sym, ap, ◌∙◌, subst, arith}
+use Rattle.std.proofs.lemmas.List.{append-nil}
 use Rattle.std.proofs.lemmas.Str.{chars-nil}
 use Rattle.std.specs.Io.KnownBytes.{Appends, Keeps}
 use Rattle.std.specs.Prelude.{String, encode_utf8_all, string_bytes}
@@ -42,9 +43,9 @@ use Rattle.conf_words.specs.declared.invocation.ValueForm.{ValueForm}
 use Rattle.conf_words.specs.declared.invocation.ValueForm.TheVariants.{Whole}
 use Rattle.conf_tools.specs.Exports.{HasText, LacksText, disk_back}
 use Rattle.conf_tools.specs.Performs.{Performs}
-use Rattle.conf_tools.specs.Reads.{RefusesValue, ShowsTree, WritesValue, found_or, shown, tree_text}
+use Rattle.conf_tools.specs.Reads.{RefusesValues, ShowsAll, ShowsTree, WritesValues, found_or, pointers_of, shown, tree_text, value_or}
 use Rattle.conf_tools.specs.Statuses.{status_of_store}
-use Rattle.conf_tools.specs.StoreWords.{ExportsFromFolder, OpensFile, SaysOfFile, SaysValue, WritesFound, status_after_reading}
+use Rattle.conf_tools.specs.StoreWords.{ExportsFromFolder, OpensFile, SaysOfFile, SaysValues, WritesFound, status_after_reading}
 use Rattle.conf_tools.specs.Worlds.{Around, WorldModel}
 use Rattle.conf_tools.specs.declared.program.Status.{Status}
 use Rattle.conf_tools.specs.declared.program.Status.TheVariants.{Device, Done, Refused}
@@ -56,6 +57,7 @@ use Rattle.conf_tools.specs.declared.world.Access.TheVariants.{Reading}
 use Rattle.conf_runs.specs.Folders.{KeepsFolders}
 use Rattle.conf_runs.specs.FoldersRead.{GivesStore, IsUnread, MayHoldMore, MayLackStore, ShowsFolders}
 use Rattle.conf_runs.specs.Reads.{Asks, ExportRanOut, GetRanOut, RanOut, RanOutOn, Shows}
+use Rattle.conf_runs.proofs.RunLemmas.{file-one}
 use Rattle.conf_runs.proofs.StateLemmas.{empty-lacks}
 use Rattle.json_pointer.specs.Pointers.{path_of}
 use Rattle.tree_path.specs.Paths.{at}
@@ -129,24 +131,6 @@ Outcome ran_out bytes held written status =
 module _ (one : OneMeaning) (one_record : OneRecord) (nothing : RefusedMeansNothing) (several : Bool) (bytes : List ℕ) (s : Contents)
     (means : Means several bytes s) (name pointer : List ℕ) (missing : MissingValue) (form : ValueForm) (value : Tree)
     (there : value_at_path s (chars name) (chars pointer) ≡ Ok value) (text : List ℕ) (shows : ShowsTree form value text) where
-  written-value : (held written : Option (List ℕ))
-      → WritesValue several (Some bytes) None (chars name) (chars pointer) missing form held written → Appends held written text
-  written-value held written writes =
-      let same : writes.state ≡ s = one bytes several several writes.state s writes.holds means in
-      let found : found_or missing (value_at_path writes.state (chars name) (chars pointer)) ≡ Ok value =
-      ap (λ (t : Contents). found_or missing (value_at_path t (chars name) (chars pointer))) same
-      ∙ ap (found_or missing) there ∙ found-there missing value in
-      let tree : writes.shows.tree ≡ value = ok-one writes.shows.tree value (sym writes.shows.is ∙ found) in
-      let text_is : writes.bytes ≡ text = some-one writes.bytes text
-      (sym (subst (λ (t : Tree). ShowsTree form t writes.bytes) tree writes.shows.shows) ∙ shows) in
-      subst (λ (b : List ℕ). Appends held written b) text_is writes.writes
-    where
-      ok-one : (x y : Tree) → ◌≡◌ {A = Result Tree StoreFault} (Ok x) (Ok y) → x ≡ y
-      ok-one x y is = cc
-
-      some-one : (x y : List ℕ) → Some x ≡ Some y → x ≡ y
-      some-one x y is = cc
-
   -- the state that the file holds has the value
   held-there : (state : Contents) → Means several bytes state
       → found_or missing (value_at_path state (chars name) (chars pointer)) ≡ Ok value
@@ -154,6 +138,27 @@ module _ (one : OneMeaning) (one_record : OneRecord) (nothing : RefusedMeansNoth
       let same : state ≡ s = one bytes several several state s holds means in
       ap (λ (t : Contents). found_or missing (value_at_path t (chars name) (chars pointer))) same
       ∙ ap (found_or missing) there ∙ found-there missing value
+
+  -- what is shown of the one place is the text
+  shown-one : (state : Contents) → Means several bytes state → (all : List ℕ)
+      → ShowsAll (value_or missing state (chars name)) form (chars pointer ∷ []) all → all ≡ text
+  shown-one state holds all (first, others, shows_first, none, joined) =
+      let tree : shows_first.tree ≡ value = ok-one shows_first.tree value (sym shows_first.is ∙ held-there state holds) in
+      let first_is : first ≡ text = some-one first text
+      (sym (subst (λ (t : Tree). ShowsTree form t first) tree shows_first.shows) ∙ shows) in
+      joined ∙ ap (λ (bs : List ℕ). first ++ bs) none ∙ append-nil first ∙ first_is
+    where
+      ok-one : (x y : Tree) → ◌≡◌ {A = Result Tree StoreFault} (Ok x) (Ok y) → x ≡ y
+      ok-one x y is = cc
+
+      some-one : (x y : List ℕ) → Some x ≡ Some y → x ≡ y
+      some-one x y is = cc
+
+  written-value : (held written : Option (List ℕ))
+      → WritesValues several (Some bytes) None (chars name) (chars pointer ∷ []) missing form held written
+      → Appends held written text
+  written-value held written writes =
+      subst (λ (b : List ℕ). Appends held written b) (shown-one writes.state writes.holds writes.bytes writes.shows) writes.writes
 
   shown-not : (state : Contents) → Means several bytes state → (tree : Tree)
       → found_or missing (value_at_path state (chars name) (chars pointer)) ≡ Ok tree → shown form tree ≡ None → ⊥
@@ -167,11 +172,13 @@ module _ (one : OneMeaning) (one_record : OneRecord) (nothing : RefusedMeansNoth
 
   says-of : (result : Result (Unit {0}) ReadingFault) (held written : Option (List ℕ)) (status : Status)
       → status ≡ status_after_reading result
-      → OnOk result (WritesValue several (Some bytes) None (chars name) (chars pointer) missing form held written)
-      → IfErr result (RefusesValue several (Some bytes) None (chars name) (chars pointer) missing form held written)
+      → OnOk result (WritesValues several (Some bytes) None (chars name) (chars pointer ∷ []) missing form held written)
+      → IfErr result (RefusesValues several (Some bytes) None (chars name) (chars pointer ∷ []) missing form held written)
       → Outcome (IsErrAnd result RanOut) text held written status
   says-of (Ok done) held written status ends writes refuses = inl (ends, written-value held written writes)
-  says-of (Err (reading.Folder fault)) held written status ends writes refuses = absurd refuses.2
+  says-of (Err (reading.Folder fault)) held written status ends writes (state, holds, inl lacks, keeps) = absurd lacks
+  says-of (Err (reading.Folder fault)) held written status ends writes (state, holds, inr (first, shows_first, none), keeps) =
+      absurd none
   says-of (Err (reading.History history.Input)) held written status ends writes refuses = inr (inr ends)
   says-of (Err (reading.History history.OutOfMemory)) held written status ends writes refuses =
       inr (inl (ends, tt, refuses.1))
@@ -181,16 +188,23 @@ module _ (one : OneMeaning) (one_record : OneRecord) (nothing : RefusedMeansNoth
   says-of (Err (reading.History (history.Damaged bad))) held written status ends writes refuses =
       absurd (outside one_record nothing several bytes s means (history.Damaged bad) refuses.0)
   says-of (Err (reading.History history.NoSuchCommand)) held written status ends writes refuses = absurd refuses.0
-  says-of (Err (reading.Value fault)) held written status ends writes (state, holds, inl memory, keeps) =
+  says-of (Err (reading.Value fault)) held written status ends writes (state, holds, inl (inl memory), keeps) =
       inr (inl (ends, subst (λ (f : StoreFault). RanOut (reading.Value f)) (sym memory) tt, keeps))
-  says-of (Err (reading.Value fault)) held written status ends writes (state, holds, inr lacks, keeps) =
+  says-of (Err (reading.Value fault)) held written status ends writes (state, holds, inl (inr lacks), keeps) =
       let both : ◌≡◌ {A = Result Tree StoreFault} (Err fault) (Ok value) = sym lacks ∙ held-there state holds in
       absurd (cc both)
-  says-of (Err reading.NotText) held written status ends writes (state, holds, (tree, is, form_is, none), keeps) =
+  says-of (Err (reading.Value fault)) held written status ends writes (state, holds, inr (first, shows_first, none), keeps) =
+      absurd none
+  says-of (Err reading.NotText) held written status ends writes (state, holds, inr (first, shows_first, none), keeps) = absurd none
+  says-of (Err reading.NotText) held written status ends writes (state, holds, inl (tree, is, form_is, none), keeps) =
       absurd (shown-not state holds tree is none)
-  says-of (Err reading.NotCollection) held written status ends writes (state, holds, (tree, is, form_is, none), keeps) =
+  says-of (Err reading.NotCollection) held written status ends writes (state, holds, inr (first, shows_first, none), keeps) =
+      absurd none
+  says-of (Err reading.NotCollection) held written status ends writes (state, holds, inl (tree, is, form_is, none), keeps) =
       absurd (shown-not state holds tree is none)
-  says-of (Err (reading.Salvage fault)) held written status ends writes refuses = absurd refuses.2
+  says-of (Err (reading.Salvage fault)) held written status ends writes (state, holds, inl lacks, keeps) = absurd lacks
+  says-of (Err (reading.Salvage fault)) held written status ends writes (state, holds, inr (first, shows_first, none), keeps) =
+      absurd none
   says-of (Err reading.Output) held written status ends writes refuses = inr (inr ends)
 
 -- ---- a folder that has the value
@@ -213,12 +227,6 @@ module _ {W : Type 0} (leaves : W → List ℕ → Image → Type 0) where
       subst (λ (p : List ℕ). StandsIn leaves p own_name own_pointer value now) (sym of_path)
       (subst (λ (n : List ℕ). StandsIn leaves path n own_pointer value now) (sym of_name)
       (subst (λ (q : List ℕ). StandsIn leaves path name q value now) (sym of_pointer) stands))
-
--- a file means one state at most
-file-one : OneMeaning → (several : Bool) (file : Option (List ℕ)) (s t : Contents) → FileMeans several file s
-    → FileMeans several file t → s ≡ t
-file-one one several None s t a b = a ∙ sym b
-file-one one several (Some bytes) s t a b = one bytes several several s t a b
 
 -- the whole configuration is the tree under its name
 tree-there : (s : Contents) (name : List ℕ) (value : Tree) → value_at_path s name [] ≡ Ok value → tree_named s name ≡ Ok value
@@ -289,22 +297,26 @@ module _ {W D F P : Type 0} (world : WorldModel W D F P) (disk : DiskModel D) (r
     -- ---- `get`
 
     module _ (missing : MissingValue) (form : ValueForm) (text : List ℕ) (shows : ShowsTree form value text) (new : W)
-        (held written : Option (List ℕ)) (status : Status) where
+        (held written : Option (List ℕ)) (status : Status) (pointers : List (List ℕ)) (one_place : pointers ≡ chars pointer ∷ []) where
       says-at : (file : F) (given : Option (List ℕ)) (bytes : List ℕ) → given ≡ Some bytes → (s : Contents) → Has value s
           → Means (world.several file) bytes s
-          → (says : SaysValue None name pointer missing form (world.several file) given held written status)
+          → (says : SaysValues None name pointers missing form (world.several file) given held written status)
           → Outcome (IsErrAnd says.result RanOut) text held written status
       says-at file given bytes is s there means says =
           says-of one one_record nothing (world.several file) bytes s means name pointer missing form value there text shows
           says.result held written status says.ends
           (subst (λ (g : Option (List ℕ)). OnOk says.result
-          (WritesValue (world.several file) g None (chars name) (chars pointer) missing form held written)) is says.done)
+          (WritesValues (world.several file) g None (chars name) (chars pointer ∷ []) missing form held written)) is
+          (subst (λ (ps : List (List ℕ)). OnOk says.result
+          (WritesValues (world.several file) given None (chars name) ps missing form held written)) one_place says.done))
           (subst (λ (g : Option (List ℕ)). IfErr says.result
-          (RefusesValue (world.several file) g None (chars name) (chars pointer) missing form held written)) is says.refused)
+          (RefusesValues (world.several file) g None (chars name) (chars pointer ∷ []) missing form held written)) is
+          (subst (λ (ps : List (List ℕ)). IfErr says.result
+          (RefusesValues (world.several file) given None (chars name) ps missing form held written)) one_place says.refused))
 
       got : (file : Result F ReadingFault) → OpensFile world path now file new
-          → (says : SaysOfFile world.several remaining (SaysValue None name pointer missing form) file held written status)
-          → Outcome (GetRanOut world.several remaining None name pointer missing form file held written status says) text held
+          → (says : SaysOfFile world.several remaining (SaysValues None name pointers missing form) file held written status)
+          → Outcome (GetRanOut world.several remaining None name pointers missing form file held written status says) text held
           written status
       got (Ok file) opens says =
           let has = opened-file file (shows_folders.file path now new file opens) in
@@ -447,13 +459,13 @@ module _ {W D F P : Type 0} (world : WorldModel W D F P) (disk : DiskModel D) (r
       → Asks world disk remaining honest leaves path name pointer invocation form
       → StandsIn leaves path name pointer value old.world → (text : List ℕ) → ShowsTree form value text
       → Shows world disk remaining honest leaves path name pointer text invocation old new status does
-  asked value (Get folder named place None missing form) old new status does wanted (of_path, of_name, of_pointer, of_form)
+  asked value (Get folder named pointers None missing form) old new status does wanted (of_path, of_name, of_place, of_form)
       stands text shows =
-      got world disk remaining honest leaves keeps shows_folders folder.now named.now place.now one reads_one nothing one_record counts
+      got world disk remaining honest leaves keeps shows_folders folder.now named.now pointer one reads_one nothing one_record counts
       value old.world
-      (stands-as leaves path name pointer folder.now named.now place.now of_path of_name of_pointer value old.world stands)
+      (stands-as leaves path name pointer folder.now named.now pointer of_path of_name refl value old.world stands)
       missing form text (subst (λ (f : ValueForm). ShowsTree f value text) (sym of_form) shows) new.world old.output new.output status
-      does.0.file does.0.opens does.0.does
+      (pointers_of pointers.items) of_place does.0.file does.0.opens does.0.does
   asked value (Export folder named form) old new status does wanted (of_path, of_name, whole, of_form) stands text shows =
       exported world disk remaining honest leaves keeps shows_folders folder.now named.now pointer one reads_one nothing one_record counts
       value old.world

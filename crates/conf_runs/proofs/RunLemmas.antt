@@ -42,7 +42,7 @@ use Rattle.conf_runs.proofs.Effects.{Backed, Effect, Fits, backed, effect, made_
 use Rattle.conf_runs.proofs.Effects.{salvaged-to, saved_there, spares}
 
 -- a file means one state at most
-file-one : OneMeaning → (several : Bool) (file : Option (List ℕ)) (s t : Contents) → FileMeans several file s
+pub file-one : OneMeaning → (several : Bool) (file : Option (List ℕ)) (s t : Contents) → FileMeans several file s
     → FileMeans several file t → s ≡ t
 file-one one several None s t a b = a ∙ sym b
 file-one one several (Some bytes) s t a b = one bytes several several s t a b

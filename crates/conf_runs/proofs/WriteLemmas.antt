@@ -14,6 +14,8 @@ use Rattle.conf_store.specs.Calls.{journal_length, outcome, room_for}
 use Rattle.conf_store.specs.Meaning.{ImageMeans}
 use Rattle.conf_store.specs.Opens.{OneMeaning, RefusedMeansNothing}
 use Rattle.conf_store.specs.View.{StoreView}
+use Rattle.conf_words.specs.declared.invocation.Root.{Root}
+use Rattle.conf_words.specs.declared.invocation.Root.TheVariants.{Any, Collection}
 use Rattle.conf_words.specs.declared.invocation.Conditions.{Conditions}
 use Rattle.conf_words.specs.declared.invocation.Invocation.{Invocation}
 use Rattle.conf_words.specs.declared.invocation.Invocation.TheVariants.{Import, Set}
@@ -22,6 +24,7 @@ use Rattle.conf_tools.specs.Asking.{AskedConditions}
 use Rattle.conf_tools.specs.Changes.{ChangesOn, Makes}
 use Rattle.conf_tools.specs.Performs.{ChangesAt, ImportsRead, Performs, access_of}
 use Rattle.conf_tools.specs.Exports.{disk_handed_back}
+use Rattle.conf_tools.specs.Prelude.{IsRead}
 use Rattle.conf_tools.specs.ProgramCalls.{CallHolds}
 use Rattle.conf_tools.specs.Reads.{ShowsTree}
 use Rattle.conf_tools.specs.Statuses.{status_of}
@@ -53,7 +56,6 @@ use Rattle.conf_runs.proofs.StateLemmas.{empty-lacks, import-there, set-there}
 use Rattle.conf_runs.proofs.StatusLemmas.{not-done}
 use Rattle.yaml_config.specs.Limits.{config_limits}
 use Rattle.yaml_grammar.specs.Trees.{Tree}
-use Rattle.conf_tools.specs.Prelude.{IsRead}
 
 pub not-read : (fault : ToolFault) → Done ≡ status_of fault → ⊥
 not-read tool_fault.Input is = cc
@@ -61,6 +63,7 @@ not-read tool_fault.Output is = cc
 not-read (tool_fault.Read fault) is = cc
 not-read (tool_fault.Comments place) is = cc
 not-read tool_fault.Unsettled is = cc
+not-read tool_fault.OneValue is = cc
 
 -- ---- a run of commands of other configurations
 
@@ -141,9 +144,9 @@ module _ {W D F P : Type 0} (world : WorldModel W D F P) (disk : DiskModel D) (r
   -- ---- `import`
 
   module _ (gives_one : OneTree) (whole : pointer ≡ []) where
-    import-leads : (bytes : List ℕ) → IsRead bytes config_limits value → (change : Change) → IsImport name bytes (Ok change)
-        → Leads change
-    import-leads bytes reads (change.Import kept imported) (named, is) opened closed makes =
+    import-leads : (root : Root) (bytes : List ℕ) → IsRead bytes config_limits value → (change : Change)
+        → IsImport root name bytes (Ok change) → Leads change
+    import-leads root bytes reads (change.Import kept imported) (named, is, left) opened closed makes =
         let tree : makes.tree ≡ value =
         gives_one bytes makes.tree value
         (subst (λ (b : List ℕ). IsRead b config_limits makes.tree) is makes.reads) reads in
@@ -152,24 +155,32 @@ module _ {W D F P : Type 0} (world : WorldModel W D F P) (disk : DiskModel D) (r
         (room_for (journal_length opened) opened.state (single (import_as (text_of kept) makes.tree))) makes.accepts.step in
         subst (λ (q : List ℕ). value_at_path closed.state (chars name) q ≡ Ok value) (sym (ap chars whole ∙ chars-nil))
         (subst (λ (n : List ℕ). value_at_path closed.state n [] ≡ Ok value) named (there ∙ ap Ok tree))
-    import-leads bytes reads (change.Perform command) is opened closed makes = absurd is
-    import-leads bytes reads (change.Copy from to) is opened closed makes = absurd is
-    import-leads bytes reads (change.Rename from to) is opened closed makes = absurd is
-    import-leads bytes reads change.Checkpoint is opened closed makes = absurd is
+    import-leads Collection bytes reads (change.Perform command) (tree, tree_read, collection, said) opened closed makes =
+        let tree_is : tree ≡ value = gives_one bytes tree value tree_read reads in
+        let there : value_at_path closed.state (chars name) [] ≡ Ok tree =
+        import-there opened.state closed.state (chars name) tree
+        (room_for (journal_length opened) opened.state (single (import_as (chars name) tree)))
+        (subst (λ (c : Command). outcome (journal_length opened) opened.state c ≡ Ok closed.state) said makes.step) in
+        subst (λ (q : List ℕ). value_at_path closed.state (chars name) q ≡ Ok value) (sym (ap chars whole ∙ chars-nil))
+        (there ∙ ap Ok tree_is)
+    import-leads Any bytes reads (change.Perform command) is opened closed makes = absurd is
+    import-leads root bytes reads (change.Copy from to) is opened closed makes = absurd is
+    import-leads root bytes reads (change.Rename from to) is opened closed makes = absurd is
+    import-leads root bytes reads change.Checkpoint is opened closed makes = absurd is
 
-    import-leads-all : (bytes : List ℕ) → IsRead bytes config_limits value → (change : Result Change ToolFault)
-        → IsImport name bytes change → IfOk change Leads
-    import-leads-all bytes reads (Ok change) is = import-leads bytes reads change is
-    import-leads-all bytes reads (Err fault) is = tt
+    import-leads-all : (root : Root) (bytes : List ℕ) → IsRead bytes config_limits value → (change : Result Change ToolFault)
+        → IsImport root name bytes change → IfOk change Leads
+    import-leads-all root bytes reads (Ok change) is = import-leads root bytes reads change is
+    import-leads-all root bytes reads (Err fault) is = tt
 
-    imported : (wanted : Conditions) (access : Access) (folder : List ℕ) (read : Taken) (old new : W) (status : Status)
+    imported : (wanted : Conditions) (root : Root) (access : Access) (folder : List ℕ) (read : Taken) (old new : W) (status : Status)
         → status ≡ Done → IfOk read (λ taken. IsRead taken.items config_limits value)
-        → ImportsRead world disk wanted access folder name read old new status
+        → ImportsRead world disk wanted root access folder name read old new status
         → StandsIn leaves folder name pointer value new
-    imported wanted access folder (Ok bytes) old new status done reads does =
+    imported wanted root access folder (Ok bytes) old new status done reads does =
         changed-at wanted access folder name [] does.change old new status done
-        (import-leads-all bytes.items reads does.change does.is) does.changes
-    imported wanted access folder (Err fault) old new status done reads does = absurd (not-read fault (sym done ∙ does.1))
+        (import-leads-all root bytes.items reads does.change does.is) does.changes
+    imported wanted root access folder (Err fault) old new status done reads does = absurd (not-read fault (sym done ∙ does.1))
 
 module _ {W D F P : Type 0} (world : WorldModel W D F P) (disk : DiskModel D) (remaining : F → Option (List ℕ))
     (honest : disk.honest) (leaves : W → List ℕ → Image → Type 0) (path name pointer : List ℕ)
@@ -189,10 +200,10 @@ module _ {W D F P : Type 0} (world : WorldModel W D F P) (disk : DiskModel D) (r
       (subst (λ (q : List ℕ). IfOk does.0.change (SetsAt named.now q value)) (sym of_pointer)
       (subst (λ (n : List ℕ). IfOk does.0.change (SetsAt n pointer value)) (sym of_name) sets)))
       does.0.changes)
-  put-there value (Import folder named file absent conditions reporting) old new status does
+  put-there value (Import folder named file root absent conditions reporting) old new status does
       (of_path, of_name, whole, reads) done =
       stands-as leaves folder.now named.now pointer path name pointer (sym of_path) (sym of_name) refl value new.world
-      (imported world disk remaining honest leaves keeps named.now pointer value gives_one whole conditions (access_of absent)
+      (imported world disk remaining honest leaves keeps named.now pointer value gives_one whole conditions root (access_of absent)
       folder.now does.read does.seen new.world status done reads does.imports)
   put-there value invocation old new status does puts done = absurd puts
 

@@ -8,6 +8,7 @@ use Rattle.conf_words.specs.declared.invocation.TreeForm.TheVariants.{Styled}
 use Rattle.conf_words.specs.declared.invocation.Value.TheVariants.{Text}
 use Rattle.conf_words.specs.declared.invocation.ValueForm.TheVariants.{Whole}
 use Rattle.conf_tools.specs.Performs.{Performs}
+use Rattle.conf_tools.specs.Reads.{pointers_of}
 use Rattle.conf_tools.specs.Worlds.{Around, WorldModel}
 use Rattle.conf_tools.specs.declared.program.Status.{Status}
 use Rattle.conf_tools.specs.declared.program.Status.TheVariants.{Done}
@@ -23,7 +24,7 @@ SaysInit invocation = ⊥
 
 -- confstore import shop web
 abbrev pub SaysImport : Invocation → Type 0
-SaysImport (Import folder name file absent conditions reporting) =
+SaysImport (Import folder name file root absent conditions reporting) =
     (folder.now ≡ codes "shop") × (name.now ≡ codes "web") × (file.now ≡ codes "-")
 SaysImport invocation = ⊥
 
@@ -35,8 +36,8 @@ SaysSet invocation = ⊥
 
 -- confstore get shop web
 abbrev pub SaysGet : Invocation → Type 0
-SaysGet (Get folder name pointer None missing (Whole Styled)) =
-    (folder.now ≡ codes "shop") × (name.now ≡ codes "web") × (pointer.now ≡ [])
+SaysGet (Get folder name pointers None missing (Whole Styled)) =
+    (folder.now ≡ codes "shop") × (name.now ≡ codes "web") × (pointers_of pointers.items ≡ [] ∷ [])
 SaysGet invocation = ⊥
 
 module _ {W D F P : Type 0} (world : WorldModel W D F P) (disk : DiskModel D) (remaining : F → Option (List ℕ))

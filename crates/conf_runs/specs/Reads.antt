@@ -20,8 +20,9 @@ use Rattle.conf_words.specs.declared.invocation.TreeForm.{TreeForm}
 use Rattle.conf_words.specs.declared.invocation.ValueForm.{ValueForm}
 use Rattle.conf_words.specs.declared.invocation.ValueForm.TheVariants.{Whole}
 use Rattle.conf_tools.specs.Performs.{Performs}
-use Rattle.conf_tools.specs.Reads.{ShowsTree}
-use Rattle.conf_tools.specs.StoreWords.{ExportsFromFolder, SaysOfFile, SaysValue}
+use Rattle.conf_tools.specs.Prelude.{IsRead}
+use Rattle.conf_tools.specs.Reads.{ShowsTree, pointers_of}
+use Rattle.conf_tools.specs.StoreWords.{ExportsFromFolder, SaysOfFile, SaysValues}
 use Rattle.conf_tools.specs.TextWords.{SetsAt}
 use Rattle.conf_tools.specs.Worlds.{Around, WorldModel}
 use Rattle.conf_tools.specs.declared.program.Status.{Status}
@@ -38,7 +39,6 @@ use Rattle.json_pointer.specs.Pointers.{path_of}
 use Rattle.tree_path.specs.Paths.{index_of, after_last}
 use Rattle.yaml_config.specs.Limits.{config_limits}
 use Rattle.yaml_grammar.specs.Trees.{Tree}
-use Rattle.conf_tools.specs.Prelude.{IsRead}
 
 -- ---- why a run that reads stops where the value is there
 
@@ -57,12 +57,12 @@ RanOutOn (tool.Export state_fault.OutOfMemory) = Unit {0}
 RanOutOn fault = ⊥
 
 module _ {F : Type 0} (several : F → Bool) (remaining : F → Option (List ℕ)) where
-  -- it ran out for a run that reads the value of a store's file
-  abbrev pub GetRanOut : (at : Option ℕ) (name pointer : List ℕ) (missing : MissingValue) (form : ValueForm)
+  -- it ran out for a run that reads values of a store's file
+  abbrev pub GetRanOut : (at : Option ℕ) (name : List ℕ) (pointers : List (List ℕ)) (missing : MissingValue) (form : ValueForm)
       (file : Result F ReadingFault) (held written : Option (List ℕ)) (status : Status)
-      → SaysOfFile several remaining (SaysValue at name pointer missing form) file held written status → Type 0
-  GetRanOut at name pointer missing form (Ok file) held written status says = IsErrAnd says.result RanOut
-  GetRanOut at name pointer missing form (Err fault) held written status says = RanOut fault
+      → SaysOfFile several remaining (SaysValues at name pointers missing form) file held written status → Type 0
+  GetRanOut at name pointers missing form (Ok file) held written status says = IsErrAnd says.result RanOut
+  GetRanOut at name pointers missing form (Err fault) held written status says = RanOut fault
 
 module _ {W D F P : Type 0} (world : WorldModel W D F P) (disk : DiskModel D) where
   -- or for one that exports it
@@ -95,7 +95,7 @@ module _ {W D F P : Type 0} (world : WorldModel W D F P) (disk : DiskModel D) (r
   Puts value (Set folder named place given conditions reporting) old new status does =
       (folder.now ≡ path) × (named.now ≡ name) × (place.now ≡ pointer) × IsSteady pointer
       × IfOk does.0.change (SetsAt name pointer value)
-  Puts value (Import folder named file absent conditions reporting) old new status does =
+  Puts value (Import folder named file root absent conditions reporting) old new status does =
       (folder.now ≡ path) × (named.now ≡ name) × (pointer ≡ [])
       × IfOk does.read (λ text. IsRead text.items config_limits value)
   Puts value invocation old new status does = ⊥
@@ -124,8 +124,8 @@ module _ {W D F P : Type 0} (world : WorldModel W D F P) (disk : DiskModel D) (r
 
   -- The words ask for what is there now, in this form. An export writes a whole configuration.
   abbrev pub Asks : Invocation → ValueForm → Type 0
-  Asks (Get folder named place None missing form) wanted =
-      (folder.now ≡ path) × (named.now ≡ name) × (place.now ≡ pointer) × (form ≡ wanted)
+  Asks (Get folder named pointers None missing form) wanted =
+      (folder.now ≡ path) × (named.now ≡ name) × (pointers_of pointers.items ≡ chars pointer ∷ []) × (form ≡ wanted)
   Asks (Export folder named form) wanted =
       (folder.now ≡ path) × (named.now ≡ name) × (pointer ≡ []) × (Whole form ≡ wanted)
   Asks invocation wanted = ⊥
@@ -133,8 +133,8 @@ module _ {W D F P : Type 0} (world : WorldModel W D F P) (disk : DiskModel D) (r
   -- memory ran out for them
   abbrev pub AskedRanOut : (invocation : Invocation) (old new : Around W) (status : Status)
       → Performs world disk remaining invocation old new status → Type 0
-  AskedRanOut (Get folder named place at missing form) old new status does =
-      GetRanOut world.several remaining at named.now place.now missing form does.0.file old.output new.output status
+  AskedRanOut (Get folder named pointers at missing form) old new status does =
+      GetRanOut world.several remaining at named.now (pointers_of pointers.items) missing form does.0.file old.output new.output status
       does.0.does
   AskedRanOut (Export folder named form) old new status does =
       ExportRanOut world disk form folder.now named.now old.world new.world old.output new.output status does.0
