@@ -21,78 +21,15 @@ use Rattle.conf_files.specs.Replacing.{LeavesBefore}
 use Rattle.conf_files.specs.Creating.{IsUnmade, IsPart, HasPart, ReadsPart, LeavesPart, IsNoneOrPart}
 use Rattle.conf_files.specs.Steps.{IsEmpty, IsFilling, Fills}
 use Rattle.conf_files.proofs.Moving.{Passes-joined, Passes-weaker}
-use Rattle.conf_files.proofs.Standing.{OnlyNew-new, private-version}
+use Rattle.conf_files.proofs.Standing.{OnlyNew-new}
 use Rattle.conf_files.proofs.Replaced.{now-among, might-left}
 
 -- ---- the bytes of the new file
-
--- a file of which the device lacks what it has, which is a part of the bytes
-part-written : (file : Option File) (bytes : List ℕ) (k : ℕ) → IsEmpty file
-    → HasPart bytes (option_map (with_version (with_pending (take k bytes))) file)
-part-written None bytes k empty = absurd empty
-part-written (Some file) bytes k empty =
-    (k, ap (λ (version : Version). version_bytes (with_pending (take k bytes) version)) empty.1)
 
 synced-bytes : (version : Version) (failed : Bool)
     → version_bytes (synced (record version { failed = failed })) ≡ version_bytes version
 synced-bytes version true = refl
 synced-bytes version false = append-nil (version_bytes version)
-
-part-synced : (file : Option File) (bytes : List ℕ) → HasPart bytes file → HasPart bytes (option_map (with_version synced) file)
-part-synced None bytes part = part
-part-synced (Some file) bytes part = (part.0, synced-bytes file.version file.version.failed ∙ part.1)
-
-part-failed : (file : Option File) (bytes : List ℕ) → HasPart bytes file → HasPart bytes (option_map (with_version failed_sync) file)
-part-failed None bytes part = part
-part-failed (Some file) bytes part = part
-
-filling-wrote : (start : Machine) (bytes : List ℕ) (k : ℕ) → IsEmpty start.new → NewIsPrivate start.new
-    → IsFilling start bytes (after (Write (take k bytes)) start)
-filling-wrote start bytes k empty private = record {
-  frame = OnlyNew-new start (option_map (with_version (with_pending (take k bytes))) start.new) start.is_refused;
-  part = part-written start.new bytes k empty;
-  is_private = private-version start.new (with_pending (take k bytes)) private;
-}
-
-pub Fills-wrote : {S : Type 0} (model : FileModel S) (bytes : List ℕ) (count : ℕ) (old new : S)
-    → IsEmpty (model.machine old).new → NewIsPrivate (model.machine old).new → Wrote model bytes count old new
-    → Fills model bytes old new
-Fills-wrote model bytes count old new empty private wrote = record {
-  now = subst (IsFilling (model.machine old) bytes) (sym wrote.change) (filling-wrote (model.machine old) bytes count empty private);
-  moments = Passes-weaker model old new _ (IsFilling (model.machine old) bytes) wrote.time
-      (λ m is. subst (IsFilling (model.machine old) bytes) (sym is.2) (filling-wrote (model.machine old) bytes is.0 empty private));
-}
-
-filling-synced : (start m : Machine) (bytes : List ℕ) (change : Version → Version)
-    → HasPart bytes (option_map (with_version change) m.new) → IsFilling start bytes m
-    → IsFilling start bytes (with_new m (with_version change))
-filling-synced start m bytes change part filling = record {
-  frame = record {
-    same_old = filling.frame.same_old;
-    earlier = filling.frame.earlier;
-    now = filling.frame.now;
-    is_left = filling.frame.is_left;
-  };
-  part = part;
-  is_private = private-version m.new change filling.is_private;
-}
-
-pub filling-done : (start m : Machine) (bytes : List ℕ) → IsFilling start bytes m → IsFilling start bytes (after SyncNew m)
-filling-done start m bytes filling = filling-synced start m bytes synced (part-synced m.new bytes filling.part) filling
-
-pub filling-failed : (start m : Machine) (bytes : List ℕ) (k : ℕ) → IsFilling start bytes m
-    → IsFilling start bytes (failing k SyncNew m)
-filling-failed start m bytes k filling = filling-synced start m bytes failed_sync (part-failed m.new bytes filling.part) filling
-
--- and then a call that leaves it so
-pub Fills-then : {S : Type 0} (model : FileModel S) (bytes : List ℕ) (old mid new : S) → Fills model bytes old mid
-    → Passes model mid new (λ m. m ≡ model.machine new) → IsFilling (model.machine old) bytes (model.machine new)
-    → Fills model bytes old new
-Fills-then model bytes old mid new fills time filling = record {
-  now = filling;
-  moments = Passes-joined model old mid new _ _ (IsFilling (model.machine old) bytes) fills.moments time (λ m is. is)
-      (λ m is. subst (IsFilling (model.machine old) bytes) (sym is) filling);
-}
 
 -- ---- the names
 

@@ -16,14 +16,6 @@ use Rattle.conf_files.specs.Steps.{IsEmpty, IsFilled, IsGiven}
 abbrev pub HasPending : List ℕ → Option File → Type 0
 HasPending bytes file = option_map (λ (f : File). f.version) file ≡ Some (record { device = []; pending = bytes; failed = false })
 
-pub empty-some : (file : Option File) → IsEmpty file → IsSome file
-empty-some None empty = absurd empty
-empty-some (Some file) empty = refl
-
-pub empty-private : (file : Option File) → IsEmpty file → NewIsPrivate file
-empty-private None empty = tt
-empty-private (Some file) empty = empty.0
-
 pub some-changed : (file : Option File) (change : File → File) → IsSome file → IsSome (option_map change file)
 some-changed None change some = some
 some-changed (Some file) change some = refl
@@ -44,11 +36,6 @@ pub rights-synced : (file : Option File) (change : Version → Version)
 rights-synced None change = refl
 rights-synced (Some file) change = refl
 
-pub same-rights : (file : Option File) (change : Rights → Rights)
-    → option_map (λ (f : File). f.version) (option_map (with_rights change) file) ≡ option_map (λ (f : File). f.version) file
-same-rights None change = refl
-same-rights (Some file) change = refl
-
 pub rights-changed : (file : Option File) (change : Rights → Rights) (made : Rights)
     → option_map (λ (f : File). f.rights) file ≡ Some made
     → option_map (λ (f : File). f.rights) (option_map (with_rights change) file) ≡ Some (change made)
@@ -67,51 +54,8 @@ TakesAfter-same replaced old m rights refused takes = record {
   group = λ granted. takes.group (sym refused ∙ granted);
 }
 
--- an owner and a group were given
-pub IsGiven-owner : (replaced : Rights) (m : Machine) → IsGiven replaced (after (GiveOwner replaced.owner replaced.group) m)
-IsGiven-owner replaced m = record {
-  owner = λ granted rights has. owner-of m.new rights has;
-  group = λ granted rights has. group-of m.new rights has;
-}
-  where
-    owner-of : (file : Option File) (rights : Rights)
-        → option_map (λ (f : File). f.rights)
-        (option_map (with_rights (λ r. record r { owner = replaced.owner; group = replaced.group })) file)
-        ≡ Some rights → rights.owner ≡ replaced.owner
-    owner-of None rights has = cc
-    owner-of (Some file) rights has =
-        let same : rights ≡ record file.rights { owner = replaced.owner; group = replaced.group } = cc in
-        ap (λ (r : Rights). r.owner) same
-
-    group-of : (file : Option File) (rights : Rights)
-        → option_map (λ (f : File). f.rights)
-        (option_map (with_rights (λ r. record r { owner = replaced.owner; group = replaced.group })) file)
-        ≡ Some rights → rights.group ≡ replaced.group
-    group-of None rights has = cc
-    group-of (Some file) rights has =
-        let same : rights ≡ record file.rights { owner = replaced.owner; group = replaced.group } = cc in
-        ap (λ (r : Rights). r.group) same
-
--- the system refused
-pub IsGiven-refused : (replaced : Rights) (m : Machine) → m.is_refused ≡ true → IsGiven replaced m
-IsGiven-refused replaced m refused = record {
-  owner = λ granted rights has. cc;
-  group = λ granted rights has. cc;
-}
-
 pub IsGiven-same : (replaced : Rights) (old m : Machine) → m ≡ old → IsGiven replaced old → IsGiven replaced m
 IsGiven-same replaced old m is given = subst (IsGiven replaced) (sym is) given
-
--- the new file has the mode already
-pub TakesAfter-told : (replaced made : Rights) (m : Machine) → IsGiven replaced m → rights_at m New ≡ Some made
-    → made.mode ≡ mode_after replaced made → TakesAfter replaced m
-TakesAfter-told replaced made m given has mode = record {
-  rights = made;
-  has = has;
-  mode = mode;
-  owner = λ granted. given.owner granted made has;
-  group = λ granted. given.group granted made has;
-}
 
 -- it gets the mode
 pub TakesAfter-mode : (replaced made : Rights) (m : Machine) (mode : ℕ) → IsGiven replaced m → rights_at m New ≡ Some made

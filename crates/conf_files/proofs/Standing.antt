@@ -25,14 +25,6 @@ OnlyNew-same old m is = record {
   is_left = ap (λ (n : Machine). n.is_left) is;
 }
 
-pub OnlyNew-joined : (old mid m : Machine) → OnlyNew old mid → OnlyNew mid m → OnlyNew old m
-OnlyNew-joined old mid m first second = record {
-  same_old = second.same_old ∙ first.same_old;
-  earlier = second.earlier ∙ first.earlier;
-  now = second.now ∙ first.now;
-  is_left = second.is_left ∙ first.is_left;
-}
-
 -- a machine in which the new file is another one, and refusals may be
 pub OnlyNew-new : (old : Machine) (file : Option File) (refused : Bool)
     → OnlyNew old (record old { new = file; is_refused = refused })
@@ -60,9 +52,6 @@ Stands-fresh before fresh = record {
   narrow = subst (IsNarrow before.old.rights) (sym fresh.none) tt;
 }
 
-not-new : (leads : Leads) → leads ≡ Old → IsNotNew leads
-not-new leads is = subst IsNotNew (sym is) tt
-
 -- a new file gets a name beside the other
 pub Stands-created : (before m : Machine) (rights : Rights) → IsPrivate rights → Stands before m
     → Stands before (after (CreateBeside rights) m)
@@ -80,11 +69,6 @@ Stands-created before m rights private stands = record {
     next = record { given = m.now.given; beside = New }
 
 -- ---- what of the new file stays narrow
-
-pub private-version : (file : Option File) (change : Version → Version) → NewIsPrivate file
-    → NewIsPrivate (option_map (with_version change) file)
-private-version None change private = tt
-private-version (Some file) change private = private
 
 pub narrow-version : (replaced : Rights) (file : Option File) (change : Version → Version) → IsNarrow replaced file
     → IsNarrow replaced (option_map (with_version change) file)
@@ -154,12 +138,6 @@ KeepsStanding-wrote model replaced bytes count old new wrote = λ before is stan
       written count (model.machine new) wrote.change,
       Passes-weaker model old new _ (Stands before) wrote.time (λ m so. written so.0 m so.2),
     )
-
-pub OnlyNew-wrote : {S : Type 0} (model : FileModel S) (bytes : List ℕ) (count : ℕ) (old new : S)
-    → Wrote model bytes count old new → OnlyNew (model.machine old) (model.machine new)
-OnlyNew-wrote model bytes count old new wrote =
-    OnlyNew-along (model.machine old) (after (Write (take count bytes)) (model.machine old)) (model.machine new) wrote.change
-    (write-frame (model.machine old) (take count bytes))
 
 -- a call that changes the new file alone goes, and leaves it narrow
 pub KeepsStanding-goes : {S E : Type 0} (model : FileModel S) (call : Call) (replaced : Rights) (old : S)
