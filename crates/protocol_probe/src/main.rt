@@ -8,9 +8,9 @@
 //!
 //! The answer to a script is how many calls are done where none fails, and `nothing lost`, or the first run after which
 //! something was. A next run has to find, under `store.yaml`, all bytes of which a sync said that they are on the
-//! device, and after them only bytes that were appended, each as it was or zero. A file that was renamed to `store.yaml`
-//! may be missing there until the folder is synced. What the next run finds it syncs, and the machine crashes once more:
-//! all of it has to be left.
+//! device, and after them only bytes that were appended, each as it was or zero. A file that was renamed to
+//! `store.yaml` may be missing there until the folder is synced. What the next run finds it syncs, and the machine
+//! crashes once more: all of it has to be left.
 #![tactic(auto)]
 
 mod attacks;
