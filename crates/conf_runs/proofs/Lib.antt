@@ -1,6 +1,7 @@
 pub mod Effects
 pub mod ExampleLemmas
 pub mod ExampleRuns
+pub mod FileLemmas
 pub mod OtherLemmas
 pub mod ReadLemmas
 pub mod RunLemmas

@@ -1,6 +1,8 @@
-// What runs of the program keep of the store in a folder.
+// What runs of the program keep of the store in a folder, and of files.
 ghost use Rattle.conf_runs.specs.Example.{FirstExample};
+ghost use Rattle.conf_runs.specs.Files.{FilesModel};
 ghost use Rattle.conf_runs.specs.Reads.{OthersStay, ReadsSeeWrites};
+ghost use Rattle.conf_runs.specs.Restyled.{RestyledFilesHold};
 ghost use Rattle.conf_runs.specs.Runs.{RunsHold};
 ghost use Rattle.conf_disk.specs.Image.{Image};
 ghost use Rattle.std.specs.Prelude.{ℕ, List};
@@ -16,6 +18,12 @@ use yaml_recognizers::texts::unambiguous;
 pub trait Folders: World {
     /// What a crash at a moment leaves of the folder at a path.
     ghost leaves: { Self → List ℕ → Image → Type 0 };
+}
+
+/// A world of which one knows what a crash leaves of the files that are replaced in it.
+pub trait Files: World {
+    /// What a crash at a moment leaves of the file at a path, and which paths lead to a place.
+    ghost files: { FilesModel Self Self.Place };
 }
 
 /// Whatever crashes happen within and between runs of the program, no change is lost that was acknowledged, and none is
@@ -94,3 +102,20 @@ pub fn first_example_holds<A: Folders>()
     one_tree();
     unambiguous();
 }
+
+/// A crash leaves of a file that `format -i` names its old text or its text in the style, whole.
+///
+/// Take any run of [`perform`](conf_tools::perform) with words of `format -i`. It returned, with any status, or was
+/// cut off at any moment. Whatever a crash then leaves of a file is what a crash might have left before the run, or the
+/// whole text in the style of what the run read of this file. Where comments are neither dropped nor kept, what it read
+/// has none. So no part of a text is left, and no file is lost. A file that the words do not name, by its path or by
+/// another one that leads to it, is what a crash might have left before the run.
+///
+/// If the status was [`Done`](conf_tools::Status::Done), a crash leaves of each file that the words name its text in
+/// the style. A file that was read to be in the style is not replaced, and stays what a crash might have left before.
+///
+/// It holds in a world that keeps its files: a file is replaced whole or not at all, at each moment of the call and
+/// also where the call fails. No other file changes by it, and none by being opened.
+pub fn restyled_files_hold<A: Files>()
+    ensures { RestyledFilesHold A.model A.Disk.model A.File.remaining A.files }
+{}
