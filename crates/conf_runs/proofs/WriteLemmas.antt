@@ -155,7 +155,7 @@ module _ {W D F P : Type 0} (world : WorldModel W D F P) (disk : DiskModel D) (r
         (room_for (journal_length opened) opened.state (single (import_as (text_of kept) makes.tree))) makes.accepts.step in
         subst (λ (q : List ℕ). value_at_path closed.state (chars name) q ≡ Ok value) (sym (ap chars whole ∙ chars-nil))
         (subst (λ (n : List ℕ). value_at_path closed.state n [] ≡ Ok value) named (there ∙ ap Ok tree))
-    import-leads Collection bytes reads (change.Perform command) (tree, tree_read, collection, said) opened closed makes =
+    import-leads Collection bytes reads (change.Perform command) (tree, tree_read, (collection, said)) opened closed makes =
         let tree_is : tree ≡ value = gives_one bytes tree value tree_read reads in
         let there : value_at_path closed.state (chars name) [] ≡ Ok tree =
         import-there opened.state closed.state (chars name) tree
