@@ -25,13 +25,6 @@ first-once entries path i j one other = elim (cases_eq j i) [
 ]
 
 module _ (old new : List Entry) (place : ℕ) (folder : Option Folder) (change : Changes old new place folder) where
-  pub first-kept : (path : List ℕ) (i : ℕ) → IsFirst old path i → IsFirst new path i
-  first-kept path i first = record {
-    within = omega (arith, first.within, change.count);
-    here = change.paths i ∙ first.here;
-    before = λ other lt is. first.before other lt (sym (change.paths other) ∙ is);
-  }
-
   pub first-back : (path : List ℕ) (i : ℕ) → IsFirst new path i → IsFirst old path i
   first-back path i first = record {
     within = omega (arith, first.within, change.count);
