@@ -163,7 +163,7 @@ class Import(StoreTest):
         with subprocess.Popen(serve, stdout=subprocess.PIPE, stderr=subprocess.STDOUT) as server:
             try:
                 words = ("--socket", at, "--wait", "30", "import", "--from", "yaml", "--split", "store", "w-{n}")
-                self.assertEqual(self.ctl(*words, given="a: &x 1\nb: *x\n---\nc: 2\n")[0], 0)
+                self.assertEqual(self.ctl(*words, given="a: &x 1\nb: *x\n---\nc\n")[0], 0)
                 self.assertEqual(self.ctl("--socket", at, "names", "store")[1], "w-1\nw-2\n")
             finally:
                 server.terminate()

@@ -31,6 +31,7 @@ use Rattle.conf_words.specs.declared.invocation.Value.TheVariants.{Text, Yaml, F
 use Rattle.conf_tools.specs.Backups.{BacksUpFound, BacksUpInFolder, BacksUpStore, status_after_backup}
 use Rattle.conf_tools.specs.Asking.{AskedConditions}
 use Rattle.conf_tools.specs.LogWords.{Logs, LogsValues, commands_of}
+use Rattle.conf_tools.specs.declared.logs.Commands.{Commands}
 use Rattle.conf_tools.specs.Keeping.{CannotKeep, KeepsDropped, PutsFile, SalvagesTo, Verifies}
 use Rattle.conf_tools.specs.Performs.{ChangesAt, FormatsAll, ChecksAll, ImportsRead, Performs, access_of, grouping_of}
 use Rattle.conf_tools.specs.Exports.{disk_back}
@@ -176,21 +177,19 @@ module _ {W D F P : Type 0} (world : WorldModel W D F P) (disk : DiskModel D) (r
   of-open folder old (Err (reading.Salvage fault)) new opens = absurd opens
   of-open folder old (Err reading.Output) new opens = absurd opens
 
-  of-values : (folder : List ℕ) (name : Option (Bor (List ℕ))) (from : ℕ) (at : Option ℕ) (hidden : List (List ℕ))
-      (old new : W) (held written : Option (List ℕ)) (status : Status)
-      → LogsValues world remaining folder (commands_of name from at) hidden old new held written status → Steady old new
-  of-values folder name from at [] old new held written status does = of-open folder old does.file new does.opens
-  of-values folder name from at (pointer ∷ pointers) old new held written status (inl hides) =
+  of-values : (folder : List ℕ) (commands : Commands) (hidden : List (List ℕ)) (old new : W) (held written : Option (List ℕ))
+      (status : Status) → LogsValues world remaining folder commands hidden old new held written status → Steady old new
+  of-values folder commands [] old new held written status does = of-open folder old does.file new does.opens
+  of-values folder commands (pointer ∷ pointers) old new held written status (inl hides) =
       of-open folder old hides.logs.file new hides.logs.opens
-  of-values folder name from at (pointer ∷ pointers) old new held written status (inr refuses) = same old new refuses.world_stays
+  of-values folder commands (pointer ∷ pointers) old new held written status (inr refuses) = same old new refuses.world_stays
 
-  of-log : (folder : List ℕ) (name : Option (Bor (List ℕ))) (from : ℕ) (at : Option ℕ) (form : AskedLog)
-      (old new : W) (held written : Option (List ℕ)) (status : Status)
-      → Logs world remaining folder (commands_of name from at) form old new held written status → Steady old new
-  of-log folder name from at asked.Lines old new held written status does = of-open folder old does.file new does.opens
-  of-log folder name from at (asked.Values hidden) old new held written status does =
-      of-values folder name from at (map (λ pointer. pointer.now) hidden.items) old new held written status does
-  of-log folder name from at asked.Records old new held written status does = of-open folder old does.file new does.opens
+  of-log : (folder : List ℕ) (commands : Commands) (form : AskedLog) (old new : W) (held written : Option (List ℕ))
+      (status : Status) → Logs world remaining folder commands form old new held written status → Steady old new
+  of-log folder commands asked.Lines old new held written status does = of-open folder old does.file new does.opens
+  of-log folder commands (asked.Values hidden) old new held written status does =
+      of-values folder commands (map (λ pointer. pointer.now) hidden.items) old new held written status does
+  of-log folder commands asked.Records old new held written status does = of-open folder old does.file new does.opens
 
   -- a store is made in one folder alone of what another one says
   abbrev Spares : List ℕ → W → W → Type 0
@@ -394,7 +393,7 @@ module _ {W D F P : Type 0} (world : WorldModel W D F P) (disk : DiskModel D) (r
   effect (Exists folder name pointer at) old new status does not_new =
       nothing None (of-open folder.now old.world does.0.file new.world does.0.opens)
   effect (Log folder name from at form) old new status does not_new =
-      nothing None (of-log folder.now name from at form old.world new.world old.output new.output status does.0)
+      nothing None (of-log folder.now (commands_of name from at) form old.world new.world old.output new.output status does.0)
   effect (Verify folder keep_dropped) old new status does not_new =
       nothing None (of-verify folder.now keep_dropped old.world new.world old.output new.output status does.0)
   effect (Format formatting files reporting) old new status does not_new = nothing None (of-formatting formatting _ old new status does)

@@ -24,7 +24,7 @@ module _ (value_at : List ℕ → Result Tree StoreFault) (form : ValueForm) (al
   -- its value is shown behind those before it
   pub shows_more : (text value new : List ℕ)
       → ((others : List ℕ) → ShowsAll value_at form (pointers_of (drop i all)) others
-      → ShowsAll value_at form (pointers_of all) (text ++ others))
+          → ShowsAll value_at form (pointers_of all) (text ++ others))
       → ShowsFound (value_at (chars (get_or all i d).now)) form value → new ≡ text ++ value
       → (others : List ℕ) → ShowsAll value_at form (pointers_of (drop (i + 1) all)) others
       → ShowsAll value_at form (pointers_of all) (new ++ others)

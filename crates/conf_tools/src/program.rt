@@ -439,8 +439,9 @@ pub(crate) fn status_of(fault: ToolFault) -> Status
 {
     match fault {
         ToolFault::Input | ToolFault::Output => Status::Device,
-        ToolFault::Read(_) | ToolFault::Comments(_) | ToolFault::Unsettled | ToolFault::OneValue =>
-            { Status::Refused }
+        ToolFault::Read(_) | ToolFault::Comments(_) | ToolFault::Unsettled | ToolFault::OneValue => {
+            Status::Refused
+        }
     }
 }
 
