@@ -1,9 +1,9 @@
 # Completion of confstore for fish: put it into a folder of `fish_complete_path`.
 
-set -l stores run export import set delete copy rename checkpoint init names get keys exists log verify salvage backup
+set -l stores run export import set delete copy rename batch checkpoint init names get keys exists log verify salvage backup
 set -l named export import set delete copy rename get keys exists log
 set -l conditional import set delete copy rename
-set -l locking init import set delete copy rename checkpoint run export
+set -l locking init import set delete copy rename batch checkpoint run export
 
 # The words after the subcommand that are no options and no option's value.
 function __confstore_places
@@ -54,6 +54,7 @@ complete -c confstore -n __fish_use_subcommand -a set -d 'Set the value at a poi
 complete -c confstore -n __fish_use_subcommand -a delete -d 'Take out a value, or a configuration'
 complete -c confstore -n __fish_use_subcommand -a copy -d 'Put a copy of a configuration under another name'
 complete -c confstore -n __fish_use_subcommand -a rename -d 'Give a configuration another name'
+complete -c confstore -n __fish_use_subcommand -a batch -d 'Make all edits that a text lists, or none'
 complete -c confstore -n __fish_use_subcommand -a checkpoint -d 'Make the store file as short as its state'
 complete -c confstore -n __fish_use_subcommand -a init -d 'Make an empty store'
 complete -c confstore -n __fish_use_subcommand -a format -d 'Write a text in the one style'

@@ -18,7 +18,7 @@ use Rattle.conf_words.specs.declared.invocation.Conditions.{Conditions}
 use Rattle.conf_words.specs.declared.invocation.{Invocation.Invocation, Root.Root}
 use Rattle.conf_words.specs.declared.invocation.TreeForm.{TreeForm}
 use Rattle.conf_words.specs.declared.invocation.Invocation.TheVariants.{Init, Import, Set, Delete, Copy, Rename}
-use Rattle.conf_words.specs.declared.invocation.Invocation.TheVariants.{Checkpoint, Run, Export, Names, Get, Exists}
+use Rattle.conf_words.specs.declared.invocation.Invocation.TheVariants.{Batch, Checkpoint, Run, Export, Names, Get, Exists}
 use Rattle.conf_words.specs.declared.invocation.Invocation.TheVariants.{Log, Verify, Salvage, Backup, Format, Check}
 use Rattle.conf_words.specs.declared.invocation.Comments.{Comments}
 use Rattle.conf_words.specs.declared.invocation.Formatting.{Formatting}
@@ -33,7 +33,7 @@ use Rattle.conf_tools.specs.Asking.{AskedConditions}
 use Rattle.conf_tools.specs.LogWords.{Logs, LogsValues, commands_of}
 use Rattle.conf_tools.specs.declared.logs.Commands.{Commands}
 use Rattle.conf_tools.specs.Keeping.{CannotKeep, KeepsDropped, PutsFile, SalvagesTo, Verifies}
-use Rattle.conf_tools.specs.Performs.{ChangesAt, FormatsAll, ChecksAll, ImportsRead, Performs, access_of, grouping_of}
+use Rattle.conf_tools.specs.Performs.{BatchesRead, ChangesAt, FormatsAll, ChecksAll, ImportsRead, Performs, access_of, grouping_of}
 use Rattle.conf_tools.specs.Exports.{disk_back}
 use Rattle.conf_tools.specs.Tools.{Taken}
 use Rattle.conf_tools.specs.ProgramCalls.{Call, changing, disk_before, disk_behind, exporting, running}
@@ -41,7 +41,7 @@ use Rattle.conf_tools.specs.StoreWords.{Condition, conditions_of, ChangesInFolde
 use Rattle.conf_tools.specs.StoreWords.{OpensFile, OpensNew, RunsOnFolder, Salvages, SavesFound, SavesInFolder}
 use Rattle.conf_tools.specs.StoreWords.{WritesFindings, status_at_end}
 use Rattle.conf_tools.specs.TextWords.{IfSo, IsSet, ReplacesAt, ReplacesRead, ReportsOnAll, RestylesAll}
-use Rattle.conf_tools.specs.TextWords.{RestylesOpened, TakesText, stops_all, status_of_report}
+use Rattle.conf_tools.specs.TextWords.{RestylesOpened, TakesText, counted_alone, stops_all, status_of_report}
 use Rattle.conf_tools.specs.Statuses.{worst}
 use Rattle.conf_tools.specs.Worlds.{Around, WorldModel}
 use Rattle.conf_tools.specs.declared.changes.Change.{Change}
@@ -59,7 +59,7 @@ use Rattle.conf_tools.specs.declared.texts.ToolFault.{ToolFault}
 use Rattle.conf_tools.specs.declared.world.Access.{Access}
 use Rattle.conf_tools.specs.declared.world.Access.TheVariants.{Changing, New}
 use Rattle.conf_runs.specs.Folders.{IsDiskOf, KeepsFolders, LeavesNoMore}
-use Rattle.conf_runs.specs.Runs.{Deed, asked_for, call_of, changed_if, changed_in, copied_in, copied_of, copies}
+use Rattle.conf_runs.specs.Runs.{Deed, asked_for, batched, call_of, changed_if, changed_in, copied_in, copied_of, copies}
 use Rattle.conf_runs.specs.Runs.{exported_from, folder_of, imported, initialised, made_in, makes_new, ran_in}
 use Rattle.conf_runs.specs.Runs.{saved_in, saved_of, saved_to, saves}
 
@@ -142,6 +142,13 @@ module _ {W D F P : Type 0} (world : WorldModel W D F P) (disk : DiskModel D) (r
   of-import wanted root access folder name (Ok bytes) old new status does =
       of-asked wanted access folder name [] does.change old new status does.changes
   of-import wanted root access folder name (Err fault) old new status does = nothing (Some folder) (same old new does.0)
+
+  of-batch : (folder : List ℕ) (count : Option ℕ) (read : Taken) (old new : W) (status : Status)
+      (does : BatchesRead world disk folder count read old new status)
+      → Effect old new status (Some folder) (batched world disk honest folder count read old new status does)
+  of-batch folder count (Ok bytes) old new status does =
+      of-asked (counted_alone count) Changing folder [] [] does.change old new status does.changes
+  of-batch folder count (Err fault) old new status does = nothing (Some folder) (same old new does.0)
 
   of-run : (folder : List ℕ) (grouping : Grouping) (old new : Around W) (status : Status)
       (does : RunsOnFolder world disk folder grouping old new status)
@@ -382,6 +389,9 @@ module _ {W D F P : Type 0} (world : WorldModel W D F P) (disk : DiskModel D) (r
       of-asked conditions Changing folder.now to.now [] does.0.change old.world new.world status does.0.changes
   effect (Rename folder name to conditions) old new status does not_new =
       of-asked conditions Changing folder.now to.now [] does.0.change old.world new.world status does.0.changes
+  effect (Batch folder file count reporting) old new status does not_new =
+      after old.world does.seen new.world (of-text file.now does.read old.world does.seen old.input new.input does.takes)
+      (of-batch folder.now count does.read does.seen new.world status does.makes)
   effect (Checkpoint folder) old new status does not_new =
       of-change Changing folder.now [] change.Checkpoint old.world new.world status does.0
   effect (Run folder grouping) old new status does not_new = of-run folder.now (grouping_of grouping) old new status does
@@ -434,6 +444,8 @@ module _ {W D F P : Type 0} (world : WorldModel W D F P) (disk : DiskModel D) (r
       beside path old.world new.world (effect (Copy folder name to conditions) old new status does refl) is_other image is
   spares path (Rename folder name to conditions) old new status does is_other image is =
       beside path old.world new.world (effect (Rename folder name to conditions) old new status does refl) is_other image is
+  spares path (Batch folder file count reporting) old new status does is_other image is =
+      beside path old.world new.world (effect (Batch folder file count reporting) old new status does refl) is_other image is
   spares path (Checkpoint folder) old new status does is_other image is =
       beside path old.world new.world (effect (Checkpoint folder) old new status does refl) is_other image is
   spares path (Run folder grouping) old new status does is_other image is =

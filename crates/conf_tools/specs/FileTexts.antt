@@ -12,7 +12,8 @@ use Rattle.conf_tools.specs.Styles.{IsCheckedIn, IsStyled, style_of}
 use Rattle.conf_tools.specs.declared.texts.ToolFault.TheVariants.{Comments as HasComments}
 use Rattle.conf_tools.specs.{Tools.GivesTree, declared.file_texts.Restyled.Restyled, declared.texts.ToolFault.ToolFault}
 use Rattle.conf_tools.specs.declared.file_texts.Restyled.TheVariants.{Same, Changed}
-use Rattle.conf_tools.specs.declared.texts.ToolFault.TheVariants.{Input, Output, Read, Unsettled, OneValue}
+use Rattle.conf_tools.specs.declared.texts.ToolFault.TheVariants.{Input, Output, Read, Unsettled, OneValue, NoEdits}
+use Rattle.conf_tools.specs.declared.texts.ToolFault.TheVariants.{Import as OfImport}
 
 -- ---- the text in a style
 
@@ -48,6 +49,8 @@ StopsRestyling comments bytes (Read fault) = Refuses bytes config_limits fault
 StopsRestyling comments bytes (HasComments place) = (comments ≡ Refused) × HasComment bytes
 StopsRestyling comments bytes Unsettled = GivesUnsettled bytes config_limits
 StopsRestyling comments bytes OneValue = ⊥
+StopsRestyling comments bytes NoEdits = ⊥
+StopsRestyling comments bytes (OfImport fault) = ⊥
 
 -- what is written of a file: a line of its name, if its text would change
 abbrev pub name_line : List ℕ → Bool → List ℕ
@@ -106,3 +109,5 @@ StopsInFile bytes held written (Read fault) = Refuses bytes config_limits fault 
 StopsInFile bytes held written (HasComments place) = ⊥
 StopsInFile bytes held written Unsettled = GivesUnsettled bytes config_limits × Keeps held written
 StopsInFile bytes held written OneValue = ⊥
+StopsInFile bytes held written NoEdits = ⊥
+StopsInFile bytes held written (OfImport fault) = ⊥

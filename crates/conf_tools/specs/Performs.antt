@@ -1,7 +1,7 @@
 -- What the program does for an invocation, with the world around it, its input and its output, and how it ends.
 use Rattle.std.specs.Prelude.{◌≡◌, ℕ, Bool, List, [], ◌∷◌, map, Option, Some, None, Result, Ok, Err, codes}
 use Rattle.conf_tools.specs.Prelude.{chars, DiskModel, After, Asked, Comments, Conditions, Invocation}
-use Rattle.conf_tools.specs.Prelude.{Init, Import, Set, Delete, Copy, Rename, Checkpoint, Run, Export, Names, Get}
+use Rattle.conf_tools.specs.Prelude.{Init, Import, Set, Delete, Copy, Rename, Batch, Checkpoint, Run, Export, Names, Get}
 use Rattle.conf_tools.specs.Prelude.{Exists, Log, Verify, Salvage, Backup, Format, Check, Style, Value}
 use Rattle.conf_words.specs.declared.invocation.Grouping.{Grouping as AskedGrouping}
 use Rattle.conf_words.specs.declared.invocation.{MissingStore.MissingStore, Root.Root}
@@ -19,7 +19,7 @@ use Rattle.conf_tools.specs.StoreWords.{ChangesInFolder, ExportsFromFolder, Init
 use Rattle.conf_tools.specs.StoreWords.{SaysNames, SaysPresence, SaysValues}
 use Rattle.conf_tools.specs.Reads.{pointers_of}
 use Rattle.conf_tools.specs.TextWords.{ChecksRead, FormatsFile, FormatsRead, IsCopy, IsDelete, IsImport, IsRename}
-use Rattle.conf_tools.specs.TextWords.{IsSet, ReportsOnAll, RestylesAll, TakesText}
+use Rattle.conf_tools.specs.TextWords.{IsBatch, IsSet, ReportsOnAll, RestylesAll, TakesText, counted_alone}
 use Rattle.conf_words.specs.declared.invocation.Formatting.TheVariants as formatting
 use Rattle.conf_words.specs.declared.invocation.Grouping.TheVariants as asked
 use Rattle.conf_words.specs.declared.invocation.MissingStore.TheVariants as missing
@@ -105,6 +105,22 @@ module _ {W D F P : Type 0} (world : WorldModel W D F P) (disk : DiskModel D) wh
     pub is : Is change
     pub changes : ChangesAt world disk wanted Changing folder name path change old new status
 
+module _ {W D F P : Type 0} (world : WorldModel W D F P) (disk : DiskModel D) (folder : List ℕ) (count : Option ℕ) where
+  -- The edits that a text lists were made, if it was read; else no folder is looked at.
+  abbrev pub BatchesRead : Taken → W → W → Status → Type 0
+  BatchesRead (Ok bytes) old new status =
+      ChangesByWords world disk (IsBatch bytes.items) (counted_alone count) folder [] [] old new status
+  BatchesRead (Err fault) old new status = (new ≡ old) × (status ≡ status_of fault)
+
+module _ {W D F P : Type 0} (world : WorldModel W D F P) (disk : DiskModel D) (remaining : F → Option (List ℕ)) where
+  -- `batch`: a text is read, of a file or of the input for `-`, and then the edits that it lists are made
+  pub record Batches (folder file : List ℕ) (count : Option ℕ) (old new : Around W) (status : Status) : Type 0 where
+    pub read : Taken
+    pub seen : W
+    pub takes : TakesText world remaining file read old.world seen old.input new.input
+    pub makes : BatchesRead world disk folder count read seen new.world status
+    pub output : new.output ≡ old.output
+
 module _ {W D F P : Type 0} (world : WorldModel W D F P) (remaining : F → Option (List ℕ)) where
   -- `names`, `get` and `exists`
   abbrev pub Asks : List ℕ → (Bool → Option (List ℕ) → Option (List ℕ) → Option (List ℕ) → Status → Type 0)
@@ -158,6 +174,8 @@ module _ {W D F P : Type 0} (world : WorldModel W D F P) (disk : DiskModel D) (r
   Performs (Rename folder name to conditions) old new status =
       ChangesByWords world disk (IsRename name.now to.now) conditions folder.now to.now [] old.world new.world status
       × LeavesStreams old new
+  Performs (Batch folder file count reporting) old new status =
+      Batches world disk remaining folder.now file.now count old new status
   Performs (Checkpoint folder) old new status =
       ChangesInFolder world disk Changing folder.now [] change.Checkpoint old.world new.world status
       × LeavesStreams old new

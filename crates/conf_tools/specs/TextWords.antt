@@ -23,7 +23,12 @@ use Rattle.conf_tools.specs.declared.changes.Change.TheVariants.{Import, Perform
 use Rattle.conf_tools.specs.declared.file_texts.Restyled.TheVariants.{Same, Changed}
 use Rattle.conf_tools.specs.declared.file_words.Report.TheVariants.{Findings, Name}
 use Rattle.conf_tools.specs.declared.program.Status.TheVariants.{Done, Found, Device}
-use Rattle.conf_tools.specs.declared.texts.ToolFault.TheVariants.{Input, OneValue, Output, Read}
+use Rattle.conf_tools.specs.declared.texts.ToolFault.TheVariants.{Input, OneValue, Output, Read, NoEdits}
+use Rattle.conf_tools.specs.declared.texts.ToolFault.TheVariants.{Import as ToolImport}
+use Rattle.conf_state.specs.Commands.{Edit, batch}
+use Rattle.conf_words.specs.declared.invocation.{Conditions.Conditions, Wanted.TheVariants.Anything}
+use Rattle.conf_session.specs.Edits.{GivesEdits, RefusesEdits}
+use Rattle.conf_session.specs.declared.edits.EditsFault.TheVariants as edits_fault
 use Rattle.conf_files.specs.declared.replace.ReplaceFault.TheVariants as replacing
 use Rattle.conf_tools.specs.declared.change_words.Alteration.TheVariants as alteration
 
@@ -99,6 +104,23 @@ IsImport Collection name bytes (Ok (Perform command)) = GivesSuch bytes
 IsImport Collection name bytes (Err OneValue) = GivesSuch bytes IsOneValue
 IsImport root name bytes (Ok change) = ⊥
 IsImport root name bytes (Err fault) = fault ≡ Read OutOfMemory
+
+-- the change makes these edits, all or none
+abbrev pub makes_batch : List Edit → Change → Type 0
+makes_batch edits (Perform command) = command_of command ≡ batch edits
+makes_batch edits change = ⊥
+
+-- The change makes the edits that these bytes list; or they list none, for this reason.
+abbrev pub IsBatch : List ℕ → Result Change ToolFault → Type 0
+IsBatch bytes (Ok change) = (edits : List Edit) × GivesEdits bytes edits × makes_batch edits change
+IsBatch bytes (Err (Read fault)) = Refuses bytes config_limits fault
+IsBatch bytes (Err NoEdits) = RefusesEdits bytes edits_fault.NoEdits
+IsBatch bytes (Err (ToolImport fault)) = RefusesEdits bytes (edits_fault.Import fault)
+IsBatch bytes (Err fault) = ⊥
+
+-- what is wanted of a store whatever is at a place: that it has accepted so many commands, if a number is given
+abbrev pub counted_alone : Option ℕ → Conditions
+counted_alone count = record { place = Anything; count = count }
 
 -- the change sets a tree at a pointer of the configuration under a name
 abbrev pub SetsAt : List ℕ → List ℕ → Tree → Change → Type 0

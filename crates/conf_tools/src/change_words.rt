@@ -573,7 +573,7 @@ fn alter_change(
 }
 
 /// Makes a change at a place of the store in a folder that is opened so, if what is wanted of the place holds.
-fn change_if<A: World, E: Listener>(
+pub(crate) fn change_if<A: World, E: Listener>(
     world: &mut A,
     alloc: Global,
     access: Access,

@@ -12,6 +12,7 @@
 
 mod asking;
 mod backups;
+mod batch_words;
 mod change_words;
 mod changes;
 mod dropped;

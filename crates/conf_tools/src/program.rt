@@ -8,6 +8,7 @@ ghost use Rattle.conf_tools.specs.StoreWords.{ExportsFromFolder, RunsOnFolder, W
 ghost use Rattle.conf_tools.specs.Worlds.{around};
 
 use crate::backups::back_up_folder;
+use crate::batch_words::{Batch, batch_text};
 use crate::change_words::{
     Alteration, Import, Target, WHOLE, alter, change_in_folder, import_text, init_folder, set_at,
 };
@@ -213,6 +214,21 @@ fn perform_word<'w, A: World, R: Read, W: Write, E: Listener>(
             };
             let asked = Alteration::Rename { from: name };
             Ending::Of(alter(world, alloc, place, asked, errors))
+        }
+        Invocation::Batch {
+            folder,
+            file,
+            count,
+            reporting,
+        } => {
+            let reporter = reporter_of(world, alloc, reporting);
+            let read = read_named(world, alloc, file, input);
+            let asked = Batch {
+                folder,
+                file,
+                count,
+            };
+            batch_text(world, reporter, asked, read, errors)
         }
         Invocation::Checkpoint { folder } => {
             let (access, change) = (Access::Changing, Change::Checkpoint);
@@ -439,9 +455,12 @@ pub(crate) fn status_of(fault: ToolFault) -> Status
 {
     match fault {
         ToolFault::Input | ToolFault::Output => Status::Device,
-        ToolFault::Read(_) | ToolFault::Comments(_) | ToolFault::Unsettled | ToolFault::OneValue => {
-            Status::Refused
-        }
+        ToolFault::Read(_)
+        | ToolFault::Comments(_)
+        | ToolFault::Unsettled
+        | ToolFault::OneValue
+        | ToolFault::NoEdits
+        | ToolFault::Import(_) => Status::Refused,
     }
 }
 

@@ -35,6 +35,10 @@ pub enum ToolFault {
     Unsettled,
     /// The text is one value alone, and a mapping or a list was wanted. Nothing was written.
     OneValue,
+    /// The text is no list of edits, and one was wanted. Nothing was written.
+    NoEdits,
+    /// The text of an import that the text lists is refused, or memory ran out. Nothing was written.
+    Import(ReadFault),
 }
 
 impl ToolFault {
@@ -51,6 +55,8 @@ impl ToolFault {
             ToolFault::Comments(_) => "Comments",
             ToolFault::Unsettled => "Unsettled",
             ToolFault::OneValue => "OneValue",
+            ToolFault::NoEdits => "BadCommand",
+            ToolFault::Import(fault) => StoreFault::Read(fault).name(),
         }
     }
 }

@@ -7,7 +7,7 @@ use crate::arguments::{
     POINTER_ARGUMENT, Relation, WHOLE, YAML, reporting_of,
 };
 use crate::conditions::{
-    IF_ABSENT, IF_ABSENT_ARGUMENT, IF_COUNT_ARGUMENT, IF_VALUE_ARGUMENT, conditions_of,
+    IF_ABSENT, IF_ABSENT_ARGUMENT, IF_COUNT, IF_COUNT_ARGUMENT, IF_VALUE_ARGUMENT, conditions_of,
 };
 use crate::invocation::{
     Conditions, Grouping, Invocation, MissingStore, Root, STANDARD_INPUT, Value, Wanted,
@@ -58,12 +58,7 @@ pub(crate) const IMPORT: Listing = Listing {
         WAIT_ARGUMENT,
         FOLDER_ARGUMENT,
         NAME_ARGUMENT,
-        Argument {
-            name: FILE,
-            help: "The file of the text; standard input if it is left out or `-`",
-            form: Form::Optional,
-            relation: Relation::Free,
-        },
+        FILE_ARGUMENT,
     ],
     help: "\
 A configuration that has the name is replaced. Nothing is printed where it is done. Comments and
@@ -85,6 +80,14 @@ Examples:
 
 /// The word of `import` that has a store made where there is none.
 const MAKE_STORE: &str = "init";
+
+/// The argument of `import` and `batch` that is the file of a text.
+const FILE_ARGUMENT: Argument = Argument {
+    name: FILE,
+    help: "The file of the text; standard input if it is left out or `-`",
+    form: Form::Optional,
+    relation: Relation::Free,
+};
 
 pub(crate) fn import_invocation<'w>(words: &ArgMatches<'w>) -> Option<Invocation<'w>>
     ensures { IfSome result HasFittingFiles }
@@ -352,6 +355,44 @@ pub(crate) fn rename_invocation<'w>(words: &ArgMatches<'w>) -> Option<Invocation
         name: words.get_str(NAME)?,
         to: words.get_str(TO)?,
         conditions: conditions_of(words),
+    })
+}
+
+pub(crate) const BATCH: Listing = Listing {
+    about: "Makes all edits that a YAML text lists, or none of them",
+    arguments: &[
+        EXPLAIN_ARGUMENT,
+        IF_COUNT_ARGUMENT,
+        WAIT_ARGUMENT,
+        FOLDER_ARGUMENT,
+        FILE_ARGUMENT,
+    ],
+    help: "\
+The text is a list. Each edit in it is a mapping, as in a batch of `run`:
+
+  import: NAME   text: TEXT                    reads a YAML text, and puts its tree under a name
+  set: NAME      path: POINTER   value: TREE   sets the value at a JSON Pointer
+  delete: NAME   path: POINTER                 removes what is there; the pointer \"\" removes the name
+
+They are made in this order, as one command: all of them, or none. Nothing is printed where it is done,
+and the status says so. A list of none is refused (EmptyBatch), and so is one with anything else in it
+(BadCommand). With --if-count nothing changes if the store has accepted another number of commands
+(Unmet).
+
+Examples:
+  confstore batch store edits.yaml
+  confstore batch store edits.yaml --if-count 12
+  echo '[{set: web, path: /port, value: 81}, {delete: old, path: \"\"}]' | confstore batch store",
+};
+
+pub(crate) fn batch_invocation<'w>(words: &ArgMatches<'w>) -> Option<Invocation<'w>>
+    ensures { IfSome result HasFittingFiles }
+{
+    Some(Invocation::Batch {
+        folder: words.get_str(FOLDER)?,
+        file: words.get_str(FILE).unwrap_or(STANDARD_INPUT),
+        count: words.get_one(IF_COUNT),
+        reporting: reporting_of(words),
     })
 }
 

@@ -3,7 +3,7 @@ ghost use Rattle.std.specs.Prelude.{IfOk};
 ghost use Rattle.conf_words.specs.Invocations.{HasFittingFiles};
 
 use crate::change_words::{
-    checkpoint_invocation, copy_invocation, delete_invocation, import_invocation, init_invocation,
+    batch_invocation, checkpoint_invocation, copy_invocation, delete_invocation, import_invocation, init_invocation,
     rename_invocation, run_invocation, set_invocation, test_pointer,
 };
 use crate::invocation::Invocation;
@@ -28,7 +28,7 @@ const ABOUT: &str = "A crash-safe store of named configuration trees, and tools 
 
 const GROUPS_AND_STATUSES: &str = "\
 The words by what they do:
-  change a store  init, import, set, delete, copy, rename, checkpoint, run
+  change a store  init, import, set, delete, copy, rename, batch, checkpoint, run
   read a store    export, names, get, keys, exists, log, verify, salvage, backup
   read a text     format, check
 
@@ -149,6 +149,7 @@ fn invocation_of<'w>(alloc: Global, matches: &ArgMatches<'w>) -> Result<Invocati
         }
         Some(Subcommand::Copy) => copy_invocation(words),
         Some(Subcommand::Rename) => rename_invocation(words),
+        Some(Subcommand::Batch) => batch_invocation(words),
         Some(Subcommand::Checkpoint) => checkpoint_invocation(words),
         Some(Subcommand::Run) => run_invocation(words),
         Some(Subcommand::Export) => export_invocation(words),
