@@ -227,7 +227,7 @@ def contents(folder: Path) -> dict[str, bytes] | None:
 def refused_words(top: Path, failures: Failures) -> None:
     """Words that are refused, each in a folder of its own, which stays as it was."""
     text = top / "x.yaml"
-    text.write_text("x: y\n")
+    text.write_text("x\n")
     changes = {"set": ("a", "/k", "v"), "delete": ("a", "/k"), "checkpoint": (), "import": ("a", str(text))}
     lefts: tuple[dict[str, bytes], ...] = ({}, {"next.yaml": STORE})
     rows = [(word, rest, files, "NotAStore") for word, rest in changes.items() for files in lefts]

@@ -64,7 +64,7 @@ REMEDY = re.compile(r'(?m)^        ((?:ReadFault|Why)::[^=]*?) => (?:\{\s*)?("(?
 # The enums of faults that the program prints, and the names that it prints for what isn't a variant of that name.
 FAULTS = ["Why", "ReadFault", "StoreFault", "PathFault", "OpenFault", "FolderFault", "SessionFault", "HistoryFault",
           "ReadingFault", "ConditionFault", "NewFileFault"]
-PRINTED = {"BadCommand", "Comments", "Input", "OneValue", "Output", "StoreExists", "Unsettled"}
+PRINTED = {"BadCommand", "Comments", "Input", "Output", "StoreExists", "Unsettled"}
 # A line of the drawing of a command's way: a crate or none, functions of it, words, and the files that have them.
 DRAWN = re.compile(r"^ +(\w+)? {2,}([a-zA-Z_:, ]+?)(?::| {2,}).*? {2,}([\w., ]+\.rt)$", re.M)
 # The status of the script `./confstore`, and the words that are clap's.

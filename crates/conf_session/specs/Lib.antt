@@ -4,7 +4,6 @@ pub mod Answers
 pub mod Runs
 pub mod Replies
 pub mod ReadChanges
-pub mod Edits
 pub mod Conditional
 pub mod SaidConditions
 pub mod Said

@@ -11,15 +11,12 @@
 //! Both hand the answers to an [`AnswerSink`], which gets an answer only once no crash takes back what it tells. Each
 //! writer is one.
 //!
-//! [`read_edits`] reads the edits of a batch of a text by itself.
-//!
 //! [`round`] performs the commands that a server has in hand from many clients, and syncs once for all of them.
 #![tactic(auto)]
 
 mod answer;
 mod command_lines;
 mod conditions;
-mod edits;
 mod fault;
 mod field_lines;
 mod groups;
@@ -37,7 +34,6 @@ mod sink;
 mod unwritten;
 mod words;
 
-pub use edits::{EditsFault, read_edits};
 pub use fault::SessionFault;
 pub use groups::{Checkpoints, run_grouped};
 pub use laws::{

@@ -1,6 +1,6 @@
 -- How a run of the program ends, and what is told of it.
 use Rattle.std.specs.Prelude.{◌≡◌, ◌⊎◌, ℕ, List, Option, Result, Ok, Err, codes, string_bytes}
-use Rattle.conf_tools.specs.Prelude.{Tally, Invocation, Init, Import, Set, Delete, Copy, Rename, Batch, Checkpoint, Run}
+use Rattle.conf_tools.specs.Prelude.{Tally, Invocation, Init, Import, Set, Delete, Copy, Rename, Checkpoint, Run}
 use Rattle.conf_tools.specs.Prelude.{Export, Names, Get, Exists, Log, Verify, Salvage, Backup, Format, Check, Unparsed}
 use Rattle.conf_tools.specs.Prelude.{Shown, Wrong}
 use Rattle.conf_words.specs.declared.unparsed.Unparsed.TheVariants.{OutOfMemory as NoMemory}
@@ -119,11 +119,6 @@ module _ {E : Type 0} (hears : E → List ℕ → E → Type 0) where
   LeavesSet old (Of outcome) new = (read : E) × TellsLeftOut hears old read × TellsDropped hears read new
   LeavesSet old (Told status) new = SilentIfDone status old new
 
-  -- at most what opening dropped was told so far; or what is wrong with a text was told
-  abbrev pub LeavesBatch : E → Ending → E → Type 0
-  LeavesBatch old (Of outcome) new = TellsDropped hears old new
-  LeavesBatch old (Told status) new = SilentIfDone status old new
-
   -- what is wrong with a text was told
   abbrev pub LeavesTold : (Status → E → E → Type 0) → E → Ending → E → Type 0
   LeavesTold tells old (Of outcome) new = ⊥
@@ -135,19 +130,18 @@ module _ {E : Type 0} (hears : E → List ℕ → E → Type 0) where
   -- told how many, and nothing else is told.
   abbrev pub Leaves : Invocation → E → Ending → E → Type 0
   Leaves (Init folder) old ending new = LeavesOpened old ending new
-  Leaves (Import folder name file root absent conditions reporting) old ending new = LeavesImport old ending new
+  Leaves (Import folder name file absent conditions reporting) old ending new = LeavesImport old ending new
   Leaves (Set folder name pointer value conditions reporting) old ending new = LeavesSet old ending new
   Leaves (Delete folder name pointer conditions) old ending new = LeavesOpened old ending new
   Leaves (Copy folder name to conditions) old ending new = LeavesOpened old ending new
   Leaves (Rename folder name to conditions) old ending new = LeavesOpened old ending new
-  Leaves (Batch folder file count reporting) old ending new = LeavesBatch old ending new
   Leaves (Checkpoint folder) old ending new = LeavesOpened old ending new
   Leaves (Run folder grouping) old ending new = IsUntold ending × TellsSession hears old new
   Leaves (Export folder name form) old ending new = IsUntold ending × TellsExport hears old new
   Leaves (Names folder at form) old ending new = LeavesAll old ending new
-  Leaves (Get folder name pointers at absent form) old ending new = LeavesAll old ending new
+  Leaves (Get folder name pointer at absent form) old ending new = LeavesAll old ending new
   Leaves (Exists folder name pointer at) old ending new = LeavesAll old ending new
-  Leaves (Log folder name from at form) old ending new = LeavesAll old ending new
+  Leaves (Log folder at form) old ending new = LeavesAll old ending new
   Leaves (Verify folder keep_dropped) old ending new = LeavesAll old ending new
   Leaves (Salvage folder new_folder keep_dropped) old ending new = LeavesAll old ending new
   Leaves (Backup folder new_folder) old ending new = LeavesAll old ending new

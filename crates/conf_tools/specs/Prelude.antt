@@ -15,7 +15,6 @@ pub use Rattle.conf_history.specs.declared.fault.HistoryFault.{HistoryFault}
 pub use Rattle.conf_history.specs.declared.fault.HistoryFault.TheVariants.{NotAStore}
 pub use Rattle.conf_history.specs.declared.fault.SalvageFault.{SalvageFault}
 pub use Rattle.conf_history.specs.declared.log.LogForm.{LogForm}
-pub use Rattle.conf_history.specs.declared.log.LogRequest.{LogRequest}
 pub use Rattle.conf_history.specs.declared.survey.Findings.{Findings}
 pub use Rattle.conf_journal.specs.Store.{store_limit}
 pub use Rattle.conf_session.specs.Answers.{value_at_path, Stored, accepted_commands, file_after_all}
@@ -43,7 +42,7 @@ pub use Rattle.conf_words.specs.declared.invocation.Comments.{Comments}
 pub use Rattle.conf_words.specs.declared.invocation.Conditions.{Conditions}
 pub use Rattle.conf_words.specs.declared.invocation.Invocation.{Invocation}
 pub use Rattle.conf_words.specs.declared.invocation.Invocation.TheVariants.{Init, Import, Set, Delete, Copy, Rename}
-pub use Rattle.conf_words.specs.declared.invocation.Invocation.TheVariants.{Batch, Checkpoint, Run, Export, Names, Get, Exists}
+pub use Rattle.conf_words.specs.declared.invocation.Invocation.TheVariants.{Checkpoint, Run, Export, Names, Get, Exists}
 pub use Rattle.conf_words.specs.declared.invocation.Invocation.TheVariants.{Log, Verify, Salvage, Backup, Format, Check}
 pub use Rattle.conf_words.specs.declared.invocation.MissingValue.{MissingValue}
 pub use Rattle.conf_words.specs.declared.invocation.NamesForm.{NamesForm}

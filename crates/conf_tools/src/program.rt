@@ -8,7 +8,6 @@ ghost use Rattle.conf_tools.specs.StoreWords.{ExportsFromFolder, RunsOnFolder, W
 ghost use Rattle.conf_tools.specs.Worlds.{around};
 
 use crate::backups::back_up_folder;
-use crate::batch_words::{Batch, batch_text};
 use crate::change_words::{
     Alteration, Import, Target, WHOLE, alter, change_in_folder, import_text, init_folder, set_at,
 };
@@ -17,10 +16,10 @@ use crate::exports::export_text;
 use crate::file_words::{check_files, format_files, read_named};
 use crate::keeping::{salvage_to, verify_folder};
 use crate::listener::Listener;
-use crate::logs::{Commands, log_folder};
+use crate::logs::log_folder;
 use crate::outcome::{Ending, Outcome, tell_ending, tell_outcome};
 use crate::read_words::{Question, answer_on_folder};
-use crate::reads::{Place, Places};
+use crate::reads::Place;
 use crate::reporter::{Reporter, write_cause};
 use crate::rest::tell_rest;
 use crate::stores::{Grouping, StoreToolFault, run_store};
@@ -136,7 +135,6 @@ fn perform_word<'w, A: World, R: Read, W: Write, E: Listener>(
             folder,
             name,
             file,
-            root,
             missing,
             conditions,
             reporting,
@@ -147,7 +145,6 @@ fn perform_word<'w, A: World, R: Read, W: Write, E: Listener>(
                 folder,
                 name,
                 file,
-                root,
                 missing,
                 conditions,
             };
@@ -215,21 +212,6 @@ fn perform_word<'w, A: World, R: Read, W: Write, E: Listener>(
             let asked = Alteration::Rename { from: name };
             Ending::Of(alter(world, alloc, place, asked, errors))
         }
-        Invocation::Batch {
-            folder,
-            file,
-            count,
-            reporting,
-        } => {
-            let reporter = reporter_of(world, alloc, reporting);
-            let read = read_named(world, alloc, file, input);
-            let asked = Batch {
-                folder,
-                file,
-                count,
-            };
-            batch_text(world, reporter, asked, read, errors)
-        }
         Invocation::Checkpoint { folder } => {
             let (access, change) = (Access::Changing, Change::Checkpoint);
             Ending::Of(change_in_folder(world, alloc, access, folder, &[], change, errors))
@@ -248,18 +230,14 @@ fn perform_word<'w, A: World, R: Read, W: Write, E: Listener>(
         Invocation::Get {
             folder,
             name,
-            pointers,
+            pointer,
             at,
             missing,
             form,
         } => {
-            let places = Places {
-                name,
-                pointers: &pointers,
-                at,
-            };
-            let asked = Question::Values {
-                places,
+            let place = Place { name, pointer, at };
+            let asked = Question::Value {
+                place,
                 missing,
                 form,
             };
@@ -274,15 +252,8 @@ fn perform_word<'w, A: World, R: Read, W: Write, E: Listener>(
             let asked = Question::Presence(Place { name, pointer, at });
             Ending::Of(answer_on_folder(world, alloc, folder, asked, output))
         }
-        Invocation::Log {
-            folder,
-            name,
-            from,
-            at,
-            form,
-        } => {
-            let commands = Commands { name, from, at };
-            Ending::Of(log_folder(world, alloc, folder, commands, form, output))
+        Invocation::Log { folder, at, form } => {
+            Ending::Of(log_folder(world, alloc, folder, at, form, output))
         }
         Invocation::Verify {
             folder,
@@ -455,12 +426,7 @@ pub(crate) fn status_of(fault: ToolFault) -> Status
 {
     match fault {
         ToolFault::Input | ToolFault::Output => Status::Device,
-        ToolFault::Read(_)
-        | ToolFault::Comments(_)
-        | ToolFault::Unsettled
-        | ToolFault::OneValue
-        | ToolFault::NoEdits
-        | ToolFault::Import(_) => Status::Refused,
+        ToolFault::Read(_) | ToolFault::Comments(_) | ToolFault::Unsettled => Status::Refused,
     }
 }
 

@@ -61,9 +61,6 @@ impl Reporter {
             ToolFault::Read(ReadFault::TooLong) => self.tell_length(errors, name),
             ToolFault::Read(fault) => self.tell_refusal(errors, name, text, fault),
             ToolFault::Comments(place) => self.tell_comments(errors, name, text, place),
-            ToolFault::OneValue => self.tell_one_value(errors, name),
-            ToolFault::NoEdits => self.tell_no_edits(errors, name),
-            ToolFault::Import(fault) => tell_import(errors, name, fault),
             ToolFault::Input | ToolFault::Output | ToolFault::Unsettled => {
                 let _ = writeln!(errors, "{name}: {fault}");
             }
@@ -85,28 +82,6 @@ impl Reporter {
             text,
             Some(place),
             "--keep-comments keeps them; --drop-comments replaces the file, and they are lost",
-        );
-    }
-
-    /// Writes that a text is one value alone.
-    fn tell_one_value<E: Write>(&self, errors: &mut E, name: &str) {
-        let _ = writeln!(errors, "{name}: OneValue (neither a mapping nor a list)");
-        self.explain(
-            errors,
-            b"",
-            None,
-            "a configuration is mostly a mapping; --any-root takes one value, too",
-        );
-    }
-
-    /// Writes that a text is no list of edits.
-    fn tell_no_edits<E: Write>(&self, errors: &mut E, name: &str) {
-        let _ = writeln!(errors, "{name}: BadCommand (no list of edits)");
-        self.explain(
-            errors,
-            b"",
-            None,
-            "compare the keys of each edit, and their order, with `confstore help batch`",
         );
     }
 
@@ -159,12 +134,6 @@ fn write_refusal<E: Write>(errors: &mut E, name: &str, refusal: &Refusal) {
         Some(place) => writeln!(errors, "{name}:{place}: {brief}"),
         None => writeln!(errors, "{name}: {brief}"),
     };
-}
-
-/// Writes why the text of an import that a text lists is refused.
-fn tell_import<E: Write>(errors: &mut E, name: &str, fault: ReadFault) {
-    let brief = fault.brief();
-    let _ = writeln!(errors, "{name}: {brief} (the text of an import)");
 }
 
 /// Writes the name of a fault, of which no more is known.

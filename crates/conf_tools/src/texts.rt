@@ -33,12 +33,6 @@ pub enum ToolFault {
     Comments(Place),
     /// The text with its comments would change if it were formatted once more. Nothing was written.
     Unsettled,
-    /// The text is one value alone, and a mapping or a list was wanted. Nothing was written.
-    OneValue,
-    /// The text is no list of edits, and one was wanted. Nothing was written.
-    NoEdits,
-    /// The text of an import that the text lists is refused, or memory ran out. Nothing was written.
-    Import(ReadFault),
 }
 
 impl ToolFault {
@@ -54,9 +48,6 @@ impl ToolFault {
             ToolFault::Read(fault) => StoreFault::Read(fault).name(),
             ToolFault::Comments(_) => "Comments",
             ToolFault::Unsettled => "Unsettled",
-            ToolFault::OneValue => "OneValue",
-            ToolFault::NoEdits => "BadCommand",
-            ToolFault::Import(fault) => StoreFault::Read(fault).name(),
         }
     }
 }

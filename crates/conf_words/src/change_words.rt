@@ -7,10 +7,10 @@ use crate::arguments::{
     POINTER_ARGUMENT, Relation, WHOLE, YAML, reporting_of,
 };
 use crate::conditions::{
-    IF_ABSENT, IF_ABSENT_ARGUMENT, IF_COUNT, IF_COUNT_ARGUMENT, IF_VALUE_ARGUMENT, conditions_of,
+    IF_ABSENT, IF_ABSENT_ARGUMENT, IF_COUNT_ARGUMENT, IF_VALUE_ARGUMENT, conditions_of,
 };
 use crate::invocation::{
-    Conditions, Grouping, Invocation, MissingStore, Root, STANDARD_INPUT, Value, Wanted,
+    Conditions, Grouping, Invocation, MissingStore, STANDARD_INPUT, Value, Wanted,
 };
 use crate::listing::Listing;
 use crate::refusal::refused;
@@ -45,12 +45,6 @@ pub(crate) const IMPORT: Listing = Listing {
             form: Form::Flag,
             relation: Relation::Free,
         },
-        Argument {
-            name: ANY_ROOT,
-            help: "Takes a text that is one value alone, too, as `80`",
-            form: Form::Flag,
-            relation: Relation::Free,
-        },
         EXPLAIN_ARGUMENT,
         IF_VALUE_ARGUMENT,
         IF_ABSENT_ARGUMENT,
@@ -58,14 +52,17 @@ pub(crate) const IMPORT: Listing = Listing {
         WAIT_ARGUMENT,
         FOLDER_ARGUMENT,
         NAME_ARGUMENT,
-        FILE_ARGUMENT,
+        Argument {
+            name: FILE,
+            help: "The file of the text; standard input if it is left out or `-`",
+            form: Form::Optional,
+            relation: Relation::Free,
+        },
     ],
     help: "\
 A configuration that has the name is replaced. Nothing is printed where it is done. Comments and
 quotes are not kept, and `3` is written `\"3\"`. A folder without a store is refused (NotAStore), and
-stays as it is, unless --init is given. A text that is one value alone, as `80`, is refused (OneValue)
-unless --any-root is given: mostly it is a file of another format. If a condition does not hold, nothing
-changes (Unmet).
+stays as it is, unless --init is given. If a condition does not hold, nothing changes (Unmet).
 
 A text that is refused is reported on standard error with its file, `-` for standard input, as
 `web.yaml:501:1: KeyTwice \"key250\" (first at 17:1)`. With --explain, or where standard error is a
@@ -81,14 +78,6 @@ Examples:
 /// The word of `import` that has a store made where there is none.
 const MAKE_STORE: &str = "init";
 
-/// The argument of `import` and `batch` that is the file of a text.
-const FILE_ARGUMENT: Argument = Argument {
-    name: FILE,
-    help: "The file of the text; standard input if it is left out or `-`",
-    form: Form::Optional,
-    relation: Relation::Free,
-};
-
 pub(crate) fn import_invocation<'w>(words: &ArgMatches<'w>) -> Option<Invocation<'w>>
     ensures { IfSome result HasFittingFiles }
 {
@@ -96,22 +85,10 @@ pub(crate) fn import_invocation<'w>(words: &ArgMatches<'w>) -> Option<Invocation
         folder: words.get_str(FOLDER)?,
         name: words.get_str(NAME)?,
         file: words.get_str(FILE).unwrap_or(STANDARD_INPUT),
-        root: root_of(words),
         missing: missing_of(words),
         conditions: conditions_of(words),
         reporting: reporting_of(words),
     })
-}
-
-/// The word of `import` that has any text taken.
-const ANY_ROOT: &str = "any-root";
-
-fn root_of(words: &ArgMatches<'_>) -> Root {
-    if words.get_flag(ANY_ROOT) {
-        Root::Any
-    } else {
-        Root::Collection
-    }
 }
 
 fn missing_of(words: &ArgMatches<'_>) -> MissingStore {
@@ -355,44 +332,6 @@ pub(crate) fn rename_invocation<'w>(words: &ArgMatches<'w>) -> Option<Invocation
         name: words.get_str(NAME)?,
         to: words.get_str(TO)?,
         conditions: conditions_of(words),
-    })
-}
-
-pub(crate) const BATCH: Listing = Listing {
-    about: "Makes all edits that a YAML text lists, or none of them",
-    arguments: &[
-        EXPLAIN_ARGUMENT,
-        IF_COUNT_ARGUMENT,
-        WAIT_ARGUMENT,
-        FOLDER_ARGUMENT,
-        FILE_ARGUMENT,
-    ],
-    help: "\
-The text is a list. Each edit in it is a mapping, as in a batch of `run`:
-
-  import: NAME   text: TEXT                    reads a YAML text, and puts its tree under a name
-  set: NAME      path: POINTER   value: TREE   sets the value at a JSON Pointer
-  delete: NAME   path: POINTER                 removes what is there; the pointer \"\" removes the name
-
-They are made in this order, as one command: all of them, or none. Nothing is printed where it is done,
-and the status says so. A list of none is refused (EmptyBatch), and so is one with anything else in it
-(BadCommand). With --if-count nothing changes if the store has accepted another number of commands
-(Unmet).
-
-Examples:
-  confstore batch store edits.yaml
-  confstore batch store edits.yaml --if-count 12
-  echo '[{set: web, path: /port, value: 81}, {delete: old, path: \"\"}]' | confstore batch store",
-};
-
-pub(crate) fn batch_invocation<'w>(words: &ArgMatches<'w>) -> Option<Invocation<'w>>
-    ensures { IfSome result HasFittingFiles }
-{
-    Some(Invocation::Batch {
-        folder: words.get_str(FOLDER)?,
-        file: words.get_str(FILE).unwrap_or(STANDARD_INPUT),
-        count: words.get_one(IF_COUNT),
-        reporting: reporting_of(words),
     })
 }
 

@@ -1,6 +1,6 @@
 // What the program lists of a subcommand, and the same as clap takes it.
 use crate::arguments::{Argument, Form, Relation};
-use crate::change_words::{BATCH, CHECKPOINT, COPY, DELETE, IMPORT, INIT, RENAME, RUN, SET};
+use crate::change_words::{CHECKPOINT, COPY, DELETE, IMPORT, INIT, RENAME, RUN, SET};
 use crate::read_words::{BACKUP, EXISTS, EXPORT, GET, KEYS, LOG, NAMES, SALVAGE, VERIFY};
 use crate::subcommand::Subcommand;
 use crate::text_words::{CHECK, FORMAT};
@@ -46,7 +46,6 @@ fn listing_of(subcommand: Subcommand) -> Listing {
         Subcommand::Delete => DELETE,
         Subcommand::Copy => COPY,
         Subcommand::Rename => RENAME,
-        Subcommand::Batch => BATCH,
         Subcommand::Checkpoint => CHECKPOINT,
         Subcommand::Run => RUN,
         Subcommand::Export => EXPORT,

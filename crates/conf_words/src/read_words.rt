@@ -151,12 +151,7 @@ pub(crate) const GET: Listing = Listing {
         AT_ARGUMENT,
         FOLDER_ARGUMENT,
         NAME_ARGUMENT,
-        Argument {
-            name: POINTER,
-            help: "JSON Pointers, as /port; the whole configuration if none is given",
-            form: Form::Several,
-            relation: Relation::Free,
-        },
+        POINTER_ARGUMENT,
     ],
     help: "\
 The value is written in the one style. With `--raw` a text is written as it is, with a line feed after
@@ -166,13 +161,8 @@ quotes, for readers with types. With `--default` that text is written where no c
 name, or nothing is at the pointer. No lock is taken and nothing is changed, so this runs beside a
 session that holds the store.
 
-Several pointers need `--raw` or `--json`, and no `--no-newline` or `--default`: the values are written
-one after the other, each with a line feed after it. They are of one moment. Where one of them can't be
-written, none is.
-
 Examples:
   confstore get store web /port --raw
-  confstore get store web /host /port --raw
   confstore get store web /port --raw --default 80
   confstore get store web
   confstore get store web /tls --json
@@ -188,47 +178,17 @@ const NO_NEWLINE: &str = "no-newline";
 /// The word of `get` that gives a text for a place where nothing is.
 const DEFAULT: &str = "default";
 
-pub(crate) fn get_invocation<'w>(
-    alloc: Global,
-    words: &ArgMatches<'w>,
-) -> Result<Invocation<'w>, Unparsed>
-    ensures { IfOk result HasFittingFiles }
+pub(crate) fn get_invocation<'w>(words: &ArgMatches<'w>) -> Option<Invocation<'w>>
+    ensures { IfSome result HasFittingFiles }
 {
-    let (Some(folder), Some(name)) = (words.get_str(FOLDER), words.get_str(NAME)) else {
-        return Err(refused(alloc, OTHER));
-    };
-    let pointers = pointers_of(alloc, words)?;
-    if pointers.len() > 1 && !writes_lines(words) {
-        return Err(refused(alloc, SEVERAL));
-    }
-    Ok(Invocation::Get {
-        folder,
-        name,
-        pointers,
+    Some(Invocation::Get {
+        folder: words.get_str(FOLDER)?,
+        name: words.get_str(NAME)?,
+        pointer: words.get_str(POINTER).unwrap_or(WHOLE),
         at: words.get_one(AT),
         missing: missing_value_of(words),
         form: form_of_value(words),
     })
-}
-
-/// Why the words of `get` are wrong that give several pointers.
-const SEVERAL: &str = "several POINTERs need --raw or --json, and no --no-newline or --default";
-
-/// The pointers that the words of `get` give; that to the whole configuration if they give none. It fails only if
-/// memory runs out.
-fn pointers_of<'w>(alloc: Global, words: &ArgMatches<'w>) -> Result<Vec<&'w str>, AllocError> {
-    let pointers = words.get_strs(POINTER).unwrap_or_default();
-    if pointers.is_empty() {
-        let whole: &'w str = WHOLE;
-        return Vec::from_slice(alloc, &[whole]);
-    }
-    Vec::from_slice(alloc, pointers)
-}
-
-/// Whether the words of `get` have each value written with a line feed after it, also where nothing is at a pointer.
-fn writes_lines(words: &ArgMatches<'_>) -> bool {
-    let is_line = words.get_flag(JSON) || (words.get_flag(RAW) && !words.get_flag(NO_NEWLINE));
-    is_line && words.get_str(DEFAULT).is_none()
 }
 
 fn missing_value_of<'w>(words: &ArgMatches<'w>) -> MissingValue<'w> {
@@ -267,20 +227,13 @@ Examples:
   confstore keys store web /hosts --at 12",
 };
 
-pub(crate) fn keys_invocation<'w>(
-    alloc: Global,
-    words: &ArgMatches<'w>,
-) -> Result<Invocation<'w>, Unparsed>
-    ensures { IfOk result HasFittingFiles }
+pub(crate) fn keys_invocation<'w>(words: &ArgMatches<'w>) -> Option<Invocation<'w>>
+    ensures { IfSome result HasFittingFiles }
 {
-    let (Some(folder), Some(name)) = (words.get_str(FOLDER), words.get_str(NAME)) else {
-        return Err(refused(alloc, OTHER));
-    };
-    let pointer = words.get_str(POINTER).unwrap_or(WHOLE);
-    Ok(Invocation::Get {
-        folder,
-        name,
-        pointers: Vec::from_slice(alloc, &[pointer])?,
+    Some(Invocation::Get {
+        folder: words.get_str(FOLDER)?,
+        name: words.get_str(NAME)?,
+        pointer: words.get_str(POINTER).unwrap_or(WHOLE),
         at: words.get_one(AT),
         missing: MissingValue::Refused,
         form: ValueForm::Keys,
@@ -338,36 +291,15 @@ pub(crate) const LOG: Listing = Listing {
             form: Form::Flag,
             relation: Relation::Excludes(&[HIDE]),
         },
-        Argument {
-            name: FROM,
-            help: "Begins with command number N",
-            form: Form::Number("N", 0),
-            relation: Relation::Free,
-        },
-        Argument {
-            name: LAST,
-            help: "Ends with command number N; nothing is written unless it is there",
-            form: Form::Number("N", 0),
-            relation: Relation::Excludes(&[AT]),
-        },
         AT_ARGUMENT,
         FOLDER_ARGUMENT,
-        Argument {
-            name: NAME,
-            help: "The configuration of which the commands are written; all if it is left out",
-            form: Form::Optional,
-            relation: Relation::Free,
-        },
     ],
     help: "\
 Each command is one line, as `2 set web \"/port\"`: its number, what it did, and where. With `--values`
 the value of an import or a set follows as a JSON text, as `2 set web \"/port\" \"80\"`. With `--yaml`
 the records are written as they stand in store.yaml, each a YAML document. No lock is taken and
-nothing is changed, so this runs beside a session that holds the store.
-
-With NAME only commands are written that change this configuration: a batch that does, as that of
-`rename`, is written whole. `--to N` and `--at N` are the same. Commands that a checkpoint dropped are
-not there.
+nothing is changed, so this runs beside a session that holds the store. With `--at` nothing is written
+unless command N is there.
 
 With `--hide POINTER` the word `hidden` stands for what is at the JSON Pointer of any configuration, or
 below it, as `1 import web {\"port\":\"80\",\"key\":hidden}`. An index is the one that the command names, and
@@ -375,18 +307,11 @@ below it, as `1 import web {\"port\":\"80\",\"key\":hidden}`. An index is the on
 
 Examples:
   confstore log store
-  confstore log store web --from 12
   confstore log store --values
   confstore log store --values --hide /key
   confstore log store --yaml
   confstore log store --at 12",
 };
-
-/// The word of `log` that says with which command it begins.
-const FROM: &str = "from";
-
-/// The word of `log` that says with which command it ends. It means the same as [`AT`].
-const LAST: &str = "to";
 
 /// The word of `log` that has values written.
 const VALUES: &str = "values";
@@ -405,9 +330,7 @@ pub(crate) fn log_invocation<'w>(
     };
     Ok(Invocation::Log {
         folder,
-        name: words.get_str(NAME),
-        from: words.get_one(FROM).unwrap_or(0),
-        at: words.get_one(AT).or(words.get_one(LAST)),
+        at: words.get_one(AT),
         form: form_of_log(alloc, words)?,
     })
 }

@@ -15,8 +15,6 @@ pub enum Subcommand {
     Copy,
     /// Gives a configuration another name.
     Rename,
-    /// Makes all edits that a YAML text lists, or none of them.
-    Batch,
     /// Makes the store file as short as its state.
     Checkpoint,
     /// Performs the commands on standard input on the store in a folder.
@@ -47,14 +45,13 @@ pub enum Subcommand {
 
 impl Subcommand {
     /// All of them, in the order of the help.
-    pub(crate) const ALL: [Subcommand; 20] = [
+    pub(crate) const ALL: [Subcommand; 19] = [
         Subcommand::Init,
         Subcommand::Import,
         Subcommand::Set,
         Subcommand::Delete,
         Subcommand::Copy,
         Subcommand::Rename,
-        Subcommand::Batch,
         Subcommand::Checkpoint,
         Subcommand::Run,
         Subcommand::Export,
@@ -95,7 +92,6 @@ impl Subcommand {
             Subcommand::Delete => "delete",
             Subcommand::Copy => "copy",
             Subcommand::Rename => "rename",
-            Subcommand::Batch => "batch",
             Subcommand::Checkpoint => "checkpoint",
             Subcommand::Run => "run",
             Subcommand::Export => "export",

@@ -3,7 +3,7 @@ ghost use Rattle.std.specs.Prelude.{IfOk};
 ghost use Rattle.conf_words.specs.Invocations.{HasFittingFiles};
 
 use crate::change_words::{
-    batch_invocation, checkpoint_invocation, copy_invocation, delete_invocation, import_invocation, init_invocation,
+    checkpoint_invocation, copy_invocation, delete_invocation, import_invocation, init_invocation,
     rename_invocation, run_invocation, set_invocation, test_pointer,
 };
 use crate::invocation::Invocation;
@@ -28,7 +28,7 @@ const ABOUT: &str = "A crash-safe store of named configuration trees, and tools 
 
 const GROUPS_AND_STATUSES: &str = "\
 The words by what they do:
-  change a store  init, import, set, delete, copy, rename, batch, checkpoint, run
+  change a store  init, import, set, delete, copy, rename, checkpoint, run
   read a store    export, names, get, keys, exists, log, verify, salvage, backup
   read a text     format, check
 
@@ -149,13 +149,12 @@ fn invocation_of<'w>(alloc: Global, matches: &ArgMatches<'w>) -> Result<Invocati
         }
         Some(Subcommand::Copy) => copy_invocation(words),
         Some(Subcommand::Rename) => rename_invocation(words),
-        Some(Subcommand::Batch) => batch_invocation(words),
         Some(Subcommand::Checkpoint) => checkpoint_invocation(words),
         Some(Subcommand::Run) => run_invocation(words),
         Some(Subcommand::Export) => export_invocation(words),
         Some(Subcommand::Names) => names_invocation(words),
-        Some(Subcommand::Get) => return get_invocation(alloc, words),
-        Some(Subcommand::Keys) => return keys_invocation(alloc, words),
+        Some(Subcommand::Get) => get_invocation(words),
+        Some(Subcommand::Keys) => keys_invocation(words),
         Some(Subcommand::Exists) => exists_invocation(words),
         Some(Subcommand::Log) => return log_invocation(alloc, words),
         Some(Subcommand::Verify) => verify_invocation(words),

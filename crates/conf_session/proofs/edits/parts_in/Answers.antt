@@ -1,8 +1,0 @@
--- The elements of a tree that is kept are kept.
-use Rattle.std.proofs.Common.{ap, subst, ◌∙◌}
-use Rattle.conf_session.proofs.Prelude.{IsKept, tree_of, elements_of, tree_of-Seq, items_kept}
-use Rattle.conf_session.proofs.edits.parts_in.Goals as goal
-
-pub parts_of-requires : goal.parts_of-requires
-parts_of-requires c = items_kept (elements_of c.in-Seq.elements.items)
-    (subst IsKept (ap tree_of c.in-Seq.is ∙ tree_of-Seq c.in-Seq.elements) c.requires)
