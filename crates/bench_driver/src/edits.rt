@@ -4,8 +4,10 @@ mod rounds;
 mod trees;
 
 use crate::failed::Failed;
-use order::Order;
+use order::{Order, Shape};
 use rounds::{length_in_style, run};
+use std::alloc::{AllocError, Global};
+use yaml_tree::Tree;
 
 /// Makes the edits that the words of an order say, and prints how many they are and how long the tree is in the one
 /// style.
@@ -18,4 +20,9 @@ pub(crate) fn perform(rt: &HostRuntime, words: &[String]) -> Result<(), Failed> 
     run(alloc, &order)?;
     println!(rt; "{} edits of a tree of {length} bytes", order.edits())?;
     Ok(())
+}
+
+/// A mapping of so many pairs.
+pub(crate) fn wide_tree(alloc: Global, pairs: u32) -> Result<Tree, AllocError> {
+    Shape::Wide { pairs }.tree(alloc)
 }
