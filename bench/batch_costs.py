@@ -4,13 +4,11 @@
 - 100 `set`s in one batch, beside 100 single ones in a session in groups, and how a batch's cost grows with it.
 - A batch of one `set`, beside a single `set`, in a store of 10,000 configurations.
 - Opening a journal of batches of 100 edits, beside one of as many single edits.
-- `set`s in batches of a configuration that is one wide mapping, beside single ones, in a state in memory.
 
 It also counts the syncs of a batch with strace, where that is installed. Run it from the repository's root after the
-programs are built; it needs valgrind, and takes some minutes. With `-w` it only counts the sets in wide mappings:
+program is built; it needs valgrind, and takes some minutes:
 
-    ./prove && (cd crates/bench_driver && rt run -- sets 100 1 1)
-    python3 bench/batch_costs.py [-w]
+    ./prove && python3 bench/batch_costs.py
 """
 
 from __future__ import annotations
@@ -22,17 +20,11 @@ import sys
 import tempfile
 from collections.abc import Iterable
 
-from lib.programs import DRIVER, PROGRAM, has_valgrind, need_program
-from lib.runs import instructions_of, syncs_of
+from lib.programs import PROGRAM, has_valgrind, need_program
+from lib.runs import syncs_of
 from lib.stores import CHECKPOINT, perform, session_instructions
 
 VALUE = "a value of some fifty bytes, as many of them are here"
-# How many pairs a wide mapping has, and how many sets a batch of them.
-WIDTHS = (100, 10_000, 100_000)
-SIZES = (1, 2, 10, 100)
-# How many commands are counted, and how many come before them: in these the mapping gets its index.
-COUNTED = 10
-UNCOUNTED = 10
 
 
 def instructions(folder: str, commands: str) -> int:
@@ -81,13 +73,6 @@ def opening(top: str, commands: str) -> int:
     return taken
 
 
-def wide(pairs: int, size: int) -> float:
-    """What a set in a mapping of so many pairs costs, in commands of so many sets."""
-    orders = ([DRIVER, "sets", str(pairs), str(size), str(rounds)] for rounds in (UNCOUNTED + COUNTED, UNCOUNTED))
-    many, few = map(instructions_of, orders)
-    return (many - few) / (COUNTED * size)
-
-
 def syncs(top: str) -> int | None:
     """How many syncs a batch of 100 edits takes in a session, less those of opening."""
 
@@ -132,27 +117,15 @@ def compare_openings(top: str) -> None:
     print(f"a single one {singles:.0f}, {batches / singles:.2f} times")
 
 
-def compare_widths() -> None:
-    """Prints what a set costs in batches of several sizes, in wide mappings, beside a single one."""
-    for pairs in WIDTHS:
-        costs = {size: wide(pairs, size) for size in SIZES}
-        for size, each in costs.items():
-            print(f"{pairs} pairs, a set of {size}: {each:.0f} instructions, {each / costs[1]:.2f} times a single one")
-
-
 def main() -> int:
+    need_program()
     if not has_valgrind():
         sys.exit("valgrind is missing, which counts the instructions: apt-get install valgrind")
-    if "-w" in sys.argv[1:]:
-        compare_widths()
-        return 0
-    need_program()
     with tempfile.TemporaryDirectory() as top:
         compare_sizes(top)
         compare_large(top)
         compare_openings(top)
         print(f"syncs of a batch of 100: {syncs(top)}")
-    compare_widths()
     return 0
 
 

@@ -4,10 +4,8 @@ mod rounds;
 mod trees;
 
 use crate::failed::Failed;
-use order::{Order, Shape};
+use order::Order;
 use rounds::{length_in_style, run};
-use std::alloc::{AllocError, Global};
-use yaml_tree::Tree;
 
 /// Makes the edits that the words of an order say, and prints how many they are and how long the tree is in the one
 /// style.
@@ -20,9 +18,4 @@ pub(crate) fn perform(rt: &HostRuntime, words: &[String]) -> Result<(), Failed> 
     run(alloc, &order)?;
     println!(rt; "{} edits of a tree of {length} bytes", order.edits())?;
     Ok(())
-}
-
-/// A mapping of so many pairs.
-pub(crate) fn wide_tree(alloc: Global, pairs: u32) -> Result<Tree, AllocError> {
-    Shape::Wide { pairs }.tree(alloc)
 }

@@ -9,8 +9,6 @@
 //!   asked, and prints the tree's length. The words are what is edited (`tree`, or `state`: a configuration of a
 //!   store, by commands), the tree's shape (`wide`, one mapping, or `deep`, mappings in mappings), its size (pairs,
 //!   or how deep it is) and how often a pair is set at the end and deleted again.
-//! - `sets PAIRS EDITS ROUNDS` sets values in a configuration that is one mapping of so many pairs, by so many commands
-//!   of so many sets: one set is a single command, and more are a batch. It prints how many sets those are.
 //!
 //! It ends with 0, with 1 where something failed or was refused, and with 2 at an order of wrong words.
 #![tactic(auto)]
@@ -18,7 +16,6 @@
 mod edits;
 mod failed;
 mod read;
-mod sets;
 
 use failed::Failed;
 use std::env;
@@ -55,7 +52,6 @@ fn perform(rt: &HostRuntime, words: &[String]) -> Result<(), Failed> {
     match part.as_str() {
         "read" => read::perform(rt, words),
         "edits" => edits::perform(rt, words),
-        "sets" => sets::perform(rt, words),
         _ => Err(Failed::Words),
     }
 }

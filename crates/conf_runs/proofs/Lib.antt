@@ -1,3 +1,9 @@
 pub mod Effects
-pub mod StatusLemmas
+pub mod ExampleLemmas
+pub mod ExampleRuns
+pub mod OtherLemmas
+pub mod ReadLemmas
 pub mod RunLemmas
+pub mod StateLemmas
+pub mod StatusLemmas
+pub mod WriteLemmas

@@ -1,0 +1,7 @@
+use Rattle.test_system.specs.Replay.{NoteRead}
+use Rattle.test_system.specs.Log.{entries}
+use Rattle.test_system.proofs.OneMore.{made_last}
+use Rattle.test_system.proofs.log.CallLog.read_note.Goals as goal
+
+pub returns : goal.returns
+returns c = made_last (entries c.args.self.now) (entries c.keep.new.self) NoteRead c.in_ok-keep.ensures.kept

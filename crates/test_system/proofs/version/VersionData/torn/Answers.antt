@@ -1,0 +1,29 @@
+use Rattle.std.proofs.Common.{◌≡◌, ◌<◌, ◌++◌, [], ◌∷◌, ℕ, Bool, false, List, length, get_or, take, ap, ◌∙◌, sym, arith, append_assoc}
+use Rattle.std.specs.Prelude.{if◌then◌else◌}
+use Rattle.std.proofs.lemmas.List.{take_all, get_or_read}
+use Rattle.test_system.specs.Crashes.{worn}
+use Rattle.test_system.proofs.Left.{worn-more}
+use Rattle.test_system.proofs.version.VersionData.torn.Goals as goal
+
+pub loop-place-preserved : goal.loop-place-preserved
+loop-place-preserved c =
+    let kept = c.args.kept.now in
+    let pending = c.args.self.now.pending.items in
+    let device = c.args.self.now.device.items in
+    let i = c.loop-place.place in
+    let within : i < length kept = c.loop-place-test.true in
+    let read : c.index.result.now ≡ get_or pending i 0 =
+    get_or_read pending i c.index.result.now (omega (arith, within, c.requires)) c.index.ensures 0 in
+    let pushed = c.in_ok-push.ensures.items in
+    pushed ∙ ap (λ (l : List ℕ). l ++ c.byte_left.result ∷ []) c.loop-place.invariant
+    ∙ append_assoc device (worn pending (take i kept)) (c.byte_left.result ∷ [])
+    ∙ ap (λ (b : ℕ). device ++ (worn pending (take i kept) ++ b ∷ [])) c.byte_left.ensures
+    ∙ ap (λ (b : ℕ). device ++ (worn pending (take i kept) ++ (if get_or kept i false then b else 0) ∷ [])) read
+    ∙ ap (λ (l : List ℕ). device ++ l) (sym (worn-more pending kept i within c.requires))
+
+pub returns : goal.returns
+returns c =
+    let kept = c.args.kept.now in
+    c.loop-place.invariant
+    ∙ ap (λ (l : List Bool). c.args.self.now.device.items ++ worn c.args.self.now.pending.items l)
+    (take_all c.loop-place.place kept c.loop-place-test.false)

@@ -1,0 +1,22 @@
+-- The calls that a system keeps.
+use Rattle.std.specs.Prelude.{◌≡◌, ◌⊎◌, ℕ, List, [], ◌∷◌, ◌++◌, Option}
+use Rattle.conf_system.specs.Machine.{Machine, Call}
+use Rattle.test_system.specs.Replay.{Entry, Called, entries_of, machine_after, machine_made, new_machine}
+use Rattle.test_system.specs.Spares.{spare_entry}
+use Rattle.test_system.specs.declared.log.CallLog.{CallLog}
+use Rattle.test_system.specs.declared.spares.Spare.{Spare}
+
+abbrev pub entries : CallLog → List Entry
+entries log = entries_of log.calls
+
+abbrev pub machine_now : CallLog → Machine
+machine_now log = machine_after (entries log) new_machine
+
+-- with one call more
+abbrev pub then : List Entry → Call → Option ℕ → List Entry
+then entries call failed = entries ++ Called call failed ∷ []
+
+-- it is kept, unless it changes nothing
+abbrev pub KeepsSpare : Spare → CallLog → CallLog → Type 0
+KeepsSpare spare old new = (entries new ≡ entries old ++ spare_entry spare ∷ [])
+    ⊎ ((entries new ≡ entries old) × (machine_made (spare_entry spare) (machine_now old) ≡ machine_now old))
