@@ -1,10 +1,15 @@
 -- Runs of the program in a world in memory.
-use Rattle.std.specs.Prelude.{ℕ, List}
+use Rattle.std.specs.Prelude.{⊤, ℕ, List, length}
 use Rattle.conf_disk.specs.Image.{Image}
 use Rattle.conf_disk.specs.Models.{DiskModel}
 use Rattle.conf_state.specs.States.{Contents}
 use Rattle.conf_store.specs.Meaning.{ImageMeans}
 use Rattle.conf_runs.specs.Runs.{Event, AreRuns, Holds}
+use Rattle.conf_protocol.specs.Moments.{LeftSince}
+use Rattle.conf_protocol.specs.declared.disk.SystemDisk.{SystemDisk}
+use Rattle.conf_system.specs.Folders.{folder_of}
+use Rattle.test_system.specs.Memory.{memory_model, memory_machine, kept_calls}
+use Rattle.test_system.specs.declared.memory.MemorySystem.{MemorySystem}
 use Rattle.test_worlds.specs.Files.{remaining_of}
 use Rattle.test_worlds.specs.Worlds.{memory_world, memory_leaves}
 use Rattle.test_worlds.specs.declared.world.MemoryWorld.{MemoryWorld}
@@ -22,3 +27,13 @@ module _ {D : Type 0} (model : DiskModel D) (honest : model.honest) (path : List
       (memory_leaves model first path) events (memory_leaves model last path)
       → (image : Image) → memory_leaves model last path image
       → Holds (memory_world model) model remaining_of honest (memory_leaves model) path first events image
+
+-- the disk of a system in memory, as contracts see it
+abbrev pub system_disk : DiskModel (SystemDisk MemorySystem)
+system_disk = record {
+  honest = ⊤;
+  folder = λ disk. folder_of (memory_machine disk.run.system);
+  moment = λ disk. length (kept_calls disk.run.system);
+  left = λ disk. LeftSince memory_model disk.run.system;
+  failure_count = λ disk. disk.failures;
+}

@@ -3,13 +3,15 @@ ghost use Rattle.std.specs.Prelude.{List, ℕ};
 ghost use Rattle.conf_runs.specs.Folders.{KeepsFolders, HandsOutNone};
 ghost use Rattle.conf_runs.specs.FoldersRead.{ShowsFolders};
 ghost use Rattle.test_worlds.specs.Files.{remaining_of};
-ghost use Rattle.test_worlds.specs.Runs.{MemoryRunsHold};
+ghost use Rattle.test_worlds.specs.Runs.{MemoryRunsHold, system_disk};
 ghost use Rattle.test_worlds.specs.Reading.{MemoryReadsSeeWrites};
 ghost use Rattle.test_worlds.specs.Worlds.{memory_world, memory_leaves};
 
 use crate::{MemoryWorld, NewDisk};
 use conf_disk::reading_is_an_image;
+use conf_protocol::SystemDisk;
 use conf_runs::{Folders, reads_see_writes, runs_hold};
+use test_system::MemorySystem;
 
 impl<D: NewDisk> Folders for MemoryWorld<D> {
     ghost leaves = { memory_leaves D.model };
@@ -36,6 +38,14 @@ pub fn memory_runs_hold<D: NewDisk>()
 {
     runs_hold::<MemoryWorld<D>>();
     memory_worlds_keep_folders::<D>();
+}
+
+/// The same law of worlds whose disks are those of `conf_protocol`, over systems in memory. These are honest, so it has
+/// no premise but that of the images before the runs: what is proved of the protocol is proved of something.
+pub fn system_runs_hold()
+    ensures { (path : List ℕ) → MemoryRunsHold system_disk tt path }
+{
+    memory_runs_hold::<SystemDisk<MemorySystem>>();
 }
 
 /// A law: what a run wrote in a world in memory over honest disks, a later one reads. [`reads_see_writes`] says this of

@@ -12,6 +12,6 @@ mod places;
 mod world;
 
 pub use file::MemoryFile;
-pub use laws::{memory_reads_see_writes, memory_runs_hold, memory_worlds_keep_folders};
+pub use laws::{memory_reads_see_writes, memory_runs_hold, memory_worlds_keep_folders, system_runs_hold};
 pub use new_disk::{NewDisk, NewSystem};
 pub use world::MemoryWorld;
