@@ -90,15 +90,6 @@ class Import(StoreTest):
         with Store(self.folder) as store:
             self.assertEqual(store.names(), ["b", "web-1", "web-3"])
 
-    def test_one_value_alone(self) -> None:
-        for words in ([], ["--from", "yaml"], ["--edits"], ["--dry-run"]):
-            with self.subTest(words):
-                status, output, errors = self.ctl("import", *words, "store", "one", given="80 # a: b\n")
-                self.assertEqual((status, output), (1, ""))
-                self.assertRegex(errors[0], r"\A-: OneValue \(neither a mapping nor a list")
-                self.assertEqual(self.ctl("import", *words, "--any-root", "store", "one", given="80\n")[0], 0)
-        self.assertEqual(self.tree("one"), "80")
-
     def test_each_format(self) -> None:
         rows: tuple[tuple[str, str, Tree], ...] = (
             ("toml", "[a]\nb = 0.10\n", {"a": {"b": "0.10"}}), ("ini", "[a]\nb = 010\n", {"a": {"b": "010"}}),

@@ -11,4 +11,3 @@ pub mod Shown
 pub mod Keeping
 pub mod SameBytes
 pub mod Told
-pub mod Opened

@@ -1,9 +1,3 @@
 pub mod Effects
-pub mod ExampleLemmas
-pub mod ExampleRuns
-pub mod OtherLemmas
-pub mod ReadLemmas
-pub mod RunLemmas
-pub mod StateLemmas
 pub mod StatusLemmas
-pub mod WriteLemmas
+pub mod RunLemmas

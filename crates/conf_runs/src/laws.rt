@@ -1,6 +1,4 @@
 // What runs of the program keep of the store in a folder.
-ghost use Rattle.conf_runs.specs.Example.{FirstExample};
-ghost use Rattle.conf_runs.specs.Reads.{OthersStay, ReadsSeeWrites};
 ghost use Rattle.conf_runs.specs.Runs.{RunsHold};
 ghost use Rattle.conf_disk.specs.Image.{Image};
 ghost use Rattle.std.specs.Prelude.{ℕ, List};
@@ -9,8 +7,6 @@ use conf_disk::reading_is_an_image;
 use conf_record::{documents_are_read, documents_close};
 use conf_store::bytes_mean_one_state;
 use conf_tools::{World, call_holds};
-use yaml_grammar::one_tree;
-use yaml_recognizers::texts::unambiguous;
 
 /// A world of which one knows what a crash leaves of its folders.
 pub trait Folders: World {
@@ -46,51 +42,4 @@ pub fn runs_hold<A: Folders>()
     documents_are_read();
     documents_close();
     call_holds::<A::Disk>();
-}
-
-/// What a run wrote, a later one reads.
-///
-/// Take a run of `set` or `import` whose status was [`Done`](conf_tools::Status::Done), and the value that it put at
-/// its place. The last step of the pointer of a `set` may not be `-`, which is another place for each `set`. Then come
-/// any runs, with any words, which returned or were cut off. Whatever is kept of each one's commands turns the value
-/// there into the next one, or leaves it. Crashes may have come within these runs, after any of them, or not at all.
-///
-/// Then a run of `get` of the store as it is, or of `export` if the place is a whole configuration, writes the last
-/// value in the form asked for, if the form shows it, and its status is `Done`. Or it writes nothing, since memory ran
-/// out. Or its status is [`Device`](conf_tools::Status::Device), since the device, a stream or the folder's lock
-/// failed.
-///
-/// A run leaves the value if all commands that it accepted are of other configurations, or if it accepted none
-/// (`others`).
-///
-/// It holds of honest disks, in a world that keeps its folders, and reads of a folder what a crash may leave of it.
-pub fn reads_see_writes<A: Folders>()
-    ensures others { (honest : A.Disk.model.honest) (path name pointer : List ℕ)
-        → OthersStay A.model A.Disk.model A.File.remaining honest A.leaves path name pointer }
-    ensures sees { (honest : A.Disk.model.honest) (path name pointer : List ℕ)
-        → ReadsSeeWrites A.model A.Disk.model A.File.remaining honest A.leaves path name pointer }
-{
-    bytes_mean_one_state();
-    reading_is_an_image();
-    documents_are_read();
-    documents_close();
-    call_holds::<A::Disk>();
-    one_tree();
-}
-
-/// README's first example: once `init`, `import` of `port: 80` and `set` of `/port` to `81` are done, `get` prints
-/// `port: "81"`.
-///
-/// It is [`reads_see_writes`] of these words. Crashes may come after any of the commands.
-pub fn first_example_holds<A: Folders>()
-    ensures { (honest : A.Disk.model.honest)
-        → FirstExample A.model A.Disk.model A.File.remaining honest A.leaves }
-{
-    bytes_mean_one_state();
-    reading_is_an_image();
-    documents_are_read();
-    documents_close();
-    call_holds::<A::Disk>();
-    one_tree();
-    unambiguous();
 }

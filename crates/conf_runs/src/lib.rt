@@ -6,4 +6,4 @@
 
 mod laws;
 
-pub use laws::{Folders, first_example_holds, reads_see_writes, runs_hold};
+pub use laws::{Folders, runs_hold};

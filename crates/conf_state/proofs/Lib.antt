@@ -23,4 +23,3 @@ pub mod PlaceLemmas
 pub mod OriginLemmas
 pub mod ListedNames
 pub mod PartStates
-pub mod SetLemmas

@@ -19,4 +19,3 @@ pub mod Endings
 pub mod EntryTexts
 pub mod Touched
 pub mod Parts
-pub mod Trails

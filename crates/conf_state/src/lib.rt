@@ -28,7 +28,6 @@ mod part;
 mod planning;
 mod replaying;
 mod room;
-mod sets;
 mod state;
 mod steps;
 

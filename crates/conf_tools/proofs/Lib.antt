@@ -11,7 +11,6 @@ pub mod ReadLemmas
 pub mod FoundLemmas
 pub mod DroppedLemmas
 pub mod HeldLemmas
-pub mod ShowLemmas
 pub mod FileLemmas
 pub mod StyleLemmas
 pub mod OutcomeLemmas

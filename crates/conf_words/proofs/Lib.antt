@@ -1,5 +1,3 @@
 pub mod EscapeLemmas
-pub mod ShownLemmas
 pub mod NameLemmas
-pub mod FitLemmas
-pub mod OutcomeLemmas
+pub mod ShownLemmas

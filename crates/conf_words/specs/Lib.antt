@@ -1,5 +1,2 @@
 pub mod Escapes
 pub mod Invocations
-pub mod Outcomes
-pub mod Subcommands
-pub mod Waits

@@ -10,4 +10,3 @@ pub mod StepLaws
 pub mod Steps
 pub mod TableLemmas
 pub mod Ways
-pub mod UndoLemmas

@@ -1,4 +1,0 @@
-pub mod LookLemmas
-pub mod FindLemmas
-pub mod NumberLemmas
-pub mod WordLemmas

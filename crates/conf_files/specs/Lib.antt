@@ -1,5 +1,0 @@
-pub mod Modes
-pub mod Standing
-pub mod Replacing
-pub mod Creating
-pub mod Steps

@@ -1,2 +1,0 @@
-pub mod Modes
-pub mod Refusals

@@ -1,4 +1,0 @@
-pub mod Locks
-pub mod Models
-pub mod Laws
-pub mod Taking

@@ -1,4 +1,0 @@
-pub mod Machine
-pub mod Crash
-pub mod Models
-pub mod Laws
