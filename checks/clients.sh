@@ -166,6 +166,7 @@ if has man; then step "man pages" 60 bash -c no_warnings; fi
 if has dpkg-deb; then
     step "the Debian packages" 300 packaging/deb/try.sh
     step "the Debian package of the nodes" 300 packaging/deb/try_replicated.sh
+    step "an upgrade of the Debian packages" 300 packaging/deb/try_upgrade.sh
 fi
 step "the container image" 60 "$python" checks/image.py
 echo "$passed passed, $failed failed"

@@ -353,7 +353,7 @@ def try_link_of_node(folder: str, at: str, failures: Failures) -> None:
     copy = f"{folder}.copy"
     subprocess.run(["cp", "-a", folder, copy], check=True)
     failures.expect("the node's folder", ctl("names", folder).status, 0)
-    found = ctl("import", copy, "lost", given=b"x")
+    found = ctl("import", copy, "lost", given=b"x: y")
     failures.expect("a copy of it", (found.status, found.fault("confstorectl")), (3, ["OtherStore"]))
 
 

@@ -147,6 +147,34 @@ def what_changed(user: User) -> None:
     assert user.does("confstore names t; confstore get t old") == user.does("confstore names s; confstore get s old")
 
 
+def log_of_one(user: User) -> None:
+    """The commands of one configuration, and those since a number."""
+    user.does("confstore set s web /port 81; confstore copy s web old; confstore set s web /port 82")
+    user.does("confstore rename s web site")
+    lines = user.does("confstore log s").splitlines(keepends=True)
+    assert user.does("confstore log s web") == "".join(lines[number - 1] for number in (1, 2, 4, 5))
+    assert user.does("confstore log s old --from 2 --to 4; confstorectl log s web --from 5") == lines[2] + lines[4]
+
+
+def several_values(user: User) -> None:
+    """Several values by one run, of one moment."""
+    assert user.does("confstore get s web /port /hosts/1 --raw") == "80\nb\n"
+    shown = user.does("confstore get s web /hosts /port --json | jq -c .")
+    assert shown == '["a","b"]\n"80"\n'
+
+
+def other_formats(user: User) -> None:
+    """A file of another format, or an empty one, is not taken for a configuration."""
+    texts = ("A=1\nB=2\n", "a = 1\nb = 2\n", "<a>\n b\n</a>\n")
+    for text in texts:
+        user.writes("file", text)
+        user.is_refused("confstore import s web file", "file: OneValue")
+        user.is_refused("confstorectl import s web file", "file: OneValue")
+    assert len(user.does("confstore log s").splitlines()) == 1
+    user.does("echo 80 | confstore import s number --any-root")
+    assert user.does("confstore get s number --raw") == "80\n"
+
+
 def folder_as_it_is(user: User) -> None:
     """A folder of files is what the store has to be: what changes is shown, and is one command."""
     user.does("confstore copy s web old; confstorectl export s --all files; rm files/old.yaml")
@@ -310,6 +338,9 @@ TASKS = [
     Task("the same by a word", "`confstorectl rollback`", roll_back_by_a_word),
     Task("undo", "`confstorectl undo`", undo),
     Task("what changed between two numbers", "`confstorectl diff`", what_changed),
+    Task("what changed of one configuration", "`log NAME --from N`", log_of_one),
+    Task("several values at once", "`get` of several pointers", several_values),
+    Task("files of other formats are refused", "`import`", other_formats),
     Task("a folder that the store is to be like", "`confstorectl sync`, `export --all`", folder_as_it_is),
     Task("a secret out of arguments and logs", "`set --file -`, `log --hide`, `page --hide`", secret),
     Task("render a file, and reload", "`confstorectl render .. -- COMMAND`", render),

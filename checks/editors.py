@@ -1,5 +1,5 @@
 #!/usr/bin/env python3
-"""Tries the settings of docs/STYLE.md and clients/editors, the hook of git, and the two examples.
+"""Tries the settings of clients/editors and its page, the hook of git, and the two examples.
 
 Vim and Emacs run in batch mode, as far as they are installed, and read lines as `confstore check` prints them; the
 patterns for VS Code are tried on the same lines. Those that the program prints of files are among them.
@@ -78,11 +78,11 @@ SAID = (
 
 
 def block_of(language: str) -> str:
-    """What stands in docs/STYLE.md as a block of a language."""
-    text = read_file(os.path.join(TOP, "docs", "STYLE.md")).decode()
+    """What stands in clients/editors/README.md as a block of a language."""
+    text = read_file(os.path.join(TOP, "clients", "editors", "README.md")).decode()
     found = re.search(rf"```{language}\n(.*?)```", text, re.DOTALL)
     if found is None:
-        sys.exit(f"docs/STYLE.md has no block of {language}")
+        sys.exit(f"clients/editors/README.md has no block of {language}")
     return found[1]
 
 

@@ -1,7 +1,7 @@
 #!/usr/bin/env python3
-"""Runs the commands of docs/GUIDE.md, docs/OPERATING.md and README.md, and compares what they print with the page.
+"""Runs the commands of docs/GUIDE.md, docs/OPERATING.md, python/GUIDE.md and README.md, and compares what they print with the page.
 
-In the lists of the first two a line that begins with `$ ` is a command, one that begins with `> ` goes on with it, and
+In the lists of the first three a line that begins with `$ ` is a command, one that begins with `> ` goes on with it, and
 the lines up to the next command are what it prints, on standard output or standard error. The commands of one page
 share a scratch folder and run in order, by one bash each. Of README.md the first list is run, and the file compared
 that the second shows. It needs PyYAML, and the program has to be built first:
@@ -25,7 +25,7 @@ from typing import Union
 
 from lib.store_runs import PROGRAM, TOP, Failures, need_program
 
-PAGES = tuple(os.path.join(TOP, "docs", name) for name in ("GUIDE.md", "OPERATING.md"))
+PAGES = tuple(os.path.join(TOP, *name) for name in (("docs", "GUIDE.md"), ("docs", "OPERATING.md"), ("python", "GUIDE.md")))
 README = os.path.join(TOP, "README.md")
 MARGIN = "    "
 PATIENCE = 60

@@ -2,7 +2,7 @@
 """Others lock, leave or exchange what lies in a folder, or a file of it is hidden, and the program does no harm.
 
 - A user who can only read a folder can't open its `store.lock`. What root leaves there doesn't shut the owner out, and
-  a `store.lock` of another user, as older versions left it, is replaced.
+  a `store.lock` of another user, as older versions left it, is replaced; one that a run has marked stays.
 - An access list of a folder keeps others out of a store through checkpoints and `format -i`, as `docs/DISK.md` says.
 - `format -i` on a file of a folder that is exchanged with a link to another folder before any of its calls: no file of
   that folder is replaced or left over, and none has another owner.
@@ -108,6 +108,15 @@ def locks_of_others(top: Path, failures: Failures) -> None:
             (folder / "store.lock").touch(0o644)
         failures.expect(f"the owner after {left}", change(program, folder, "q", user=NOBODY), 0)
         failures.expect(f"the owner of store.lock after {left}", (folder / "store.lock").stat().st_uid, nobody.pw_uid)
+    folder = new_store(top, "with another's marked lock")
+    for path in (folder, folder / "store.yaml"):
+        os.chown(path, nobody.pw_uid, nobody.pw_gid)
+    lock = folder / "store.lock"
+    lock.touch()
+    lock.chmod(0o1600)
+    number = lock.stat().st_ino
+    failures.expect("a change beside another's marked lock", change(program, folder, "q", user=NOBODY), 3)
+    failures.expect("another's marked lock stays", lock.stat().st_ino, number)
     folder = new_store(top, "of root")
     change(program, folder, "p")
     opened = subprocess.run(["cat", str(folder / "store.lock")], user=NOBODY, capture_output=True, check=False)
@@ -227,7 +236,7 @@ def contents(folder: Path) -> dict[str, bytes] | None:
 def refused_words(top: Path, failures: Failures) -> None:
     """Words that are refused, each in a folder of its own, which stays as it was."""
     text = top / "x.yaml"
-    text.write_text("x\n")
+    text.write_text("x: y\n")
     changes = {"set": ("a", "/k", "v"), "delete": ("a", "/k"), "checkpoint": (), "import": ("a", str(text))}
     lefts: tuple[dict[str, bytes], ...] = ({}, {"next.yaml": STORE})
     rows = [(word, rest, files, "NotAStore") for word, rest in changes.items() for files in lefts]

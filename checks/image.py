@@ -2,14 +2,15 @@
 """Makes the container image of `packaging/image.py`, and looks at what is in it, without an engine.
 
 - **Twice**: from a copy of the program with another name and time, with another umask, zone and folder, come the same
-  bytes, whose SHA-256 is the one that is printed.
+  bytes, whose SHA-256 is the one that is printed, as that of the lower layer is.
 - **The format**: each blob has its digest and its size, and none is left over; the layers are those that the
   configuration names; and skopeo reads all of it, where that is installed.
 - **The layers**: all is of one time and of root, nothing may be written by others or has a set bit, and /data is of the
   user of the image. What ldd names is there as it is here.
 - **The program**: as root, in a chroot of the unpacked layers, as the user and with the environment that the image
   names, it makes a store in /data, changes it and reads it, and can write nowhere else. Without the C library of the
-  image it does not start, so it is that which it has.
+  image it does not start, so it is that which it has; but by the image's loader it does, with these files in a folder of
+  any name, as on a system with another C library.
 
     ./prove && python3 checks/image.py
 
@@ -33,16 +34,17 @@ from lib.store_runs import PROGRAM, TOP, Failures, need_program, read_file
 IMAGE = os.path.join(TOP, "packaging", "image.py")
 TIME = 315_532_800  # 1980-01-01
 USER = 65_532
+NAME = os.path.basename(PROGRAM)
 
 
-def made(folder: str, program: str, **environment: str) -> tuple[str, str]:
-    """The path of an image, and the SHA-256 that was printed."""
+def made(folder: str, program: str, **environment: str) -> tuple[str, str, str]:
+    """The path of an image, and the SHA-256 that were printed: its own, and that of its lower layer."""
     done = subprocess.run(
         [sys.executable, IMAGE, folder, program], stdout=subprocess.PIPE, text=True, check=True, timeout=60,
         env={**os.environ, **environment}, umask=0o077 if environment else -1,
     )  # fmt: skip
-    path, digest = done.stdout.splitlines()
-    return path, digest.removeprefix("sha256: ")
+    path, digest, base = done.stdout.splitlines()
+    return path, digest.removeprefix("sha256: "), base.removeprefix("base: ")
 
 
 def sum_of(content: bytes) -> str:
@@ -65,15 +67,15 @@ class Archive:
         return content
 
 
-def try_twice(top: str, failures: Failures) -> str:
-    """The path of the image."""
-    path, digest = made(os.path.join(top, "one"), PROGRAM)
+def try_twice(top: str, failures: Failures) -> tuple[str, str]:
+    """The path of the image, and the SHA-256 of its lower layer that was printed."""
+    path, digest, base = made(os.path.join(top, "one"), PROGRAM)
     copy = shutil.copy(PROGRAM, os.path.join(top, "another"))
     os.utime(copy, (1, 1))
-    again, _ = made(os.path.join(top, "two", "three"), copy, TZ="Asia/Tokyo", PYTHONHASHSEED="7")
+    again, *_ = made(os.path.join(top, "two", "three"), copy, TZ="Asia/Tokyo", PYTHONHASHSEED="7")
     failures.expect("the same bytes", read_file(again) == read_file(path), True)
     failures.expect("the checksum", digest, sum_of(read_file(path)))
-    return path
+    return path, base
 
 
 def try_format(path: str, failures: Failures) -> tuple[dict[str, Any], list[bytes]]:
@@ -112,13 +114,20 @@ def try_layers(layers: list[bytes], root: str, failures: Failures) -> None:
                 failures.expect(f"{entry.name} is a file or a folder", entry.isfile() or entry.isdir(), True)
             tar.extractall(root, numeric_owner=True)
     failures.expect("the program", sum_of(read_file(f"{root}/usr/bin/confstore")), sum_of(read_file(PROGRAM)))
-    listed = subprocess.run(["ldd", PROGRAM], capture_output=True, text=True, check=True).stdout.split()
-    for path in (word for word in listed if word.startswith("/")):
+    for path in needed_files():
         failures.expect(f"{path} in the image", sum_of(read_file(root + path)), sum_of(read_file(path)))
 
 
-def run_in(root: str, config: dict[str, Any], *words: str, given: bytes = b"") -> tuple[int, str]:
-    """The status of the image's program, which runs as an engine would run it, and what it wrote."""
+def needed_files() -> list[str]:
+    """The files of the C library that the program needs, the loader among them."""
+    listed = subprocess.run(["ldd", PROGRAM], capture_output=True, text=True, check=True).stdout.split()
+    return [word for word in listed if word.startswith("/")]
+
+
+def run_in(
+    root: str, config: dict[str, Any], *words: str, given: bytes = b"", program: list[str] | None = None
+) -> tuple[int, str]:
+    """The status of the image's program, or of another one, which runs as an engine would run it, and what it wrote."""
     settings = config["config"]
     user, group = map(int, settings["User"].split(":"))
 
@@ -131,7 +140,7 @@ def run_in(root: str, config: dict[str, Any], *words: str, given: bytes = b"") -
 
     try:
         done = subprocess.run(
-            [*settings["Entrypoint"], *words], input=given, capture_output=True, check=False, timeout=60,
+            [*(program or settings["Entrypoint"]), *words], input=given, capture_output=True, check=False, timeout=60,
             env=dict(pair.split("=", 1) for pair in settings["Env"]), preexec_fn=enter,
         )  # fmt: skip
     except FileNotFoundError:
@@ -152,9 +161,19 @@ def try_program(root: str, config: dict[str, Any], failures: Failures) -> None:
     failures.expect("a folder of root", (status, said.partition("\n")[0]), (3, "confstore: Device"))
     default = run_in(root, config, *config["config"]["Cmd"])
     failures.expect("what it says without words", (default[0], "Usage: confstore" in default[1]), (0, True))
+    beside = os.path.join(root, "opt", "confstore")
+    os.makedirs(beside)
+    needed = [path for path in needed_files() if os.path.exists(root + path)]
+    for path in [*(root + path for path in needed), PROGRAM]:
+        shutil.copy(path, beside)
     for folder in ("lib", "lib64"):
         shutil.rmtree(os.path.join(root, folder), ignore_errors=True)
     failures.expect("without the C library", run_in(root, config, "--version"), (-1, "it does not start"))
+    loader = next(os.path.basename(path) for path in needed if "/ld-" in path)
+    by_loader = [f"/opt/confstore/{loader}", "--library-path", "/opt/confstore", f"/opt/confstore/{NAME}"]
+    failures.expect("by its loader", run_in(root, config, "--version", program=by_loader), (0, version))
+    changed = run_in(root, config, "set", "/data", "web", "/port", "82", program=by_loader)
+    failures.expect("a change by its loader", changed, (0, ""))
 
 
 def main() -> int:
@@ -162,7 +181,9 @@ def main() -> int:
     failures = Failures()
     with tempfile.TemporaryDirectory() as top:
         os.chmod(top, 0o755)
-        config, layers = try_format(try_twice(top, failures), failures)
+        path, base = try_twice(top, failures)
+        config, layers = try_format(path, failures)
+        failures.expect("the checksum of the lower layer", base, sum_of(layers[0]))
         root = os.path.join(top, "root")
         try_layers(layers, root, failures)
         if os.geteuid() == 0:

@@ -17,7 +17,7 @@
 - docs/OPERATING.md: the table of faults has each fault for which docs/FAULTS.md points to it, and no name that is none.
 - PAGES: each page, script and picture that they name is there: beside the page, from the top, in checks/ or bench/.
 - crates.txt: a library that a line names is in the files of the line's crate, and from no crate are there more than
-  18,000 ways down through these lines: a toolchain may read the sources once for each.
+  30,000 ways down through these lines: a toolchain may read the sources once for each.
 - docs/*.svg: the pictures that packaging/pictures draws are as it would draw them.
 - checks/ and bench/: no two scripts have one name, and none imports another: what they share is in lib/.
 - The Ansible collection says what to do about a refused text as the program does.
@@ -41,7 +41,8 @@ from collections.abc import Iterator
 TOP = os.path.dirname(os.path.dirname(os.path.abspath(__file__)))
 CODE = re.compile(r"`([^`]+)`")
 CELL_ENDS = re.compile(r"(?<!\\)\|")
-# Crates of docs/ARCHITECTURE.md: an item of a list that begins with their names, and the files in its brackets.
+# Crates of docs/ARCHITECTURE.md and checks/README.md: an item of a list that begins with their names, and the files in
+# its brackets.
 CRATES_ITEM = re.compile(r"(?ms)^- ((?:`\w+`,?\s)*`\w+`): (?:[^(]*?)(?:\(([^)]*)\))?\n(?=- |$)")
 # What is to be read, in docs/TRUSTED.md: an item of a numbered list.
 READ_ITEM = re.compile(r"(?ms)^\d+\. (.*?)(?=^\d+\. |^$)")
@@ -49,10 +50,11 @@ READ_ITEM = re.compile(r"(?ms)^\d+\. (.*?)(?=^\d+\. |^$)")
 RULE = re.compile("(?ms)^- ((?:(?!^- |^$).)*\u2192.*?)(?=^- |^$)")
 # The libraries that no file of a crate names, but whose types its contracts speak of.
 UNNAMED = {"example_edit": {"yaml_data"}, "conf_history": {"yaml_data"}}
-MOST_WAYS = 18000
+MOST_WAYS = 30000
 # The pages whose names of other files are looked up.
 PAGES = (
-    "[!C]*.md", "CONTRIBUTING.md", "docs/*.md", "[!c]*/README.md", "checks/README.md", "replicated/model/README.md",
+    "[!C]*.md", "CONTRIBUTING.md", "docs/*.md", "python/GUIDE.md", "[!c]*/README.md", "checks/README.md",
+    "clients/editors/README.md", "replicated/model/README.md",
 )  # fmt: skip
 # Files that have to be the same: each stands by itself where the other one is not.
 COPIES = (
@@ -64,7 +66,7 @@ REMEDY = re.compile(r'(?m)^        ((?:ReadFault|Why)::[^=]*?) => (?:\{\s*)?("(?
 # The enums of faults that the program prints, and the names that it prints for what isn't a variant of that name.
 FAULTS = ["Why", "ReadFault", "StoreFault", "PathFault", "OpenFault", "FolderFault", "SessionFault", "HistoryFault",
           "ReadingFault", "ConditionFault", "NewFileFault"]
-PRINTED = {"BadCommand", "Comments", "Input", "Output", "StoreExists", "Unsettled"}
+PRINTED = {"BadCommand", "Comments", "Input", "OneValue", "Output", "StoreExists", "Unsettled"}
 # A line of the drawing of a command's way: a crate or none, functions of it, words, and the files that have them.
 DRAWN = re.compile(r"^ +(\w+)? {2,}([a-zA-Z_:, ]+?)(?::| {2,}).*? {2,}([\w., ]+\.rt)$", re.M)
 # The status of the script `./confstore`, and the words that are clap's.
@@ -225,14 +227,14 @@ def is_file_of(crate: str, name: str) -> bool:
 
 def wrong_in_architecture() -> Iterator[str]:
     named: set[str] = set()
-    for names, files in CRATES_ITEM.findall(page("docs/ARCHITECTURE.md")):
+    for names, files in CRATES_ITEM.findall(page("docs/ARCHITECTURE.md") + page("checks/README.md")):
         here = CODE.findall(names)
         named.update(here)
         for name in CODE.findall(files):
             if not is_file_of(here[0], name):
                 yield f"docs/ARCHITECTURE.md: {here[0]} has no file `{name}`"
     for crate in sorted(named ^ set(libraries_of_crates())):
-        yield f"docs/ARCHITECTURE.md: `{crate}` is not in both its lists and crates.txt"
+        yield f"docs/ARCHITECTURE.md: `{crate}` is not in both its list, or that of checks/README.md, and crates.txt"
 
 
 def files_of_cell(cell: str) -> Iterator[tuple[str, str]]:

@@ -671,8 +671,12 @@ def try_version(failures: Failures) -> None:
         ("docs/man/confstore.1", r'^\.TH .*"confstore (\S+)"'),
         ("docs/man/confstore-store.5", r'^\.TH .*"confstore (\S+)"'),
         ("docs/man/confstore.3", r'^\.TH .*"confstore (\S+)"'),
+        ("docs/man/confstorectl.1", r'^\.TH .*"confstore (\S+)"'),
         ("clients/c/confstore.h", r'^#define CONFSTORE_VERSION "(.*)"'),
         ("python/confstore/__init__.py", r'^__version__ = "(.*)"'),
+        ("clients/ansible/ansible_collections/confstore/store/galaxy.yml", r"^version: (.*)"),
+        ("checks/data/program.txt", r"^output_has confstore (.*)"),
+        ("release/README.md", r"release/confstore-(.*)-py3-none-any\.whl"),
     ):
         failures.expect(f"the version of {path}", version_in(path, pattern), version)
 

@@ -131,7 +131,7 @@ class World:
     def imported(self, folder: str) -> Word:
         name, value = self.chance.choice(NAMES), json.dumps(self.chance.choice(VALUES))
         conditions = ["--if-absent"] if self.chance.random() < 0.2 else []
-        words = ["import", folder, name, *conditions]
+        words = ["import", "--any-root", folder, name, *conditions]
         state = self.folders.get(folder)
         if conditions and state is not None and name in state.configs:
             return self.refused(words, folder, value)

@@ -7,7 +7,7 @@ _confstore_options() {
     case $1 in
     init | checkpoint) echo '--wait --help' ;;
     run) echo '--group --checkpoint-after --wait --help' ;;
-    import) echo "--init --explain $conditions --wait --help" ;;
+    import) echo "--init --any-root --explain $conditions --wait --help" ;;
     set) echo "--yaml --file --whole --explain $conditions --wait --help" ;;
     delete) echo "--whole $conditions --wait --help" ;;
     copy) echo "--replace $conditions --wait --help" ;;
@@ -16,7 +16,7 @@ _confstore_options() {
     names) echo '--json --at --help' ;;
     get) echo '--raw --no-newline --json --plain --default --at --help' ;;
     keys | exists) echo '--at --help' ;;
-    log) echo '--values --hide --yaml --at --help' ;;
+    log) echo '--values --hide --yaml --from --to --at --help' ;;
     verify | salvage) echo '--keep-dropped --help' ;;
     format) echo '-i --in-place --keep-comments --drop-comments --check --explain --help' ;;
     check) echo '--keep-comments --explain --help' ;;
@@ -44,7 +44,7 @@ _confstore() {
     fi
     for ((index = 2; index < COMP_CWORD; index++)); do
         case ${COMP_WORDS[index]} in
-        --checkpoint-after | --at | --default | --file | --hide | --if-value | --if-count | --keep-dropped | --wait)
+        --checkpoint-after | --at | --from | --to | --default | --file | --hide | --if-value | --if-count | --keep-dropped | --wait)
             index=$((index + 1))
             ;;
         -?*) ;;
@@ -55,7 +55,7 @@ _confstore() {
         esac
     done
     case ${COMP_WORDS[COMP_CWORD - 1]} in
-    --checkpoint-after | --at | --default | --hide | --if-value | --if-count | --wait) return ;;
+    --checkpoint-after | --at | --from | --to | --default | --hide | --if-value | --if-count | --wait) return ;;
     --file | --keep-dropped)
         compopt -o filenames
         mapfile -t COMPREPLY < <(compgen -f -- "$current")
@@ -71,7 +71,7 @@ _confstore() {
         compopt -o filenames
         mapfile -t COMPREPLY < <(compgen -f -- "$current")
         ;;
-    export:1 | import:1 | set:1 | delete:1 | copy:1 | copy:2 | rename:1 | rename:2 | get:1 | keys:1 | exists:1)
+    export:1 | import:1 | set:1 | delete:1 | copy:1 | copy:2 | rename:1 | rename:2 | get:1 | keys:1 | exists:1 | log:1)
         mapfile -t COMPREPLY < <(compgen -W "$(_confstore_names "$folder")" -- "$current")
         ;;
     *:0 | salvage:1 | backup:1)

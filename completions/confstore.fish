@@ -1,7 +1,7 @@
 # Completion of confstore for fish: put it into a folder of `fish_complete_path`.
 
 set -l stores run export import set delete copy rename checkpoint init names get keys exists log verify salvage backup
-set -l named export import set delete copy rename get keys exists
+set -l named export import set delete copy rename get keys exists log
 set -l conditional import set delete copy rename
 set -l locking init import set delete copy rename checkpoint run export
 
@@ -12,7 +12,7 @@ function __confstore_places
     for word in (commandline -opc)[3..-1]
         if test $is_value = 1
             set is_value 0
-        else if contains -- $word --checkpoint-after --at --default --file --hide --if-value --if-count --wait
+        else if contains -- $word --checkpoint-after --at --from --to --default --file --hide --if-value --if-count --wait
             set is_value 1
         else if not string match -q -- '-?*' $word
             set -a places $word
@@ -69,6 +69,7 @@ complete -c confstore -n '__confstore_at 2 import' -F
 complete -c confstore -n '__fish_seen_subcommand_from run' -l group -d 'Sync once for all commands at hand'
 complete -c confstore -n '__fish_seen_subcommand_from run' -l checkpoint-after -x -d 'Make checkpoints meanwhile'
 complete -c confstore -n '__fish_seen_subcommand_from import' -l init -d 'Make a store where there is none'
+complete -c confstore -n '__fish_seen_subcommand_from import' -l any-root -d 'Take one value alone, too'
 complete -c confstore -n '__fish_seen_subcommand_from set' -l yaml -d 'Read the value as a text'
 complete -c confstore -n '__fish_seen_subcommand_from set' -l file -r -F -d 'Take the text of a file'
 complete -c confstore -n "__fish_seen_subcommand_from $conditional" -l if-value -x -d 'Change only if this text is there'
@@ -86,6 +87,8 @@ complete -c confstore -n '__fish_seen_subcommand_from get' -l default -x -d 'Wri
 complete -c confstore -n '__fish_seen_subcommand_from log' -l values -d 'Write values as JSON texts'
 complete -c confstore -n '__fish_seen_subcommand_from log' -l hide -x -d 'Hide the values at a place'
 complete -c confstore -n '__fish_seen_subcommand_from log' -l yaml -d 'Write the records as they stand'
+complete -c confstore -n '__fish_seen_subcommand_from log' -l from -x -d 'Begin with a command'
+complete -c confstore -n '__fish_seen_subcommand_from log' -l to -x -d 'End with a command'
 complete -c confstore -n '__fish_seen_subcommand_from verify salvage' -l keep-dropped -r -F -d 'Keep what an opening drops'
 complete -c confstore -n '__fish_seen_subcommand_from format check' -F
 complete -c confstore -n '__fish_seen_subcommand_from format' -s i -l in-place -d 'Replace each file that would change'

@@ -6,7 +6,7 @@ _confstorectl_words='import set delete copy rename edit batch undo rollback sync
 
 _confstorectl_options() {
     case $1 in
-    import) echo '--init --explain --edits --if-value --if-absent --if-count --check --dry-run --from --document --split --dir --socket --wait --help' ;;
+    import) echo '--init --any-root --explain --edits --if-value --if-absent --if-count --check --dry-run --from --document --split --dir --socket --wait --help' ;;
     set) echo '--yaml --file --whole --explain --parents --insert --if-value --if-absent --if-count --check --dry-run --socket --wait --help' ;;
     delete) echo '--whole --if-value --if-absent --if-count --check --dry-run --socket --wait --help' ;;
     copy) echo '--replace --if-value --if-absent --if-count --check --dry-run --socket --wait --help' ;;
@@ -21,7 +21,7 @@ _confstorectl_options() {
     keys) echo '--at --socket --wait --help' ;;
     get) echo '--raw --no-newline --json --plain --env --default --at --socket --wait --help' ;;
     exists) echo '--at --socket --wait --help' ;;
-    log) echo '--values --hide --yaml --at --socket --wait --help' ;;
+    log) echo '--values --hide --yaml --from --to --at --socket --wait --help' ;;
     diff) echo '--from --to --lines --hide --files --explain --wait --help' ;;
     page) echo '--hide --wait --help' ;;
     verify) echo '--keep-dropped --socket --wait --help' ;;
@@ -78,7 +78,7 @@ _confstorectl() {
         compopt -o filenames
         mapfile -t COMPREPLY < <(compgen -f -- "$current")
         ;;
-    import:1 | set:1 | delete:1 | copy:1 | rename:1 | edit:1 | undo:2 | rollback:1 | export:1 | keys:1 | get:1 | exists:1 | diff:1 | watch:1 | copy:2 | rename:2)
+    import:1 | set:1 | delete:1 | copy:1 | rename:1 | edit:1 | undo:2 | rollback:1 | export:1 | keys:1 | get:1 | exists:1 | log:1 | diff:1 | watch:1 | copy:2 | rename:2)
         mapfile -t COMPREPLY < <(compgen -W "$(_confstorectl_names "$folder")" -- "$current")
         ;;
     *:0 | backup:1 | salvage:1 | sync:1)

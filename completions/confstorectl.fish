@@ -100,6 +100,8 @@ complete -c confstorectl -l help -d 'Says what the word does'
 complete -c confstorectl -n '__confstorectl_at -1' -l version -d 'Writes the version'
 complete -c confstorectl -n '__confstorectl_is import' -l init \
     -d 'Makes a store in the folder, if it has none'
+complete -c confstorectl -n '__confstorectl_is import' -l any-root \
+    -d 'Takes a text that is one value alone, too, as `80`'
 complete -c confstorectl -n '__confstorectl_is import' -l explain \
     -d 'Shows the line at fault of a refused text, and says what to do'
 complete -c confstorectl -n '__confstorectl_is import' -l edits \
@@ -242,6 +244,8 @@ complete -c confstorectl -n '__confstorectl_is log' -l hide -x \
     -d 'Writes `hidden` for what is at POINTER, or below it; needs --values, and may be given again'
 complete -c confstorectl -n '__confstorectl_is log' -l yaml \
     -d 'Writes the records as they stand in store.yaml'
+complete -c confstorectl -n '__confstorectl_is log' -l from -x -d 'Begins with command number N'
+complete -c confstorectl -n '__confstorectl_is log' -l to -x -d 'Goes as far as command number N'
 complete -c confstorectl -n '__confstorectl_is log' -l at -x \
     -d 'Reads the store as it was after command number N'
 complete -c confstorectl -n '__confstorectl_is diff' -l from -x \
@@ -296,7 +300,7 @@ complete -c confstorectl -n '__confstorectl_at 1 batch' -F
 complete -c confstorectl -n '__confstorectl_is format' -F
 complete -c confstorectl -n '__confstorectl_is check' -F
 complete -c confstorectl -n '__confstorectl_at 1 render' -F
-complete -c confstorectl -n '__confstorectl_at 1 import set delete copy rename edit rollback export keys get exists diff watch' \
+complete -c confstorectl -n '__confstorectl_at 1 import set delete copy rename edit rollback export keys get exists log diff watch' \
     -a '(__confstorectl_names)'
 complete -c confstorectl -n '__confstorectl_at 2 undo' -a '(__confstorectl_names)'
 complete -c confstorectl -n '__confstorectl_at 2 copy rename' -a '(__confstorectl_names)'

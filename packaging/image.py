@@ -3,8 +3,8 @@
 
     packaging/image.py FOLDER [PROGRAM]
 
-The archive is put into FOLDER, and its path and its SHA-256 are printed. The program is CONFSTORE, or the one that
-./confstore runs. The image has it, the files of the C library that it needs, which are those of this system, their
+The archive is put into FOLDER. Its path is printed, its SHA-256, and that of its lower layer, which is the same wherever
+the C library is. The program is CONFSTORE, or the one that ./confstore runs. The image has it, the files of the C library that it needs, which are those of this system, their
 licences, and a user, confstore, with the number 65532, who has the folder /data. It has no shell.
 
 It needs Python alone, and ldd. The same program and C library make the same archive, byte by byte.
@@ -172,8 +172,14 @@ def config_of(version: str, machine: str, layers: Sequence[Dict[str, Any]]) -> D
     }
 
 
-def image_of(program: str, version: str, machine: str) -> bytes:
-    """The archive of an image."""
+class Image(NamedTuple):
+    """The archive of an image, and the digest of its lower layer, which has all but the program."""
+
+    archive: bytes
+    base: str
+
+
+def image_of(program: str, version: str, machine: str) -> Image:
     blobs = Blobs()
     layers = [
         blobs.add(LAYER, packed(with_folders(files)))
@@ -186,7 +192,7 @@ def image_of(program: str, version: str, machine: str) -> bytes:
     manifest["annotations"] = {"org.opencontainers.image.ref.name": version}
     index = {"schemaVersion": 2, "mediaType": "application/vnd.oci.image.index.v1+json", "manifests": [manifest]}
     files = {"oci-layout": File(0o644, written({"imageLayoutVersion": "1.0.0"})), "index.json": File(0o644, written(index))}
-    return packed(with_folders({**files, **blobs.files}))
+    return Image(packed(with_folders({**files, **blobs.files})), layers[0]["digest"])
 
 
 def main() -> int:
@@ -202,11 +208,11 @@ def main() -> int:
         path = os.path.join(folder, f"{NAME}-{version}-linux-{machine}.oci.tar")
         os.makedirs(folder, exist_ok=True)
         with open(path, "wb") as target:
-            target.write(image)
+            target.write(image.archive)
     except (OSError, subprocess.CalledProcessError) as error:
         print(f"image.py: {error}", file=sys.stderr)
         return 1
-    print(f"{path}\nsha256: {hashlib.sha256(image).hexdigest()}")
+    print(f"{path}\nsha256: {hashlib.sha256(image.archive).hexdigest()}\nbase: {image.base.partition(':')[2]}")
     return 0
 
 

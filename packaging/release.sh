@@ -31,11 +31,14 @@ put_python "$room/$name/lib/confstore/python"
 put 644 "$top/LICENSE" "$room/$name/share/doc/confstore/LICENSE"
 tar --format=ustar --sort=name --mtime="@$RELEASE_TIME" --owner=0 --group=0 --numeric-owner -C "$room" -cf - "$name" |
     xz --threads=1 -9 --extreme --check=crc64 >"$room/$name.tar.xz"
+mapfile -t image < <("$top/packaging/image.py" "$room/image" "$built")
 {
     echo "version: $version"
     echo "archive: $name.tar.xz"
     echo "archive_sha256: $(sum_of "$room/$name.tar.xz")"
     echo "program_sha256: $(sum_of "$built")"
+    echo "image_sha256: ${image[1]#sha256: }"
+    echo "image_base_sha256: ${image[2]#base: }"
     echo "sources_sha256: $sources"
     echo "proofs_sha256: $(sum_of_sources proofs)"
     echo "toolchain: $(field "$record" toolchain)"

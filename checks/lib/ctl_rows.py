@@ -41,12 +41,21 @@ NO_TEXTS = (
     b"a: [1\n", b"\xff", b"", b"a\n---\nb\n", b"? [a]\n: b\n", b"a: 1\na: 2\n", b"*a\n", b"!t a\n", b"a\0b",
 )  # fmt: skip
 
+# Texts that are one value alone, and texts that look so.
+ONE_VALUES = (
+    b"80\n", b"80 # port: x\n", b"80\t# port: x\n", b"# a\n---\n# b: c\nx\n...\n", b"'a: b'", b'"a: b"\n', b"|\n a: b\n",
+    b"--- >\n a: b\n", b"A=1\nB=2\n", b"http://x:80/", b"",
+)  # fmt: skip
+COLLECTIONS = (
+    b"a: b", b"'a': b", b"-\n  a", b"? a\n", b"# c\n--- # d\n[]\n", b"--- {a: b}", b"a b:\n- c\n", b"x: 'y # z'\n",
+)  # fmt: skip
+
 # Changes, refusals and questions.
 PLAIN_ROWS = [
     row("import --init STORE web", TREE),
     row("get STORE web"),
     row("import STORE file TOP/web.yaml"),
-    row("import STORE file -", b"x\n"),
+    row("import STORE file - --any-root", b"x\n"),
     row("import STORE no", b"[]"),
     row("import STORE long TOP/long.yaml"),
     row("import STORE web TOP/none.yaml"),
@@ -54,6 +63,13 @@ PLAIN_ROWS = [
     row("import STORE 9web", b"x"),
     *(row("import STORE web", text) for text in NO_TEXTS),
     *(row("import --explain STORE web", text) for text in NO_TEXTS),
+    *(row("import STORE one", text) for text in ONE_VALUES),
+    *(row("import --explain STORE one --if-absent", text) for text in ONE_VALUES),
+    *(row("import --any-root STORE one", text) for text in ONE_VALUES),
+    *(row("import STORE many", text) for text in COLLECTIONS),
+    row("import STORE One", b"80"),
+    row("import STORE One", b"[a"),
+    row("import STORE one --if-absent", b"80"),
     row("import STORE web TOP/deep.yaml"),
     row("import STORE web TOP/twice.yaml"),
     row("import STORE web --explain TOP/twice.yaml"),
@@ -229,15 +245,15 @@ CONDITIONAL_ROWS = [
     row("delete STORE app /m --if-count 1"),
     row("delete STORE none --if-absent"),
     row("delete STORE none --if-value x"),
-    row("import STORE text", b"two words"),
+    row("import STORE text --any-root", b"two words"),
     row("delete STORE text --if-value two"),
     exact("delete", "STORE", "text", "--if-value", "two words"),
-    row("import STORE text --if-absent", b"x"),
-    row("import STORE text --if-absent", b"y"),
-    row("import STORE text --if-value x", b"y"),
-    row("import STORE text --if-value x", b"z"),
-    row("import STORE text --if-count 3", b"z"),
-    row("import STORE No --if-absent", b"z"),
+    row("import STORE text --if-absent --any-root", b"x"),
+    row("import STORE text --if-absent --any-root", b"y"),
+    row("import STORE text --if-value x --any-root", b"y"),
+    row("import STORE text --if-value x --any-root", b"z"),
+    row("import STORE text --if-count 3 --any-root", b"z"),
+    row("import STORE No --if-absent --any-root", b"z"),
     row("copy STORE app other"),
     row("copy STORE app other"),
     row("copy STORE app other --if-absent"),

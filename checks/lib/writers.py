@@ -164,9 +164,10 @@ def by_words(place: Place) -> Writing:
             text.write(pair if change.kind == "pair" else change.text)
             text.flush()
             return done(*{
-                "append": ["set", "web", "/hosts/-", change.text], "put": ["import", change.text, text.name],
+                "append": ["set", "web", "/hosts/-", change.text],
+                "put": ["import", "--any-root", change.text, text.name],
                 "delete": ["delete", change.text], "pair": ["batch", text.name],
-                "claim": ["import", change.name, text.name, "--if-absent"],
+                "claim": ["import", "--any-root", change.name, text.name, "--if-absent"],
             }[change.kind])  # fmt: skip
 
     return write

@@ -1,5 +1,6 @@
 """The way of a `set` through the crates, as docs/command.svg: a call is a box below its caller, and time goes to the
-right. It is drawn from the text drawing of docs/ARCHITECTURE.md, whose names checks/names.py looks up in the sources.
+right. It is drawn from the text drawing of docs/ARCHITECTURE.md, whose names checks/names.py looks up in the sources;
+`draw.py --check` looks whether each crate's sources name the functions that it calls here.
 """
 
 from __future__ import annotations
@@ -18,7 +19,7 @@ COLUMN, STEP = 21, 2
 # In pixels: a call that calls nothing here, a row, the box in it, the margin, and the lines above and below.
 LEAF, ROW, HEIGHT, MARGIN, ABOVE, BELOW = 106, 56, 52, 16, 40, 44
 OF_TEXTS = re.compile("yaml_|tree_path")
-OF_DISKS = re.compile("conf_journal|conf_folder")
+OF_DISKS = re.compile("conf_journal|conf_folder|conf_protocol")
 
 
 @dataclass
@@ -85,6 +86,21 @@ def may_call(caller: Call, call: Call, used: dict[str, set[str]]) -> bool:
     if caller.depth or call.depth:
         return False
     return call.crate == caller.crate or call.crate in used[caller.crate]
+
+
+def sources_of(crate: str) -> str:
+    folder = os.path.join("crates", crate, "src")
+    return "\n".join(read(os.path.join(folder, name)) for name in sorted(os.listdir(os.path.join(TOP, folder))))
+
+
+def missing_calls(call: Call) -> Iterator[str]:
+    """What is drawn as a call and is none: the caller's crate does not name the function."""
+    named = sources_of(call.crate)
+    for inner in call.calls:
+        for function in inner.functions:
+            if not re.search(rf"\b{function.rpartition(':')[2]}\b", named):
+                yield f"docs/ARCHITECTURE.md: {call.crate} does not call `{function}` of {inner.crate}"
+        yield from missing_calls(inner)
 
 
 def box_of(call: Call, x: float, y: float) -> Iterator[str]:

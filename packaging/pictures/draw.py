@@ -3,8 +3,9 @@
 
     packaging/pictures/draw.py [--check]
 
-`--check` writes nothing, names each picture that is not the one that would be drawn, and then has the status 1. It
-needs the standard library alone, and the same sources give the same bytes.
+`--check` writes nothing, names each picture that is not the one that would be drawn, and each call of the first one that
+the sources do not make, and then has the status 1. It needs the standard library alone, and the same sources give the same
+bytes.
 """
 
 from __future__ import annotations
@@ -30,8 +31,10 @@ def main() -> int:
     drawn = [module.drawing() for module in (command, folder, trust)]
     if sys.argv[1:] == ["--check"]:
         wrong = [name for name, content in drawn if not is_drawn(os.path.join(TOP, name), content)]
-        print("".join(f"{name} is not what packaging/pictures/draw.py draws\n" for name in wrong), end="")
-        return 1 if wrong else 0
+        said = [f"{name} is not what packaging/pictures/draw.py draws" for name in wrong]
+        said += command.missing_calls(command.tree_of_calls())
+        print("".join(f"{line}\n" for line in said), end="")
+        return 1 if said else 0
     for name, content in drawn:
         with open(os.path.join(TOP, name), "w", encoding="utf-8") as file:
             file.write(content)

@@ -2,10 +2,21 @@
 
 from __future__ import annotations
 
+import os
+import re
 from collections.abc import Iterator
 
-from shapes import BLANK, BLUE, BOLD, GREEN, GREY, RED, YELLOW, Colours, arrow, box, legend, lines, picture, text
+from shapes import BLANK, BLUE, BOLD, GREEN, GREY, RED, TOP, YELLOW, Colours, arrow, box, legend, lines, picture, text
 
+
+def lines_to_read() -> str:
+    """How many lines docs/TRUSTED.md says that the headline needs."""
+    with open(os.path.join(TOP, "docs", "TRUSTED.md"), encoding="utf-8") as page:
+        found = re.search(r"needs\s+some\s+([\d,]+)\s+lines", page.read())
+    return found[1] if found else ""
+
+
+LINES = lines_to_read()
 WIDTH, HEIGHT, BOX_WIDTH, BOX_HEIGHT = 900, 400, 250, 74
 
 # Each box: its place, its colours, its name, and lines below the name.
@@ -16,12 +27,13 @@ BOXES: dict[str, tuple[float, float, Colours, str, list[str]]] = {
     "program": (325, 160, GREEN, "The code and its proofs",
                 ["crates/*/src, crates/*/proofs:", "proved, and not trusted"]),
     "definitions": (630, 160, BLUE, "Definitions and contracts",
-                    ["crates/*/specs, ensures clauses:", "read them, some 9,200 lines"]),
+                    ["crates/*/specs, ensures clauses:", f"read them, some {LINES} lines"]),
     "toolchain": (630, 290, YELLOW, "The Rattle toolchain",
                   ["prover, std's statements,", "ported crates, two compilers"]),
-    "system": (325, 290, YELLOW, "The system", ["C library, streams, allocation,", "what Host's calls do"]),
-    "disk": (20, 290, RED, "The folder: an honest disk",
-             ["keeps what it synced; nobody else", "writes in it (docs/DISK.md)"]),
+    "system": (325, 290, YELLOW, "The system",
+               ["C library, streams, allocation;", "host.rt, Host: which calls are made"]),
+    "disk": (20, 290, RED, "The calls on the folder",
+             ["do what docs/DISK.md says of each;", "nobody else writes in the folder"]),
 }  # fmt: skip
 
 # Who relies on whom, and for what.

@@ -22,9 +22,9 @@ from .ctl_faults import DEVICE, NOTHING_THERE, OF_TEXTS, REFUSED, WRONG_WORDS, F
 from .ctl_places import NO_SERVER, Place, place_of
 from .ctl_program import Source, is_without_store, program_if_any, run_shown, styled
 from .ctl_streams import ClosedPipe, hold_closed, is_error_terminal, read_text, write, write_error
-from .ctl_words import ALL, AT, BATCH, DIFF, EDIT, EDITS, ENVIRONMENT, EXISTS, EXPLAIN, FED, FOREIGN, FROM_FILE, GET
-from .ctl_words import HIDE, IMPORT, LOOKING_BACK, MOVING, OF_PROGRAM, PAGE, PLANNED, READING, RENDER, ROLLBACK, RUN
-from .ctl_words import SET, SHAPED, SYNC, UNDO, WATCH, YAML_VALUE, Option
+from .ctl_words import ALL, ANY_ROOT, AT, BATCH, DIFF, EDIT, EDITS, ENVIRONMENT, EXISTS, EXPLAIN, FED, FOREIGN
+from .ctl_words import FROM_FILE, GET, HIDE, IMPORT, LOOKING_BACK, MOVING, OF_PROGRAM, PAGE, PLANNED, READING, RENDER
+from .ctl_words import ROLLBACK, RUN, SET, SHAPED, SYNC, UNDO, WATCH, YAML_VALUE, Option
 
 TYPE_CHECKING = False  # `typing` takes as long to import as all of this
 if TYPE_CHECKING:
@@ -250,6 +250,10 @@ def plan_and_do(asked: Asked) -> int:
     work = Work(asked)
     if asked.word is IMPORT:
         text = styled(work.text or b"", work.source)  # a text that is refused is named by its file
+        if not asked.has(ANY_ROOT):
+            from .ctl_requests import refuse_one_value
+
+            refuse_one_value(text, work.source)
         if asked.has(EDITS):
             from .ctl_sync import import_edits
 

@@ -3,7 +3,7 @@
 from __future__ import annotations
 
 from .ctl_faults import Fault, shown
-from .ctl_words import ALL, COMMON, DEFAULT, DIFF, EDITS, ENVIRONMENT, EXPORT, FORMAT, FROM_FILE, GET, HELP, HIDE
+from .ctl_words import ALL, AT, COMMON, DEFAULT, DIFF, EDITS, ENVIRONMENT, EXPORT, FORMAT, FROM_FILE, GET, HELP, HIDE
 from .ctl_words import IF_ABSENT, IF_VALUE, IN_PLACE, INSERT, JSON, LINES, LOG, NO_NEWLINE, OF_FILES, OTHER_NAMES
 from .ctl_words import PAGE, PARENTS, PLAIN, RAW, RENDER, ROLLBACK, SET, SETTLE, SINCE, SOCKET, TO_NUMBER, UNDO, VALUES
 from .ctl_words import VERSION, WAIT, WHOLE, WORDS, YAML_RECORDS, YAML_VALUE, Option, Word
@@ -42,6 +42,7 @@ _EXCLUDING = (
     (ENVIRONMENT, DEFAULT),
     (OF_FILES, SINCE),
     (OF_FILES, TO_NUMBER),
+    (AT, TO_NUMBER),
 )
 
 

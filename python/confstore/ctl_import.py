@@ -16,9 +16,11 @@ from .ctl_check import change
 from .ctl_exchange import Exchange
 from .ctl_faults import Fault, TextFault, hint_of, shown, unread
 from .ctl_program import Source, styled
+from .ctl_requests import ONE_VALUE
 from .ctl_sockets import Command
 from .ctl_streams import MOST_INPUT, read_text, write_error
-from .ctl_words import DIR, DOCUMENT, EXPLAIN, FORMAT, IF_ABSENT, IF_COUNT, IF_VALUE, IMPORT, PLANNED, SPLIT
+from .ctl_words import ANY_ROOT, DIR, DOCUMENT, EXPLAIN, FORMAT, IF_ABSENT, IF_COUNT, IF_VALUE, IMPORT, PLANNED
+from .ctl_words import SPLIT
 from .faults import ConfstoreError
 from .foreign import Document, Notes, Unread
 from .style import Tree, to_text
@@ -183,6 +185,8 @@ def _tree_of(of_format: str, text: str) -> Tree:
 
 def _imported(asked: Asked, name: str, file: str, document: Document) -> Imported:
     """What a document gives, after the program has read it. What was expanded or dropped is told."""
+    if isinstance(document.tree, str) and not asked.has(ANY_ROOT):
+        raise Unread("OneValue", f"{ONE_VALUE}; {ANY_ROOT.name} takes it")
     if not is_name(name):
         raise Fault("BadName", f"{shown(name)}, of {shown(file)}: {hint_of('BadName')}")
     try:

@@ -60,6 +60,7 @@ AT = Option("--at", "Reads the store as it was after command number N", "N")
 FROM = Option("--from", "Begins with change number N, which may have been made already", "N")
 RAW = Option("--raw", "Writes a text as it is, with a line feed after it")
 INIT = Option("--init", "Makes a store in the folder, if it has none")
+ANY_ROOT = Option("--any-root", "Takes a text that is one value alone, too, as `80`")
 WHOLE = Option("--whole", 'Allows the pointer "", which stands for the whole configuration')
 FORMAT = Option("--from", "Reads a text of another format, as yaml, toml, ini, env, properties or json5", "FORMAT")
 DOCUMENT = Option("--document", "Of a YAML text with several documents takes number N, from 1", "N")
@@ -105,6 +106,7 @@ SHAPED = (PARENTS, INSERT)
 # Those of the words that tell what changed, or that change something back.
 TO_NUMBER = Option("--to", "Goes as far as command number N", "N")
 SINCE = Option("--from", "Begins with what the store was after command number N", "N")
+FIRST = Option("--from", "Begins with command number N", "N")
 LINES = Option("--lines", "Writes a line for what was at each place, and one for what is there then")
 OF_FILES = Option("--files", "Compares two files, which stand in the places of FOLDER and NAME")
 HIDE_VALUES = Option("--hide", "Leaves out what is at POINTER, or below it; may be given again", "POINTER")
@@ -147,12 +149,13 @@ WATCHED_NAME = Argument("NAME", "The configuration; all of them if it is left ou
 IMPORT = Word(
     "import",
     "Reads a YAML text, and puts its tree under a name",
-    (INIT, EXPLAIN, EDITS, *CONDITIONS, *PLANNED, *FOREIGN),
+    (INIT, ANY_ROOT, EXPLAIN, EDITS, *CONDITIONS, *PLANNED, *FOREIGN),
     (FOLDER, NAME, FILE),
     (
         "A configuration that has the name is replaced. Nothing is printed where it is done. Comments and quotes are"
         " not kept, and `3` is written `\"3\"`. A folder without a store is refused (NotAStore), and stays as it is,"
-        " unless `--init` is given. If a condition does not hold, nothing changes (Unmet).",
+        " unless `--init` is given. A text that is one value alone, as `80`, is refused (OneValue) unless `--any-root`"
+        " is given: mostly it is a file of another format. If a condition does not hold, nothing changes (Unmet).",
         "With `--from` the text is of another format, or is YAML with what a store does not have: aliases and merges"
         " are expanded, tags are dropped, and standard error says which. Several documents or files are imported all or"
         " none, and what comes of them is read by the program. In yaml, json5, ini, env and properties each value keeps"
@@ -447,16 +450,19 @@ RENDER = Word(
 LOG = Word(
     "log",
     "Writes the commands since the last checkpoint",
-    (VALUES, HIDE, YAML_RECORDS, AT),
-    (FOLDER,),
+    (VALUES, HIDE, YAML_RECORDS, FIRST, TO_NUMBER, AT),
+    (FOLDER, Argument("NAME", "The configuration of which the commands are written; all if it is left out", True)),
     (
         "Each command is one line, as `2 set web \"/port\"`: its number, what it did, and where. With `--values` the"
-        " value of an import or a set follows as a JSON text, as `2 set web \"/port\" \"80\"`.",
+        " value of an import or a set follows as a JSON text, as `2 set web \"/port\" \"80\"`. With NAME only commands"
+        " are written that change this configuration; a batch that does is written whole. `--to` and `--at` are the"
+        " same.",
         "With `--hide POINTER` the word `hidden` stands for what is at the JSON Pointer of any configuration, or below"
         " it. An index is the one that the command names, and `-` is taken for every index: hide a list whole.",
     ),
     (
         "confstorectl log store",
+        "confstorectl log store web --from 12",
         "confstorectl log store --values",
         "confstorectl log store --values --hide /key",
         "confstorectl log store --yaml",

@@ -81,7 +81,7 @@ class Words(unittest.TestCase):
             "", "nothing s", "get", "get s", "get s web /a /b", "get s web --foo", "get s web -x", "get s -5",
             "set s web /port -x", "get s web --raw=x", "get s web --raw --raw", "get s web --at", "get s web --at x",
             "get s web --at -1", "names s --at 18446744073709551616", "names s --raw", "names s --wait x",
-            "names s --wait -1", "names s --wait inf", "names s --socket ''", "log s --from 1", "help nothing",
+            "names s --wait -1", "names s --wait inf", "names s --socket ''", "log s --from x", "help nothing",
             "help get set", "watch s --from ''", "set s web '' x", "delete s web ''", "set --whole s web /port x",
             "delete --whole s web /port", "get --whole s web", "delete --explain s web", "set --init s web /port x",
             "set s web /port", "set s web /port x --file y", "set s web /port --file y --yaml", "copy s web",

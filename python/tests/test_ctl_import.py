@@ -90,6 +90,15 @@ class Import(StoreTest):
         with Store(self.folder) as store:
             self.assertEqual(store.names(), ["b", "web-1", "web-3"])
 
+    def test_one_value_alone(self) -> None:
+        for words in ([], ["--from", "yaml"], ["--edits"], ["--dry-run"]):
+            with self.subTest(words):
+                status, output, errors = self.ctl("import", *words, "store", "one", given="80 # a: b\n")
+                self.assertEqual((status, output), (1, ""))
+                self.assertRegex(errors[0], r"\A-: OneValue \(neither a mapping nor a list")
+                self.assertEqual(self.ctl("import", *words, "--any-root", "store", "one", given="80\n")[0], 0)
+        self.assertEqual(self.tree("one"), "80")
+
     def test_each_format(self) -> None:
         rows: tuple[tuple[str, str, Tree], ...] = (
             ("toml", "[a]\nb = 0.10\n", {"a": {"b": "0.10"}}), ("ini", "[a]\nb = 010\n", {"a": {"b": "010"}}),
@@ -154,7 +163,7 @@ class Import(StoreTest):
         with subprocess.Popen(serve, stdout=subprocess.PIPE, stderr=subprocess.STDOUT) as server:
             try:
                 words = ("--socket", at, "--wait", "30", "import", "--from", "yaml", "--split", "store", "w-{n}")
-                self.assertEqual(self.ctl(*words, given="a: &x 1\nb: *x\n---\nc\n")[0], 0)
+                self.assertEqual(self.ctl(*words, given="a: &x 1\nb: *x\n---\nc: 2\n")[0], 0)
                 self.assertEqual(self.ctl("--socket", at, "names", "store")[1], "w-1\nw-2\n")
             finally:
                 server.terminate()

@@ -277,7 +277,8 @@ class Limits(unittest.TestCase):
 class Names(unittest.TestCase):
     def test_each_refusal_is_an_exception(self) -> None:
         """The names in the tables of docs/FAULTS.md on texts and commands, without the reasons of `Syntax`. `Comments`
-        and `Unsettled` are only refused by `format`, and others only by words that write a value in another form."""
+        and `Unsettled` are only refused by `format`, `OneValue` by the word `import`, and others only by words that write
+        a value in another form."""
         with open(os.path.join(TOP, "docs", "FAULTS.md"), encoding="utf-8") as source:
             parts = re.split(r"(?m)^## |^\| reason ", source.read())
         names: set[str] = set()
@@ -286,7 +287,8 @@ class Names(unittest.TestCase):
                 for cell in re.findall(r"(?m)^\| (`.*?) \|", part):
                     names |= set(re.findall(r"`(\w+)`", cell))
         self.assertGreater(len(names), 15)
-        self.assertEqual(names - set(confstore.faults.REFUSALS) - {"NotText", "NotCollection"}, {"Comments", "Unsettled"})
+        others = names - set(confstore.faults.REFUSALS) - {"NotText", "NotCollection"}
+        self.assertEqual(others, {"Comments", "OneValue", "Unsettled"})
 
 
 class WrongAnswers(StoreTest):

@@ -1,14 +1,15 @@
 // A new file, where nothing is yet.
+ghost use Rattle.std.specs.Prelude.{OnOk};
+ghost use Rattle.file_calls.specs.Machine.{Machine};
+ghost use Rattle.conf_files.specs.Creating.{IsUnmade, Creates};
+ghost use Rattle.conf_files.specs.Standing.{HasAll};
+ghost use Rattle.conf_files.specs.Steps.{IsEmpty, Fills};
+
 use crate::cause::{Cause, Subject};
-use crate::folder::{OpenFolder, parent_of};
-use crate::owner::OWNER_ALONE;
-use std::alloc::Global;
-use std::fs::{File, OpenOptions};
-use std::io::{ErrorKind, Write};
-use std::os::unix::fs::OpenOptionsExt;
-use std::path::Path;
-use std::rt::Files;
-use std::{fs, io};
+use crate::writing::write_all;
+use file_calls::FileCalls;
+use std::io;
+use std::io::ErrorKind;
 use thiserror::Error;
 
 /// What it comes to if a file was not made.
@@ -36,46 +37,35 @@ impl From<Cause> for NewFileFault {
     }
 }
 
-/// Makes a file of these bytes at a path, and syncs it and its folder. Nobody but its owner has access. What is at the
-/// path already, also a link, is neither followed nor changed. A crash may leave a part of the file.
+/// Makes a file of these bytes under a name, by calls of the system, and syncs it and its folder. Nobody but its owner
+/// has access. What has the name already, also a link, is neither followed nor changed. A crash may leave a part of the
+/// file.
 ///
 /// # Errors
 /// The cause, which comes to
-/// - [`NewFileFault::FileExists`] if something is at the path;
-/// - [`NewFileFault::Device`] if there is no such folder, the path names no file, or a call of the system fails;
+/// - [`NewFileFault::FileExists`] if something has the name;
+/// - [`NewFileFault::Device`] if a call of the system fails;
 /// - [`NewFileFault::OutOfMemory`] if there is no memory for a path.
 ///
 /// No file is left then, if the new one can be removed; it is the whole file if its folder could not be synced.
-pub fn create_file<R: Files<File = File>>(
-    rt: &R,
-    alloc: Global,
-    path: &str,
-    bytes: &[u8],
-) -> Result<(), Cause> {
-    let Some(name) = Path::new(path).file_name() else {
-        let error = io::Error::new(ErrorKind::InvalidInput, "it names no file");
-        return Err(Subject::Given.cause(error));
-    };
-    let folder = Subject::Parent.blame(OpenFolder::new(rt, alloc, parent_of(path)))?;
-    let path = folder.path_of(alloc, name)?;
-    let file = Subject::Given.blame(open_new(rt, path.as_str()))?;
-    if let Err(error) = write_new(file, bytes) {
-        let _ = fs::remove_file(rt, path.as_str());
+pub fn create_with<C: FileCalls>(calls: &mut C, bytes: &[u8]) -> Result<(), Cause>
+    requires { C.model.honest → IsUnmade (C.model.machine calls.old) }
+    ensures { Creates C.model bytes.now calls.old result calls.new }
+{
+    Subject::Given.blame(calls.create_given())?;
+    if let Err(error) = write_new(calls, bytes) {
+        let _ = calls.unlink_given();
         return Err(Subject::Given.cause(error));
     }
-    Subject::Parent.blame(folder.sync())
-}
-
-/// Makes an empty file, where nothing may be.
-fn open_new<R: Files<File = File>>(rt: &R, path: &str) -> io::Result<File> {
-    let mut how = OpenOptions::new();
-    how.write(true).create_new(true).mode(OWNER_ALONE);
-    how.open(rt, path)
+    Subject::Parent.blame(calls.sync_folder())
 }
 
 /// Writes a new file whole, and syncs it.
-fn write_new(file: File, bytes: &[u8]) -> io::Result<()> {
-    let mut file = file;
-    file.write_all(bytes)?;
-    file.sync_all()
+fn write_new<C: FileCalls>(calls: &mut C, bytes: &[u8]) -> io::Result<()>
+    requires { C.model.honest → IsEmpty (C.model.machine calls.old).new }
+    ensures done { C.model.honest → OnOk result (HasAll bytes.now (C.model.machine calls.new).new) }
+    ensures fills { C.model.honest → Fills C.model bytes.now calls.old calls.new }
+{
+    write_all(calls, bytes)?;
+    calls.sync_new()
 }

@@ -1,5 +1,6 @@
 // The owner, the group and the mode of a file that is to replace another.
 ghost use Rattle.std.specs.Prelude.{◌≡◌, bit_and};
+ghost use Rattle.conf_files.specs.Modes.{by_group, by_owner, kept_mode};
 
 use std::fs::{File, Metadata, Permissions};
 use std::io;
@@ -9,7 +10,7 @@ use std::os::unix::fs::{MetadataExt, PermissionsExt, fchown};
 pub const OWNER_ALONE: u32 = 0o600;
 
 /// The bits of a mode that say who may read, write and run a file.
-const ACCESS: u32 = 0o777;
+pub(crate) const ACCESS: u32 = 0o777;
 
 /// The bits of a mode that say who but the owner may read, write and run a file.
 const GROUP_AND_OTHERS: u32 = 0o77;
@@ -54,20 +55,31 @@ pub fn give_owner_and_group(file: &File, replaced: &Metadata) {
 ///
 /// Who was in the group may be one of the others now, and who was one of the others may be in the group: then both
 /// classes keep what both had. Who was the owner may be in either: then both keep only what the owner had.
-fn kept_mode(mode: u32, same_owner: bool, same_group: bool) -> u32
-    ensures { bit_and result mode ≡ result }
+pub(crate) fn kept_mode(mode: u32, same_owner: bool, same_group: bool) -> u32
+    ensures kept { result ≡ kept_mode mode same_owner same_group }
+    ensures within { bit_and result mode ≡ result }
 {
-    let owner = (mode >> 6) & 0o7;
-    let both = (mode >> 3) & mode & 0o7;
-    let by_group = if same_group {
+    mode & (0o700 | (by_group(mode, same_group) & by_owner(mode, same_owner)))
+}
+
+/// What the group and all others may keep, by whether the group is the same.
+fn by_group(mode: u32, same_group: bool) -> u32
+    ensures { result ≡ by_group mode same_group }
+{
+    if same_group {
         GROUP_AND_OTHERS
     } else {
-        both * BOTH
-    };
-    let by_owner = if same_owner {
+        ((mode >> 3) & mode & 0o7) * BOTH
+    }
+}
+
+/// What the group and all others may keep, by whether the owner is the same.
+fn by_owner(mode: u32, same_owner: bool) -> u32
+    ensures { result ≡ by_owner mode same_owner }
+{
+    if same_owner {
         GROUP_AND_OTHERS
     } else {
-        owner * BOTH
-    };
-    mode & (0o700 | (by_group & by_owner))
+        ((mode >> 6) & 0o7) * BOTH
+    }
 }

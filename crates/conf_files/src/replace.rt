@@ -1,15 +1,16 @@
 // A file of other bytes in the place of one that is there.
+ghost use Rattle.std.specs.Prelude.{◌≡◌, None, OnOk};
+ghost use Rattle.file_calls.specs.Machine.{Machine};
+ghost use Rattle.conf_files.specs.Replacing.{IsFresh, Replaces};
+ghost use Rattle.conf_files.specs.Standing.{KeepsHolding, KeepsStanding, OnlyNew};
+ghost use Rattle.conf_files.specs.Steps.{CreatesStaged, IsStaged, IsFilled, IsSwapped};
+
 use crate::cause::{Cause, Subject};
-use crate::folder::{OpenFolder, parent_of};
-use crate::owner::{OWNER_ALONE, take_after};
-use crate::plain::{Identity, elsewhere_by_now, find_same, no_plain_file, open_plain};
-use std::alloc::Global;
-use std::fs::{File, Metadata, OpenOptions};
-use std::io::{ErrorKind, Write};
-use std::os::unix::fs::OpenOptionsExt;
-use std::path::Path;
-use std::rt::Files;
-use std::{fs, io};
+use crate::rights::take_after;
+use crate::writing::write_all;
+use file_calls::{Creation, FileCalls, Rights};
+use std::io;
+use std::io::ErrorKind;
 use thiserror::Error;
 
 /// How many names are tried for a new file, of which others may be left over.
@@ -38,157 +39,71 @@ impl From<Cause> for ReplaceFault {
     }
 }
 
-/// Where a file is that was opened to be replaced: in which open folder, under which name, and which file it is.
-#[derive(Drop)]
-pub struct Place {
-    folder: OpenFolder,
-    path: String,
-    identity: Identity,
-}
-
-/// Opens the plain file at a path to be read, and the folder that has it, so that [`replace_file`] replaces this very
-/// file. If the path is a link, it is the file that the link leads to. What is no plain file is not opened.
-///
-/// # Errors
-/// The cause, which comes to
-/// - [`ReplaceFault::Device`] if there is no plain file at the path, or the system refuses;
-/// - [`ReplaceFault::OutOfMemory`] if there is no memory for a path.
-pub fn open_to_replace<R: Files<File = File>>(
-    rt: &R,
-    alloc: Global,
-    path: &str,
-) -> Result<(File, Place), Cause> {
-    let found = Subject::Given.blame(fs::metadata(rt, path))?;
-    if !found.is_file() {
-        return Err(Subject::Given.cause(no_plain_file(&found)));
-    }
-    if Subject::Given
-        .blame(fs::symlink_metadata(rt, path))?
-        .is_symlink()
-    {
-        let target = Subject::Given.blame(fs::canonicalize(&(rt, alloc), path))?;
-        return open_in_folder(rt, alloc, target.as_path().as_str());
-    }
-    open_in_folder(rt, alloc, path)
-}
-
-/// Puts a file that has these bytes in the place of a file that was opened to be replaced.
+/// Puts a file that has these bytes in the place of the file that a name leads to, by calls of the system.
 ///
 /// The new file is written beside the old one, under a name as `.confstore-0.tmp`, synced, and renamed. Then the folder
 /// is synced. So a crash at any moment leaves the old file or the new one, whole. The new file has the mode of the old
-/// one, and its owner and its group as far as the system allows it, as [`take_after`] says. Other hard links keep the
-/// old file.
-///
-/// Whoever can change the folders on the path can't have another folder's file replaced: all is done in the folder that
-/// was opened, by its own name, and the name in it has to have the file that was opened. Where there is no /proc, the
-/// path is looked at before each step.
+/// one, and its owner and its group as far as the system allows it. Other hard links keep the old file.
 ///
 /// A process that is killed may leave the new file under its first name. A later call takes another name.
 ///
 /// # Errors
 /// The cause, which comes to
 /// - [`ReplaceFault::Device`] if another file has the name by now, the file may not be written, or a call of the system
-///   fails: the file is the old one, or the new one if its folder can't be synced;
+///   fails: the file is the old one, or the new one if it can't be told whether it took the name, or its folder can't
+///   be synced;
 /// - [`ReplaceFault::OutOfMemory`] if there is no memory for a path: the file is the old one.
 ///
 /// Nothing else is left in the folder then, if the new file can be removed.
-pub fn replace_file<R: Files<File = File>>(
-    rt: &R,
-    alloc: Global,
-    place: &Place,
-    bytes: &[u8],
-) -> Result<(), Cause> {
-    let replaced = Subject::Given.blame(writable_file(rt, place))?;
-    let (staged_path, staged) = Subject::Staged.blame(create_staged(rt, alloc, &place.folder))?;
-    if let Err(cause) = swap_in(rt, staged, staged_path.as_str(), place, &replaced, bytes) {
-        let _ = fs::remove_file(rt, staged_path.as_str());
+pub fn replace_with<C: FileCalls>(calls: &mut C, bytes: &[u8]) -> Result<(), Cause>
+    requires { C.model.honest → IsFresh (C.model.machine calls.old) }
+    ensures { Replaces C.model bytes.now calls.old result calls.new }
+{
+    let replaced = Subject::Given.blame(calls.old_rights())?;
+    Subject::Staged.blame(create_staged(calls))?;
+    if let Err(cause) = swap_in(calls, replaced, bytes) {
+        let _ = calls.unlink_beside();
         return Err(cause);
     }
-    Subject::Parent.blame(place.folder.sync())
+    Subject::Parent.blame(calls.sync_folder())
 }
 
-/// Opens the file at a path that is no link, in the open folder that has it.
-fn open_in_folder<R: Files<File = File>>(
-    rt: &R,
-    alloc: Global,
-    path: &str,
-) -> Result<(File, Place), Cause> {
-    let Some(name) = Path::new(path).file_name() else {
-        let error = io::Error::new(ErrorKind::InvalidInput, "it names no file");
-        return Err(Subject::Given.cause(error));
-    };
-    let folder = Subject::Parent.blame(OpenFolder::new(rt, alloc, parent_of(path)))?;
-    let path = folder.path_of(alloc, name)?;
-    let mut how = OpenOptions::new();
-    how.read(true);
-    let file = Subject::Given.blame(open_plain(rt, &how, path.as_str()))?;
-    let identity = Identity::of(&Subject::Given.blame(file.metadata())?);
-    Ok((
-        file,
-        Place {
-            folder,
-            path,
-            identity,
-        },
-    ))
-}
-
-/// What is known of the file at a place, which may be written.
-fn writable_file<R: Files<File = File>>(rt: &R, place: &Place) -> io::Result<Metadata> {
-    place.folder.find_in_place(rt)?;
-    let file = open_plain(rt, OpenOptions::new().append(true), place.path.as_str())?;
-    let found = file.metadata()?;
-    if Identity::of(&found) == place.identity {
-        Ok(found)
-    } else {
-        Err(elsewhere_by_now())
-    }
-}
-
-/// Makes an empty file in a folder, under a name that is free, and returns its path. Nobody but its owner has access.
-fn create_staged<R: Files<File = File>>(
-    rt: &R,
-    alloc: Global,
-    folder: &OpenFolder,
-) -> io::Result<(String, File)> {
-    let mut how = OpenOptions::new();
-    how.write(true).create_new(true).mode(OWNER_ALONE);
+/// Makes an empty new file beside the other one, under a name that is free.
+fn create_staged<C: FileCalls>(calls: &mut C) -> io::Result<()>
+    requires { C.model.honest → (C.model.machine calls.old).new ≡ None }
+    ensures { CreatesStaged C.model calls.old result calls.new }
+{
     for number in 0..MOST_NAMES {
-        let name = format!(in alloc; ".confstore-{number}.tmp")?;
-        let path = folder.path_of(alloc, name.as_str())?;
-        match how.open(rt, path.as_str()) {
-            Ok(file) => return Ok((path, file)),
-            Err(error) if error.kind() == ErrorKind::AlreadyExists => {}
+        match calls.create_beside(number) {
+            Ok(Creation::Made) => return Ok(()),
+            Ok(Creation::Taken) => {}
             Err(error) => return Err(error),
         }
     }
     Err(io::Error::new(ErrorKind::AlreadyExists, "too many are left over"))
 }
 
-/// Writes the new file, syncs it, and renames it to the name of the one that it replaces, which still has to be there.
-fn swap_in<R: Files<File = File>>(
-    rt: &R,
-    staged: File,
-    staged_path: &str,
-    place: &Place,
-    replaced: &Metadata,
-    bytes: &[u8],
-) -> Result<(), Cause> {
-    Subject::Staged.blame(write_staged(staged, replaced, bytes))?;
-    Subject::Given.blame(find_there(rt, place))?;
-    Subject::Given.blame(fs::rename(rt, staged_path, place.path.as_str()))
+/// Writes the new file, syncs it, and gives it the name of the one that it replaces.
+fn swap_in<C: FileCalls>(calls: &mut C, replaced: Rights, bytes: &[u8]) -> Result<(), Cause>
+    requires { C.model.honest → IsStaged (C.model.machine calls.old) }
+    ensures done { C.model.honest → OnOk result
+        (IsSwapped replaced bytes.now (C.model.machine calls.new)) }
+    ensures keeps { C.model.honest → KeepsHolding C.model replaced bytes.now calls.old calls.new }
+{
+    Subject::Staged.blame(write_staged(calls, replaced, bytes))?;
+    Subject::Given.blame(calls.rename())
 }
 
-/// Writes a new file, gives it the owner, the group and the mode of the one that it will replace, and syncs it.
-fn write_staged(staged: File, replaced: &Metadata, bytes: &[u8]) -> io::Result<()> {
-    let mut staged = staged;
-    staged.write_all(bytes)?;
-    take_after(&staged, replaced)?;
-    staged.sync_all()
-}
-
-/// Finds that the file that was opened still has its name, in the folder that the path leads to.
-fn find_there<R: Files<File = File>>(rt: &R, place: &Place) -> io::Result<()> {
-    find_same(rt, place.path.as_str(), place.identity)?;
-    place.folder.find_in_place(rt)
+/// Writes the new file, gives it the owner, the group and the mode of the one that it will replace, and syncs it.
+fn write_staged<C: FileCalls>(calls: &mut C, replaced: Rights, bytes: &[u8]) -> io::Result<()>
+    requires { C.model.honest → IsStaged (C.model.machine calls.old) }
+    ensures done { C.model.honest → OnOk result
+        (IsFilled replaced bytes.now (C.model.machine calls.new)) }
+    ensures frame { C.model.honest
+        → OnlyNew (C.model.machine calls.old) (C.model.machine calls.new) }
+    ensures keeps { C.model.honest → KeepsStanding C.model replaced calls.old calls.new }
+{
+    write_all(calls, bytes)?;
+    take_after(calls, replaced)?;
+    calls.sync_new()
 }

@@ -135,11 +135,11 @@ impl<'r, R: Files<File = File>> FolderDisk<'r, R> {
         ensures { IfErr result (λ error.
             (error.fault ≢ FolderFault.NotAStore) × (error.fault ≢ FolderFault.StoreExists)) }
     {
-        let lock = lock_store(rt, &folder, paths.lock.as_str(), like.as_ref())?;
+        let (folder, lock) = lock_store(rt, folder, paths.lock.as_str(), like.as_ref())?;
         let system = HostSystem::new(rt, folder, paths, Some(lock), presence, like);
         match SystemDisk::open(system) {
             Ok(disk) => Ok(FolderDisk::put_away(disk)),
-            Err(refusal) => Err(FolderError::from(cause_of(refusal))),
+            Err(unopened) => Err(FolderError::from(cause_of(unopened.refusal))),
         }
     }
 

@@ -1,45 +1,50 @@
-// The locks by which one run at a time changes a store.
-ghost use Rattle.std.specs.Prelude.{◌≡◌, ◌≢◌, ◌⊎◌, IfErr, bit_and};
+// The locks by which one run at a time changes a store, on a real folder.
+ghost use Rattle.std.specs.Prelude.{◌≡◌, ◌≢◌, Ok, Err, IsOk, IfErr};
+ghost use Rattle.conf_folder.specs.Modes.{mode_of_lock};
+ghost use Rattle.conf_folder.specs.Refusals.{IsLocked};
 
 use crate::files::LOCK;
 use crate::{FolderError, FolderFault};
 use conf_files::{
     Identity, OpenFolder, Subject, find_same, give_owner_and_group, is_of_same_owner_and_group,
-    open_plain,
+    look, open_plain,
 };
+use conf_locks::{LockPlace, LockSystem, Locking, Making, NotTaken, Opening, Origin, take_locks};
 use std::fs::{File, Metadata, OpenOptions, Permissions, TryLockError};
 use std::io::ErrorKind;
 use std::os::unix::fs::{MetadataExt, OpenOptionsExt, PermissionsExt};
 use std::rt::Files;
 use std::{fs, io};
 
-/// The mode of a new `store.lock`. The sticky bit, which says nothing else of a plain file, marks a file that a run
-/// made, or took for its own, under the lock on the folder.
-const NEW_LOCK: u32 = 0o1600;
+/// The mode of a new `store.lock`, until it is marked.
+const NEW_LOCK: u32 = 0o600;
 
-/// The bit of a mode that marks a `store.lock` as made by a run.
+/// The bit of a mode that marks a `store.lock` as a run's: the sticky bit, which says nothing else of a plain file.
 const MARK: u32 = 0o1000;
+
+/// The mode of a marked `store.lock`, which its owner may read and write.
+const MARKED: u32 = MARK + NEW_LOCK;
 
 /// The bits of a mode that say what kind of access is given to whom, the mark among them.
 const ACCESS: u32 = 0o7777;
 
-/// The bits of a mode that say that the group and all others may write.
-const OTHER_WRITERS: u32 = 0o22;
+/// The bit of a mode that says that the group may write.
+const GROUP_WRITES: u32 = 0o20;
+
+/// The bits that say that the group may read and write.
+const GROUP: u32 = 0o60;
+
+/// The bit of a mode that says that all others may write.
+const OTHERS_WRITE: u32 = 0o2;
+
+/// The bits that say that all others may read and write.
+const OTHERS: u32 = 0o6;
 
 /// A `store.lock` that this run holds the lock of, until this is dropped.
 #[derive(Drop)]
 pub(crate) struct HeldLock {
     file: File,
     origin: Origin,
-}
-
-/// Where a `store.lock` comes from.
-#[derive(Clone, Copy, PartialEq, Eq)]
-enum Origin {
-    /// It was there.
-    Found,
-    /// This run made it, where none was.
-    Made,
 }
 
 impl HeldLock {
@@ -62,13 +67,15 @@ pub(crate) fn find_unlocked(folder: &OpenFolder) -> Result<(), FolderError>
     ensures { IfErr result (λ error.
         (error.fault ≢ FolderFault.NotAStore) × (error.fault ≢ FolderFault.StoreExists)) }
 {
-    take_lock(folder.file(), Subject::Given)?;
+    if let Locking::Held = Subject::Given.blame(asked(folder.file().try_lock()))? {
+        return Err(FolderError::locked(Subject::Given));
+    }
     Subject::Given.blame(folder.file().unlock())?;
     Ok(())
 }
 
 /// Takes the locks of a run that changes the store in a folder, without waiting. They are held until what this returns
-/// and the folder are closed. A missing `store.lock` is made.
+/// is closed. A missing `store.lock` is made.
 ///
 /// `like` is what is known of the file whose owner, group and mode count: `store.yaml`, or the one that a new store
 /// takes after. If there is none, those of the folder count.
@@ -77,115 +84,197 @@ pub(crate) fn find_unlocked(folder: &OpenFolder) -> Result<(), FolderError>
 /// `Locked` if another run holds a lock, and `Device` if a call of the system fails.
 pub(crate) fn lock_store<R: Files<File = File>>(
     rt: &R,
-    folder: &OpenFolder,
+    folder: OpenFolder,
     path: &str,
     like: Option<&Metadata>,
-) -> Result<HeldLock, FolderError>
+) -> Result<(OpenFolder, HeldLock), FolderError>
     ensures { IfErr result (λ error.
         (error.fault ≢ FolderFault.NotAStore) × (error.fault ≢ FolderFault.StoreExists)) }
 {
-    match LOCK.blame(open_marked(rt, path))? {
-        Some(file) => lock_marked(rt, folder, path, file),
-        None => lock_anew(rt, folder, path, like),
-    }
-}
-
-/// Opens the `store.lock` that a run has made. `None` if there is none, it may not be opened, or no run made it.
-fn open_marked<R: Files<File = File>>(rt: &R, path: &str) -> io::Result<Option<File>> {
-    let file = match open_plain(rt, OpenOptions::new().read(true).write(true), path) {
-        Ok(file) => file,
-        Err(error) if error.kind() == ErrorKind::NotFound => return Ok(None),
-        Err(error) if error.kind() == ErrorKind::PermissionDenied => return Ok(None),
-        Err(error) => return Err(error),
+    let mut locks = HostLocks {
+        rt,
+        folder: Some(folder),
+        path,
+        file: None,
+        like,
     };
-    if file.metadata()?.mode() & MARK == 0 {
-        return Ok(None);
-    }
-    Ok(Some(file))
-}
-
-/// Locks a `store.lock` that a run has made, and shares the lock on the folder with whoever only looks at it. If
-/// another program holds the folder's lock alone, the run does without: no other run is there, since it would hold the
-/// file's.
-fn lock_marked<R: Files<File = File>>(
-    rt: &R,
-    folder: &OpenFolder,
-    path: &str,
-    file: File,
-) -> Result<HeldLock, FolderError>
-    ensures { IfErr result (λ error.
-        (error.fault ≢ FolderFault.NotAStore) × (error.fault ≢ FolderFault.StoreExists)) }
-{
-    take_lock(&file, LOCK)?;
-    match folder.file().try_lock_shared() {
-        Ok(()) | Err(TryLockError::WouldBlock) => {}
-        Err(TryLockError::Error(error)) => {
-            return Err(FolderError::from(Subject::Given.cause(error)));
-        }
-    }
-    LOCK.blame(find_at(rt, path, &file))?;
-    Ok(HeldLock {
-        file,
-        origin: Origin::Found,
-    })
-}
-
-/// Finds that an open file is the one at a path.
-fn find_at<R: Files<File = File>>(rt: &R, path: &str, file: &File) -> io::Result<()> {
-    find_same(rt, path, Identity::of(&file.metadata()?))
-}
-
-/// Locks a folder for this run alone, and then its `store.lock`, which is made, or marked if no run made it.
-fn lock_anew<R: Files<File = File>>(
-    rt: &R,
-    folder: &OpenFolder,
-    path: &str,
-    like: Option<&Metadata>,
-) -> Result<HeldLock, FolderError>
-    ensures { IfErr result (λ error.
-        (error.fault ≢ FolderFault.NotAStore) × (error.fault ≢ FolderFault.StoreExists)) }
-{
-    take_lock(folder.file(), Subject::Given)?;
-    let lock = LOCK.blame(open_or_make(rt, path))?;
-    take_lock(&lock.file, LOCK)?;
-    LOCK.blame(admit(folder, &lock.file, like))?;
-    Ok(lock)
-}
-
-/// Takes the lock on an open file or folder without waiting. It is held until that is closed.
-fn take_lock(file: &File, subject: Subject) -> Result<(), FolderError>
-    ensures { IfErr result (λ error.
-        (error.fault ≢ FolderFault.NotAStore) × (error.fault ≢ FolderFault.StoreExists)) }
-{
-    match file.try_lock() {
-        Ok(()) => Ok(()),
-        Err(TryLockError::WouldBlock) => Err(FolderError::locked(subject)),
-        Err(TryLockError::Error(error)) => Err(FolderError::from(subject.cause(error))),
-    }
-}
-
-/// Opens the plain file at a path. A missing file is made, and one that may not be opened is replaced by a new one:
-/// nobody holds its lock, since its holder would hold the folder's too.
-fn open_or_make<R: Files<File = File>>(rt: &R, path: &str) -> io::Result<HeldLock> {
-    let origin = match open_plain(rt, OpenOptions::new().read(true).write(true), path) {
-        Ok(file) => {
-            return Ok(HeldLock {
-                file,
-                origin: Origin::Found,
-            });
-        }
-        Err(error) if error.kind() == ErrorKind::NotFound => Origin::Made,
-        Err(error) if error.kind() == ErrorKind::PermissionDenied => {
-            fs::remove_file(rt, path)?;
-            Origin::Found
-        }
-        Err(error) => return Err(error),
+    let origin = match take_locks(&mut locks) {
+        Ok(origin) => origin,
+        Err(why) => return Err(error_of(why)),
     };
-    let mut how = OpenOptions::new();
-    how.read(true).write(true).create_new(true).mode(NEW_LOCK);
-    let file = how.open(rt, path)?;
-    Ok(HeldLock { file, origin })
+    let HostLocks { folder, file, .. } = locks;
+    let (Some(folder), Some(file)) = (folder, file) else {
+        return Err(FolderError::from(LOCK.cause(not_open())));
+    };
+    Ok((folder, HeldLock { file, origin }))
 }
+
+/// What a lock is on, where a call on it fails.
+fn subject_of(place: LockPlace) -> Subject {
+    match place {
+        LockPlace::File => LOCK,
+        LockPlace::Folder => Subject::Given,
+    }
+}
+
+/// Why the locks are not held.
+fn error_of(why: NotTaken) -> FolderError
+    ensures locked { result.fault ≡ FolderFault.Locked → IsLocked why }
+    ensures held { IsLocked why → result.fault ≡ FolderFault.Locked }
+    ensures store { (result.fault ≢ FolderFault.NotAStore)
+        × (result.fault ≢ FolderFault.StoreExists) }
+{
+    match why {
+        NotTaken::Locked(place) => FolderError::locked(subject_of(place)),
+        NotTaken::Failed(place, error) => FolderError::from(subject_of(place).cause(error)),
+    }
+}
+
+/// What came of asking for a lock.
+fn asked(done: Result<(), TryLockError>) -> io::Result<Locking>
+    ensures taken { result ≡ Ok Locking.Taken → IsOk done }
+    ensures held { done ≡ Err TryLockError.WouldBlock → result ≡ Ok Locking.Held }
+{
+    match done {
+        Ok(()) => Ok(Locking::Taken),
+        Err(TryLockError::WouldBlock) => Ok(Locking::Held),
+        Err(TryLockError::Error(error)) => Err(error),
+    }
+}
+
+/// Why a call on a file or folder that is not open fails.
+fn not_open() -> io::Error {
+    io::Error::new(ErrorKind::InvalidInput, "it is not open")
+}
+
+/// Whether a file is marked as a run's.
+fn is_marked(found: &Metadata) -> bool {
+    found.mode() & MARK != 0
+}
+
+/// The locks of a real folder, by single calls of the system. It claims nothing.
+#[derive(Drop)]
+struct HostLocks<'h, R: Files<File = File>> {
+    rt: &'h R,
+    /// The folder, until the locks are let go.
+    folder: Option<OpenFolder>,
+    /// The path of `store.lock`.
+    path: &'h str,
+    /// The open `store.lock`.
+    file: Option<File>,
+    /// The file whose owner, group and mode count.
+    like: Option<&'h Metadata>,
+}
+
+impl<'h, R: Files<File = File>> HostLocks<'h, R> {
+    /// The open `store.lock`.
+    fn file(&self) -> io::Result<&File> {
+        match &self.file {
+            Some(file) => Ok(file),
+            None => Err(not_open()),
+        }
+    }
+
+    /// The folder.
+    fn folder(&self) -> io::Result<&OpenFolder> {
+        match &self.folder {
+            Some(folder) => Ok(folder),
+            None => Err(not_open()),
+        }
+    }
+}
+
+impl<'h, R: Files<File = File>> LockSystem for HostLocks<'h, R> {
+    ghost use Rattle.std.specs.Prelude.{None, false};
+
+    ghost model = { record {
+      honest = ⊥;
+      run = λ system. 0;
+      locks = λ system. record {
+        path = None;
+        marked = λ file. false;
+        holder = λ file. None;
+        alone = None;
+        shared = λ run. false;
+      };
+      opened = λ system. None;
+      changes = λ system. 0;
+    } };
+
+    fn open(&mut self) -> io::Result<Opening> {
+        self.file = None;
+        match open_plain(
+            self.rt,
+            OpenOptions::new().read(true).write(true),
+            self.path,
+        ) {
+            Ok(file) => {
+                self.file = Some(file);
+                Ok(Opening::Opened)
+            }
+            Err(error) if error.kind() == ErrorKind::NotFound => Ok(Opening::Missing),
+            Err(error) if error.kind() == ErrorKind::PermissionDenied => Ok(Opening::Refused),
+            Err(error) => Err(error),
+        }
+    }
+
+    fn is_marked(&mut self) -> io::Result<bool> {
+        let found = self.file()?.metadata()?;
+        Ok(is_marked(&found))
+    }
+
+    fn is_there_marked(&mut self) -> io::Result<bool> {
+        match look(self.rt, self.path)? {
+            Some(found) => Ok(is_marked(&found)),
+            None => Ok(false),
+        }
+    }
+
+    fn try_lock_file(&mut self) -> io::Result<Locking> {
+        asked(self.file()?.try_lock())
+    }
+
+    fn try_lock_folder(&mut self) -> io::Result<Locking> {
+        asked(self.folder()?.file().try_lock())
+    }
+
+    fn try_share_folder(&mut self) -> io::Result<Locking> {
+        asked(self.folder()?.file().try_lock_shared())
+    }
+
+    fn find_in_place(&mut self) -> io::Result<()> {
+        let found = self.file()?.metadata()?;
+        find_same(self.rt, self.path, Identity::of(&found))
+    }
+
+    fn make(&mut self) -> io::Result<Making> {
+        self.file = None;
+        let mut how = OpenOptions::new();
+        how.read(true).write(true).create_new(true).mode(NEW_LOCK);
+        match how.open(self.rt, self.path) {
+            Ok(file) => {
+                self.file = Some(file);
+                Ok(Making::Made)
+            }
+            Err(error) if error.kind() == ErrorKind::AlreadyExists => Ok(Making::Exists),
+            Err(error) => Err(error),
+        }
+    }
+
+    fn remove(&mut self) -> io::Result<()> {
+        fs::remove_file(self.rt, self.path)
+    }
+
+    fn mark(&mut self) -> io::Result<()> {
+        admit(self.folder()?, self.file()?, self.like)
+    }
+
+    fn let_go(&mut self) {
+        self.file = None;
+        self.folder = None;
+    }
+}
+
 /// Gives a `store.lock` the owner and the group of `like`, or of the folder if there is none, and lets open it whoever
 /// may write either. Where the system refuses, it stays as it is.
 fn admit(folder: &OpenFolder, file: &File, like: Option<&Metadata>) -> io::Result<()> {
@@ -205,13 +294,9 @@ fn admit(folder: &OpenFolder, file: &File, like: Option<&Metadata>) -> io::Resul
 /// The mode of a `store.lock` which those may open who are writers by a mode. Who may not write may not read either,
 /// since whoever opens the file can hold its lock.
 fn lock_mode(mode: u32) -> u32
-    ensures nobody { bit_and mode 0o22 ≡ 0 → result ≡ 0o1600 }
-    ensures writers { (result ≡ 0o1600) ⊎ (result ≡ 0o1660) ⊎ (result ≡ 0o1606) ⊎ (result ≡ 0o1666) }
+    ensures { result ≡ mode_of_lock mode }
 {
-    match mode & OTHER_WRITERS {
-        0 => NEW_LOCK,
-        0o20 => NEW_LOCK | 0o60,
-        0o2 => NEW_LOCK | 0o6,
-        _ => NEW_LOCK | 0o66,
-    }
+    let of_group = if mode & GROUP_WRITES == 0 { 0 } else { GROUP };
+    let of_others = if mode & OTHERS_WRITE == 0 { 0 } else { OTHERS };
+    MARKED + of_group + of_others
 }

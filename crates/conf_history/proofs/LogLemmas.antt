@@ -3,7 +3,7 @@ use Rattle.std.proofs.Common.{◌≡◌, inl, inr, refl, sym, ◌∙◌, ap, sub
 use Rattle.std.specs.Prelude.{ℕ, ◌+◌, Bool, List, [], ◌∷◌, ◌++◌, length, take, Option, Some, None, IfSome}
 use Rattle.conf_history.proofs.Prelude.{All, concat, Appends, Appends-nil, Appends-trans, Consumes-whole, append-nil, ClosesOnce}
 use Rattle.conf_history.proofs.Prelude.{SomePieces, ahead, piece_or_rest, Command, Contents, after-count, AreRecords, All-nil, IsNoRecord}
-use Rattle.conf_history.specs.{declared.log.LogForm.LogForm, declared.fault.HistoryFault.HistoryFault}
+use Rattle.conf_history.specs.{declared.log.LogRequest.LogRequest, declared.fault.HistoryFault.HistoryFault}
 use Rattle.conf_history.specs.Histories.{RefusesReading, RefusesSurvey}
 use Rattle.conf_history.specs.Logs.{entry_bytes, log_bytes, log_of_pieces, BeginsLog, IsWholeLog, LogsAll, LogsBefore, CutsLog, StopsLog}
 use Rattle.conf_history.specs.Walks.{HasRead, ArePerformed, ComesAfter, Ends, Fails, IsBetween}
@@ -18,7 +18,7 @@ some-both (Some xs) P Q R f p q = f xs p q
 
 -- ---- one record more
 
-log-last : (form : LogForm) (count : ℕ) (pieces : List (List ℕ)) (commands : List Command) (piece : List ℕ)
+log-last : (form : LogRequest) (count : ℕ) (pieces : List (List ℕ)) (commands : List Command) (piece : List ℕ)
     (command : Command) → AreRecords count pieces commands
     → log_bytes form count (pieces ++ piece ∷ []) (commands ++ command ∷ [])
     ≡ log_bytes form count pieces commands ++ entry_bytes form (count + length commands + 1) piece command
@@ -34,7 +34,7 @@ log-last form count (p ∷ ps) (c ∷ cs) piece command are =
     ∙ sym (append_assoc first (log_bytes form (count + 1) ps cs) (entry_bytes form (count + 1 + length cs + 1) piece command))
     ∙ ap (λ n. (first ++ log_bytes form (count + 1) ps cs) ++ entry_bytes form n piece command) number
 
-log-pieces-last : (form : LogForm) (count : ℕ) (pieces : List (List ℕ)) (base : List ℕ) (records : List (List ℕ))
+log-pieces-last : (form : LogRequest) (count : ℕ) (pieces : List (List ℕ)) (base : List ℕ) (records : List (List ℕ))
     (commands : List Command) (piece : List ℕ) (command : Command)
     → pieces ≡ base ∷ records → AreRecords count records commands
     → log_of_pieces form count (pieces ++ piece ∷ []) (commands ++ command ∷ [])
@@ -44,7 +44,7 @@ log-pieces-last form count pieces base records commands piece command are are_re
     ≡ log_of_pieces form count ps commands ++ entry_bytes form (count + length commands + 1) piece command)
     (sym are) (log-last form count records commands piece command are_records)
 
-module _ (form : LogForm) (pieces : List (List ℕ)) (start : Contents) (commands : List Command) (s : Contents)
+module _ (form : LogRequest) (pieces : List (List ℕ)) (start : Contents) (commands : List Command) (s : Contents)
     (p : ArePerformed pieces start commands s) where
   -- the log of the pieces, by what they mean
   log-meant : log_of_pieces form start.count pieces commands ≡ log_of_pieces form p.mean.start.count pieces p.mean.commands
@@ -70,7 +70,7 @@ module _ (form : LogForm) (pieces : List (List ℕ)) (start : Contents) (command
 
 -- ---- the bytes begin with what is logged
 
-module _ (form : LogForm) (given left : Option (List ℕ)) (walk : Walked) (pieces : List (List ℕ)) (start : Contents)
+module _ (form : LogRequest) (given left : Option (List ℕ)) (walk : Walked) (pieces : List (List ℕ)) (start : Contents)
     (commands : List Command) where
   abbrev log_here : List ℕ
   log_here = log_of_pieces form start.count pieces commands
@@ -159,7 +159,7 @@ module _ (form : LogForm) (given left : Option (List ℕ)) (walk : Walked) (piec
 
 -- ---- how writing ends
 
-module _ (form : LogForm) (given before : Option (List ℕ)) (old : Walked) (pieces : List (List ℕ)) (start : Contents)
+module _ (form : LogRequest) (given before : Option (List ℕ)) (old : Walked) (pieces : List (List ℕ)) (start : Contents)
     (commands : List Command) (b : IsBetween given before old pieces start commands) (some : SomePieces)
     (held mid : Option (List ℕ)) (out : Appends held mid (log_of_pieces form start.count pieces commands)) where
   abbrev log : List ℕ
@@ -250,13 +250,13 @@ module _ (form : LogForm) (given before : Option (List ℕ)) (old : Walked) (pie
 
 -- ---- before the first record
 
-pub begins-empty : (form : LogForm) (pieces : List (List ℕ)) (start : Contents) → log_of_pieces form start.count pieces [] ≡ []
+pub begins-empty : (form : LogRequest) (pieces : List (List ℕ)) (start : Contents) → log_of_pieces form start.count pieces [] ≡ []
 begins-empty form [] start = refl
 begins-empty form (base ∷ []) start = refl
 begins-empty form (base ∷ (record_piece ∷ records)) start = refl
 
 -- the walk did not begin
-pub start-fails : (several : Bool) (form : LogForm) (given held : Option (List ℕ)) (at : Option ℕ) (f : HistoryFault)
+pub start-fails : (several : Bool) (form : LogRequest) (given held : Option (List ℕ)) (at : Option ℕ) (f : HistoryFault)
     → IfSome given (λ bytes. RefusesStart at bytes f) → StopsLog several at form given held held f
 start-fails several form given held at f refused = record {
   log = [];

@@ -1,14 +1,16 @@
--- The log of a store's file: a line for each command, without its values, with them, or with them but for what is hidden; or
--- the records as they stand.
-use Rattle.std.specs.Prelude.{◌≡◌, ◌<◌, ◌⊎◌, ℕ, ◌+◌, Bool, List, [], ◌∷◌, ◌++◌, length, take, codes, decimal, encode_utf8_all, String}
-use Rattle.std.specs.Prelude.{string_bytes, Option, Some, None, IfSome}
+-- The log of a store's file: a line for each command that is asked for, without its values, with them, or with them but for
+-- what is hidden; or the records as they stand.
+use Rattle.std.specs.Prelude.{◌≡◌, ◌<◌, ◌⊎◌, ℕ, ◌+◌, nat_le, Bool, true, false, ◌||◌, ◌&&◌, if◌then◌else◌, List, [], ◌∷◌, ◌++◌}
+use Rattle.std.specs.Prelude.{length, take, codes, decimal, encode_utf8_all, String, string_bytes, Option, Some, None, IfSome}
 use Rattle.conf_history.specs.Prelude.{MayBeDropped, StartsWithHole, Appends, Keeps, Pieces, in_double_quotes, store_limit, Edit}
-use Rattle.conf_history.specs.Prelude.{import_as, set_at, delete_at, Command, single, batch, Contents, PiecesMean}
+use Rattle.conf_history.specs.Prelude.{import_as, set_at, delete_at, Command, single, batch, Contents, PiecesMean, chars}
+use Rattle.conf_history.specs.Prelude.{name_of, same_text}
 use Rattle.std.specs.declared.alloc.Global.{Global}
 use Rattle.yaml_grammar.specs.Trees.{Tree}
 use Rattle.yaml_forms.specs.Json.{json_text}
 use Rattle.conf_history.specs.{declared.fault.HistoryFault.HistoryFault, declared.line.LineForm.LineForm}
-use Rattle.conf_history.specs.{declared.log.LogForm.LogForm}
+use Rattle.conf_history.specs.{declared.log.LogForm.LogForm, declared.log.LogRequest.LogRequest}
+use Rattle.std.specs.Borrow.{Bor}
 use Rattle.conf_history.specs.Histories.{ReadsAtMost, RefusesReading}
 use Rattle.conf_history.specs.declared.fault.HistoryFault.TheVariants.{Output, Damaged, OutOfMemory}
 use Rattle.conf_history.specs.declared.line.LineForm.TheVariants.{Names, Values, Hiding}
@@ -44,37 +46,67 @@ command_words form (batch edits) = codes " batch" ++ edits_words form [] edits
 abbrev pub command_line : LineForm → ℕ → Command → List ℕ
 command_line form number command = decimal number ++ command_words form command ++ codes "\n"
 
--- what is written for a command with a number, which has this record
-abbrev pub entry_bytes : LogForm → ℕ → List ℕ → Command → List ℕ
-entry_bytes (Lines form) number bytes command = encode_utf8_all (command_line form number command)
-entry_bytes Records number bytes command = bytes
+-- whether one of the edits is of the configuration with a name
+abbrev pub any_changes : List ℕ → List Edit → Bool
+any_changes name [] = false
+any_changes name (edit ∷ edits) = same_text name (name_of edit) || any_changes name edits
 
--- what is kept of a command with a number before it is performed: its line, where lines are written
-abbrev pub TellsEntry : LogForm → String Global → ℕ → Command → Type 0
-TellsEntry (Lines form) line number command = string_bytes line ≡ encode_utf8_all (command_line form number command)
-TellsEntry Records line number command = Unit {0}
+-- whether a command changes the configuration with a name
+abbrev pub changes : List ℕ → Command → Bool
+changes name (single edit) = same_text name (name_of edit)
+changes name (batch edits) = any_changes name edits
+
+-- the same; any command does, if no name is given
+abbrev pub is_of : Option (Bor (List ℕ)) → Command → Bool
+is_of None command = true
+is_of (Some name) command = changes (chars name.now) command
+
+-- whether a log is asked for a command with a number: from one on, and of one name or of all
+abbrev pub is_asked : LogRequest → ℕ → Command → Bool
+is_asked request number command = nat_le request.from number && is_of request.name command
+
+-- a command with a number, which has this record, as it is written
+abbrev pub shown_entry : LogForm → ℕ → List ℕ → Command → List ℕ
+shown_entry (Lines form) number bytes command = encode_utf8_all (command_line form number command)
+shown_entry Records number bytes command = bytes
+
+-- what is written for it: nothing, if it is not asked for
+abbrev pub entry_bytes : LogRequest → ℕ → List ℕ → Command → List ℕ
+entry_bytes request number bytes command =
+    if is_asked request number command then shown_entry request.form number bytes command else []
+
+-- the line of a command with a number, where lines are written
+abbrev pub TellsLine : LogForm → String Global → ℕ → Command → Type 0
+TellsLine (Lines form) line number command = string_bytes line ≡ encode_utf8_all (command_line form number command)
+TellsLine Records line number command = Unit {0}
+
+-- what is kept of a command with a number before it is performed: its line, if it is asked for
+abbrev pub TellsEntry : LogRequest → Option (String Global) → ℕ → Command → Type 0
+TellsEntry request None number command = is_asked request number command ≡ false
+TellsEntry request (Some line) number command =
+    (is_asked request number command ≡ true) × TellsLine request.form line number command
 
 -- the same for consecutive ones, numbered on from a count
-abbrev pub log_bytes : LogForm → ℕ → List (List ℕ) → List Command → List ℕ
-log_bytes form count [] commands = []
-log_bytes form count (piece ∷ pieces) [] = []
-log_bytes form count (piece ∷ pieces) (command ∷ commands) =
-    entry_bytes form (count + 1) piece command ++ log_bytes form (count + 1) pieces commands
+abbrev pub log_bytes : LogRequest → ℕ → List (List ℕ) → List Command → List ℕ
+log_bytes request count [] commands = []
+log_bytes request count (piece ∷ pieces) [] = []
+log_bytes request count (piece ∷ pieces) (command ∷ commands) =
+    entry_bytes request (count + 1) piece command ++ log_bytes request (count + 1) pieces commands
 
 -- the same for pieces, of which the first is a base
-abbrev pub log_of_pieces : LogForm → ℕ → List (List ℕ) → List Command → List ℕ
-log_of_pieces form count [] commands = []
-log_of_pieces form count (base ∷ records) commands = log_bytes form count records commands
+abbrev pub log_of_pieces : LogRequest → ℕ → List (List ℕ) → List Command → List ℕ
+log_of_pieces request count [] commands = []
+log_of_pieces request count (base ∷ records) commands = log_bytes request count records commands
 
 -- The first pieces of the bytes are a base and records, and this is what is written for the records.
-pub record BeginsLog (bytes : List ℕ) (form : LogForm) (log : List ℕ) : Type 0 where
+pub record BeginsLog (bytes : List ℕ) (request : LogRequest) (log : List ℕ) : Type 0 where
   pub pieces : List (List ℕ)
   pub further : List (List ℕ)
   pub rest : List ℕ
   pub cut : Pieces bytes (pieces ++ further) rest
   pub s : Contents
   pub mean : PiecesMean pieces s
-  pub is : log ≡ log_of_pieces form mean.start.count pieces mean.commands
+  pub is : log ≡ log_of_pieces request mean.start.count pieces mean.commands
 
 -- the number is reached, or no piece follows but those that a crash may have left
 abbrev pub IsUpTo : Bool → Option ℕ → Contents → List (List ℕ) → Type 0
@@ -82,54 +114,54 @@ IsUpTo several None s further = StartsWithHole further × MayBeDropped several f
 IsUpTo several (Some number) s further = s.count ≡ number
 
 -- what is written for all records, or for those up to a number
-pub record IsWholeLog (several : Bool) (bytes : List ℕ) (at : Option ℕ) (form : LogForm) (log : List ℕ) : Type 0 where
-  pub begins : BeginsLog bytes form log
+pub record IsWholeLog (several : Bool) (bytes : List ℕ) (at : Option ℕ) (request : LogRequest) (log : List ℕ) : Type 0 where
+  pub begins : BeginsLog bytes request log
   pub up_to : IsUpTo several at begins.s begins.further
 
 -- What known bytes give was written whole. At most 1,073,741,824 bytes were read.
-pub record LogsAll (several : Bool) (at : Option ℕ) (form : LogForm) (given left held written : Option (List ℕ)) : Type 0 where
+pub record LogsAll (several : Bool) (at : Option ℕ) (request : LogRequest) (given left held written : Option (List ℕ)) : Type 0 where
   pub log : List ℕ
   pub out : Appends held written log
-  pub whole : IfSome given (λ bytes. IsWholeLog several bytes at form log)
+  pub whole : IfSome given (λ bytes. IsWholeLog several bytes at request log)
   pub read : ReadsAtMost store_limit given left
 
 -- all records but the last were written whole, and less than the last
-pub record CutsLog (bytes : List ℕ) (form : LogForm) (log : List ℕ) : Type 0 where
+pub record CutsLog (bytes : List ℕ) (request : LogRequest) (log : List ℕ) : Type 0 where
   pub before : List ℕ
   pub entry : List ℕ
   pub kept : ℕ
-  pub begins : BeginsLog bytes form (before ++ entry)
+  pub begins : BeginsLog bytes request (before ++ entry)
   pub is : log ≡ before ++ take kept entry
   pub short : kept < length entry
 
 -- Why not all was written, and what was: for the records before the bad piece at Damaged, and for a number of first
 -- records at another fault of the file.
-abbrev pub LogsBefore : Bool → List ℕ → Option ℕ → LogForm → List ℕ → HistoryFault → Type 0
-LogsBefore several bytes at form log Output = CutsLog bytes form log
-LogsBefore several bytes at form log (Damaged bad) =
-    RefusesReading several bytes at (Damaged bad) × (begins : BeginsLog bytes form log) × (length begins.pieces ≡ bad.number)
-LogsBefore several bytes at form log fault = RefusesReading several bytes at fault × ((log ≡ []) ⊎ BeginsLog bytes form log)
+abbrev pub LogsBefore : Bool → List ℕ → Option ℕ → LogRequest → List ℕ → HistoryFault → Type 0
+LogsBefore several bytes at request log Output = CutsLog bytes request log
+LogsBefore several bytes at request log (Damaged bad) =
+    RefusesReading several bytes at (Damaged bad) × (begins : BeginsLog bytes request log) × (length begins.pieces ≡ bad.number)
+LogsBefore several bytes at request log fault = RefusesReading several bytes at fault × ((log ≡ []) ⊎ BeginsLog bytes request log)
 
 -- so much of the log of known bytes was written, where each command is written as soon as it was performed
-pub record StopsLog (several : Bool) (at : Option ℕ) (form : LogForm) (given held written : Option (List ℕ)) (fault : HistoryFault)
+pub record StopsLog (several : Bool) (at : Option ℕ) (request : LogRequest) (given held written : Option (List ℕ)) (fault : HistoryFault)
     : Type 0 where
   pub log : List ℕ
   pub out : Appends held written log
-  pub before : IfSome given (λ bytes. LogsBefore several bytes at form log fault)
+  pub before : IfSome given (λ bytes. LogsBefore several bytes at request log fault)
 
 -- less than what known bytes give was written, where the writer failed
-pub record CutsWholeLog (several : Bool) (at : Option ℕ) (form : LogForm) (given held written : Option (List ℕ)) : Type 0 where
+pub record CutsWholeLog (several : Bool) (at : Option ℕ) (request : LogRequest) (given held written : Option (List ℕ)) : Type 0 where
   pub log : List ℕ
   pub kept : ℕ
   pub out : Appends held written (take kept log)
   pub short : kept < length log
-  pub whole : IfSome given (λ bytes. IsWholeLog several bytes at form log)
+  pub whole : IfSome given (λ bytes. IsWholeLog several bytes at request log)
 
 -- Why not all was written, and what was. With a number nothing was, unless the writer failed.
-abbrev pub FailsToLog : Bool → Option ℕ → LogForm → Option (List ℕ) → Option (List ℕ) → Option (List ℕ) → HistoryFault → Type 0
-FailsToLog several None form given held written fault = StopsLog several None form given held written fault
-FailsToLog several (Some number) form given held written Output = CutsWholeLog several (Some number) form given held written
-FailsToLog several (Some number) form given held written fault =
+abbrev pub FailsToLog : Bool → Option ℕ → LogRequest → Option (List ℕ) → Option (List ℕ) → Option (List ℕ) → HistoryFault → Type 0
+FailsToLog several None request given held written fault = StopsLog several None request given held written fault
+FailsToLog several (Some number) request given held written Output = CutsWholeLog several (Some number) request given held written
+FailsToLog several (Some number) request given held written fault =
     IfSome given (λ bytes. RefusesReading several bytes (Some number) fault) × Keeps held written
 
 -- the fault of a log that was to be held in memory, which takes no bytes only where there is no more

@@ -7,7 +7,7 @@ pub use Rattle.conf_disk.specs.declared.disk.Name.TheVariants.{Store}
 pub use Rattle.conf_journal.specs.Store.{store_limit, IsStoreOf, LeavesStoreOr}
 pub use Rattle.conf_record.specs.Documents.{record_pieces, records_bytes, IsBase, IsNoBase, IsRecord, IsNoRecord}
 pub use Rattle.conf_state.specs.Commands.{Command, Edit, import_as, set_at, delete_at, single, batch, command_of}
-pub use Rattle.conf_state.specs.Commands.{edit_of, text_of}
+pub use Rattle.conf_state.specs.Commands.{edit_of, name_of, text_of}
 pub use Rattle.conf_state.specs.Limits.{IsState}
 pub use Rattle.conf_state.specs.States.{Contents, Entry, config_named, names_of}
 pub use Rattle.conf_state.specs.Steps.{after, step}
@@ -26,4 +26,5 @@ pub use Rattle.yaml_docs.specs.Cutting.{Unclosed}
 pub use Rattle.yaml_docs.specs.PieceReading.{piece_or_rest, IsSound, ahead, bytes_read}
 pub use Rattle.yaml_grammar.specs.Closings.{Pieces, ClosesOnce}
 pub use Rattle.yaml_grammar.specs.Style.{in_double_quotes}
+pub use Rattle.yaml_grammar.specs.Texts.{same_text}
 pub use Rattle.yaml_recognizers.specs.Zeroed.{no_zero, StartsWithHole, Zeroed}

@@ -13,6 +13,7 @@
 //! - [`back_up`] makes a new store with the same base and records.
 #![tactic(auto)]
 
+mod asked;
 mod base;
 mod bytes_reading;
 mod copying;
@@ -38,7 +39,7 @@ pub use fault::{HistoryFault, SalvageFault};
 pub use following::BadKind;
 pub use laws::reading_beside_a_writer;
 pub use line::LineForm;
-pub use log::{LogForm, write_log};
+pub use log::{LogForm, LogRequest, write_log};
 pub use part_reading::{config_at, names_at};
 pub use place::{BadPiece, Zeros};
 pub use reading::state_at;

@@ -14,7 +14,18 @@ use std::alloc::Global;
 use std::io::{Read, Write};
 use yaml_recognizers::closings::one_list_of_pieces;
 
-/// How the commands of a file are written.
+/// Which commands of a file are written, and how.
+#[derive(Clone, Copy)]
+pub struct LogRequest<'h> {
+    /// How each command is written.
+    pub form: LogForm<'h>,
+    /// Only commands that change the configuration of this name are written; all, if there is none.
+    pub name: Option<&'h str>,
+    /// Only commands from this number on are written.
+    pub from: u64,
+}
+
+/// How a command of a file is written.
 #[derive(Clone, Copy)]
 pub enum LogForm<'h> {
     /// A line for each: its number, what it does, the configuration and the place in it, and its values if asked for.
@@ -23,8 +34,10 @@ pub enum LogForm<'h> {
     Records,
 }
 
-/// Writes the commands of a store's file in their order: all of them, or those up to the number `at`. The file is read
-/// as by [`state_at`](crate::state_at). It does not flush.
+/// Writes the commands of a store's file that are asked for, in their order: of all of them, or of those up to the
+/// number `at`. The file is read as by [`state_at`](crate::state_at). It does not flush.
+///
+/// A batch changes each configuration of which it has an edit, and it is written whole.
 ///
 /// Without a number, each command is written as soon as it was read and performed. With one, nothing is written before
 /// the command with the number was performed: until then what is to be written is held in memory.
@@ -47,17 +60,17 @@ pub fn write_log<R: Read, W: Write>(
     reader: &mut R,
     waiting: Waiting,
     at: Option<u64>,
-    form: LogForm<'_>,
+    request: LogRequest<'_>,
     writer: &mut W,
 ) -> Result<(), HistoryFault>
-    ensures ok { OnOk result (LogsAll (is_several waiting) at form.entry (R.remaining reader.old)
+    ensures ok { OnOk result (LogsAll (is_several waiting) at request.entry (R.remaining reader.old)
         (R.remaining reader.new) (W.contents writer.old) (W.contents writer.new)) }
-    ensures refused { IfErr result (FailsToLog (is_several waiting) at form.entry (R.remaining reader.old)
+    ensures refused { IfErr result (FailsToLog (is_several waiting) at request.entry (R.remaining reader.old)
         (W.contents writer.old) (W.contents writer.new)) }
 {
     match at {
-        Some(number) => log_up_to(alloc, reader, waiting, number, form, writer),
-        None => log_each(alloc, reader, waiting, None, form, writer),
+        Some(number) => log_up_to(alloc, reader, waiting, number, request, writer),
+        None => log_each(alloc, reader, waiting, None, request, writer),
     }
 }
 
@@ -67,16 +80,16 @@ fn log_up_to<R: Read, W: Write>(
     reader: &mut R,
     waiting: Waiting,
     number: u64,
-    form: LogForm<'_>,
+    request: LogRequest<'_>,
     writer: &mut W,
 ) -> Result<(), HistoryFault>
-    ensures ok { OnOk result (LogsAll (is_several waiting) (Some number) form.entry (R.remaining reader.old)
+    ensures ok { OnOk result (LogsAll (is_several waiting) (Some number) request.entry (R.remaining reader.old)
         (R.remaining reader.new) (W.contents writer.old) (W.contents writer.new)) }
-    ensures refused { IfErr result (FailsToLog (is_several waiting) (Some number) form.entry (R.remaining reader.old)
+    ensures refused { IfErr result (FailsToLog (is_several waiting) (Some number) request.entry (R.remaining reader.old)
         (W.contents writer.old) (W.contents writer.new)) }
 {
     let mut held = Vec::new(alloc);
-    match log_each(alloc, reader, waiting, Some(number), form, &mut held) {
+    match log_each(alloc, reader, waiting, Some(number), request, &mut held) {
         Ok(()) => put_bytes(writer, &held),
         Err(fault) => Err(fault_of_holding(fault)),
     }
@@ -101,18 +114,18 @@ fn log_each<R: Read, W: Write>(
     reader: &mut R,
     waiting: Waiting,
     at: Option<u64>,
-    form: LogForm<'_>,
+    request: LogRequest<'_>,
     writer: &mut W,
 ) -> Result<(), HistoryFault>
-    ensures ok { OnOk result (LogsAll (is_several waiting) at form.entry (R.remaining reader.old)
+    ensures ok { OnOk result (LogsAll (is_several waiting) at request.entry (R.remaining reader.old)
         (R.remaining reader.new) (W.contents writer.old) (W.contents writer.new)) }
-    ensures refused { IfErr result (StopsLog (is_several waiting) at form.entry (R.remaining reader.old)
+    ensures refused { IfErr result (StopsLog (is_several waiting) at request.entry (R.remaining reader.old)
         (W.contents writer.old) (W.contents writer.new)) }
 {
     one_list_of_pieces();
     let mut walk = Walk::begin(alloc, reader)?;
     let BasePart { part } = walk.take_base(alloc, at)?;
-    let mut logged = Logged::new(alloc, part, form);
+    let mut logged = Logged::new(part, request);
     'records: while walk.next(
         alloc,
         reader,

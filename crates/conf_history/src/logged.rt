@@ -1,12 +1,13 @@
 // The part of a store whose commands are logged.
 ghost use Rattle.std.specs.Prelude.{◌≡◌, ℕ, IfOk};
 ghost use Rattle.conf_history.specs.Prelude.{command_of};
-ghost use Rattle.conf_history.specs.Logs.{TellsEntry, entry_bytes};
+ghost use Rattle.conf_history.specs.Logs.{TellsEntry, TellsLine, entry_bytes};
 ghost use Rattle.conf_state.specs.Commands.{Command as Meant};
 
+use crate::asked::is_asked;
 use crate::base::Base;
 use crate::line::record_line;
-use crate::log::LogForm;
+use crate::log::{LogForm, LogRequest};
 use conf_state::{Command, Part};
 use conf_store::{OnRefusal, RecordFault, Replayed};
 use std::alloc::{AllocError, Global};
@@ -15,33 +16,35 @@ use std::alloc::{AllocError, Global};
 #[derive(Drop)]
 pub(crate) struct Logged<'h> {
     pub part: Part<Base>,
-    pub form: LogForm<'h>,
-    /// The line of the last command, where lines are written.
-    pub line: String,
+    pub request: LogRequest<'h>,
+    /// The line of the last command, or an empty text where no lines are written. `None` if the command is not asked
+    /// for.
+    pub told: Option<String>,
 }
 
 impl<'h> Logged<'h> {
     /// A part of which no command is performed yet.
-    pub fn new(alloc: Global, part: Part<Base>, form: LogForm<'h>) -> Logged<'h>
+    pub fn new(part: Part<Base>, request: LogRequest<'h>) -> Logged<'h>
         ensures part { result.part ≡ part }
-        ensures form { result.form ≡ form.entry }
+        ensures request { result.request ≡ request.entry }
     {
         Logged {
             part,
-            form,
-            line: String::new(alloc),
+            request,
+            told: None,
         }
     }
 
     /// What is written for the last command, whose record is this piece.
     pub fn entry<'a>(&'a self, piece: &'a [u8]) -> &'a [u8]
         ensures { (number : ℕ) (command : Meant)
-            → TellsEntry self.now.form self.now.line number command
-            → result.now ≡ entry_bytes self.now.form number piece.now command }
+            → TellsEntry self.now.request self.now.told number command
+            → result.now ≡ entry_bytes self.now.request number piece.now command }
     {
-        match self.form {
-            LogForm::Lines(_) => self.line.as_bytes(),
-            LogForm::Records => piece,
+        match (&self.told, self.request.form) {
+            (None, _) => &[],
+            (Some(line), LogForm::Lines(_)) => line.as_bytes(),
+            (Some(_), LogForm::Records) => piece,
         }
     }
 }
@@ -58,7 +61,7 @@ impl Replayed for Logged<'_> {
     ghost keeps = { λ logged. tt };
 
     ghost Tells = { λ old new number command.
-        (new.form ≡ old.form) × TellsEntry old.form new.line number command };
+        (new.request ≡ old.request) × TellsEntry old.request new.told number command };
 
     fn accepted(&self) -> u64 {
         self.part.count()
@@ -70,10 +73,26 @@ impl Replayed for Logged<'_> {
         command: Command,
         on_refusal: OnRefusal,
     ) -> Result<(), RecordFault> {
-        let line = line_of(alloc, self.form, self.part.count() + 1, &command)?;
+        let told = told_of(alloc, self.request, self.part.count() + 1, &command)?;
         self.part.perform(alloc, command, on_refusal)?;
-        self.line = line;
+        self.told = told;
         Ok(())
+    }
+}
+
+/// What is kept of a command with a number, if it is asked for. It fails only if memory runs out.
+fn told_of(
+    alloc: Global,
+    request: LogRequest<'_>,
+    number: u64,
+    command: &Command,
+) -> Result<Option<String>, AllocError>
+    ensures { IfOk result (λ told. TellsEntry request.entry told number (command_of command.now)) }
+{
+    if is_asked(request, number, command) {
+        Ok(Some(line_of(alloc, request.form, number, command)?))
+    } else {
+        Ok(None)
     }
 }
 
@@ -84,7 +103,7 @@ fn line_of(
     number: u64,
     command: &Command,
 ) -> Result<String, AllocError>
-    ensures { IfOk result (λ line. TellsEntry form.entry line number (command_of command.now)) }
+    ensures { IfOk result (λ line. TellsLine form.entry line number (command_of command.now)) }
 {
     match form {
         LogForm::Lines(form) => record_line(alloc, number, command, form),

@@ -126,7 +126,7 @@ pub plain-created : (m : Machine) → IsPlain m → (id : ℕ) → length (get_o
 plain-created m plain id = plain-new m.files id (plain id)
 
 -- a sync of the folder leaves what is under the names
-get_or-settled : (files : List Held) (id : ℕ) → get_or (map settled files) id empty_held ≡ settled (get_or files id empty_held)
+pub get_or-settled : (files : List Held) (id : ℕ) → get_or (map settled files) id empty_held ≡ settled (get_or files id empty_held)
 get_or-settled [] id = refl
 get_or-settled (file ∷ files) zero = refl
 get_or-settled (file ∷ files) (suc id) = get_or-settled files id

@@ -11,3 +11,4 @@ pub mod Shown
 pub mod Keeping
 pub mod SameBytes
 pub mod Told
+pub mod Opened

@@ -126,19 +126,6 @@ pub record IsNoted (note : Note) (m : Machine) : Type 0 where
   pub noted : m.noted m.now.store ≡ note.several
   pub told : note.several ≡ true → all_several (notes_of m) ≡ true
 
-pub noted-read : (note : Note) (old new : Machine) → note ≡ old.note → new ≡ after_reading note old
-    → (note.several ≡ true → all_several (notes_of old) ≡ true) → IsNoted note new
-noted-read note old new same is told = subst (IsNoted note) (sym is) (record { is = sym same; noted = refl; told = told })
-
-pub noted-synced : (note : Note) (old mid : Machine) → note ≡ old.note → mid ≡ after_reading note old
-    → IsNoted note (after SyncNote mid)
-noted-synced note old mid same is = record {
-  is = ap (λ (m : Machine). m.note) is ∙ sym same;
-  noted = ap (λ (m : Machine). m.noted m.now.store) is;
-  told = λ several. ap (λ (m : Machine). m.note.several && true) is
-      ∙ ap (λ (n : Note). n.several && true) (sym same) ∙ ap (λ (b : Bool). b && true) several;
-}
-
 pub noted-same : (note : Note) (old new : Machine) → HasSameNotes old new → IsNoted note old → IsNoted note new
 noted-same note old new same noted = record {
   is = same.note ∙ noted.is;

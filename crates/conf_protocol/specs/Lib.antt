@@ -4,3 +4,4 @@ pub mod MomentsLaws
 pub mod Names
 pub mod Copying
 pub mod States
+pub mod Opened

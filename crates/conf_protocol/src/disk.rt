@@ -6,7 +6,9 @@ ghost use Rattle.conf_system.specs.Folders.{IsTold};
 ghost use Rattle.conf_protocol.specs.Keeps.{IsSafe, IsExact};
 ghost use Rattle.conf_protocol.specs.Moments.{Quiet, ReadsAsBefore};
 ghost use Rattle.conf_protocol.specs.States.{IsDiskStateOf};
+ghost use Rattle.conf_protocol.specs.Opened.{Opens};
 
+use crate::opening::Unopened;
 use crate::refusal::Refusal;
 use crate::run::{Run, RunState};
 use conf_disk::{Content, Disk, DiskFault, Name};
@@ -67,13 +69,16 @@ impl<S: System + Drop> SystemDisk<S> {
     /// The disk of a folder in which an earlier run may have ended in any way.
     ///
     /// # Errors
-    /// If the system refuses.
-    pub fn open(system: S) -> Result<Self, Refusal>
+    /// If the system refuses. Whatever was done then, the next run may build on it.
+    pub fn open(system: S) -> Result<Self, Unopened<S>>
         requires { S.model.honest → IsSafe (S.model.machine system) }
         ensures reads { S.model.honest → IfOk result (λ disk.
             ReadsAsBefore (S.model.machine system) (S.model.machine disk.run.system)) }
         ensures told { S.model.honest → IfOk result (λ disk.
             IsTold (S.model.machine disk.run.system)) }
+        ensures opens { S.model.honest → MatchResult result
+            (λ disk. Opens S.model system disk.run.system)
+            (λ unopened. Opens S.model system unopened.system) }
     {
         match Run::open(system) {
             Ok(run) => Ok(SystemDisk {
@@ -81,7 +86,7 @@ impl<S: System + Drop> SystemDisk<S> {
                 failures: 0,
                 cause: None,
             }),
-            Err(refusal) => Err(refusal),
+            Err(unopened) => Err(unopened),
         }
     }
 

@@ -9,10 +9,12 @@
 
 mod copying;
 mod disk;
+mod opening;
 mod reading;
 mod refusal;
 mod run;
 mod writing;
 
 pub use disk::{DiskState, SystemDisk};
+pub use opening::{Unopened, crashes_are_safe};
 pub use refusal::{Place, Refusal};

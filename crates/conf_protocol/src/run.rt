@@ -1,15 +1,17 @@
 // A run on a folder: what it knows of the files, what it notes, and by which calls it changes them.
-ghost use Rattle.std.specs.Prelude.{◌≡◌, ◌≢◌, ℕ, true, false, not, None, Some, IsSome, OnOk, IfOk, IsTrue, ◌↔◌};
+ghost use Rattle.std.specs.Prelude.{◌≡◌, ◌≢◌, ℕ, true, false, not, None, Some, IsSome, OnOk, IfOk, MatchResult, IsTrue, ◌↔◌};
 ghost use Rattle.conf_disk.specs.Folder.{CreateNext, Append, Sync, RenameNext, RemoveNext, SyncFolder, Reads};
 ghost use Rattle.conf_system.specs.Folders.{folder_of, IsTold};
 ghost use Rattle.conf_system.specs.Models.{Stays};
-ghost use Rattle.conf_protocol.specs.Keeps.{IsSafe, Knows, NoteIs, IsExact, HasOtherNotes, HasSameNotes};
+ghost use Rattle.conf_protocol.specs.Keeps.{IsSafe, Knows, NoteIs, IsExact, HasOtherNotes};
 ghost use Rattle.conf_protocol.specs.Keeps.{may_change, is_kept, bytes_after, several_after};
-ghost use Rattle.conf_system.specs.Machine.{is_any, notes_of, all_several, are_linked};
+ghost use Rattle.conf_system.specs.Machine.{is_any, notes_of, all_several};
 ghost use Rattle.conf_protocol.specs.Moments.{Goes, Quiet, ReadsAsBefore};
 ghost use Rattle.conf_protocol.specs.States.{IsStateOf};
+ghost use Rattle.conf_protocol.specs.Opened.{Opens};
 
 use crate::copying::put_copy;
+use crate::opening::{Unopened, begin};
 use crate::reading::read_all;
 use crate::refusal::{
     NEXT, Place, Refusal, STORE, file_of, in_memory_alone, names_not_synced, nothing_given,
@@ -111,16 +113,22 @@ pub(crate) struct RunState {
 
 impl<S: System + Drop> Run<S> {
     /// A run on the folder of a system, however the run before ended.
-    pub(crate) fn open(system: S) -> Result<Self, Refusal>
+    pub(crate) fn open(system: S) -> Result<Self, Unopened<S>>
         requires { S.model.honest → IsSafe (S.model.machine system) }
         ensures exact { S.model.honest → IfOk result (λ run.
             IsExact run.several (S.model.machine run.system)) }
         ensures reads { S.model.honest → IfOk result (λ run.
             ReadsAsBefore (S.model.machine system) (S.model.machine run.system)) }
         ensures told { S.model.honest → IfOk result (λ run. IsTold (S.model.machine run.system)) }
+        ensures opens { S.model.honest → MatchResult result
+            (λ run. Opens S.model system run.system)
+            (λ unopened. Opens S.model system unopened.system) }
     {
         let mut system = system;
-        let note = Place::Lock.blame(system.read_note())?;
+        let note = match begin(&mut system) {
+            Ok(note) => note,
+            Err(refusal) => return Err(Unopened { refusal, system }),
+        };
         if note.on_device {
             return Ok(Run {
                 system,
@@ -131,11 +139,6 @@ impl<S: System + Drop> Run<S> {
                 several: note.several,
             });
         }
-        if note.several {
-            Place::Lock.blame(system.sync_note())?;
-        }
-        unlink_linked(&mut system)?;
-        Place::Folder.blame(system.sync_folder())?;
         Ok(Run {
             system,
             store: Bytes::Unsure,
@@ -581,19 +584,4 @@ impl<S: System + Drop> Run<S> {
         let bytes = place.blame(read_all(&self.system, alloc, name, total))?;
         Ok(Content::Bytes(bytes))
     }
-}
-
-/// Removes a `next.yaml` that is another name of `store.yaml`.
-fn unlink_linked<S: System>(system: &mut S) -> Result<(), Refusal>
-    ensures apart { S.model.honest → OnOk result (let m = S.model.machine system.new in
-        are_linked m.now.store m.now.next ≡ false) }
-    ensures same { S.model.honest
-        → HasSameNotes (S.model.machine system.old) (S.model.machine system.new) }
-    ensures folder { S.model.honest
-        → folder_of (S.model.machine system.new) ≡ folder_of (S.model.machine system.old) }
-{
-    if NEXT.blame(system.are_linked())? {
-        NEXT.blame(system.unlink_next())?;
-    }
-    Ok(())
 }

@@ -15,7 +15,7 @@ use Rattle.conf_history.specs.declared.fault.SalvageFault.{SalvageFault}
 use Rattle.conf_history.specs.declared.fault.SalvageFault.TheVariants as salvage
 use Rattle.conf_history.specs.declared.survey.Findings.{Findings as Surveyed}
 use Rattle.conf_words.specs.declared.invocation.Conditions.{Conditions}
-use Rattle.conf_words.specs.declared.invocation.Invocation.{Invocation}
+use Rattle.conf_words.specs.declared.invocation.{Invocation.Invocation, Root.Root}
 use Rattle.conf_words.specs.declared.invocation.TreeForm.{TreeForm}
 use Rattle.conf_words.specs.declared.invocation.Invocation.TheVariants.{Init, Import, Set, Delete, Copy, Rename}
 use Rattle.conf_words.specs.declared.invocation.Invocation.TheVariants.{Checkpoint, Run, Export, Names, Get, Exists}
@@ -30,7 +30,7 @@ use Rattle.conf_words.specs.declared.invocation.Value.{Value}
 use Rattle.conf_words.specs.declared.invocation.Value.TheVariants.{Text, Yaml, File}
 use Rattle.conf_tools.specs.Backups.{BacksUpFound, BacksUpInFolder, BacksUpStore, status_after_backup}
 use Rattle.conf_tools.specs.Asking.{AskedConditions}
-use Rattle.conf_tools.specs.LogWords.{Logs, LogsValues}
+use Rattle.conf_tools.specs.LogWords.{Logs, LogsValues, commands_of}
 use Rattle.conf_tools.specs.Keeping.{CannotKeep, KeepsDropped, PutsFile, SalvagesTo, Verifies}
 use Rattle.conf_tools.specs.Performs.{ChangesAt, FormatsAll, ChecksAll, ImportsRead, Performs, access_of, grouping_of}
 use Rattle.conf_tools.specs.Exports.{disk_back}
@@ -135,12 +135,12 @@ module _ {W D F P : Type 0} (world : WorldModel W D F P) (disk : DiskModel D) (r
       of-conditional access folder does.conditions change old new status does.makes
   of-asked wanted access folder name path (Err fault) old new status does = nothing (Some folder) (same old new does.0)
 
-  of-import : (wanted : Conditions) (access : Access) (folder name : List ℕ) (read : Taken) (old new : W) (status : Status)
-      (does : ImportsRead world disk wanted access folder name read old new status)
-      → Effect old new status (Some folder) (imported world disk honest wanted access folder name read old new status does)
-  of-import wanted access folder name (Ok bytes) old new status does =
+  of-import : (wanted : Conditions) (root : Root) (access : Access) (folder name : List ℕ) (read : Taken) (old new : W) (status : Status)
+      (does : ImportsRead world disk wanted root access folder name read old new status)
+      → Effect old new status (Some folder) (imported world disk honest wanted root access folder name read old new status does)
+  of-import wanted root access folder name (Ok bytes) old new status does =
       of-asked wanted access folder name [] does.change old new status does.changes
-  of-import wanted access folder name (Err fault) old new status does = nothing (Some folder) (same old new does.0)
+  of-import wanted root access folder name (Err fault) old new status does = nothing (Some folder) (same old new does.0)
 
   of-run : (folder : List ℕ) (grouping : Grouping) (old new : Around W) (status : Status)
       (does : RunsOnFolder world disk folder grouping old new status)
@@ -176,19 +176,21 @@ module _ {W D F P : Type 0} (world : WorldModel W D F P) (disk : DiskModel D) (r
   of-open folder old (Err (reading.Salvage fault)) new opens = absurd opens
   of-open folder old (Err reading.Output) new opens = absurd opens
 
-  of-values : (folder : List ℕ) (at : Option ℕ) (hidden : List (List ℕ)) (old new : W) (held written : Option (List ℕ))
-      (status : Status) → LogsValues world remaining folder at hidden old new held written status → Steady old new
-  of-values folder at [] old new held written status does = of-open folder old does.file new does.opens
-  of-values folder at (pointer ∷ pointers) old new held written status (inl hides) =
+  of-values : (folder : List ℕ) (name : Option (Bor (List ℕ))) (from : ℕ) (at : Option ℕ) (hidden : List (List ℕ))
+      (old new : W) (held written : Option (List ℕ)) (status : Status)
+      → LogsValues world remaining folder (commands_of name from at) hidden old new held written status → Steady old new
+  of-values folder name from at [] old new held written status does = of-open folder old does.file new does.opens
+  of-values folder name from at (pointer ∷ pointers) old new held written status (inl hides) =
       of-open folder old hides.logs.file new hides.logs.opens
-  of-values folder at (pointer ∷ pointers) old new held written status (inr refuses) = same old new refuses.world_stays
+  of-values folder name from at (pointer ∷ pointers) old new held written status (inr refuses) = same old new refuses.world_stays
 
-  of-log : (folder : List ℕ) (at : Option ℕ) (form : AskedLog) (old new : W) (held written : Option (List ℕ))
-      (status : Status) → Logs world remaining folder at form old new held written status → Steady old new
-  of-log folder at asked.Lines old new held written status does = of-open folder old does.file new does.opens
-  of-log folder at (asked.Values hidden) old new held written status does =
-      of-values folder at (map (λ pointer. pointer.now) hidden.items) old new held written status does
-  of-log folder at asked.Records old new held written status does = of-open folder old does.file new does.opens
+  of-log : (folder : List ℕ) (name : Option (Bor (List ℕ))) (from : ℕ) (at : Option ℕ) (form : AskedLog)
+      (old new : W) (held written : Option (List ℕ)) (status : Status)
+      → Logs world remaining folder (commands_of name from at) form old new held written status → Steady old new
+  of-log folder name from at asked.Lines old new held written status does = of-open folder old does.file new does.opens
+  of-log folder name from at (asked.Values hidden) old new held written status does =
+      of-values folder name from at (map (λ pointer. pointer.now) hidden.items) old new held written status does
+  of-log folder name from at asked.Records old new held written status does = of-open folder old does.file new does.opens
 
   -- a store is made in one folder alone of what another one says
   abbrev Spares : List ℕ → W → W → Type 0
@@ -368,9 +370,9 @@ module _ {W D F P : Type 0} (world : WorldModel W D F P) (disk : DiskModel D) (r
       → makes_new invocation ≡ false
       → Effect old.world new.world status (folder_of invocation) (call_of world disk remaining honest invocation old new status does)
   effect (Init folder) old new status does not_new = of-init folder.now old.world new.world status does.0
-  effect (Import folder name file absent conditions reporting) old new status does not_new =
+  effect (Import folder name file root absent conditions reporting) old new status does not_new =
       after old.world does.seen new.world (of-text file.now does.read old.world does.seen old.input new.input does.takes)
-      (of-import conditions (access_of absent) folder.now name.now does.read does.seen new.world status does.imports)
+      (of-import conditions root (access_of absent) folder.now name.now does.read does.seen new.world status does.imports)
   effect (Set folder name pointer value conditions reporting) old new status does not_new =
       after old.world does.0.seen new.world (of-value name.now pointer.now value does.0.change old.world does.0.seen
       old.input new.input does.0.is)
@@ -387,12 +389,12 @@ module _ {W D F P : Type 0} (world : WorldModel W D F P) (disk : DiskModel D) (r
   effect (Export folder name form) old new status does not_new =
       of-export form folder.now name.now old.world new.world old.output new.output status does.0
   effect (Names folder at form) old new status does not_new = nothing None (of-open folder.now old.world does.0.file new.world does.0.opens)
-  effect (Get folder name pointer at missing form) old new status does not_new =
+  effect (Get folder name pointers at missing form) old new status does not_new =
       nothing None (of-open folder.now old.world does.0.file new.world does.0.opens)
   effect (Exists folder name pointer at) old new status does not_new =
       nothing None (of-open folder.now old.world does.0.file new.world does.0.opens)
-  effect (Log folder at form) old new status does not_new =
-      nothing None (of-log folder.now at form old.world new.world old.output new.output status does.0)
+  effect (Log folder name from at form) old new status does not_new =
+      nothing None (of-log folder.now name from at form old.world new.world old.output new.output status does.0)
   effect (Verify folder keep_dropped) old new status does not_new =
       nothing None (of-verify folder.now keep_dropped old.world new.world old.output new.output status does.0)
   effect (Format formatting files reporting) old new status does not_new = nothing None (of-formatting formatting _ old new status does)
@@ -421,8 +423,8 @@ module _ {W D F P : Type 0} (world : WorldModel W D F P) (disk : DiskModel D) (r
       (λ same. is_other (ap Some (sym same))) is)
   spares path (Init folder) old new status does is_other image is =
       beside path old.world new.world (effect (Init folder) old new status does refl) is_other image is
-  spares path (Import folder name file absent conditions reporting) old new status does is_other image is =
-      beside path old.world new.world (effect (Import folder name file absent conditions reporting) old new status
+  spares path (Import folder name file root absent conditions reporting) old new status does is_other image is =
+      beside path old.world new.world (effect (Import folder name file root absent conditions reporting) old new status
       does refl) is_other image is
   spares path (Set folder name pointer value conditions reporting) old new status does is_other image is =
       beside path old.world new.world (effect (Set folder name pointer value conditions reporting) old new status does
@@ -441,12 +443,12 @@ module _ {W D F P : Type 0} (world : WorldModel W D F P) (disk : DiskModel D) (r
       beside path old.world new.world (effect (Export folder name form) old new status does refl) is_other image is
   spares path (Names folder at form) old new status does is_other image is =
       beside path old.world new.world (effect (Names folder at form) old new status does refl) is_other image is
-  spares path (Get folder name pointer at missing form) old new status does is_other image is =
-      beside path old.world new.world (effect (Get folder name pointer at missing form) old new status does refl) is_other image is
+  spares path (Get folder name pointers at missing form) old new status does is_other image is =
+      beside path old.world new.world (effect (Get folder name pointers at missing form) old new status does refl) is_other image is
   spares path (Exists folder name pointer at) old new status does is_other image is =
       beside path old.world new.world (effect (Exists folder name pointer at) old new status does refl) is_other image is
-  spares path (Log folder at form) old new status does is_other image is =
-      beside path old.world new.world (effect (Log folder at form) old new status does refl) is_other image is
+  spares path (Log folder name from at form) old new status does is_other image is =
+      beside path old.world new.world (effect (Log folder name from at form) old new status does refl) is_other image is
   spares path (Verify folder keep_dropped) old new status does is_other image is =
       beside path old.world new.world (effect (Verify folder keep_dropped) old new status does refl) is_other image is
   spares path (Format formatting files reporting) old new status does is_other image is =

@@ -1,3 +1,10 @@
 pub mod Effects
-pub mod StatusLemmas
+pub mod ExampleLemmas
+pub mod ExampleRuns
+pub mod FileLemmas
+pub mod OtherLemmas
+pub mod ReadLemmas
 pub mod RunLemmas
+pub mod StateLemmas
+pub mod StatusLemmas
+pub mod WriteLemmas

@@ -1,6 +1,6 @@
 -- What runs of the program keep, one run after the other.
 use Rattle.std.proofs.Common.{◌≡◌, ◌≢◌, ◌≤◌, ◌⊎◌, inl, inr, ℕ, List, [], ◌∷◌, take, Option, None, Some, Result, Ok}
-use Rattle.std.proofs.Common.{Err, IfOk, Bool, true, false, refl, sym, ap, ◌∙◌, subst, arith}
+use Rattle.std.proofs.Common.{Err, IfOk, Bool, true, refl, sym, ap, ◌∙◌, subst, arith}
 use Rattle.conf_disk.specs.Folder.{bytes_under, several_waited}
 use Rattle.conf_disk.specs.Image.{Image, IsImage, image_now}
 use Rattle.conf_disk.specs.Laws.{ReadingIsAnImage}
@@ -42,7 +42,7 @@ use Rattle.conf_runs.proofs.Effects.{Backed, Effect, Fits, backed, effect, made_
 use Rattle.conf_runs.proofs.Effects.{salvaged-to, saved_there, spares}
 
 -- a file means one state at most
-file-one : OneMeaning → (several : Bool) (file : Option (List ℕ)) (s t : Contents) → FileMeans several file s
+pub file-one : OneMeaning → (several : Bool) (file : Option (List ℕ)) (s t : Contents) → FileMeans several file s
     → FileMeans several file t → s ≡ t
 file-one one several None s t a b = a ∙ sym b
 file-one one several (Some bytes) s t a b = one bytes several several s t a b
@@ -55,6 +55,11 @@ cut-off-returned is = cc
 
 not-begun-returned : not_begun ≡ returned → ⊥
 not-begun-returned is = cc
+
+-- what is kept of a run leads from one state to another
+abbrev pub LedBy : Contents → Kept → Contents → Type 0
+LedBy from (commands kept) to = after from kept ≡ Ok to
+LedBy from (new_store state) to = (from ≡ empty_state) × (to ≡ state)
 
 module _ {W D F P : Type 0} (world : WorldModel W D F P) (disk : DiskModel D) (remaining : F → Option (List ℕ))
     (honest : disk.honest) (leaves : W → List ℕ → Image → Type 0) (path : List ℕ) (keeps : KeepsFolders world disk leaves)
@@ -320,25 +325,20 @@ module _ {W D F P : Type 0} (world : WorldModel W D F P) (disk : DiskModel D) (r
       let mine = subst (λ (deed : Option (Deed disk)). Parts event.ending event.status deed kept) (sym is) parts in
       record { count = mine.count; are = mine.are; all_acknowledged = mine.all; is_made = mine.is }
 
-  -- what is kept of a run leads from one state to another
-  abbrev Step : Contents → Kept → Contents → Type 0
-  Step from (commands kept) to = after from kept ≡ Ok to
-  Step from (new_store state) to = (from ≡ empty_state) × (to ≡ state)
-
-  led-on : (from between to : Contents) (first : Kept) (others : List Kept) → Step from first between
+  led-on : (from between to : Contents) (first : Kept) (others : List Kept) → LedBy from first between
       → Leads between others to → Leads from (first ∷ others) to
   led-on from between to (commands kept) others step rest = (between, step, rest)
   led-on from between to (new_store state) others step rest = (step.0, subst (λ (s : Contents). Leads s others to) step.1 rest)
 
   -- What is kept of a run: it leads from a state of which Held holds to the state that the image means.
-  record KeptRun (Held : Contents → Type 0) (event : Run) (image : Image) : Type 0 where
-    kept : Kept
-    of : KeptOf world disk remaining honest leaves path event kept
-    from : Contents
-    stood : Held from
-    to : Contents
-    leads : Step from kept to
-    means : ImageMeans image to
+  pub record KeptRun (Held : Contents → Type 0) (event : Run) (image : Image) : Type 0 where
+    pub kept : Kept
+    pub of : KeptOf world disk remaining honest leaves path event kept
+    pub from : Contents
+    pub stood : Held from
+    pub to : Contents
+    pub leads : LedBy from kept to
+    pub means : ImageMeans image to
 
   -- whatever is left means a state of which Held holds
   abbrev Stands : (Image → Type 0) → (Contents → Type 0) → Type 0
@@ -458,7 +458,7 @@ module _ {W D F P : Type 0} (world : WorldModel W D F P) (disk : DiskModel D) (r
       kept-fresh Held event event.ending refl (saves several given left first result made survives) makes is found none stands
       image (may image remains)
 
-  kept-run : (Held : Contents → Type 0) (event : Run) → Stands (leaves event.old.world path) Held
+  pub kept-run : (Held : Contents → Type 0) (event : Run) → Stands (leaves event.old.world path) Held
       → (image : Image) → MayLeave world disk remaining honest leaves path event image → KeptRun Held event image
   kept-run Held event stands image left =
       kept-at Held event (deed_in world disk remaining honest leaves path event) refl
@@ -484,7 +484,7 @@ module _ {W D F P : Type 0} (world : WorldModel W D F P) (disk : DiskModel D) (r
   kept-runs (event ∷ events) Held before behind stands (found, further) image is =
       let stood = λ (image : Image) (was : leaves event.old.world path image). stands image (found image was) in
       let Reached : Contents → Type 0 = λ to. (kept : Kept) × KeptOf world disk remaining honest leaves path event kept
-      × (from : Contents) × Held from × Step from kept to in
+      × (from : Contents) × Held from × LedBy from kept to in
       let rest = kept-runs events Reached (MayLeave world disk remaining honest leaves path event) behind
       (λ image left. let k = kept-run Held event stood image left in
       (k.to, (k.kept, k.of, k.from, k.stood, k.leads), k.means)) further image is in

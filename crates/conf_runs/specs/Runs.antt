@@ -16,7 +16,7 @@ use Rattle.conf_state.specs.States.{Contents}
 use Rattle.conf_state.specs.Steps.{after}
 use Rattle.conf_store.specs.Meaning.{ImageMeans, empty_state}
 use Rattle.conf_words.specs.declared.invocation.Conditions.{Conditions}
-use Rattle.conf_words.specs.declared.invocation.Invocation.{Invocation}
+use Rattle.conf_words.specs.declared.invocation.{Invocation.Invocation, Root.Root}
 use Rattle.conf_words.specs.declared.invocation.TreeForm.{TreeForm}
 use Rattle.conf_words.specs.declared.invocation.Invocation.TheVariants.{Init, Import, Set, Delete, Copy, Rename}
 use Rattle.conf_words.specs.declared.invocation.Invocation.TheVariants.{Checkpoint, Run, Export, Salvage, Backup}
@@ -50,7 +50,7 @@ use Rattle.conf_session.specs.Streams.{streams_of}
 -- the folder whose disk a run takes, if its words name one
 abbrev pub folder_of : Invocation → Option (List ℕ)
 folder_of (Init folder) = Some folder.now
-folder_of (Import folder name file absent conditions reporting) = Some folder.now
+folder_of (Import folder name file root absent conditions reporting) = Some folder.now
 folder_of (Set folder name pointer value conditions reporting) = Some folder.now
 folder_of (Delete folder name pointer conditions) = Some folder.now
 folder_of (Copy folder name to conditions) = Some folder.now
@@ -107,11 +107,11 @@ module _ {W D F P : Type 0} (world : WorldModel W D F P) (disk : DiskModel D) (h
       changed_if access folder does.conditions change old new status does.makes
   asked_for wanted access folder name path (Err fault) old new status does = None
 
-  abbrev pub imported : (wanted : Conditions) (access : Access) (folder name : List ℕ) (read : Taken) (old new : W)
-      (status : Status) → ImportsRead world disk wanted access folder name read old new status → Option (Call disk)
-  imported wanted access folder name (Ok bytes) old new status does =
+  abbrev pub imported : (wanted : Conditions) (root : Root) (access : Access) (folder name : List ℕ) (read : Taken) (old new : W)
+      (status : Status) → ImportsRead world disk wanted root access folder name read old new status → Option (Call disk)
+  imported wanted root access folder name (Ok bytes) old new status does =
       asked_for wanted access folder name [] does.change old new status does.changes
-  imported wanted access folder name (Err fault) old new status does = None
+  imported wanted root access folder name (Err fault) old new status does = None
 
   abbrev pub ran_in : {folder : List ℕ} (grouping : Grouping) (old new : Around W) {status : Status}
       → RunsOnFolder world disk folder grouping old new status → Option (Call disk)
@@ -130,8 +130,8 @@ module _ {W D F P : Type 0} (world : WorldModel W D F P) (disk : DiskModel D) (r
   abbrev pub call_of : (invocation : Invocation) (old new : Around W) (status : Status)
       → Performs world disk remaining invocation old new status → Option (Call disk)
   call_of (Init folder) old new status does = initialised world disk honest does.0
-  call_of (Import folder name file absent conditions reporting) old new status does =
-      imported world disk honest conditions (access_of absent) folder.now name.now does.read does.seen new.world status
+  call_of (Import folder name file root absent conditions reporting) old new status does =
+      imported world disk honest conditions root (access_of absent) folder.now name.now does.read does.seen new.world status
       does.imports
   call_of (Set folder name pointer value conditions reporting) old new status does =
       asked_for world disk honest conditions Changing folder.now name.now pointer.now does.0.change does.0.seen new.world

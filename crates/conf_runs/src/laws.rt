@@ -1,4 +1,8 @@
-// What runs of the program keep of the store in a folder.
+// What runs of the program keep of the store in a folder, and of files.
+ghost use Rattle.conf_runs.specs.Example.{FirstExample};
+ghost use Rattle.conf_runs.specs.Files.{FilesModel};
+ghost use Rattle.conf_runs.specs.Reads.{OthersStay, ReadsSeeWrites};
+ghost use Rattle.conf_runs.specs.Restyled.{RestyledFilesHold};
 ghost use Rattle.conf_runs.specs.Runs.{RunsHold};
 ghost use Rattle.conf_disk.specs.Image.{Image};
 ghost use Rattle.std.specs.Prelude.{ℕ, List};
@@ -7,11 +11,19 @@ use conf_disk::reading_is_an_image;
 use conf_record::{documents_are_read, documents_close};
 use conf_store::bytes_mean_one_state;
 use conf_tools::{World, call_holds};
+use yaml_grammar::one_tree;
+use yaml_recognizers::texts::unambiguous;
 
 /// A world of which one knows what a crash leaves of its folders.
 pub trait Folders: World {
     /// What a crash at a moment leaves of the folder at a path.
     ghost leaves: { Self → List ℕ → Image → Type 0 };
+}
+
+/// A world of which one knows what a crash leaves of the files that are replaced in it.
+pub trait Files: World {
+    /// What a crash at a moment leaves of the file at a path, and which paths lead to a place.
+    ghost files: { FilesModel Self Self.Place };
 }
 
 /// Whatever crashes happen within and between runs of the program, no change is lost that was acknowledged, and none is
@@ -43,3 +55,67 @@ pub fn runs_hold<A: Folders>()
     documents_close();
     call_holds::<A::Disk>();
 }
+
+/// What a run wrote, a later one reads.
+///
+/// Take a run of `set` or `import` whose status was [`Done`](conf_tools::Status::Done), and the value that it put at
+/// its place. The last step of the pointer of a `set` may not be `-`, which is another place for each `set`. Then come
+/// any runs, with any words, which returned or were cut off. Whatever is kept of each one's commands turns the value
+/// there into the next one, or leaves it. Crashes may have come within these runs, after any of them, or not at all.
+///
+/// Then a run of `get` of the store as it is, or of `export` if the place is a whole configuration, writes the last
+/// value in the form asked for, if the form shows it, and its status is `Done`. Or it writes nothing, since memory ran
+/// out. Or its status is [`Device`](conf_tools::Status::Device), since the device, a stream or the folder's lock
+/// failed.
+///
+/// A run leaves the value if all commands that it accepted are of other configurations, or if it accepted none
+/// (`others`).
+///
+/// It holds of honest disks, in a world that keeps its folders, and reads of a folder what a crash may leave of it.
+pub fn reads_see_writes<A: Folders>()
+    ensures others { (honest : A.Disk.model.honest) (path name pointer : List ℕ)
+        → OthersStay A.model A.Disk.model A.File.remaining honest A.leaves path name pointer }
+    ensures sees { (honest : A.Disk.model.honest) (path name pointer : List ℕ)
+        → ReadsSeeWrites A.model A.Disk.model A.File.remaining honest A.leaves path name pointer }
+{
+    bytes_mean_one_state();
+    reading_is_an_image();
+    documents_are_read();
+    documents_close();
+    call_holds::<A::Disk>();
+    one_tree();
+}
+
+/// README's first example: once `init`, `import` of `port: 80` and `set` of `/port` to `81` are done, `get` prints
+/// `port: "81"`.
+///
+/// It is [`reads_see_writes`] of these words. Crashes may come after any of the commands.
+pub fn first_example_holds<A: Folders>()
+    ensures { (honest : A.Disk.model.honest)
+        → FirstExample A.model A.Disk.model A.File.remaining honest A.leaves }
+{
+    bytes_mean_one_state();
+    reading_is_an_image();
+    documents_are_read();
+    documents_close();
+    call_holds::<A::Disk>();
+    one_tree();
+    unambiguous();
+}
+
+/// A crash leaves of a file that `format -i` names its old text or its text in the style, whole.
+///
+/// Take any run of [`perform`](conf_tools::perform) with words of `format -i`. It returned, with any status, or was
+/// cut off at any moment. Whatever a crash then leaves of a file is what a crash might have left before the run, or the
+/// whole text in the style of what the run read of this file. Where comments are neither dropped nor kept, what it read
+/// has none. So no part of a text is left, and no file is lost. A file that the words do not name, by its path or by
+/// another one that leads to it, is what a crash might have left before the run.
+///
+/// If the status was [`Done`](conf_tools::Status::Done), a crash leaves of each file that the words name its text in
+/// the style. A file that was read to be in the style is not replaced, and stays what a crash might have left before.
+///
+/// It holds in a world that keeps its files: a file is replaced whole or not at all, at each moment of the call and
+/// also where the call fails. No other file changes by it, and none by being opened.
+pub fn restyled_files_hold<A: Files>()
+    ensures { RestyledFilesHold A.model A.Disk.model A.File.remaining A.files }
+{}

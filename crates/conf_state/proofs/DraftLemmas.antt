@@ -108,7 +108,7 @@ put-put-other (e ∷ es) n m t u differ there = by (same_text n e.0) refl (same_
         rw (first, second) (rw first (ap (λ xs. e ∷ xs) (rest more)))
 
 -- two puts under one name
-put-put-same : (es : List Entry) (n : List ℕ) (t u : Tree) → put_config (put_config es n u) n t ≡ put_config es n t
+pub put-put-same : (es : List Entry) (n : List ℕ) (t u : Tree) → put_config (put_config es n u) n t ≡ put_config es n t
 put-put-same [] n t u = rw (same_text-self n) refl
 put-put-same (e ∷ es) n t u = by (same_text n e.0) refl (put-put-same es n t u)
   where

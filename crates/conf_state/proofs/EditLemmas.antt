@@ -47,10 +47,6 @@ pub found-named : (q : List ℕ) → IsUtf8 q → (es : List (String Global × T
     → lookup (is_name q) es ≡ Some v → config_named (entries_of es) (chars q) ≡ Some (tree_of v)
 found-named q utf8 es plain v is = sym (lookup-named q utf8 es plain) ∙ ap (option_map tree_of) is
 
--- an option has one value at most
-pub same_value : {A : Type 0} (o : Option A) (t u : A) → o ≡ Some t → o ≡ Some u → t ≡ u
-same_value o t u p q = cc
-
 -- a result is one tree at most
 pub same_edit : {E : Type 0} (r : Result grammar.Tree E) (t u : grammar.Tree) → r ≡ Ok t → r ≡ Ok u → t ≡ u
 same_edit r t u p q = cc

@@ -23,3 +23,4 @@ pub mod PlaceLemmas
 pub mod OriginLemmas
 pub mod ListedNames
 pub mod PartStates
+pub mod SetLemmas

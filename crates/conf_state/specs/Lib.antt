@@ -19,3 +19,4 @@ pub mod Endings
 pub mod EntryTexts
 pub mod Touched
 pub mod Parts
+pub mod Trails

@@ -28,6 +28,7 @@ mod part;
 mod planning;
 mod replaying;
 mod room;
+mod sets;
 mod state;
 mod steps;
 

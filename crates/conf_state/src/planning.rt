@@ -1,12 +1,14 @@
 // Edits inside one configuration, within its limits.
 ghost use Rattle.std.specs.Prelude.{◌≡◌, ◌⊎◌, ◌<◌, Ok, Err, OnOk, OnErr, IfOk, IfErr, length};
 ghost use Rattle.conf_state.specs.Prelude.{chars, path_of, Good, tree_of, Changes, tree_after_edit, config_limits};
+ghost use Rattle.yaml_config.specs.Undoing.{TakesBack};
+ghost use Rattle.yaml_config.specs.declared.edit.Edit.TheVariants.{Set};
 ghost use Rattle.conf_state.specs.Edits.{edited_at, IsPlan};
 
 use crate::fault::StoreFault;
 use std::alloc::Global;
 use tree_path::{Path, StepPlaces};
-use yaml_config::{Change, Config, Edit as PathEdit, Limits};
+use yaml_config::{Change, Config, Edit as PathEdit, Limits, Undo};
 
 /// How an edit inside a configuration will be made: at which path, with the places of the path's steps, how many bytes
 /// the configuration then has in the one style, and what changes in its length.
@@ -94,4 +96,39 @@ pub(crate) fn edit_config(
     let plan = EditPlan::new(alloc, config, pointer, &edit)?;
     plan.perform(alloc, config, edit)?;
     Ok(plan.change)
+}
+
+/// Plans a set inside a configuration, and makes it. Returns what takes it back, and what it changes in the
+/// configuration's length. A refusal changes nothing.
+pub(crate) fn set_in_config(
+    alloc: Global,
+    config: &mut Config,
+    pointer: &str,
+    value: Config,
+) -> Result<(Undo, Change), StoreFault>
+    requires within { Good (tree_of config.old) config_limits }
+    requires steps { 0 < length pointer.now }
+    ensures ok { OnOk result (edited_at (Set value) (tree_of config.old) (chars pointer.now)
+        ≡ Ok (tree_of config.new)) }
+    ensures undo { IfOk result (λ made.
+        TakesBack made.0 (tree_of config.new) (tree_of config.old)) }
+    ensures changes { IfOk result (λ made.
+        Changes made.1 (tree_of config.old) (tree_of config.new)) }
+    ensures within { OnOk result (Good (tree_of config.new) config_limits) }
+    ensures refused { IfErr result (λ fault. (fault ≡ StoreFault.OutOfMemory)
+        ⊎ (edited_at (Set value) (tree_of config.old) (chars pointer.now) ≡ Err fault)) }
+    ensures unchanged { OnErr result (tree_of config.new ≡ tree_of config.old) }
+{
+    let edit = PathEdit::Set(value);
+    let EditPlan {
+        path,
+        places,
+        bytes,
+        change,
+    } = EditPlan::new(alloc, config, pointer, &edit)?;
+    let PathEdit::Set(value) = edit else {
+        unreachable!()
+    };
+    let undo = config.set_planned(alloc, &path, places, bytes, value)?;
+    Ok((undo, change))
 }

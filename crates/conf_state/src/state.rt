@@ -1,19 +1,21 @@
 // The state of a store.
-ghost use Rattle.std.specs.Prelude.{◌≡◌, ◌+◌, ◌<◌, ◌≤◌, ◌⊎◌, ℕ, List, [], min, true, false, option_map, length, Some};
+ghost use Rattle.std.specs.Prelude.{◌≡◌, ◌+◌, ◌<◌, ◌≤◌, ◌⊎◌, ℕ, List, [], map, min, true, false, option_map, length, Some};
 ghost use Rattle.std.specs.Prelude.{Ok, Err, OnOk, IfOk, IfSome, IfNone, MatchOption, is_some, IfErr, OnErr};
 ghost use Rattle.conf_state.specs.Prelude.{chars, YieldsFirstBy, item_count, Good, tree_of, config_limits, mapping};
 ghost use Rattle.conf_state.specs.Prelude.{value_at};
-ghost use Rattle.conf_state.specs.Commands.{text_of};
+ghost use Rattle.conf_state.specs.Commands.{edit_of, text_of};
 ghost use Rattle.conf_state.specs.Names.{good_name};
 ghost use Rattle.conf_state.specs.Kept.{entries_of, ArePlain, Appended, IsFit, IsUnfit};
 ghost use Rattle.conf_state.specs.Limits.{IsState};
 ghost use Rattle.conf_state.specs.States.{Entry, names_of, config_named, put_config, cut_config};
 ghost use Rattle.conf_state.specs.BaseTexts.{members, base_length, entry_length, entries_length};
-ghost use Rattle.conf_state.specs.Steps.{and_then, next_state};
+ghost use Rattle.conf_state.specs.Steps.{all_edited, and_then, next_state};
 ghost use Rattle.conf_state.specs.Drafts.{drafted, IsDraftOf};
 ghost use Rattle.conf_state.specs.Edits.{configs_edited};
+ghost use Rattle.conf_state.specs.Trails.{AreSets};
 
 use crate::base::{BASE_LIMIT, base_length, entry_length, write_entry};
+use crate::command::Edit;
 use crate::configs::{Configs, Entries};
 use crate::counting::{check_room, length_after};
 use crate::draft::Draft;
@@ -22,6 +24,7 @@ use crate::fault::StoreFault;
 use crate::name::{absence, good_name};
 use crate::planning::EditPlan;
 use crate::room::Room;
+use crate::sets::{Sets, set_all, take_back};
 use indexmap::IndexSet;
 use std::alloc::{AllocError, Global};
 use std::marker::Model;
@@ -189,6 +192,40 @@ impl State {
         self.entries = entries;
         self.count += 1;
         Ok(())
+    }
+
+    /// Makes sets inside configurations in place, one after the other, as one command. A refusal changes nothing: the
+    /// sets that were made are taken back.
+    pub(crate) fn set_all(
+        &mut self,
+        alloc: Global,
+        edits: Vec<Edit>,
+        room: Room,
+    ) -> Result<(), StoreFault>
+        requires { AreSets edits.items }
+        ensures ok { OnOk result
+            (and_then (all_edited self.old.configs (map edit_of edits.items))
+            (next_state self.old room) ≡ Ok self.new) }
+        ensures refused { IfErr result (λ fault. (fault ≡ StoreFault.OutOfMemory)
+            ⊎ (and_then (all_edited self.old.configs (map edit_of edits.items))
+            (next_state self.old room) ≡ Err fault)) }
+        ensures unchanged { OnErr result (self.new ≡ self.old) }
+    {
+        let mut sets = Sets {
+            made: Vec::new(alloc),
+            length: self.entries_length(),
+        };
+        match set_all(alloc, &mut self.configs, &mut sets, edits, self.count, room) {
+            Ok(()) => {
+                self.entries = sets.length;
+                self.count += 1;
+                Ok(())
+            }
+            Err(fault) => {
+                take_back(&mut self.configs, sets.made);
+                Err(fault)
+            }
+        }
     }
 
     /// Removes the configuration under a name, if there is one. A refusal changes nothing.

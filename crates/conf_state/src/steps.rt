@@ -1,7 +1,7 @@
 // One command on a state.
 ghost use Rattle.std.specs.Prelude.{◌≡◌, ◌⊎◌, Ok, Err, OnOk, OnErr, IfErr, map};
 ghost use Rattle.conf_state.specs.Commands.{command_of, edit_of, single, batch};
-ghost use Rattle.conf_state.specs.Steps.{step};
+ghost use Rattle.conf_state.specs.Steps.{all_edited, and_then, next_state, step};
 
 use crate::command::{Command, Edit, Edits};
 use crate::draft::Draft;
@@ -10,6 +10,7 @@ use crate::editing::make_edit;
 use crate::fault::StoreFault;
 use crate::in_place::InPlace;
 use crate::room::Room;
+use crate::sets::are_sets;
 use crate::state::State;
 use std::alloc::Global;
 
@@ -55,12 +56,30 @@ fn step_batch(
     match edits.len() {
         0 => Err(StoreFault::EmptyBatch),
         1 => step_edit(alloc, state, edits.pop().unwrap(), room),
-        _ => {
-            let mut draft = Draft::new(alloc, state);
-            draft_edits(alloc, state, &mut draft, edits)?;
-            state.take(draft, room)
-        }
+        _ => step_edits(alloc, state, edits, room),
     }
+}
+
+/// Performs the edits of a batch. If each sets a value inside a configuration, they are made in place, and copy none.
+fn step_edits(
+    alloc: Global,
+    state: &mut State,
+    edits: Vec<Edit>,
+    room: Room,
+) -> Result<(), StoreFault>
+    ensures ok { OnOk result (and_then (all_edited state.old.configs (map edit_of edits.items))
+        (next_state state.old room) ≡ Ok state.new) }
+    ensures refused { IfErr result (λ fault. (fault ≡ StoreFault.OutOfMemory)
+        ⊎ (and_then (all_edited state.old.configs (map edit_of edits.items))
+        (next_state state.old room) ≡ Err fault)) }
+    ensures unchanged { OnErr result (state.new ≡ state.old) }
+{
+    if are_sets(&edits) {
+        return state.set_all(alloc, edits, room);
+    }
+    let mut draft = Draft::new(alloc, state);
+    draft_edits(alloc, state, &mut draft, edits)?;
+    state.take(draft, room)
 }
 
 /// Performs the command that is this edit alone, in place.

@@ -12,7 +12,7 @@ use Rattle.yaml_tree.specs.Reading.{Refuses}
 use Rattle.conf_tools.specs.Prelude.{Comments}
 use Rattle.conf_tools.specs.FileTexts.{Adds, StopsInFile, StopsRestyling, file_line, file_report}
 use Rattle.conf_tools.specs.{Styles.HasNoStyle, Tools.Stops, declared.texts.ToolFault.ToolFault}
-use Rattle.conf_tools.specs.declared.texts.ToolFault.TheVariants.{Input, Output, Read, Unsettled}
+use Rattle.conf_tools.specs.declared.texts.ToolFault.TheVariants.{Input, Output, Read, Unsettled, OneValue}
 use Rattle.conf_tools.specs.declared.texts.ToolFault.TheVariants.{Comments as HasComments}
 
 -- ---- bytes that are known
@@ -47,6 +47,7 @@ no_style bytes held Input none = absurd none
 no_style bytes held Output none = absurd none
 no_style bytes held (Read fault) none = (none, Keeps-refl held)
 no_style bytes held (HasComments place) none = absurd none
+no_style bytes held OneValue none = absurd none
 no_style bytes held Unsettled none = (none, Keeps-refl held)
 
 -- of which no line was written
@@ -56,6 +57,7 @@ no_style_of_file bytes held Input none = absurd none
 no_style_of_file bytes held Output none = absurd none
 no_style_of_file bytes held (Read fault) none = refused_file bytes held fault none
 no_style_of_file bytes held (HasComments place) none = absurd none
+no_style_of_file bytes held OneValue none = absurd none
 no_style_of_file bytes held Unsettled none = (none, Keeps-refl held)
 
 -- which has no other text in its place
@@ -65,6 +67,7 @@ no_style_to_take comments bytes Input none = absurd none
 no_style_to_take comments bytes Output none = absurd none
 no_style_to_take comments bytes (Read fault) none = none
 no_style_to_take comments bytes (HasComments place) none = absurd none
+no_style_to_take comments bytes OneValue none = absurd none
 no_style_to_take comments bytes Unsettled none = none
 
 -- what is refused as a stream is refused as a text

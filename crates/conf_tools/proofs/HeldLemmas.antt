@@ -1,10 +1,11 @@
 -- What is written of one configuration that a file holds.
-use Rattle.std.proofs.Common.{◌≡◌, ap, subst, refl, ℕ, List}
-use Rattle.std.specs.Prelude.{Bool, Option, Some, None, option_copied, option_map}
-use Rattle.conf_tools.proofs.Prelude.{Appends, Keeps, tree_of, Tree, Contents, config_named, value_at_path, MissingValue, ValueForm}
+use Rattle.std.proofs.Common.{◌≡◌, ap, subst, refl, inl, inr, ℕ, List, [], ◌∷◌}
+use Rattle.std.specs.Prelude.{Bool, Option, Some, None, Result, option_copied, option_map}
+use Rattle.conf_tools.proofs.Prelude.{Appends, Keeps, tree_of, Tree, Contents, StoreFault, config_named, MissingValue, ValueForm}
 use Rattle.std.specs.Borrow.{Bor}
 use Rattle.conf_history.specs.Histories.{ReadsState}
-use Rattle.conf_tools.specs.Reads.{LacksFound, RefusesValue, ShowsFound, WritesValue, found_or, tree_found, value_in}
+use Rattle.conf_history.specs.declared.fault.HistoryFault.{HistoryFault}
+use Rattle.conf_tools.specs.Reads.{LacksOne, RefusesValues, ShowsAll, WritesValues, tree_found, value_or_in}
 use Rattle.conf_tools.specs.declared.reading_fault.ReadingFault.{ReadingFault}
 use Rattle.yaml_data.specs.declared.tree.Tree as code
 use Rattle.conf_tools.specs.declared.reading_fault.ReadingFault.TheVariants as reading
@@ -20,46 +21,72 @@ pub keeps_same : (held : Option (List ℕ)) → Keeps held held
 keeps_same None = tt
 keeps_same (Some bytes) = refl
 
+-- ---- values that can't be shown
+
+-- the file is not why
+never_lacks : (value_at : List ℕ → Result Tree StoreFault) (form : ValueForm) (pointers : List (List ℕ)) (fault : HistoryFault)
+    → LacksOne value_at form pointers (reading.History fault) → ⊥
+never_lacks value_at form [] fault lacks = lacks
+never_lacks value_at form (pointer ∷ pointers) fault (inl lacks) = lacks
+never_lacks value_at form (pointer ∷ pointers) fault (inr lacks) = never_lacks value_at form pointers fault lacks.2
+
+-- nor is the writer
+never_cut : (value_at : List ℕ → Result Tree StoreFault) (form : ValueForm) (pointers : List (List ℕ))
+    → LacksOne value_at form pointers reading.Output → ⊥
+never_cut value_at form [] lacks = lacks
+never_cut value_at form (pointer ∷ pointers) (inl lacks) = lacks
+never_cut value_at form (pointer ∷ pointers) (inr lacks) = never_cut value_at form pointers lacks.2
+
 module _ (several : Bool) (given left : Option (List ℕ)) (at : Option ℕ) where
   -- the tree of the configuration under a name of a state that the file holds was found, if there is one
   abbrev pub TreeFound : List ℕ → Option Tree → Type 0
   TreeFound name tree = (s : Contents) × ReadsState several given left at s × (tree ≡ config_named s.configs name)
 
-  module _ (name pointer : List ℕ) (tree : Option Tree) (found : TreeFound name tree) where
-    -- so the value at a pointer in it is that of the state
-    same_value : value_in tree name pointer ≡ value_at_path found.0 name pointer
-    same_value = ap (λ t. value_in t name pointer) found.2
-
-    -- it was written, or what stands for it
-    pub value_written : (missing : MissingValue) (form : ValueForm) (bytes : List ℕ) (held written : Option (List ℕ))
-        → ShowsFound (found_or missing (value_in tree name pointer)) form bytes → Appends held written bytes
-        → WritesValue several given at name pointer missing form held written
-    value_written missing form bytes held written shows writes = record {
+  module _ (name : List ℕ) (pointers : List (List ℕ)) (tree : Option Tree) (found : TreeFound name tree) where
+    -- what stands for values in it is what stands for them in the state: all was written
+    pub values_written : (missing : MissingValue) (form : ValueForm) (bytes : List ℕ) (held written : Option (List ℕ))
+        → ShowsAll (value_or_in missing tree name) form pointers bytes → Appends held written bytes
+        → WritesValues several given at name pointers missing form held written
+    values_written missing form bytes held written shows writes = record {
       state = found.0;
       holds = found.1.holds;
       bytes = bytes;
-      shows = subst (λ r. ShowsFound (found_or missing r) form bytes) same_value shows;
+      shows = subst (λ t. ShowsAll (value_or_in missing t name) form pointers bytes) found.2 shows;
       writes = writes;
     }
 
     -- less than all of it was written
-    pub value_cut : (missing : MissingValue) (form : ValueForm) (bytes : List ℕ) (held written : Option (List ℕ))
-        → ShowsFound (found_or missing (value_in tree name pointer)) form bytes
-        → RefusesValue several given at name pointer missing form held written reading.Output
-    value_cut missing form bytes held written shows =
-        (found.0, found.1.holds, (bytes, subst (λ r. ShowsFound (found_or missing r) form bytes) same_value shows))
+    pub values_cut : (missing : MissingValue) (form : ValueForm) (bytes : List ℕ) (held written : Option (List ℕ))
+        → ShowsAll (value_or_in missing tree name) form pointers bytes
+        → RefusesValues several given at name pointers missing form held written reading.Output
+    values_cut missing form bytes held written shows = (
+      found.0,
+      found.1.holds,
+      (bytes, subst (λ t. ShowsAll (value_or_in missing t name) form pointers bytes) found.2 shows),
+    )
+
+    -- the same of a value that can't be shown
+    lacks_one : (missing : MissingValue) (form : ValueForm) (fault : ReadingFault)
+        → LacksOne (value_or_in missing tree name) form pointers fault
+        → LacksOne (value_or_in missing (config_named found.0.configs name) name) form pointers fault
+    lacks_one missing form fault lacks =
+        subst (λ t. LacksOne (value_or_in missing t name) form pointers fault) found.2 lacks
 
     -- it can't be shown
-    pub value_refused : (missing : MissingValue) (form : ValueForm) (held written : Option (List ℕ)) → Keeps held written
-        → (fault : ReadingFault) → LacksFound (found_or missing (value_in tree name pointer)) form fault
-        → RefusesValue several given at name pointer missing form held written fault
-    value_refused missing form held written keeps (reading.Value fault) lacks =
-        (found.0, found.1.holds, subst (λ r. LacksFound (found_or missing r) form (reading.Value fault)) same_value lacks, keeps)
-    value_refused missing form held written keeps reading.NotText lacks =
-        (found.0, found.1.holds, subst (λ r. LacksFound (found_or missing r) form reading.NotText) same_value lacks, keeps)
-    value_refused missing form held written keeps reading.NotCollection lacks =
-        (found.0, found.1.holds, subst (λ r. LacksFound (found_or missing r) form reading.NotCollection) same_value lacks, keeps)
-    value_refused missing form held written keeps (reading.Folder fault) lacks = absurd lacks
-    value_refused missing form held written keeps (reading.History fault) lacks = absurd lacks
-    value_refused missing form held written keeps (reading.Salvage fault) lacks = absurd lacks
-    value_refused missing form held written keeps reading.Output lacks = absurd lacks
+    pub values_refused : (missing : MissingValue) (form : ValueForm) (held written : Option (List ℕ)) → Keeps held written
+        → (fault : ReadingFault) → LacksOne (value_or_in missing tree name) form pointers fault
+        → RefusesValues several given at name pointers missing form held written fault
+    values_refused missing form held written keeps (reading.Value fault) lacks =
+        (found.0, found.1.holds, lacks_one missing form (reading.Value fault) lacks, keeps)
+    values_refused missing form held written keeps reading.NotText lacks =
+        (found.0, found.1.holds, lacks_one missing form reading.NotText lacks, keeps)
+    values_refused missing form held written keeps reading.NotCollection lacks =
+        (found.0, found.1.holds, lacks_one missing form reading.NotCollection lacks, keeps)
+    values_refused missing form held written keeps (reading.Folder fault) lacks =
+        (found.0, found.1.holds, lacks_one missing form (reading.Folder fault) lacks, keeps)
+    values_refused missing form held written keeps (reading.History fault) lacks =
+        absurd (never_lacks (value_or_in missing tree name) form pointers fault lacks)
+    values_refused missing form held written keeps (reading.Salvage fault) lacks =
+        (found.0, found.1.holds, lacks_one missing form (reading.Salvage fault) lacks, keeps)
+    values_refused missing form held written keeps reading.Output lacks =
+        absurd (never_cut (value_or_in missing tree name) form pointers lacks)

@@ -11,6 +11,7 @@ pub mod ReadLemmas
 pub mod FoundLemmas
 pub mod DroppedLemmas
 pub mod HeldLemmas
+pub mod ShowLemmas
 pub mod FileLemmas
 pub mod StyleLemmas
 pub mod OutcomeLemmas

@@ -20,7 +20,7 @@ use Rattle.conf_words.specs.declared.invocation.Reporting.{Reporting}
 use Rattle.conf_words.specs.declared.invocation.Reporting.TheVariants.{Brief, Explained}
 use Rattle.conf_words.specs.declared.invocation.Style.{Style}
 use Rattle.conf_words.specs.declared.invocation.Style.TheVariants.{Bare, WithComments}
-use Rattle.conf_tools.specs.declared.texts.ToolFault.TheVariants.{Output, Read, Comments, Unsettled}
+use Rattle.conf_tools.specs.declared.texts.ToolFault.TheVariants.{Output, Read, Comments, Unsettled, OneValue}
 use Rattle.conf_tools.specs.declared.texts.ToolFault.TheVariants.{Input as NoInput}
 use Rattle.conf_tools.specs.declared.outcome.Outcome.TheVariants as ends
 
@@ -30,6 +30,7 @@ counts Output = omega arith
 counts (Read fault) = omega arith
 counts (Comments place) = omega arith
 counts Unsettled = omega arith
+counts OneValue = omega arith
 
 -- no fault has the status 0
 pub never_done : (fault : ToolFault) (status : Status) → status ≡ status_of fault → code_of status ≡ 0 → ⊥

@@ -68,6 +68,7 @@ text_fault_name text.Output = codes "Output"
 text_fault_name (text.Read fault) = read_name fault
 text_fault_name (text.Comments place) = codes "Comments"
 text_fault_name text.Unsettled = codes "Unsettled"
+text_fault_name text.OneValue = codes "OneValue"
 
 -- of a word that opens a store
 abbrev pub store_fault_name : StoreToolFault → List ℕ

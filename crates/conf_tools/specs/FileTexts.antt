@@ -12,7 +12,7 @@ use Rattle.conf_tools.specs.Styles.{IsCheckedIn, IsStyled, style_of}
 use Rattle.conf_tools.specs.declared.texts.ToolFault.TheVariants.{Comments as HasComments}
 use Rattle.conf_tools.specs.{Tools.GivesTree, declared.file_texts.Restyled.Restyled, declared.texts.ToolFault.ToolFault}
 use Rattle.conf_tools.specs.declared.file_texts.Restyled.TheVariants.{Same, Changed}
-use Rattle.conf_tools.specs.declared.texts.ToolFault.TheVariants.{Input, Output, Read, Unsettled}
+use Rattle.conf_tools.specs.declared.texts.ToolFault.TheVariants.{Input, Output, Read, Unsettled, OneValue}
 
 -- ---- the text in a style
 
@@ -47,6 +47,7 @@ StopsRestyling comments bytes Output = ⊥
 StopsRestyling comments bytes (Read fault) = Refuses bytes config_limits fault
 StopsRestyling comments bytes (HasComments place) = (comments ≡ Refused) × HasComment bytes
 StopsRestyling comments bytes Unsettled = GivesUnsettled bytes config_limits
+StopsRestyling comments bytes OneValue = ⊥
 
 -- what is written of a file: a line of its name, if its text would change
 abbrev pub name_line : List ℕ → Bool → List ℕ
@@ -104,3 +105,4 @@ StopsInFile bytes held written (Read ReadFault.OutOfMemory) = Adds held written
 StopsInFile bytes held written (Read fault) = Refuses bytes config_limits fault × Keeps held written
 StopsInFile bytes held written (HasComments place) = ⊥
 StopsInFile bytes held written Unsettled = GivesUnsettled bytes config_limits × Keeps held written
+StopsInFile bytes held written OneValue = ⊥

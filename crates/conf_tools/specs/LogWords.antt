@@ -10,8 +10,9 @@ use Rattle.conf_words.specs.declared.invocation.LogForm.{LogForm as AskedLog}
 use Rattle.conf_words.specs.declared.invocation.LogForm.TheVariants.{Lines, Values, Records}
 use Rattle.tree_hidden.specs.{Pointers.paths_or, Tokens.paths_of}
 use Rattle.yaml_data.specs.declared.text.Text.{Text}
-use Rattle.conf_tools.specs.Prelude.{LogForm, Path, StoreFault}
-use Rattle.conf_tools.specs.{ReadingStatuses.status_of_reading, declared.program.Status.Status}
+use Rattle.conf_tools.specs.Prelude.{LogForm, LogRequest, Path, StoreFault}
+use Rattle.conf_tools.specs.{ReadingStatuses.status_of_reading, declared.logs.Commands.Commands}
+use Rattle.conf_tools.specs.{declared.program.Status.Status}
 use Rattle.conf_tools.specs.{StoreWords.Reads, StoreWords.SaysLog, Worlds.WorldModel}
 use Rattle.conf_tools.specs.declared.reading_fault.ReadingFault.TheVariants.{Value}
 
@@ -25,11 +26,20 @@ abbrev pub CannotHide : List (List ℕ) → StoreFault → Type 0
 CannotHide pointers fault =
     (fault ≡ OutOfMemory) ⊎ ((bad : PathFault) × (paths_or pointers ≡ Err bad) × (fault ≡ fault_of_pointer bad))
 
+-- the commands of a name or of all, from a number on, and up to one or to the last
+abbrev pub commands_of : Option (Bor (List ℕ)) → ℕ → Option ℕ → Commands
+commands_of name from at = record { name = name; from = from; at = at }
+
+-- what a log of these commands in a form is asked for
+abbrev pub request_of : LogForm → Commands → LogRequest
+request_of form commands = record { form = form; name = commands.name; from = commands.from }
+
 module _ {W D F P : Type 0} (world : WorldModel W D F P) (remaining : F → Option (List ℕ)) (folder : List ℕ)
-    (at : Option ℕ) where
+    (commands : Commands) where
   -- the commands of the store in the folder were written in a form
   abbrev pub LogsAs : LogForm → W → W → Option (List ℕ) → Option (List ℕ) → Status → Type 0
-  LogsAs form old new held written status = Reads world remaining folder (SaysLog at form) old new held written status
+  LogsAs form old new held written status =
+      Reads world remaining folder (SaysLog commands.at (request_of form commands)) old new held written status
 
   -- They were written with their values, but for what is at these pointers of a configuration, or below them.
   pub record LogsHiding (pointers : List (List ℕ)) (old new : W) (held written : Option (List ℕ)) (status : Status)

@@ -130,7 +130,7 @@ module _ {E : Type 0} (hears : E → List ℕ → E → Type 0) where
   -- told how many, and nothing else is told.
   abbrev pub Leaves : Invocation → E → Ending → E → Type 0
   Leaves (Init folder) old ending new = LeavesOpened old ending new
-  Leaves (Import folder name file absent conditions reporting) old ending new = LeavesImport old ending new
+  Leaves (Import folder name file root absent conditions reporting) old ending new = LeavesImport old ending new
   Leaves (Set folder name pointer value conditions reporting) old ending new = LeavesSet old ending new
   Leaves (Delete folder name pointer conditions) old ending new = LeavesOpened old ending new
   Leaves (Copy folder name to conditions) old ending new = LeavesOpened old ending new
@@ -139,9 +139,9 @@ module _ {E : Type 0} (hears : E → List ℕ → E → Type 0) where
   Leaves (Run folder grouping) old ending new = IsUntold ending × TellsSession hears old new
   Leaves (Export folder name form) old ending new = IsUntold ending × TellsExport hears old new
   Leaves (Names folder at form) old ending new = LeavesAll old ending new
-  Leaves (Get folder name pointer at absent form) old ending new = LeavesAll old ending new
+  Leaves (Get folder name pointers at absent form) old ending new = LeavesAll old ending new
   Leaves (Exists folder name pointer at) old ending new = LeavesAll old ending new
-  Leaves (Log folder at form) old ending new = LeavesAll old ending new
+  Leaves (Log folder name from at form) old ending new = LeavesAll old ending new
   Leaves (Verify folder keep_dropped) old ending new = LeavesAll old ending new
   Leaves (Salvage folder new_folder keep_dropped) old ending new = LeavesAll old ending new
   Leaves (Backup folder new_folder) old ending new = LeavesAll old ending new

@@ -4,10 +4,10 @@ use Rattle.conf_tools.specs.Prelude.{chars, DiskModel, After, Asked, Comments, C
 use Rattle.conf_tools.specs.Prelude.{Init, Import, Set, Delete, Copy, Rename, Checkpoint, Run, Export, Names, Get}
 use Rattle.conf_tools.specs.Prelude.{Exists, Log, Verify, Salvage, Backup, Format, Check, Style, Value}
 use Rattle.conf_words.specs.declared.invocation.Grouping.{Grouping as AskedGrouping}
-use Rattle.conf_words.specs.declared.invocation.MissingStore.{MissingStore}
+use Rattle.conf_words.specs.declared.invocation.{MissingStore.MissingStore, Root.Root}
 use Rattle.conf_words.specs.declared.invocation.Formatting.{Formatting}
 use Rattle.conf_tools.specs.{Asking.AskedConditions, Asking.AsksFor, Backups.BacksUpStore, Keeping.SalvagesTo}
-use Rattle.conf_tools.specs.{Keeping.Verifies, LogWords.Logs, Tools.IsTaken}
+use Rattle.conf_tools.specs.{Keeping.Verifies, LogWords.Logs, LogWords.commands_of, Tools.IsTaken}
 use Rattle.conf_tools.specs.{Statuses.status_of, Tools.Taken, Worlds.Around, Worlds.LeavesStreams, Worlds.WorldModel}
 use Rattle.conf_tools.specs.{declared.changes.Change.Change, declared.file_words.Report.TheVariants.Findings}
 use Rattle.conf_tools.specs.{declared.file_words.Report.TheVariants.Name, declared.program.Status.Status}
@@ -16,7 +16,8 @@ use Rattle.conf_tools.specs.{declared.stores.Grouping.TheVariants.Single, declar
 use Rattle.conf_tools.specs.{declared.texts.ToolFault.ToolFault, declared.world.Access.Access}
 use Rattle.conf_tools.specs.{declared.world.Access.TheVariants.Changing, declared.world.Access.TheVariants.Making}
 use Rattle.conf_tools.specs.StoreWords.{ChangesInFolder, ExportsFromFolder, Inits, MakesChange, Reads, RunsOnFolder}
-use Rattle.conf_tools.specs.StoreWords.{SaysNames, SaysPresence, SaysValue}
+use Rattle.conf_tools.specs.StoreWords.{SaysNames, SaysPresence, SaysValues}
+use Rattle.conf_tools.specs.Reads.{pointers_of}
 use Rattle.conf_tools.specs.TextWords.{ChecksRead, FormatsFile, FormatsRead, IsCopy, IsDelete, IsImport, IsRename}
 use Rattle.conf_tools.specs.TextWords.{IsSet, ReportsOnAll, RestylesAll, TakesText}
 use Rattle.conf_words.specs.declared.invocation.Formatting.TheVariants as formatting
@@ -66,24 +67,26 @@ module _ {W D F P : Type 0} (world : WorldModel W D F P) (disk : DiskModel D) (w
   ChangesAt access folder name path (Err fault) old new status = (new ≡ old) × (status ≡ status_of fault)
 
   -- the change that imports these bytes was made
-  pub record ImportsBytes (access : Access) (folder name bytes : List ℕ) (old new : W) (status : Status) : Type 0 where
+  pub record ImportsBytes (root : Root) (access : Access) (folder name bytes : List ℕ) (old new : W) (status : Status)
+      : Type 0 where
     pub change : Result Change ToolFault
-    pub is : IsImport name bytes change
+    pub is : IsImport root name bytes change
     pub changes : ChangesAt access folder name [] change old new status
 
   -- the same of a text that was read; where none was, no folder is looked at
-  abbrev pub ImportsRead : Access → List ℕ → List ℕ → Taken → W → W → Status → Type 0
-  ImportsRead access folder name (Ok bytes) old new status = ImportsBytes access folder name bytes.items old new status
-  ImportsRead access folder name (Err fault) old new status = (new ≡ old) × (status ≡ status_of fault)
+  abbrev pub ImportsRead : Root → Access → List ℕ → List ℕ → Taken → W → W → Status → Type 0
+  ImportsRead root access folder name (Ok bytes) old new status =
+      ImportsBytes root access folder name bytes.items old new status
+  ImportsRead root access folder name (Err fault) old new status = (new ≡ old) × (status ≡ status_of fault)
 
 module _ {W D F P : Type 0} (world : WorldModel W D F P) (disk : DiskModel D) (remaining : F → Option (List ℕ)) where
   -- `import`: a text is read, of a file or of the input for `-`, and then the change is made
-  pub record Imports (access : Access) (folder name file : List ℕ) (wanted : Conditions) (old new : Around W)
-      (status : Status) : Type 0 where
+  pub record Imports (root : Root) (access : Access) (folder name file : List ℕ) (wanted : Conditions)
+      (old new : Around W) (status : Status) : Type 0 where
     pub read : Taken
     pub seen : W
     pub takes : TakesText world remaining file read old.world seen old.input new.input
-    pub imports : ImportsRead world disk wanted access folder name read seen new.world status
+    pub imports : ImportsRead world disk wanted root access folder name read seen new.world status
     pub output : new.output ≡ old.output
 
   -- `set`: the value is read of a file or of the input, if the words say so, and then the change is made
@@ -141,8 +144,8 @@ module _ {W D F P : Type 0} (world : WorldModel W D F P) (disk : DiskModel D) (r
   abbrev pub Performs : Invocation → Around W → Around W → Status → Type 0
   Performs (Init folder) old new status =
       Inits world disk folder.now old.world new.world status × LeavesStreams old new
-  Performs (Import folder name file absent conditions reporting) old new status =
-      Imports world disk remaining (access_of absent) folder.now name.now file.now conditions old new status
+  Performs (Import folder name file root absent conditions reporting) old new status =
+      Imports world disk remaining root (access_of absent) folder.now name.now file.now conditions old new status
   Performs (Set folder name pointer value conditions reporting) old new status =
       Sets world disk remaining folder.now name.now pointer.now value conditions old.world new.world old.input new.input
       status × (new.output ≡ old.output)
@@ -164,12 +167,13 @@ module _ {W D F P : Type 0} (world : WorldModel W D F P) (disk : DiskModel D) (r
       ExportsFromFolder world disk form folder.now name.now old.world new.world old.output new.output status
       × (new.input ≡ old.input)
   Performs (Names folder at form) old new status = Asks world remaining folder.now (SaysNames at form) old new status
-  Performs (Get folder name pointer at absent form) old new status =
-      Asks world remaining folder.now (SaysValue at name.now pointer.now absent form) old new status
+  Performs (Get folder name pointers at absent form) old new status =
+      Asks world remaining folder.now (SaysValues at name.now (pointers_of pointers.items) absent form) old new status
   Performs (Exists folder name pointer at) old new status =
       Asks world remaining folder.now (SaysPresence at name.now pointer.now) old new status
-  Performs (Log folder at form) old new status =
-      Logs world remaining folder.now at form old.world new.world old.output new.output status × (new.input ≡ old.input)
+  Performs (Log folder name from at form) old new status =
+      Logs world remaining folder.now (commands_of name from at) form old.world new.world old.output new.output status
+      × (new.input ≡ old.input)
   Performs (Verify folder keep_dropped) old new status =
       Verifies world remaining folder.now keep_dropped old.world new.world old.output new.output status
       × (new.input ≡ old.input)

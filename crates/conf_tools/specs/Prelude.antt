@@ -15,6 +15,7 @@ pub use Rattle.conf_history.specs.declared.fault.HistoryFault.{HistoryFault}
 pub use Rattle.conf_history.specs.declared.fault.HistoryFault.TheVariants.{NotAStore}
 pub use Rattle.conf_history.specs.declared.fault.SalvageFault.{SalvageFault}
 pub use Rattle.conf_history.specs.declared.log.LogForm.{LogForm}
+pub use Rattle.conf_history.specs.declared.log.LogRequest.{LogRequest}
 pub use Rattle.conf_history.specs.declared.survey.Findings.{Findings}
 pub use Rattle.conf_journal.specs.Store.{store_limit}
 pub use Rattle.conf_session.specs.Answers.{value_at_path, Stored, accepted_commands, file_after_all}

@@ -1,6 +1,6 @@
 -- What is written of a store's file by the words that only read it: names, and a value. And whether something is there.
 use Rattle.std.specs.Prelude.{◌≡◌, ◌⊎◌, ℕ, Bool, true, false, if◌then◌else◌, List, [], ◌∷◌, ◌++◌, Option, Some, None}
-use Rattle.std.specs.Prelude.{IfSome, Result, Ok, Err, option_map, codes, encode_utf8_all}
+use Rattle.std.specs.Prelude.{IfSome, Result, Ok, Err, map, option_map, codes, encode_utf8_all}
 use Rattle.conf_tools.specs.Prelude.{Keeps, Appends, chars, style_text, Tree, text, sequence, mapping, tree_of}
 use Rattle.conf_tools.specs.Prelude.{json_line, json_texts, Contents, names_of, and_then, by_path, found, StoreFault}
 use Rattle.conf_tools.specs.Prelude.{BadName, NoConfig, Path, HoldsAt, RefusesReading, value_at_path, MissingValue}
@@ -131,17 +131,40 @@ LacksFound found form NotCollection =
     (tree : Tree) × (found ≡ Ok tree) × (unshown form ≡ NotCollection) × (shown form tree ≡ None)
 LacksFound found form fault = ⊥
 
--- what stands for the value at a pointer
+-- the pointers that words give
+abbrev pub pointers_of : List (Bor (List ℕ)) → List (List ℕ)
+pointers_of words = map (λ word. chars word.now) words
+
+-- what stands for the value at a pointer, in what was found under a name
+abbrev pub value_or_in : MissingValue → Option Tree → List ℕ → List ℕ → Result Tree StoreFault
+value_or_in missing tree name pointer = found_or missing (value_in tree name pointer)
+
+-- the same in a state
 abbrev pub value_or : MissingValue → Contents → List ℕ → List ℕ → Result Tree StoreFault
 value_or missing state name pointer = found_or missing (value_at_path state name pointer)
 
--- the value at the pointer that the file holds was written
-pub record WritesValue (several : Bool) (given : Option (List ℕ)) (at : Option ℕ) (name pointer : List ℕ) (missing : MissingValue)
-    (form : ValueForm) (held written : Option (List ℕ)) : Type 0 where
+-- what stands for the values at pointers, one after the other in this form
+abbrev pub ShowsAll : (List ℕ → Result Tree StoreFault) → ValueForm → List (List ℕ) → List ℕ → Type 0
+ShowsAll value_at form [] bytes = bytes ≡ []
+ShowsAll value_at form (pointer ∷ pointers) bytes =
+    (first : List ℕ) × (others : List ℕ) × ShowsFound (value_at pointer) form first
+    × ShowsAll value_at form pointers others × (bytes ≡ first ++ others)
+
+-- why one of them is not shown, where those before it are
+abbrev pub LacksOne : (List ℕ → Result Tree StoreFault) → ValueForm → List (List ℕ) → ReadingFault → Type 0
+LacksOne value_at form [] fault = ⊥
+LacksOne value_at form (pointer ∷ pointers) fault =
+    LacksFound (value_at pointer) form fault
+    ⊎ ((first : List ℕ) × ShowsFound (value_at pointer) form first × LacksOne value_at form pointers fault)
+
+-- the values at the pointers that the file holds were written
+pub record WritesValues (several : Bool) (given : Option (List ℕ)) (at : Option ℕ) (name : List ℕ)
+    (pointers : List (List ℕ)) (missing : MissingValue) (form : ValueForm) (held written : Option (List ℕ))
+    : Type 0 where
   pub state : Contents
   pub holds : FileHolds several given at state
   pub bytes : List ℕ
-  pub shows : ShowsFound (value_or missing state name pointer) form bytes
+  pub shows : ShowsAll (value_or missing state name) form pointers bytes
   pub writes : Appends held written bytes
 
 -- the file doesn't answer, and nothing was written
@@ -155,17 +178,17 @@ abbrev pub RefusesNames : Bool → Option (List ℕ) → Option ℕ → Option (
 RefusesNames several given at held written Output = (state : Contents) × FileHolds several given at state
 RefusesNames several given at held written fault = RefusesFile several given at held written fault
 
--- Why not all of the value was written: the file doesn't answer, its state has no such value, or the writer failed.
-abbrev pub RefusesValue : Bool → Option (List ℕ) → Option ℕ → List ℕ → List ℕ → MissingValue → ValueForm
+-- Why not all of the values were written: the file doesn't answer, its state has no such values, or the writer failed.
+abbrev pub RefusesValues : Bool → Option (List ℕ) → Option ℕ → List ℕ → List (List ℕ) → MissingValue → ValueForm
     → Option (List ℕ) → Option (List ℕ) → ReadingFault → Type 0
-RefusesValue several given at name pointer missing form held written (History fault) =
+RefusesValues several given at name pointers missing form held written (History fault) =
     RefusesFile several given at held written (History fault)
-RefusesValue several given at name pointer missing form held written Output =
+RefusesValues several given at name pointers missing form held written Output =
     (state : Contents) × FileHolds several given at state
-    × ((bytes : List ℕ) × ShowsFound (value_or missing state name pointer) form bytes)
-RefusesValue several given at name pointer missing form held written fault =
-    (state : Contents) × FileHolds several given at state × LacksFound (value_or missing state name pointer) form fault
-    × Keeps held written
+    × ((bytes : List ℕ) × ShowsAll (value_or missing state name) form pointers bytes)
+RefusesValues several given at name pointers missing form held written fault =
+    (state : Contents) × FileHolds several given at state
+    × LacksOne (value_or missing state name) form pointers fault × Keeps held written
 
 -- ---- whether something is there
 

@@ -9,7 +9,7 @@ use Rattle.conf_tools.specs.{declared.stores.StoreToolFault.StoreToolFault, decl
 use Rattle.conf_tools.specs.{declared.texts.ToolFault.ToolFault}
 use Rattle.conf_tools.specs.declared.stores.StoreToolFault.TheVariants.{Open, Session, Export, StoreExists}
 use Rattle.conf_tools.specs.declared.program.Status.TheVariants.{Done, Found, Absent, Refused, WrongWords, Device}
-use Rattle.conf_tools.specs.declared.texts.ToolFault.TheVariants.{Input, Output, Read, Comments, Unsettled}
+use Rattle.conf_tools.specs.declared.texts.ToolFault.TheVariants.{Input, Output, Read, Comments, Unsettled, OneValue}
 use Rattle.conf_folder.specs.declared.fault.FolderFault.TheVariants as FolderFault
 use Rattle.conf_state.specs.declared.fault.StoreFault.TheVariants as StoreFault
 use Rattle.conf_store.specs.declared.fault.OpenFault.TheVariants as OpenFault
@@ -35,6 +35,7 @@ status_of Output = Device
 status_of (Read fault) = Refused
 status_of (Comments place) = Refused
 status_of Unsettled = Refused
+status_of OneValue = Refused
 
 -- the status after a fault of a word on a store
 abbrev pub status_of_store : StoreToolFault → Status

@@ -2,7 +2,7 @@
 use Rattle.std.specs.Prelude.{◌≡◌, ◌⊎◌, ℕ, Bool, List, Option, Some, None, Result, Ok, Err, IfOk, IfErr, OnOk, String}
 use Rattle.std.specs.Prelude.{string_bytes}
 use Rattle.conf_tools.specs.Prelude.{Global, chars, Appends, DiskModel, LeavesOnly, FolderFault, HistoryFault}
-use Rattle.conf_tools.specs.Prelude.{NotAStore, SalvageFault, LogForm, Findings, Tally, MeantAtEntry, MissingValue}
+use Rattle.conf_tools.specs.Prelude.{NotAStore, SalvageFault, LogRequest, Findings, Tally, MeantAtEntry, MissingValue}
 use Rattle.conf_tools.specs.Prelude.{NamesForm, TreeForm, ValueForm, streams_of}
 use Rattle.conf_history.specs.Logs.{FailsToLog, LogsAll}
 use Rattle.conf_history.specs.Salvages.{LeavesOldOrSaved, RefusesSalvage, Saves, disk_of}
@@ -20,7 +20,7 @@ use Rattle.conf_tools.specs.declared.read_words.Question.{Question}
 use Rattle.conf_tools.specs.declared.read_words.Question.TheVariants as asks
 use Rattle.conf_tools.specs.Changes.{CannotChange, CannotMake, ChangeSurvives, ChangesOn, MakesStore}
 use Rattle.conf_tools.specs.Exports.{HasText, LacksText, disk_back, disk_handed_back}
-use Rattle.conf_tools.specs.Reads.{FindsPresence, RefusesNames, RefusesPresence, RefusesValue, WritesNames, WritesValue}
+use Rattle.conf_tools.specs.Reads.{FindsPresence, RefusesNames, RefusesPresence, RefusesValues, WritesNames, WritesValues, pointers_of}
 use Rattle.conf_tools.specs.Statuses.{status_of, status_of_store}
 use Rattle.conf_tools.specs.Stores.{RunsOn, SurvivesCrashes}
 use Rattle.conf_tools.specs.Surveys.{CannotWrite, RefusesWriting, WritesSurvey, findings_text}
@@ -229,13 +229,13 @@ pub record SaysNames (at : Option ℕ) (form : NamesForm) (several : Bool) (give
   pub done : OnOk result (WritesNames several given at form held written)
   pub refused : IfErr result (RefusesNames several given at held written)
 
--- a value that it holds
-pub record SaysValue (at : Option ℕ) (name pointer : List ℕ) (missing : MissingValue) (form : ValueForm)
-    (several : Bool) (given held written : Option (List ℕ)) (status : Status) : Type 0 where
+-- values that it holds
+pub record SaysValues (at : Option ℕ) (name : List ℕ) (pointers : List (List ℕ)) (missing : MissingValue)
+    (form : ValueForm) (several : Bool) (given held written : Option (List ℕ)) (status : Status) : Type 0 where
   pub result : Result (Unit {0}) ReadingFault
   pub ends : status ≡ status_after_reading result
-  pub done : OnOk result (WritesValue several given at (chars name) (chars pointer) missing form held written)
-  pub refused : IfErr result (RefusesValue several given at (chars name) (chars pointer) missing form held written)
+  pub done : OnOk result (WritesValues several given at (chars name) pointers missing form held written)
+  pub refused : IfErr result (RefusesValues several given at (chars name) pointers missing form held written)
 
 -- whether something is at a place; nothing is written
 pub record SaysPresence (at : Option ℕ) (name pointer : List ℕ) (several : Bool)
@@ -247,13 +247,13 @@ pub record SaysPresence (at : Option ℕ) (name pointer : List ℕ) (several : B
   pub keeps : written ≡ held
 
 -- its commands
-pub record SaysLog (at : Option ℕ) (form : LogForm) (several : Bool) (given held written : Option (List ℕ))
+pub record SaysLog (at : Option ℕ) (request : LogRequest) (several : Bool) (given held written : Option (List ℕ))
     (status : Status) : Type 0 where
   pub result : Result (Unit {0}) HistoryFault
   pub ends : status ≡ status_after_log result
   pub left : Option (List ℕ)
-  pub done : OnOk result (LogsAll several at form given left held written)
-  pub refused : IfErr result (FailsToLog several at form given held written)
+  pub done : OnOk result (LogsAll several at request given left held written)
+  pub refused : IfErr result (FailsToLog several at request given held written)
 
 -- what an opening would find in it
 pub record SaysSurvey (several : Bool) (given held written : Option (List ℕ)) (status : Status) : Type 0 where
@@ -265,9 +265,10 @@ pub record SaysSurvey (several : Bool) (given held written : Option (List ℕ)) 
 -- what is written of a file to answer a question
 abbrev pub Says : Question → Bool → Option (List ℕ) → Option (List ℕ) → Option (List ℕ) → Status → Type 0
 Says (asks.Names at form) = SaysNames at form
-Says (asks.Value place missing form) = SaysValue place.at place.name.now place.pointer.now missing form
+Says (asks.Values places missing form) =
+    SaysValues places.at places.name.now (pointers_of places.pointers.now) missing form
 Says (asks.Presence place) = SaysPresence place.at place.name.now place.pointer.now
-Says (asks.Log at form) = SaysLog at form
+Says (asks.Log at request) = SaysLog at request
 Says asks.Survey = SaysSurvey
 
 -- ---- a store of what stands before the damage

@@ -2,12 +2,14 @@
 use Rattle.std.specs.Prelude.{◌≡◌, ◌≢◌, ◌⊎◌, ◌<◌, ◌≤◌, ℕ, Bool, true, false, ◌==◌, if◌then◌else◌, List, [], ◌∷◌, length}
 use Rattle.std.specs.Prelude.{Option, Some, None, Result, Ok, Err, IfOk, IfErr, IsErrAnd, OnOk, codes, encode_utf8_all}
 use Rattle.std.specs.Prelude.{string_bytes}
-use Rattle.conf_tools.specs.Prelude.{chars, IsUtf8, ReplaceFault, command_of, delete_at, set_at, single, text_of}
+use Rattle.conf_tools.specs.Prelude.{chars, IsUtf8, ReplaceFault, command_of, delete_at, import_as, set_at, single, text_of}
 use Rattle.conf_tools.specs.Prelude.{Comments, Style, Value, IsFirstFault, own_limits, config_limits, TooLong, NotUtf8}
 use Rattle.conf_tools.specs.Prelude.{OutOfMemory, Tree, text, IsRead, Refuses}
 use Rattle.std.specs.Str.Lossy.{utf8_valid_len}
 use Rattle.conf_words.specs.Escapes.{escaped}
+use Rattle.conf_words.specs.declared.invocation.{Root.Root, Root.TheVariants.Any, Root.TheVariants.Collection}
 use Rattle.conf_words.specs.declared.invocation.Value.TheVariants.{Text, Yaml, File}
+use Rattle.yaml_events.specs.declared.read_fault.ReadFault.{ReadFault}
 use Rattle.conf_tools.specs.{declared.change_words.Alteration.Alteration, declared.changes.Change.Change}
 use Rattle.conf_tools.specs.declared.change_words.Meaning.{Meaning}
 use Rattle.conf_tools.specs.declared.change_words.Meaning.TheVariants as means
@@ -21,7 +23,7 @@ use Rattle.conf_tools.specs.declared.changes.Change.TheVariants.{Import, Perform
 use Rattle.conf_tools.specs.declared.file_texts.Restyled.TheVariants.{Same, Changed}
 use Rattle.conf_tools.specs.declared.file_words.Report.TheVariants.{Findings, Name}
 use Rattle.conf_tools.specs.declared.program.Status.TheVariants.{Done, Found, Device}
-use Rattle.conf_tools.specs.declared.texts.ToolFault.TheVariants.{Input, Output, Read}
+use Rattle.conf_tools.specs.declared.texts.ToolFault.TheVariants.{Input, OneValue, Output, Read}
 use Rattle.conf_files.specs.declared.replace.ReplaceFault.TheVariants as replacing
 use Rattle.conf_tools.specs.declared.change_words.Alteration.TheVariants as alteration
 
@@ -68,11 +70,35 @@ module _ {W D F P : Type 0} (world : WorldModel W D F P) (remaining : F → Opti
 
 -- ---- changes that are made ready
 
--- the change imports these bytes under a name; or memory ran out
-abbrev pub IsImport : List ℕ → List ℕ → Result Change ToolFault → Type 0
-IsImport name bytes (Ok (Import kept imported)) = (text_of kept ≡ chars name) × (imported.now ≡ bytes)
-IsImport name bytes (Ok change) = ⊥
-IsImport name bytes (Err fault) = fault ≡ Read OutOfMemory
+-- a tree that is a text
+abbrev pub IsOneValue : Tree → Type 0
+IsOneValue (text cs) = Unit {0}
+IsOneValue tree = ⊥
+
+-- a tree that is a mapping or a list
+abbrev pub IsCollection : Tree → Type 0
+IsCollection (text cs) = ⊥
+IsCollection tree = Unit {0}
+
+-- the bytes are left to the store to read: any, or those that it refuses
+abbrev pub LeavesToStore : Root → List ℕ → Type 0
+LeavesToStore Any bytes = Unit {0}
+LeavesToStore Collection bytes = (fault : ReadFault) × (fault ≢ OutOfMemory) × Refuses bytes config_limits fault
+
+-- the bytes give a tree of which this holds
+abbrev pub GivesSuch : List ℕ → (Tree → Type 0) → Type 0
+GivesSuch bytes such = (tree : Tree) × IsRead bytes config_limits tree × such tree
+
+-- The change imports these bytes under a name, or the mapping or the list that they give; or they are one value alone,
+-- where that is not to be imported; or memory ran out.
+abbrev pub IsImport : Root → List ℕ → List ℕ → Result Change ToolFault → Type 0
+IsImport root name bytes (Ok (Import kept imported)) =
+    (text_of kept ≡ chars name) × (imported.now ≡ bytes) × LeavesToStore root bytes
+IsImport Collection name bytes (Ok (Perform command)) = GivesSuch bytes
+    (λ tree. IsCollection tree × (command_of command ≡ single (import_as (chars name) tree)))
+IsImport Collection name bytes (Err OneValue) = GivesSuch bytes IsOneValue
+IsImport root name bytes (Ok change) = ⊥
+IsImport root name bytes (Err fault) = fault ≡ Read OutOfMemory
 
 -- the change sets a tree at a pointer of the configuration under a name
 abbrev pub SetsAt : List ℕ → List ℕ → Tree → Change → Type 0

@@ -7,7 +7,7 @@ use Rattle.conf_tools.specs.Prelude.{config_limits, name_of, Finding, Style}
 use Rattle.comments_kept.specs.Keeping.{GivesUnsettled}
 use Rattle.conf_tools.specs.Styles.{IsCheckedIn, IsStyled}
 use Rattle.conf_tools.specs.declared.texts.ToolFault.{ToolFault}
-use Rattle.conf_tools.specs.declared.texts.ToolFault.TheVariants.{Input, Output, Read, Comments, Unsettled}
+use Rattle.conf_tools.specs.declared.texts.ToolFault.TheVariants.{Input, Output, Read, Comments, Unsettled, OneValue}
 
 -- ---- what was read
 
@@ -73,3 +73,4 @@ Stops bytes held written Output = GivesTree bytes
 Stops bytes held written (Read fault) = Refuses bytes config_limits fault × Keeps held written
 Stops bytes held written (Comments place) = ⊥
 Stops bytes held written Unsettled = GivesUnsettled bytes config_limits × Keeps held written
+Stops bytes held written OneValue = ⊥

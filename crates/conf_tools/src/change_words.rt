@@ -1,5 +1,5 @@
 // The words of the program that change a store.
-ghost use Rattle.std.specs.Prelude.{◌≡◌, ◌≤◌, [], IfOk, IfErr, Err, OnOk, length};
+ghost use Rattle.std.specs.Prelude.{◌≡◌, ◌≤◌, [], true, false, IfOk, IfErr, Err, OnOk, length};
 ghost use Rattle.conf_tools.specs.Prelude.{IsUtf8, chars, config_limits, tree_of, conditions_of};
 ghost use Rattle.yaml_grammar.specs.Trees.{text as one_text};
 ghost use Rattle.conf_tools.specs.Dropped.{TellsDropped};
@@ -9,7 +9,7 @@ ghost use Rattle.conf_tools.specs.Outcomes.{LeavesImport, LeavesSet, TellsOnlyTo
 ghost use Rattle.conf_tools.specs.Performs.{ChangesByWords, ChangesIf, ImportsBytes, ImportsRead, Sets, access_of};
 ghost use Rattle.conf_tools.specs.StoreWords.{ChangesInFolder, Inits, MakesInFolder, status_at_end};
 ghost use Rattle.conf_tools.specs.Styles.{TellsLeftOut};
-ghost use Rattle.conf_tools.specs.TextWords.{IsAlteration, IsImport, IsNoText, IsSet, RefusesText, SetsAt, SetsBytes, SetsMeant, SetsPlain, SetsRead, SetsText, SetsWord};
+ghost use Rattle.conf_tools.specs.TextWords.{IsAlteration, IsCollection, IsImport, IsNoText, IsOneValue, IsSet, RefusesText, SetsAt, SetsBytes, SetsMeant, SetsPlain, SetsRead, SetsText, SetsWord};
 
 use crate::asking::conditions_at;
 use crate::changes::{Change, change_store, make_store};
@@ -24,7 +24,7 @@ use crate::texts::{MOST_INPUT, ToolFault, read_text};
 use crate::world::{Access, World};
 use conf_conditions::Condition;
 use conf_state::{Command, StoreFault};
-use conf_words::{Conditions, MissingStore, Reporting, STANDARD_INPUT, Value};
+use conf_words::{Conditions, MissingStore, Reporting, Root, STANDARD_INPUT, Value};
 use std::alloc::{AllocError, Global};
 use std::io::Read;
 use yaml_tree::{Config, Limits, ReadFault, Text, Tree, read_one};
@@ -41,6 +41,8 @@ pub(crate) struct Import<'w> {
     pub(crate) name: &'w str,
     /// The file of the text, `-` for standard input.
     pub(crate) file: &'w str,
+    /// What the text may be.
+    pub(crate) root: Root,
     /// What is done where the folder has no store.
     pub(crate) missing: MissingStore,
     /// What has to hold before.
@@ -138,8 +140,8 @@ pub(crate) fn import_text<A: World, E: Listener>(
     read: Result<Vec<u8>, ToolFault>,
     errors: &mut E,
 ) -> Ending<'static>
-    ensures imports { ImportsRead A.model A.Disk.model asked.entry.conditions (access_of asked.entry.missing)
-        asked.entry.folder.now asked.entry.name.now read world.old world.new
+    ensures imports { ImportsRead A.model A.Disk.model asked.entry.conditions asked.entry.root
+        (access_of asked.entry.missing) asked.entry.folder.now asked.entry.name.now read world.old world.new
         (status_of_ending result) }
     ensures leaves { LeavesImport E.hears errors.old result errors.new }
 {
@@ -161,8 +163,8 @@ fn import_bytes<A: World, E: Listener>(
     text: &[u8],
     errors: &mut E,
 ) -> Ending<'static>
-    ensures imports { ImportsBytes A.model A.Disk.model asked.entry.conditions (access_of asked.entry.missing)
-        asked.entry.folder.now asked.entry.name.now text.now world.old world.new
+    ensures imports { ImportsBytes A.model A.Disk.model asked.entry.conditions asked.entry.root
+        (access_of asked.entry.missing) asked.entry.folder.now asked.entry.name.now text.now world.old world.new
         (status_of_ending result) }
     ensures leaves { LeavesImport E.hears errors.old result errors.new }
 {
@@ -173,12 +175,15 @@ fn import_bytes<A: World, E: Listener>(
         conditions: asked.conditions,
     };
     let access = access_of(asked.missing);
-    match import_of(reporter.alloc, asked.name, text) {
+    match import_of(reporter.alloc, asked.root, asked.name, text) {
         Ok(change) => {
             let ended = change_if(world, reporter.alloc, access, place, change, errors);
             tell_import(reporter, errors, asked.file, text, ended)
         }
-        Err(fault) => Ending::Of(Outcome::Text(fault)),
+        Err(fault) => {
+            reporter.tell_fault(errors, Origin::Named(asked.file), text, fault);
+            Ending::Told(status_of(fault))
+        }
     }
 }
 
@@ -192,14 +197,63 @@ fn access_of(missing: MissingStore) -> Access
     }
 }
 
-/// The change that imports a text under a name. It fails only if memory runs out.
-fn import_of<'t>(alloc: Global, name: &str, text: &'t [u8]) -> Result<Change<'t>, ToolFault>
-    ensures { IsImport name.now text.now result }
+/// The change that imports a text under a name, if it may be imported.
+///
+/// # Errors
+/// `OneValue` if the text is one value alone, and a mapping or a list is wanted. It fails also if memory runs out.
+fn import_of<'t>(
+    alloc: Global,
+    root: Root,
+    name: &str,
+    text: &'t [u8],
+) -> Result<Change<'t>, ToolFault>
+    ensures { IsImport root name.now text.now result }
 {
-    Ok(Change::Import {
+    match root {
+        Root::Any => Ok(Change::Import {
+            name: String::from_str(alloc, name)?,
+            text,
+        }),
+        Root::Collection => import_collection(alloc, name, text),
+    }
+}
+
+/// The change that imports the mapping or the list that a text gives. A text that gives no tree is left to the store to
+/// refuse, once it is open and what is wanted holds.
+///
+/// # Errors
+/// `OneValue` if the text is one value alone. It fails also if memory runs out.
+fn import_collection<'t>(alloc: Global, name: &str, text: &'t [u8]) -> Result<Change<'t>, ToolFault>
+    ensures { IsImport Root.Collection name.now text.now result }
+{
+    let tree = match read_one(alloc, text, &Limits::CONFIGURATION) {
+        Ok(tree) => tree,
+        Err(ReadFault::OutOfMemory) => return Err(ToolFault::Read(ReadFault::OutOfMemory)),
+        Err(_) => {
+            return Ok(Change::Import {
+                name: String::from_str(alloc, name)?,
+                text,
+            });
+        }
+    };
+    if is_one_value(tree.tree()) {
+        return Err(ToolFault::OneValue);
+    }
+    Ok(Change::Perform(Command::Import {
         name: String::from_str(alloc, name)?,
-        text,
-    })
+        tree,
+    }))
+}
+
+/// Whether a tree is a text, and so neither a mapping nor a list.
+fn is_one_value(tree: &Tree) -> bool
+    ensures one { result ≡ true → IsOneValue (tree_of tree.now) }
+    ensures more { result ≡ false → IsCollection (tree_of tree.now) }
+{
+    match tree {
+        Tree::Text(_) => true,
+        Tree::Seq(_) | Tree::Map(_) => false,
+    }
 }
 
 /// Writes why a text is refused, if an import of it ended so, under the name of its file. If it was done, and reports

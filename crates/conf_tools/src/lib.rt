@@ -52,7 +52,7 @@ pub use laws::{call_holds, calls_hold};
 pub use listener::{Listener, Told};
 pub use program::{Status, perform, refuse_words, show_unparsed};
 pub use reading_fault::ReadingFault;
-pub use reads::{Place, Presence, find_presence, write_names, write_value};
+pub use reads::{Place, Places, Presence, find_presence, write_names, write_values};
 pub use stores::{Grouping, StoreToolFault, run_store};
 pub use surveys::{Soundness, write_findings, write_survey};
 pub use tail::{KEPT, Tail, TailReader};

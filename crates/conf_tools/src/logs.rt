@@ -8,7 +8,7 @@ use crate::outcome::Outcome;
 use crate::read_words::{Question, answer_on_folder};
 use crate::reading_fault::ReadingFault;
 use crate::world::World;
-use conf_history::{LineForm, LogForm};
+use conf_history::{LineForm, LogForm, LogRequest};
 use conf_state::StoreFault;
 use std::alloc::Global;
 use std::io::Write;
@@ -16,29 +16,40 @@ use tree_hidden::{paths_of_pointers, tokens_of_paths};
 use tree_path::PathFault;
 use yaml_tree::Text;
 
+/// Which commands of a store are written.
+#[derive(Clone, Copy)]
+pub(crate) struct Commands<'w> {
+    /// The name of the configuration that they change; any, if there is none.
+    pub(crate) name: Option<&'w str>,
+    /// The number of the first one.
+    pub(crate) from: u64,
+    /// The number of the last one; that of the last command of the store, if there is none.
+    pub(crate) at: Option<u64>,
+}
+
 /// Writes the commands of the store in a folder, beside whoever holds the store. A pointer of what is to be hidden that
 /// is none is a fault: then no folder is looked at.
 pub(crate) fn log_folder<'w, A: World, W: Write>(
     world: &mut A,
     alloc: Global,
     folder: &'w str,
-    at: Option<u64>,
+    commands: Commands<'_>,
     asked: conf_words::LogForm<'_>,
     output: &mut W,
 ) -> Outcome<'w>
-    ensures { Logs A.model A.File.remaining folder.now at asked.entry world.old world.new
+    ensures { Logs A.model A.File.remaining folder.now commands.entry asked.entry world.old world.new
         (W.contents output.old) (W.contents output.new) (status_of_outcome result) }
 {
     match asked {
         conf_words::LogForm::Lines => {
             let form = LogForm::Lines(LineForm::Names);
-            log_as(world, alloc, folder, at, form, output)
+            log_as(world, alloc, folder, commands, form, output)
         }
         conf_words::LogForm::Values { hidden } => {
-            log_values(world, alloc, folder, at, &hidden, output)
+            log_values(world, alloc, folder, commands, &hidden, output)
         }
         conf_words::LogForm::Records => {
-            log_as(world, alloc, folder, at, LogForm::Records, output)
+            log_as(world, alloc, folder, commands, LogForm::Records, output)
         }
     }
 }
@@ -48,14 +59,22 @@ fn log_as<'w, A: World, W: Write>(
     world: &mut A,
     alloc: Global,
     folder: &'w str,
-    at: Option<u64>,
+    commands: Commands<'_>,
     form: LogForm<'_>,
     output: &mut W,
 ) -> Outcome<'w>
-    ensures { LogsAs A.model A.File.remaining folder.now at form.entry world.old world.new
+    ensures { LogsAs A.model A.File.remaining folder.now commands.entry form.entry world.old world.new
         (W.contents output.old) (W.contents output.new) (status_of_outcome result) }
 {
-    let asked = Question::Log { at, form };
+    let request = LogRequest {
+        form,
+        name: commands.name,
+        from: commands.from,
+    };
+    let asked = Question::Log {
+        at: commands.at,
+        request,
+    };
     answer_on_folder(world, alloc, folder, asked, output)
 }
 
@@ -64,20 +83,20 @@ fn log_values<'w, A: World, W: Write>(
     world: &mut A,
     alloc: Global,
     folder: &'w str,
-    at: Option<u64>,
+    commands: Commands<'_>,
     hidden: &[&str],
     output: &mut W,
 ) -> Outcome<'w>
-    ensures { LogsValues A.model A.File.remaining folder.now at (map (λ pointer. pointer.now) hidden.now)
+    ensures { LogsValues A.model A.File.remaining folder.now commands.entry (map (λ pointer. pointer.now) hidden.now)
         world.old world.new (W.contents output.old) (W.contents output.new) (status_of_outcome result) }
 {
     match hidden {
         [] => {
             let form = LogForm::Lines(LineForm::Values);
-            log_as(world, alloc, folder, at, form, output)
+            log_as(world, alloc, folder, commands, form, output)
         }
         hidden => match paths_of_pointers(alloc, hidden) {
-            Ok(paths) => log_hiding(world, alloc, folder, at, &paths, output),
+            Ok(paths) => log_hiding(world, alloc, folder, commands, &paths, output),
             Err(fault) => Outcome::Reading(ReadingFault::Value(fault_of_pointer(fault))),
         },
     }
@@ -88,18 +107,18 @@ fn log_hiding<'w, A: World, W: Write>(
     world: &mut A,
     alloc: Global,
     folder: &'w str,
-    at: Option<u64>,
+    commands: Commands<'_>,
     paths: &[Vec<Text>],
     output: &mut W,
 ) -> Outcome<'w>
     ensures { (pointers : List (List ℕ)) → paths_or pointers ≡ Ok (owned_paths paths.now)
-        → Hides A.model A.File.remaining folder.now at pointers world.old world.new
+        → Hides A.model A.File.remaining folder.now commands.entry pointers world.old world.new
         (W.contents output.old) (W.contents output.new) (status_of_outcome result) }
 {
     match tokens_of_paths(alloc, paths) {
         Ok(tokens) => {
             let form = LogForm::Lines(LineForm::Hiding(&tokens));
-            log_as(world, alloc, folder, at, form, output)
+            log_as(world, alloc, folder, commands, form, output)
         }
         Err(_) => Outcome::Reading(ReadingFault::Value(StoreFault::OutOfMemory)),
     }

@@ -16,10 +16,10 @@ use crate::exports::export_text;
 use crate::file_words::{check_files, format_files, read_named};
 use crate::keeping::{salvage_to, verify_folder};
 use crate::listener::Listener;
-use crate::logs::log_folder;
+use crate::logs::{Commands, log_folder};
 use crate::outcome::{Ending, Outcome, tell_ending, tell_outcome};
 use crate::read_words::{Question, answer_on_folder};
-use crate::reads::Place;
+use crate::reads::{Place, Places};
 use crate::reporter::{Reporter, write_cause};
 use crate::rest::tell_rest;
 use crate::stores::{Grouping, StoreToolFault, run_store};
@@ -135,6 +135,7 @@ fn perform_word<'w, A: World, R: Read, W: Write, E: Listener>(
             folder,
             name,
             file,
+            root,
             missing,
             conditions,
             reporting,
@@ -145,6 +146,7 @@ fn perform_word<'w, A: World, R: Read, W: Write, E: Listener>(
                 folder,
                 name,
                 file,
+                root,
                 missing,
                 conditions,
             };
@@ -230,14 +232,18 @@ fn perform_word<'w, A: World, R: Read, W: Write, E: Listener>(
         Invocation::Get {
             folder,
             name,
-            pointer,
+            pointers,
             at,
             missing,
             form,
         } => {
-            let place = Place { name, pointer, at };
-            let asked = Question::Value {
-                place,
+            let places = Places {
+                name,
+                pointers: &pointers,
+                at,
+            };
+            let asked = Question::Values {
+                places,
                 missing,
                 form,
             };
@@ -252,8 +258,15 @@ fn perform_word<'w, A: World, R: Read, W: Write, E: Listener>(
             let asked = Question::Presence(Place { name, pointer, at });
             Ending::Of(answer_on_folder(world, alloc, folder, asked, output))
         }
-        Invocation::Log { folder, at, form } => {
-            Ending::Of(log_folder(world, alloc, folder, at, form, output))
+        Invocation::Log {
+            folder,
+            name,
+            from,
+            at,
+            form,
+        } => {
+            let commands = Commands { name, from, at };
+            Ending::Of(log_folder(world, alloc, folder, commands, form, output))
         }
         Invocation::Verify {
             folder,
@@ -426,7 +439,8 @@ pub(crate) fn status_of(fault: ToolFault) -> Status
 {
     match fault {
         ToolFault::Input | ToolFault::Output => Status::Device,
-        ToolFault::Read(_) | ToolFault::Comments(_) | ToolFault::Unsettled => Status::Refused,
+        ToolFault::Read(_) | ToolFault::Comments(_) | ToolFault::Unsettled | ToolFault::OneValue =>
+            { Status::Refused }
     }
 }
 

@@ -9,11 +9,11 @@ ghost use Rattle.conf_tools.specs.StoreWords.{OpensFile, OpensNew, Reads, Salvag
 use crate::outcome::Outcome;
 use crate::program::Status;
 use crate::reading_fault::ReadingFault;
-use crate::reads::{Place, Presence, find_presence, write_names, write_value};
+use crate::reads::{Place, Places, Presence, find_presence, write_names, write_values};
 use crate::surveys::{Soundness, write_findings, write_survey};
 use crate::world::World;
 use conf_folder::FolderFault;
-use conf_history::{Findings, HistoryFault, LogForm, SalvageFault, salvage, write_log};
+use conf_history::{Findings, HistoryFault, LogRequest, SalvageFault, salvage, write_log};
 use conf_store::Waiting;
 use conf_words::{MissingValue, NamesForm, ValueForm};
 use std::alloc::Global;
@@ -27,9 +27,9 @@ pub(crate) enum Question<'w> {
         at: Option<u64>,
         form: NamesForm,
     },
-    /// The value at a place, or what is written where nothing is.
-    Value {
-        place: Place<'w>,
+    /// The values at places, or what is written where nothing is.
+    Values {
+        places: Places<'w>,
         missing: MissingValue<'w>,
         form: ValueForm,
     },
@@ -38,7 +38,7 @@ pub(crate) enum Question<'w> {
     /// Its commands.
     Log {
         at: Option<u64>,
-        form: LogForm<'w>,
+        request: LogRequest<'w>,
     },
     /// Whether it can be opened.
     Survey,
@@ -81,20 +81,20 @@ pub(crate) fn answer<'w, R: Read, W: Write>(
             let ended = write_names(alloc, file, waiting, at, form, output);
             outcome_of_reading(ended)
         }
-        Question::Value {
-            place,
+        Question::Values {
+            places,
             missing,
             form,
         } => {
-            let ended = write_value(alloc, file, waiting, place, missing, form, output);
+            let ended = write_values(alloc, file, waiting, places, missing, form, output);
             outcome_of_reading(ended)
         }
         Question::Presence(place) => {
             let found = find_presence(alloc, file, waiting, place);
             outcome_of_presence(found)
         }
-        Question::Log { at, form } => {
-            let ended = write_log(alloc, file, waiting, at, form, output);
+        Question::Log { at, request } => {
+            let ended = write_log(alloc, file, waiting, at, request, output);
             outcome_of_log(ended)
         }
         Question::Survey => {

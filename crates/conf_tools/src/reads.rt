@@ -4,7 +4,7 @@ ghost use Rattle.std.specs.Prelude.{encode_utf8_all, codes};
 ghost use Rattle.conf_tools.specs.Prelude.{chars, style_text, json_texts, depth, own_limits, tree_of, text_of};
 ghost use Rattle.yaml_grammar.specs.Trees.{text as one_text};
 ghost use Rattle.conf_store.specs.Holes.{is_several};
-ghost use Rattle.conf_tools.specs.Reads.{CannotShow, FindsPresence, HidesPresence, LacksFound, RefusesNames, RefusesPresence, RefusesValue, ShowsFound, ShowsTree, WritesNames, WritesValue, found_or, is_absent, name_lines, names_text, presence_of, tree_found, tree_or, tree_text, value_in};
+ghost use Rattle.conf_tools.specs.Reads.{CannotShow, FindsPresence, HidesPresence, LacksFound, LacksOne, RefusesNames, RefusesPresence, RefusesValues, ShowsAll, ShowsFound, ShowsTree, WritesNames, WritesValues, found_or, is_absent, name_lines, names_text, pointers_of, presence_of, tree_found, tree_or, tree_text, value_in, value_or_in};
 
 use crate::reading_fault::ReadingFault;
 use crate::texts::write_whole;
@@ -114,45 +114,86 @@ pub struct Place<'w> {
     pub at: Option<u64>,
 }
 
-/// Writes the value at a place of a store's file. The file is read as by [`config_at`].
+/// Which places of one configuration are meant.
+#[derive(Clone, Copy)]
+pub struct Places<'w> {
+    /// The name of the configuration.
+    pub name: &'w str,
+    /// The JSON Pointers in it. The empty one means the whole configuration.
+    pub pointers: &'w [&'w str],
+    /// The number of the command after which the store is read; the last one if there is no number.
+    pub at: Option<u64>,
+}
+
+/// Writes the values at places of a store's file, one after the other in the order of the pointers. The file is read
+/// once, as by [`config_at`].
 ///
 /// # Errors
 /// - `History` if [`config_at`] fails.
-/// - `Value` with the first of these that holds: `BadName` if the name may not be used, `NoConfig` if no configuration
-///   has it, and the pointer's fault. Where `missing` gives a text, `NoConfig`, `NoSuchPlace` and `NotIndex` are no
-///   faults: that text is written. Or with `OutOfMemory`.
-/// - `NotText` if the value is no text, and the form is that of a text as it is.
-/// - `Output` if the writer fails. Some of the value may be written.
+/// - `Value` with the first of these that holds of the first place of which one does: `BadName` if the name may not be
+///   used, `NoConfig` if no configuration has it, and the pointer's fault. Where `missing` gives a text, `NoConfig`,
+///   `NoSuchPlace` and `NotIndex` are no faults: that text is written. Or with `OutOfMemory`.
+/// - `NotText` if that value is no text, and the form is that of a text as it is; `NotCollection` if it is a text, and
+///   the form is that of its keys.
+/// - `Output` if the writer fails. Some of the values may be written.
 ///
 /// But for `Output`, nothing is written.
-pub fn write_value<R: Read, W: Write>(
+pub fn write_values<R: Read, W: Write>(
     alloc: Global,
     reader: &mut R,
     waiting: Waiting,
-    place: Place<'_>,
+    places: Places<'_>,
     missing: MissingValue<'_>,
     form: ValueForm,
     writer: &mut W,
 ) -> Result<(), ReadingFault>
-    ensures ok { OnOk result (WritesValue (is_several waiting) (R.remaining reader.old) place.entry.at
-        (chars place.entry.name.now) (chars place.entry.pointer.now) missing.entry form
+    ensures ok { OnOk result (WritesValues (is_several waiting) (R.remaining reader.old) places.entry.at
+        (chars places.entry.name.now) (pointers_of places.entry.pointers.now) missing.entry form
         (W.contents writer.old) (W.contents writer.new)) }
-    ensures refused { IfErr result (RefusesValue (is_several waiting) (R.remaining reader.old) place.entry.at
-        (chars place.entry.name.now) (chars place.entry.pointer.now) missing.entry form
-        (W.contents writer.old) (W.contents writer.new)) }
+    ensures refused { IfErr result (RefusesValues (is_several waiting) (R.remaining reader.old)
+        places.entry.at (chars places.entry.name.now) (pointers_of places.entry.pointers.now)
+        missing.entry form (W.contents writer.old) (W.contents writer.new)) }
 {
-    let config = match config_at(alloc, reader, waiting, place.at, place.name) {
+    let config = match config_at(alloc, reader, waiting, places.at, places.name) {
         Ok(config) => config,
         Err(fault) => return Err(ReadingFault::History(fault)),
     };
-    let text = match value_text(alloc, config.as_ref(), place, missing, form) {
+    let text = match values_text(alloc, config.as_ref(), places, missing, form) {
         Ok(text) => text,
         Err(fault) => return Err(fault),
     };
-    match write_whole(writer, text.as_bytes()) {
+    match write_whole(writer, &text) {
         Ok(()) => Ok(()),
         Err(_) => Err(ReadingFault::Output),
     }
+}
+
+/// The texts of the values at places, or of what stands for them, where `found` is the configuration under their name.
+fn values_text(
+    alloc: Global,
+    found: Option<&Config>,
+    places: Places<'_>,
+    missing: MissingValue<'_>,
+    form: ValueForm,
+) -> Result<Vec<u8>, ReadingFault>
+    ensures ok { IfOk result (λ text. ShowsAll (value_or_in missing.entry (tree_found found.entry)
+        (chars places.entry.name.now)) form (pointers_of places.entry.pointers.now) text.items) }
+    ensures refused { IfErr result (LacksOne (value_or_in missing.entry (tree_found found.entry)
+        (chars places.entry.name.now)) form (pointers_of places.entry.pointers.now)) }
+{
+    let mut text = Vec::new(alloc);
+    for pointer in places.pointers {
+        let place = Place {
+            name: places.name,
+            pointer: *pointer,
+            at: places.at,
+        };
+        match value_text(alloc, found, place, missing, form) {
+            Ok(value) => text.extend_from_slice(value.as_bytes())?,
+            Err(fault) => return Err(fault),
+        }
+    }
+    Ok(text)
 }
 
 /// Whether something is at a place.
@@ -237,10 +278,10 @@ fn value_text(
     missing: MissingValue<'_>,
     form: ValueForm,
 ) -> Result<String, ReadingFault>
-    ensures ok { IfOk result (λ text. ShowsFound (found_or missing.entry (value_in (tree_found found.entry)
-        (chars place.entry.name.now) (chars place.entry.pointer.now))) form (string_bytes text)) }
-    ensures refused { IfErr result (LacksFound (found_or missing.entry (value_in (tree_found found.entry)
-        (chars place.entry.name.now) (chars place.entry.pointer.now))) form) }
+    ensures ok { IfOk result (λ text. ShowsFound (value_or_in missing.entry (tree_found found.entry)
+        (chars place.entry.name.now) (chars place.entry.pointer.now)) form (string_bytes text)) }
+    ensures refused { IfErr result (LacksFound (value_or_in missing.entry (tree_found found.entry)
+        (chars place.entry.name.now) (chars place.entry.pointer.now)) form) }
 {
     match value_at(alloc, found, place) {
         Ok(value) => shown(alloc, value, form),

@@ -61,6 +61,7 @@ impl Reporter {
             ToolFault::Read(ReadFault::TooLong) => self.tell_length(errors, name),
             ToolFault::Read(fault) => self.tell_refusal(errors, name, text, fault),
             ToolFault::Comments(place) => self.tell_comments(errors, name, text, place),
+            ToolFault::OneValue => self.tell_one_value(errors, name),
             ToolFault::Input | ToolFault::Output | ToolFault::Unsettled => {
                 let _ = writeln!(errors, "{name}: {fault}");
             }
@@ -82,6 +83,17 @@ impl Reporter {
             text,
             Some(place),
             "--keep-comments keeps them; --drop-comments replaces the file, and they are lost",
+        );
+    }
+
+    /// Writes that a text is one value alone.
+    fn tell_one_value<E: Write>(&self, errors: &mut E, name: &str) {
+        let _ = writeln!(errors, "{name}: OneValue (neither a mapping nor a list)");
+        self.explain(
+            errors,
+            b"",
+            None,
+            "a configuration is mostly a mapping; --any-root takes one value, too",
         );
     }
 

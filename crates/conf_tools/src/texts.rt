@@ -33,6 +33,8 @@ pub enum ToolFault {
     Comments(Place),
     /// The text with its comments would change if it were formatted once more. Nothing was written.
     Unsettled,
+    /// The text is one value alone, and a mapping or a list was wanted. Nothing was written.
+    OneValue,
 }
 
 impl ToolFault {
@@ -48,6 +50,7 @@ impl ToolFault {
             ToolFault::Read(fault) => StoreFault::Read(fault).name(),
             ToolFault::Comments(_) => "Comments",
             ToolFault::Unsettled => "Unsettled",
+            ToolFault::OneValue => "OneValue",
         }
     }
 }

@@ -1,3 +1,5 @@
 pub mod EscapeLemmas
-pub mod NameLemmas
 pub mod ShownLemmas
+pub mod NameLemmas
+pub mod FitLemmas
+pub mod OutcomeLemmas

@@ -1,2 +1,5 @@
 pub mod Escapes
 pub mod Invocations
+pub mod Outcomes
+pub mod Subcommands
+pub mod Waits

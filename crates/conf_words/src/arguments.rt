@@ -1,53 +1,9 @@
-// The arguments of subcommands, each by its rule, and those that several subcommands take.
+// The arguments that several subcommands take.
+ghost use Rattle.std.specs.Prelude.{◌≡◌};
+ghost use Rattle.conf_words.specs.Invocations.{reporting_in};
+
 use crate::invocation::Reporting;
-use clap::ArgMatches;
-
-/// An argument of a subcommand. Its name is what its words are read by.
-#[derive(Clone, Copy)]
-pub(crate) struct Argument {
-    pub(crate) name: &'static str,
-    pub(crate) help: &'static str,
-    pub(crate) form: Form,
-    pub(crate) relation: Relation,
-}
-
-/// How an argument is given.
-#[derive(Clone, Copy)]
-pub(crate) enum Form {
-    /// By a word at its place. It has to be there.
-    Required,
-    /// By a word at its place. It may be left out.
-    Optional,
-    /// By a word at its place, which may be a negative number. It may be left out.
-    OptionalText,
-    /// By any number of words, the last ones.
-    Several,
-    /// By `--` and its name.
-    Flag,
-    /// By `--` and its name, or by `-` and this letter.
-    ShortFlag(char),
-    /// By `--`, its name and a word, which help calls so.
-    Word(&'static str),
-    /// As [`Form::Word`], any number of times.
-    Words(&'static str),
-    /// As [`Form::Word`]. The word may be a negative number.
-    Text(&'static str),
-    /// By `--`, its name and a number that is at least so big, which help calls so.
-    Number(&'static str, u64),
-}
-
-/// What an argument has to do with others of the subcommand, which stand by their names.
-#[derive(Clone, Copy)]
-pub(crate) enum Relation {
-    /// Nothing.
-    Free,
-    /// It is given only with this one.
-    Needs(&'static str),
-    /// It is given with none of these.
-    Excludes(&'static [&'static str]),
-    /// Either it is given, or this one.
-    Replaces(&'static str),
-}
+use command_line::{Argument, Form, Matches, Relation};
 
 /// The folder of a store.
 pub(crate) const FOLDER: &str = "FOLDER";
@@ -99,8 +55,10 @@ pub(crate) const EXPLAIN_ARGUMENT: Argument = Argument {
 };
 
 /// How much the words have said of a text that is refused.
-pub(crate) fn reporting_of(words: &ArgMatches<'_>) -> Reporting {
-    if words.get_flag(EXPLAIN) {
+pub(crate) fn reporting_of(words: &Matches<'_>) -> Reporting
+    ensures { result ≡ reporting_in words.now }
+{
+    if words.flag(EXPLAIN) {
         Reporting::Explained
     } else {
         Reporting::Brief

@@ -1,23 +1,22 @@
 // The words of the program that change a store.
-ghost use Rattle.std.specs.Prelude.{IfSome};
-ghost use Rattle.conf_words.specs.Invocations.{HasFittingFiles};
+ghost use Rattle.std.specs.Prelude.{◌≡◌, is_some};
+ghost use Rattle.conf_words.specs.Invocations as spec;
 
 use crate::arguments::{
-    Argument, EXPLAIN_ARGUMENT, FILE, FOLDER, FOLDER_ARGUMENT, Form, NAME, NAME_ARGUMENT, POINTER,
-    POINTER_ARGUMENT, Relation, WHOLE, YAML, reporting_of,
+    EXPLAIN_ARGUMENT, FILE, FOLDER, FOLDER_ARGUMENT, NAME, NAME_ARGUMENT, POINTER,
+    POINTER_ARGUMENT, WHOLE, YAML, reporting_of,
 };
 use crate::conditions::{
-    IF_ABSENT, IF_ABSENT_ARGUMENT, IF_COUNT_ARGUMENT, IF_VALUE_ARGUMENT, conditions_of,
+    IF_ABSENT, IF_ABSENT_ARGUMENT, IF_COUNT, IF_COUNT_ARGUMENT, IF_VALUE, IF_VALUE_ARGUMENT,
+    conditions_of,
 };
 use crate::invocation::{
-    Conditions, Grouping, Invocation, MissingStore, STANDARD_INPUT, Value, Wanted,
+    Conditions, Grouping, Invocation, MissingStore, Root, STANDARD_INPUT, Value, Wanted,
 };
 use crate::listing::Listing;
-use crate::refusal::refused;
-use crate::unparsed::Unparsed;
+use crate::refusal::Unasked;
 use crate::waiting::WAIT_ARGUMENT;
-use clap::ArgMatches;
-use std::alloc::Global;
+use command_line::{Argument, Form, Matches, Relation};
 
 pub(crate) const INIT: Listing = Listing {
     about: "Makes a folder with an empty store",
@@ -28,12 +27,13 @@ A folder that is there serves too. It is refused if it has a store.yaml (StoreEx
 Example:  confstore init store",
 };
 
-pub(crate) fn init_invocation<'w>(words: &ArgMatches<'w>) -> Option<Invocation<'w>>
-    ensures { IfSome result HasFittingFiles }
+pub(crate) fn init_invocation<'w>(words: &Matches<'w>) -> Result<Invocation<'w>, Unasked>
+    ensures { spec.Makes (spec.init_is_wrong words.now) (spec.IsInit words.now) result }
 {
-    Some(Invocation::Init {
-        folder: words.get_str(FOLDER)?,
-    })
+    let Some(folder) = words.text(FOLDER) else {
+        return Err(Unasked::OTHER);
+    };
+    Ok(Invocation::Init { folder })
 }
 
 pub(crate) const IMPORT: Listing = Listing {
@@ -42,6 +42,12 @@ pub(crate) const IMPORT: Listing = Listing {
         Argument {
             name: MAKE_STORE,
             help: "Makes a store in the folder, if it has none",
+            form: Form::Flag,
+            relation: Relation::Free,
+        },
+        Argument {
+            name: ANY_ROOT,
+            help: "Takes a text that is one value alone, too, as `80`",
             form: Form::Flag,
             relation: Relation::Free,
         },
@@ -62,7 +68,9 @@ pub(crate) const IMPORT: Listing = Listing {
     help: "\
 A configuration that has the name is replaced. Nothing is printed where it is done. Comments and
 quotes are not kept, and `3` is written `\"3\"`. A folder without a store is refused (NotAStore), and
-stays as it is, unless --init is given. If a condition does not hold, nothing changes (Unmet).
+stays as it is, unless --init is given. A text that is one value alone, as `80`, is refused (OneValue)
+unless --any-root is given: mostly it is a file of another format. If a condition does not hold, nothing
+changes (Unmet).
 
 A text that is refused is reported on standard error with its file, `-` for standard input, as
 `web.yaml:501:1: KeyTwice \"key250\" (first at 17:1)`. With --explain, or where standard error is a
@@ -78,21 +86,43 @@ Examples:
 /// The word of `import` that has a store made where there is none.
 const MAKE_STORE: &str = "init";
 
-pub(crate) fn import_invocation<'w>(words: &ArgMatches<'w>) -> Option<Invocation<'w>>
-    ensures { IfSome result HasFittingFiles }
+pub(crate) fn import_invocation<'w>(words: &Matches<'w>) -> Result<Invocation<'w>, Unasked>
+    ensures { spec.Makes (spec.import_is_wrong words.now) (spec.IsImport words.now) result }
 {
-    Some(Invocation::Import {
-        folder: words.get_str(FOLDER)?,
-        name: words.get_str(NAME)?,
-        file: words.get_str(FILE).unwrap_or(STANDARD_INPUT),
+    let Some(folder) = words.text(FOLDER) else {
+        return Err(Unasked::OTHER);
+    };
+    let Some(name) = words.text(NAME) else {
+        return Err(Unasked::OTHER);
+    };
+    Ok(Invocation::Import {
+        folder,
+        name,
+        file: words.text(FILE).unwrap_or(STANDARD_INPUT),
+        root: root_of(words),
         missing: missing_of(words),
         conditions: conditions_of(words),
         reporting: reporting_of(words),
     })
 }
 
-fn missing_of(words: &ArgMatches<'_>) -> MissingStore {
-    if words.get_flag(MAKE_STORE) {
+/// The word of `import` that has any text taken.
+const ANY_ROOT: &str = "any-root";
+
+fn root_of(words: &Matches<'_>) -> Root
+    ensures { result ≡ spec.root_in words.now }
+{
+    if words.flag(ANY_ROOT) {
+        Root::Any
+    } else {
+        Root::Collection
+    }
+}
+
+fn missing_of(words: &Matches<'_>) -> MissingStore
+    ensures { result ≡ spec.missing_in words.now }
+{
+    if words.flag(MAKE_STORE) {
         MissingStore::Made
     } else {
         MissingStore::Refused
@@ -169,40 +199,58 @@ const ALLOW_WHOLE_ARGUMENT: Argument = Argument {
 /// The word of `set` that gives the file of a text in place of the value. It excludes [`YAML`].
 const FROM_FILE: &str = "file";
 
-pub(crate) fn set_invocation<'w>(words: &ArgMatches<'w>) -> Option<Invocation<'w>>
-    ensures { IfSome result HasFittingFiles }
+pub(crate) fn set_invocation<'w>(words: &Matches<'w>) -> Result<Invocation<'w>, Unasked>
+    ensures { spec.Makes (spec.set_is_wrong words.now) (spec.IsSet words.now) result }
 {
-    Some(Invocation::Set {
-        folder: words.get_str(FOLDER)?,
-        name: words.get_str(NAME)?,
-        pointer: words.get_str(POINTER)?,
-        value: value_of(words)?,
+    let Some(folder) = words.text(FOLDER) else {
+        return Err(Unasked::OTHER);
+    };
+    let Some(name) = words.text(NAME) else {
+        return Err(Unasked::OTHER);
+    };
+    let Some(pointer) = words.text(POINTER) else {
+        return Err(Unasked::OTHER);
+    };
+    let Some(value) = value_of(words) else {
+        return Err(Unasked::OTHER);
+    };
+    if let Some(why) = why_not_at(words) {
+        return Err(Unasked::Because(why));
+    }
+    Ok(Invocation::Set {
+        folder,
+        name,
+        pointer,
+        value,
         conditions: conditions_of(words),
         reporting: reporting_of(words),
     })
 }
 
-/// Tests the pointer of `set` or `delete`: it is empty exactly if the words say that the whole configuration is meant.
-/// So a variable of a shell that is not set removes nothing.
-pub(crate) fn test_pointer(alloc: Global, words: &ArgMatches<'_>) -> Result<(), Unparsed> {
-    match (words.get_str(POINTER), words.get_flag(ALLOW_WHOLE)) {
-        (Some(""), false) => Err(refused(alloc, "an empty POINTER needs --whole")),
-        (Some(pointer), true) if !pointer.is_empty() => {
-            Err(refused(alloc, "--whole needs the POINTER \"\""))
-        }
-        _ => Ok(()),
+/// Why `set` or `delete` may not be at its pointer; `None` if it may. The pointer is empty exactly if the words say
+/// that the whole configuration is meant, so a variable of a shell that is not set removes nothing.
+fn why_not_at(words: &Matches<'_>) -> Option<&'static str>
+    ensures { is_some result ≡ spec.pointer_is_wrong words.now }
+{
+    let pointer = words.text(POINTER)?;
+    match (pointer.is_empty(), words.flag(ALLOW_WHOLE)) {
+        (true, false) => Some("an empty POINTER needs --whole"),
+        (false, true) => Some("--whole needs the POINTER \"\""),
+        _ => None,
     }
 }
 
-fn value_of<'w>(words: &ArgMatches<'w>) -> Option<Value<'w>> {
-    if let Some(file) = words.get_str(FROM_FILE) {
+/// The value that the words of `set` give.
+fn value_of<'w>(words: &Matches<'w>) -> Option<Value<'w>>
+    ensures { spec.IsValue words.now result }
+{
+    if let Some(file) = words.text(FROM_FILE) {
         return Some(Value::File(file));
     }
-    let text = words.get_str(VALUE)?;
-    if words.get_flag(YAML) {
-        Some(Value::Yaml(text))
-    } else {
-        Some(Value::Text(text))
+    match words.text(VALUE) {
+        Some(text) if words.flag(YAML) => Some(Value::Yaml(text)),
+        Some(text) => Some(Value::Text(text)),
+        None => None,
     }
 }
 
@@ -228,13 +276,22 @@ Examples:
   confstore delete store web --if-count 12",
 };
 
-pub(crate) fn delete_invocation<'w>(words: &ArgMatches<'w>) -> Option<Invocation<'w>>
-    ensures { IfSome result HasFittingFiles }
+pub(crate) fn delete_invocation<'w>(words: &Matches<'w>) -> Result<Invocation<'w>, Unasked>
+    ensures { spec.Makes (spec.delete_is_wrong words.now) (spec.IsDelete words.now) result }
 {
-    Some(Invocation::Delete {
-        folder: words.get_str(FOLDER)?,
-        name: words.get_str(NAME)?,
-        pointer: words.get_str(POINTER).unwrap_or(WHOLE),
+    let Some(folder) = words.text(FOLDER) else {
+        return Err(Unasked::OTHER);
+    };
+    let Some(name) = words.text(NAME) else {
+        return Err(Unasked::OTHER);
+    };
+    if let Some(why) = why_not_at(words) {
+        return Err(Unasked::Because(why));
+    }
+    Ok(Invocation::Delete {
+        folder,
+        name,
+        pointer: words.text(POINTER).unwrap_or(WHOLE),
         conditions: conditions_of(words),
     })
 }
@@ -279,26 +336,38 @@ const TO_ARGUMENT: Argument = Argument {
     relation: Relation::Free,
 };
 
-pub(crate) fn copy_invocation<'w>(words: &ArgMatches<'w>) -> Option<Invocation<'w>>
-    ensures { IfSome result HasFittingFiles }
+pub(crate) fn copy_invocation<'w>(words: &Matches<'w>) -> Result<Invocation<'w>, Unasked>
+    ensures { spec.Makes (spec.copy_is_wrong words.now) (spec.IsCopy words.now) result }
 {
-    Some(Invocation::Copy {
-        folder: words.get_str(FOLDER)?,
-        name: words.get_str(NAME)?,
-        to: words.get_str(TO)?,
+    let Some(folder) = words.text(FOLDER) else {
+        return Err(Unasked::OTHER);
+    };
+    let Some(name) = words.text(NAME) else {
+        return Err(Unasked::OTHER);
+    };
+    let Some(to) = words.text(TO) else {
+        return Err(Unasked::OTHER);
+    };
+    Ok(Invocation::Copy {
+        folder,
+        name,
+        to,
         conditions: copy_conditions(words),
     })
 }
 
 /// The conditions that the words of `copy` give: unless they say otherwise, nothing has the other name.
-fn copy_conditions<'w>(words: &ArgMatches<'w>) -> Conditions<'w> {
-    let conditions = conditions_of(words);
-    match conditions.place {
-        Wanted::Anything if !words.get_flag(REPLACE) => Conditions {
-            place: Wanted::Nothing,
-            ..conditions
-        },
-        _ => conditions,
+fn copy_conditions<'w>(words: &Matches<'w>) -> Conditions<'w>
+    ensures { spec.AreCopyConditions words.now result }
+{
+    let place = match words.text(IF_VALUE) {
+        Some(text) => Wanted::Text(text),
+        None if words.flag(IF_ABSENT) || !words.flag(REPLACE) => Wanted::Nothing,
+        None => Wanted::Anything,
+    };
+    Conditions {
+        place,
+        count: words.number(IF_COUNT),
     }
 }
 
@@ -324,13 +393,22 @@ Examples:
   confstore rename store web site --if-absent",
 };
 
-pub(crate) fn rename_invocation<'w>(words: &ArgMatches<'w>) -> Option<Invocation<'w>>
-    ensures { IfSome result HasFittingFiles }
+pub(crate) fn rename_invocation<'w>(words: &Matches<'w>) -> Result<Invocation<'w>, Unasked>
+    ensures { spec.Makes (spec.rename_is_wrong words.now) (spec.IsRename words.now) result }
 {
-    Some(Invocation::Rename {
-        folder: words.get_str(FOLDER)?,
-        name: words.get_str(NAME)?,
-        to: words.get_str(TO)?,
+    let Some(folder) = words.text(FOLDER) else {
+        return Err(Unasked::OTHER);
+    };
+    let Some(name) = words.text(NAME) else {
+        return Err(Unasked::OTHER);
+    };
+    let Some(to) = words.text(TO) else {
+        return Err(Unasked::OTHER);
+    };
+    Ok(Invocation::Rename {
+        folder,
+        name,
+        to,
         conditions: conditions_of(words),
     })
 }
@@ -344,12 +422,13 @@ What earlier commands were is gone then.
 Example:  confstore checkpoint store",
 };
 
-pub(crate) fn checkpoint_invocation<'w>(words: &ArgMatches<'w>) -> Option<Invocation<'w>>
-    ensures { IfSome result HasFittingFiles }
+pub(crate) fn checkpoint_invocation<'w>(words: &Matches<'w>) -> Result<Invocation<'w>, Unasked>
+    ensures { spec.Makes (spec.checkpoint_is_wrong words.now) (spec.IsCheckpoint words.now) result }
 {
-    Some(Invocation::Checkpoint {
-        folder: words.get_str(FOLDER)?,
-    })
+    let Some(folder) = words.text(FOLDER) else {
+        return Err(Unasked::OTHER);
+    };
+    Ok(Invocation::Checkpoint { folder })
 }
 
 pub(crate) const RUN: Listing = Listing {
@@ -410,19 +489,24 @@ const GROUP: &str = "group";
 /// The word of `run` that says after how many bytes a checkpoint is made. It needs [`GROUP`].
 const CHECKPOINT_AFTER: &str = "checkpoint-after";
 
-pub(crate) fn run_invocation<'w>(words: &ArgMatches<'w>) -> Option<Invocation<'w>>
-    ensures { IfSome result HasFittingFiles }
+pub(crate) fn run_invocation<'w>(words: &Matches<'w>) -> Result<Invocation<'w>, Unasked>
+    ensures { spec.Makes (spec.run_is_wrong words.now) (spec.IsRun words.now) result }
 {
-    Some(Invocation::Run {
-        folder: words.get_str(FOLDER)?,
+    let Some(folder) = words.text(FOLDER) else {
+        return Err(Unasked::OTHER);
+    };
+    Ok(Invocation::Run {
+        folder,
         grouping: grouping_of(words),
     })
 }
 
-fn grouping_of(words: &ArgMatches<'_>) -> Grouping {
-    if words.get_flag(GROUP) {
+fn grouping_of(words: &Matches<'_>) -> Grouping
+    ensures { result ≡ spec.grouping_in words.now }
+{
+    if words.flag(GROUP) {
         Grouping::Grouped {
-            checkpoint_after: words.get_one(CHECKPOINT_AFTER),
+            checkpoint_after: words.number(CHECKPOINT_AFTER),
         }
     } else {
         Grouping::Single

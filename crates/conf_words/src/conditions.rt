@@ -1,7 +1,8 @@
 // The arguments that have a word change a store only if something holds of it.
-use crate::arguments::{Argument, Form, Relation};
+ghost use Rattle.conf_words.specs.Invocations.{AreConditions, IsWanted};
+
 use crate::invocation::{Conditions, Wanted};
-use clap::ArgMatches;
+use command_line::{Argument, Form, Matches, Relation};
 
 /// The argument that wants a text at the place.
 pub(crate) const IF_VALUE: &str = "if-value";
@@ -34,18 +35,22 @@ pub(crate) const IF_COUNT_ARGUMENT: Argument = Argument {
 };
 
 /// The conditions that the words give.
-pub(crate) fn conditions_of<'w>(words: &ArgMatches<'w>) -> Conditions<'w> {
+pub(crate) fn conditions_of<'w>(words: &Matches<'w>) -> Conditions<'w>
+    ensures { AreConditions words.now result }
+{
     Conditions {
         place: wanted_by(words),
-        count: words.get_one(IF_COUNT),
+        count: words.number(IF_COUNT),
     }
 }
 
 /// What the words want at the place.
-fn wanted_by<'w>(words: &ArgMatches<'w>) -> Wanted<'w> {
-    match words.get_str(IF_VALUE) {
+fn wanted_by<'w>(words: &Matches<'w>) -> Wanted<'w>
+    ensures { IsWanted words.now result }
+{
+    match words.text(IF_VALUE) {
         Some(text) => Wanted::Text(text),
-        None if words.get_flag(IF_ABSENT) => Wanted::Nothing,
+        None if words.flag(IF_ABSENT) => Wanted::Nothing,
         None => Wanted::Anything,
     }
 }

@@ -17,6 +17,7 @@ pub enum Invocation<'w> {
         folder: &'w str,
         name: &'w str,
         file: &'w str,
+        root: Root,
         missing: MissingStore,
         conditions: Conditions<'w>,
         reporting: Reporting,
@@ -75,13 +76,14 @@ pub enum Invocation<'w> {
         at: Option<u64>,
         form: NamesForm,
     },
-    /// Writes the value at a JSON Pointer of a configuration, or its keys, of the store as it was after command `at`,
-    /// or as it is.
-    /// The pointer is empty if the words leave it out: then the value is the whole configuration.
+    /// Writes the values at JSON Pointers of a configuration, one after the other, or the keys of one, of the store as
+    /// it was after command `at`, or as it is. There is at least one pointer: the empty one if the words give none,
+    /// which means the whole configuration. There are several only for texts as they are, each on a line, or for JSON
+    /// texts.
     Get {
         folder: &'w str,
         name: &'w str,
-        pointer: &'w str,
+        pointers: Vec<&'w str>,
         at: Option<u64>,
         missing: MissingValue<'w>,
         form: ValueForm,
@@ -95,9 +97,12 @@ pub enum Invocation<'w> {
         pointer: &'w str,
         at: Option<u64>,
     },
-    /// Writes the commands that the store has accepted since its last checkpoint, up to command `at`, or all.
+    /// Writes the commands that the store has accepted since its last checkpoint, from number `from` on and up to
+    /// number `at`, or to the last one; only those that change the configuration `name`, if the words give one.
     Log {
         folder: &'w str,
+        name: Option<&'w str>,
+        from: u64,
         at: Option<u64>,
         form: LogForm<'w>,
     },
@@ -252,6 +257,15 @@ pub enum Style {
     Bare,
     /// The same with the comments of the text.
     WithComments,
+}
+
+/// What an imported text may be.
+#[derive(Clone, Copy, Debug, PartialEq, Eq)]
+pub enum Root {
+    /// A mapping or a list. One value alone is refused.
+    Collection,
+    /// Any value.
+    Any,
 }
 
 /// What is done where the folder has no store.

@@ -23,9 +23,9 @@ pub use escapes::escaped;
 pub use folder_word::FolderWord;
 pub use invocation::{
     Comments, Conditions, Formatting, Grouping, Invocation, LogForm, MissingStore, MissingValue,
-    NamesForm, RawEnd, Reporting, STANDARD_INPUT, Style, TreeForm, Value, ValueForm, Wanted,
+    NamesForm, RawEnd, Reporting, Root, STANDARD_INPUT, Style, TreeForm, Value, ValueForm, Wanted,
 };
-pub use laws::no_two_texts_are_shown_alike;
+pub use laws::{files_always_fit, no_two_texts_are_shown_alike};
 pub use subcommand::Subcommand;
 pub use unparsed::Unparsed;
 pub use waiting::WAIT_VARIABLE;

@@ -1,11 +1,15 @@
 // What the program lists of a subcommand, and the same as clap takes it.
-use crate::arguments::{Argument, Form, Relation};
+ghost use Rattle.std.specs.Prelude.{◌≡◌, map};
+ghost use Rattle.command_line.specs.Rows.{row_of};
+ghost use Rattle.conf_words.specs.Subcommands.{rows_of};
+
 use crate::change_words::{CHECKPOINT, COPY, DELETE, IMPORT, INIT, RENAME, RUN, SET};
 use crate::read_words::{BACKUP, EXISTS, EXPORT, GET, KEYS, LOG, NAMES, SALVAGE, VERIFY};
 use crate::subcommand::Subcommand;
 use crate::text_words::{CHECK, FORMAT};
 use clap::builder::ValueParser;
 use clap::{Arg, ArgAction, Command};
+use command_line::{Argument, Form, Relation};
 use std::alloc::{AllocError, Global};
 
 /// What the program lists of a subcommand.
@@ -26,19 +30,22 @@ pub(crate) fn listed<'a>(alloc: Global, subcommand: Subcommand) -> Result<Comman
         .about(listing.about)
         .after_help(listing.help);
     for argument in listing.arguments {
-        command = command.arg(arg_of(alloc, argument)?)?;
+        command = command.arg(arg_of(alloc, argument, listing.arguments)?)?;
     }
     Ok(command)
 }
 
-/// Whether a subcommand takes the argument of this name.
-pub(crate) fn takes(subcommand: Subcommand, name: &str) -> bool {
-    let arguments = listing_of(subcommand).arguments;
-    arguments.iter().any(|argument| argument.name == name)
+/// The arguments of a subcommand.
+pub(crate) fn arguments_of(subcommand: Subcommand) -> &'static [Argument]
+    ensures { map row_of result.now ≡ rows_of subcommand }
+{
+    listing_of(subcommand).arguments
 }
 
 /// What the program lists of this subcommand.
-fn listing_of(subcommand: Subcommand) -> Listing {
+fn listing_of(subcommand: Subcommand) -> Listing
+    ensures { map row_of result.arguments.now ≡ rows_of subcommand }
+{
     match subcommand {
         Subcommand::Init => INIT,
         Subcommand::Import => IMPORT,
@@ -62,15 +69,34 @@ fn listing_of(subcommand: Subcommand) -> Listing {
     }
 }
 
-/// An argument as clap takes it. It fails only if memory runs out.
-fn arg_of<'a>(alloc: Global, argument: &Argument) -> Result<Arg<'a>, AllocError> {
+/// An argument of these as clap takes it. It fails only if memory runs out.
+fn arg_of<'a>(
+    alloc: Global,
+    argument: &Argument,
+    arguments: &[Argument],
+) -> Result<Arg<'a>, AllocError> {
     let arg = given_by(alloc, argument.name, argument.form).help(argument.help);
     match argument.relation {
         Relation::Free => Ok(arg),
-        Relation::Needs(other) => arg.requires_arg(other),
+        Relation::Needs(other) => {
+            arg.requires_arg(other)?
+                .conflicts_with_all(excluded_by(arguments, other))
+        }
         Relation::Excludes(others) => arg.conflicts_with_all(others),
         Relation::Replaces(other) => arg.required_unless_present(other)?.conflicts_with(other),
     }
+}
+
+/// What the argument of this name excludes. One that needs it excludes the same: clap wouldn't want what is excluded.
+fn excluded_by(arguments: &[Argument], name: &str) -> &'static [&'static str] {
+    for argument in arguments {
+        if let Relation::Excludes(others) = argument.relation {
+            if argument.name == name {
+                return others;
+            }
+        }
+    }
+    &[]
 }
 
 /// An argument of this name, which is given so.

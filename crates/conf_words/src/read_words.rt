@@ -1,19 +1,18 @@
 // The words of the program that only read a store, and those that make a new store of what is read.
-ghost use Rattle.std.specs.Prelude.{IfOk, IfSome};
-ghost use Rattle.conf_words.specs.Invocations.{HasFittingFiles};
+ghost use Rattle.std.specs.Prelude.{◌≡◌, ◌∷◌, IfOk, [], codes, map, unwrap_or};
+ghost use Rattle.command_line.specs.Matches.{text_of};
+ghost use Rattle.conf_words.specs.Invocations as spec;
 
 use crate::arguments::{
-    Argument, FILE, FOLDER, FOLDER_ARGUMENT, Form, NAME, NAME_ARGUMENT, POINTER, POINTER_ARGUMENT,
-    Relation, WHOLE, YAML,
+    FILE, FOLDER, FOLDER_ARGUMENT, NAME, NAME_ARGUMENT, POINTER, POINTER_ARGUMENT, WHOLE, YAML,
 };
 use crate::invocation::{
     Invocation, LogForm, MissingValue, NamesForm, RawEnd, TreeForm, ValueForm,
 };
 use crate::listing::Listing;
-use crate::refusal::{OTHER, refused};
-use crate::unparsed::Unparsed;
+use crate::refusal::Unasked;
 use crate::waiting::WAIT_ARGUMENT;
-use clap::ArgMatches;
+use command_line::{Argument, Form, Matches, Relation};
 use std::alloc::{AllocError, Global};
 
 /// The word that says after which command the store is read.
@@ -47,10 +46,12 @@ const PLAIN_ARGUMENT: Argument = Argument {
 };
 
 /// How a value is written whole, as the words say.
-fn tree_form_of(words: &ArgMatches<'_>) -> TreeForm {
-    if words.get_flag(JSON) {
+fn tree_form_of(words: &Matches<'_>) -> TreeForm
+    ensures { result ≡ spec.tree_form_in words.now }
+{
+    if words.flag(JSON) {
         TreeForm::Json
-    } else if words.get_flag(PLAIN) {
+    } else if words.flag(PLAIN) {
         TreeForm::Plain
     } else {
         TreeForm::Styled
@@ -76,12 +77,18 @@ Examples:
   confstore export store web --json",
 };
 
-pub(crate) fn export_invocation<'w>(words: &ArgMatches<'w>) -> Option<Invocation<'w>>
-    ensures { IfSome result HasFittingFiles }
+pub(crate) fn export_invocation<'w>(words: &Matches<'w>) -> Result<Invocation<'w>, Unasked>
+    ensures { spec.Makes (spec.export_is_wrong words.now) (spec.IsExport words.now) result }
 {
-    Some(Invocation::Export {
-        folder: words.get_str(FOLDER)?,
-        name: words.get_str(NAME)?,
+    let Some(folder) = words.text(FOLDER) else {
+        return Err(Unasked::OTHER);
+    };
+    let Some(name) = words.text(NAME) else {
+        return Err(Unasked::OTHER);
+    };
+    Ok(Invocation::Export {
+        folder,
+        name,
         form: tree_form_of(words),
     })
 }
@@ -107,18 +114,23 @@ Examples:
   confstore names store --at 12",
 };
 
-pub(crate) fn names_invocation<'w>(words: &ArgMatches<'w>) -> Option<Invocation<'w>>
-    ensures { IfSome result HasFittingFiles }
+pub(crate) fn names_invocation<'w>(words: &Matches<'w>) -> Result<Invocation<'w>, Unasked>
+    ensures { spec.Makes (spec.names_is_wrong words.now) (spec.IsNames words.now) result }
 {
-    Some(Invocation::Names {
-        folder: words.get_str(FOLDER)?,
-        at: words.get_one(AT),
+    let Some(folder) = words.text(FOLDER) else {
+        return Err(Unasked::OTHER);
+    };
+    Ok(Invocation::Names {
+        folder,
+        at: words.number(AT),
         form: names_form_of(words),
     })
 }
 
-fn names_form_of(words: &ArgMatches<'_>) -> NamesForm {
-    if words.get_flag(JSON) {
+fn names_form_of(words: &Matches<'_>) -> NamesForm
+    ensures { result ≡ spec.names_form_in words.now }
+{
+    if words.flag(JSON) {
         NamesForm::Json
     } else {
         NamesForm::Lines
@@ -151,7 +163,12 @@ pub(crate) const GET: Listing = Listing {
         AT_ARGUMENT,
         FOLDER_ARGUMENT,
         NAME_ARGUMENT,
-        POINTER_ARGUMENT,
+        Argument {
+            name: POINTER,
+            help: "JSON Pointers, as /port; the whole configuration if none is given",
+            form: Form::Several,
+            relation: Relation::Free,
+        },
     ],
     help: "\
 The value is written in the one style. With `--raw` a text is written as it is, with a line feed after
@@ -161,8 +178,13 @@ quotes, for readers with types. With `--default` that text is written where no c
 name, or nothing is at the pointer. No lock is taken and nothing is changed, so this runs beside a
 session that holds the store.
 
+Several pointers need `--raw` or `--json`, and no `--no-newline` or `--default`: the values are written
+one after the other, each with a line feed after it. They are of one moment. Where one of them can't be
+written, none is.
+
 Examples:
   confstore get store web /port --raw
+  confstore get store web /host /port --raw
   confstore get store web /port --raw --default 80
   confstore get store web
   confstore get store web /tls --json
@@ -178,30 +200,75 @@ const NO_NEWLINE: &str = "no-newline";
 /// The word of `get` that gives a text for a place where nothing is.
 const DEFAULT: &str = "default";
 
-pub(crate) fn get_invocation<'w>(words: &ArgMatches<'w>) -> Option<Invocation<'w>>
-    ensures { IfSome result HasFittingFiles }
+pub(crate) fn get_invocation<'w>(
+    alloc: Global,
+    words: &Matches<'w>,
+) -> Result<Invocation<'w>, Unasked>
+    ensures { spec.Makes (spec.get_is_wrong words.now) (spec.IsGet words.now) result }
 {
-    Some(Invocation::Get {
-        folder: words.get_str(FOLDER)?,
-        name: words.get_str(NAME)?,
-        pointer: words.get_str(POINTER).unwrap_or(WHOLE),
-        at: words.get_one(AT),
+    let Some(folder) = words.text(FOLDER) else {
+        return Err(Unasked::OTHER);
+    };
+    let Some(name) = words.text(NAME) else {
+        return Err(Unasked::OTHER);
+    };
+    let pointers = match pointers_of(alloc, words) {
+        Ok(pointers) => pointers,
+        Err(AllocError) => return Err(Unasked::OutOfMemory),
+    };
+    if pointers.len() > 1 && !writes_lines(words) {
+        return Err(Unasked::Because(SEVERAL));
+    }
+    Ok(Invocation::Get {
+        folder,
+        name,
+        pointers,
+        at: words.number(AT),
         missing: missing_value_of(words),
         form: form_of_value(words),
     })
 }
 
-fn missing_value_of<'w>(words: &ArgMatches<'w>) -> MissingValue<'w> {
-    match words.get_str(DEFAULT) {
+/// Why the words of `get` are wrong that give several pointers.
+const SEVERAL: &str = "several POINTERs need --raw or --json, and no --no-newline or --default";
+
+/// The pointers that the words of `get` give; that to the whole configuration if they give none. It fails only if
+/// memory runs out.
+fn pointers_of<'w>(alloc: Global, words: &Matches<'w>) -> Result<Vec<&'w str>, AllocError>
+    ensures { IfOk result (λ pointers.
+        map (λ p. p.now) pointers.items ≡ spec.pointers_in words.now) }
+{
+    let pointers = words.texts(alloc, POINTER)?;
+    if pointers.is_empty() {
+        let whole: &'w str = WHOLE;
+        return Vec::from_slice(alloc, &[whole]);
+    }
+    Ok(pointers)
+}
+
+/// Whether the words of `get` have each value written with a line feed after it, also where nothing is at a pointer.
+fn writes_lines(words: &Matches<'_>) -> bool
+    ensures { result ≡ spec.writes_lines words.now }
+{
+    let is_line = words.flag(JSON) || (words.flag(RAW) && !words.flag(NO_NEWLINE));
+    is_line && words.text(DEFAULT).is_none()
+}
+
+fn missing_value_of<'w>(words: &Matches<'w>) -> MissingValue<'w>
+    ensures { spec.IsDefault words.now result }
+{
+    match words.text(DEFAULT) {
         Some(text) => MissingValue::Default(text),
         None => MissingValue::Refused,
     }
 }
 
-fn form_of_value(words: &ArgMatches<'_>) -> ValueForm {
-    if words.get_flag(NO_NEWLINE) {
+fn form_of_value(words: &Matches<'_>) -> ValueForm
+    ensures { result ≡ spec.value_form_in words.now }
+{
+    if words.flag(NO_NEWLINE) {
         ValueForm::Raw(RawEnd::Nothing)
-    } else if words.get_flag(RAW) {
+    } else if words.flag(RAW) {
         ValueForm::Raw(RawEnd::LineFeed)
     } else {
         ValueForm::Whole(tree_form_of(words))
@@ -227,17 +294,39 @@ Examples:
   confstore keys store web /hosts --at 12",
 };
 
-pub(crate) fn keys_invocation<'w>(words: &ArgMatches<'w>) -> Option<Invocation<'w>>
-    ensures { IfSome result HasFittingFiles }
+pub(crate) fn keys_invocation<'w>(
+    alloc: Global,
+    words: &Matches<'w>,
+) -> Result<Invocation<'w>, Unasked>
+    ensures { spec.Makes (spec.keys_is_wrong words.now) (spec.IsKeys words.now) result }
 {
-    Some(Invocation::Get {
-        folder: words.get_str(FOLDER)?,
-        name: words.get_str(NAME)?,
-        pointer: words.get_str(POINTER).unwrap_or(WHOLE),
-        at: words.get_one(AT),
+    let Some(folder) = words.text(FOLDER) else {
+        return Err(Unasked::OTHER);
+    };
+    let Some(name) = words.text(NAME) else {
+        return Err(Unasked::OTHER);
+    };
+    let pointers = match pointer_of(alloc, words) {
+        Ok(pointers) => pointers,
+        Err(AllocError) => return Err(Unasked::OutOfMemory),
+    };
+    Ok(Invocation::Get {
+        folder,
+        name,
+        pointers,
+        at: words.number(AT),
         missing: MissingValue::Refused,
         form: ValueForm::Keys,
     })
+}
+
+/// The pointer that the words of `keys` give, as a list. It fails only if memory runs out.
+fn pointer_of<'w>(alloc: Global, words: &Matches<'w>) -> Result<Vec<&'w str>, AllocError>
+    ensures { IfOk result (λ pointers. map (λ p. p.now) pointers.items
+        ≡ unwrap_or (text_of words.now (codes "POINTER")) [] ∷ []) }
+{
+    let pointer = words.text(POINTER).unwrap_or(WHOLE);
+    Vec::from_slice(alloc, &[pointer])
 }
 
 pub(crate) const EXISTS: Listing = Listing {
@@ -259,14 +348,20 @@ Examples:
   confstore exists store web --at 12",
 };
 
-pub(crate) fn exists_invocation<'w>(words: &ArgMatches<'w>) -> Option<Invocation<'w>>
-    ensures { IfSome result HasFittingFiles }
+pub(crate) fn exists_invocation<'w>(words: &Matches<'w>) -> Result<Invocation<'w>, Unasked>
+    ensures { spec.Makes (spec.exists_is_wrong words.now) (spec.IsExists words.now) result }
 {
-    Some(Invocation::Exists {
-        folder: words.get_str(FOLDER)?,
-        name: words.get_str(NAME)?,
-        pointer: words.get_str(POINTER).unwrap_or(WHOLE),
-        at: words.get_one(AT),
+    let Some(folder) = words.text(FOLDER) else {
+        return Err(Unasked::OTHER);
+    };
+    let Some(name) = words.text(NAME) else {
+        return Err(Unasked::OTHER);
+    };
+    Ok(Invocation::Exists {
+        folder,
+        name,
+        pointer: words.text(POINTER).unwrap_or(WHOLE),
+        at: words.number(AT),
     })
 }
 
@@ -291,15 +386,36 @@ pub(crate) const LOG: Listing = Listing {
             form: Form::Flag,
             relation: Relation::Excludes(&[HIDE]),
         },
+        Argument {
+            name: FROM,
+            help: "Begins with command number N",
+            form: Form::Number("N", 0),
+            relation: Relation::Free,
+        },
+        Argument {
+            name: LAST,
+            help: "Ends with command number N; nothing is written unless it is there",
+            form: Form::Number("N", 0),
+            relation: Relation::Excludes(&[AT]),
+        },
         AT_ARGUMENT,
         FOLDER_ARGUMENT,
+        Argument {
+            name: NAME,
+            help: "The configuration of which the commands are written; all if it is left out",
+            form: Form::Optional,
+            relation: Relation::Free,
+        },
     ],
     help: "\
 Each command is one line, as `2 set web \"/port\"`: its number, what it did, and where. With `--values`
 the value of an import or a set follows as a JSON text, as `2 set web \"/port\" \"80\"`. With `--yaml`
 the records are written as they stand in store.yaml, each a YAML document. No lock is taken and
-nothing is changed, so this runs beside a session that holds the store. With `--at` nothing is written
-unless command N is there.
+nothing is changed, so this runs beside a session that holds the store.
+
+With NAME only commands are written that change this configuration: a batch that does, as that of
+`rename`, is written whole. `--to N` and `--at N` are the same. Commands that a checkpoint dropped are
+not there.
 
 With `--hide POINTER` the word `hidden` stands for what is at the JSON Pointer of any configuration, or
 below it, as `1 import web {\"port\":\"80\",\"key\":hidden}`. An index is the one that the command names, and
@@ -307,11 +423,18 @@ below it, as `1 import web {\"port\":\"80\",\"key\":hidden}`. An index is the on
 
 Examples:
   confstore log store
+  confstore log store web --from 12
   confstore log store --values
   confstore log store --values --hide /key
   confstore log store --yaml
   confstore log store --at 12",
 };
+
+/// The word of `log` that says with which command it begins.
+const FROM: &str = "from";
+
+/// The word of `log` that says with which command it ends. It means the same as [`AT`].
+const LAST: &str = "to";
 
 /// The word of `log` that has values written.
 const VALUES: &str = "values";
@@ -321,29 +444,37 @@ const HIDE: &str = "hide";
 
 pub(crate) fn log_invocation<'w>(
     alloc: Global,
-    words: &ArgMatches<'w>,
-) -> Result<Invocation<'w>, Unparsed>
-    ensures { IfOk result HasFittingFiles }
+    words: &Matches<'w>,
+) -> Result<Invocation<'w>, Unasked>
+    ensures { spec.Makes (spec.log_is_wrong words.now) (spec.IsLog words.now) result }
 {
-    let Some(folder) = words.get_str(FOLDER) else {
-        return Err(refused(alloc, OTHER));
+    let Some(folder) = words.text(FOLDER) else {
+        return Err(Unasked::OTHER);
+    };
+    let form = match form_of_log(alloc, words) {
+        Ok(form) => form,
+        Err(AllocError) => return Err(Unasked::OutOfMemory),
     };
     Ok(Invocation::Log {
         folder,
-        at: words.get_one(AT),
-        form: form_of_log(alloc, words)?,
+        name: words.text(NAME),
+        from: words.number(FROM).unwrap_or(0),
+        at: words.number(AT).or(words.number(LAST)),
+        form,
     })
 }
 
 /// How a log is written, as the words say. It fails only if memory runs out.
-fn form_of_log<'w>(alloc: Global, words: &ArgMatches<'w>) -> Result<LogForm<'w>, AllocError> {
-    if words.get_flag(YAML) {
+fn form_of_log<'w>(alloc: Global, words: &Matches<'w>) -> Result<LogForm<'w>, AllocError>
+    ensures { IfOk result (spec.IsLogForm words.now) }
+{
+    if words.flag(YAML) {
         return Ok(LogForm::Records);
     }
-    if !words.get_flag(VALUES) {
+    if !words.flag(VALUES) {
         return Ok(LogForm::Lines);
     }
-    let hidden = Vec::from_slice(alloc, words.get_strs(HIDE).unwrap_or_default())?;
+    let hidden = words.texts(alloc, HIDE)?;
     Ok(LogForm::Values { hidden })
 }
 
@@ -385,12 +516,15 @@ Examples:
   confstore verify store --keep-dropped dropped.bin",
 };
 
-pub(crate) fn verify_invocation<'w>(words: &ArgMatches<'w>) -> Option<Invocation<'w>>
-    ensures { IfSome result HasFittingFiles }
+pub(crate) fn verify_invocation<'w>(words: &Matches<'w>) -> Result<Invocation<'w>, Unasked>
+    ensures { spec.Makes (spec.verify_is_wrong words.now) (spec.IsVerify words.now) result }
 {
-    Some(Invocation::Verify {
-        folder: words.get_str(FOLDER)?,
-        keep_dropped: words.get_str(KEEP_DROPPED),
+    let Some(folder) = words.text(FOLDER) else {
+        return Err(Unasked::OTHER);
+    };
+    Ok(Invocation::Verify {
+        folder,
+        keep_dropped: words.text(KEEP_DROPPED),
     })
 }
 
@@ -418,13 +552,19 @@ const NEW_ARGUMENT: Argument = Argument {
     relation: Relation::Free,
 };
 
-pub(crate) fn salvage_invocation<'w>(words: &ArgMatches<'w>) -> Option<Invocation<'w>>
-    ensures { IfSome result HasFittingFiles }
+pub(crate) fn salvage_invocation<'w>(words: &Matches<'w>) -> Result<Invocation<'w>, Unasked>
+    ensures { spec.Makes (spec.salvage_is_wrong words.now) (spec.IsSalvage words.now) result }
 {
-    Some(Invocation::Salvage {
-        folder: words.get_str(FOLDER)?,
-        new: words.get_str(NEW)?,
-        keep_dropped: words.get_str(KEEP_DROPPED),
+    let Some(folder) = words.text(FOLDER) else {
+        return Err(Unasked::OTHER);
+    };
+    let Some(new) = words.text(NEW) else {
+        return Err(Unasked::OTHER);
+    };
+    Ok(Invocation::Salvage {
+        folder,
+        new,
+        keep_dropped: words.text(KEEP_DROPPED),
     })
 }
 
@@ -441,11 +581,14 @@ for that.
 Example:  confstore backup store store-of-monday",
 };
 
-pub(crate) fn backup_invocation<'w>(words: &ArgMatches<'w>) -> Option<Invocation<'w>>
-    ensures { IfSome result HasFittingFiles }
+pub(crate) fn backup_invocation<'w>(words: &Matches<'w>) -> Result<Invocation<'w>, Unasked>
+    ensures { spec.Makes (spec.backup_is_wrong words.now) (spec.IsBackup words.now) result }
 {
-    Some(Invocation::Backup {
-        folder: words.get_str(FOLDER)?,
-        new: words.get_str(NEW)?,
-    })
+    let Some(folder) = words.text(FOLDER) else {
+        return Err(Unasked::OTHER);
+    };
+    let Some(new) = words.text(NEW) else {
+        return Err(Unasked::OTHER);
+    };
+    Ok(Invocation::Backup { folder, new })
 }

@@ -1,4 +1,9 @@
 // What the program says of wrong words.
+ghost use Rattle.std.specs.Prelude.{◌≡◌, false};
+ghost use Rattle.conf_words.specs.Outcomes.{Tells};
+ghost use Rattle.conf_words.specs.declared.refusal.Unasked.TheVariants.{OutOfMemory};
+ghost use Rattle.conf_words.specs.declared.unparsed.Unparsed.TheVariants as unparsed;
+
 use crate::escapes::escaped;
 use crate::unparsed::Unparsed;
 use crate::words::matches_of;
@@ -8,11 +13,38 @@ use std::alloc::{AllocError, Global};
 /// Why words are wrong that only their escapes make right, or of which clap says nothing.
 pub(crate) const OTHER: &str = "the words are wrong";
 
+/// Why the matches of words ask for nothing.
+#[derive(Clone, Copy)]
+pub(crate) enum Unasked {
+    /// The words are wrong, and this is why.
+    Because(&'static str),
+    /// Out of memory.
+    OutOfMemory,
+}
+
+impl Unasked {
+    /// The words are wrong, and nothing more is said of them.
+    pub(crate) const OTHER: Unasked = Unasked::Because(OTHER);
+
+    /// The same with its lines for standard error.
+    pub(crate) fn told(self, alloc: Global) -> Unparsed
+        ensures told { Tells false result }
+        ensures memory { self ≡ OutOfMemory → result ≡ unparsed.OutOfMemory }
+    {
+        match self {
+            Unasked::Because(why) => refused(alloc, why),
+            Unasked::OutOfMemory => Unparsed::OutOfMemory,
+        }
+    }
+}
+
 /// The words are wrong, and this is why.
-pub(crate) fn refused(alloc: Global, why: &str) -> Unparsed {
+pub(crate) fn refused(alloc: Global, why: &str) -> Unparsed
+    ensures { Tells false result }
+{
     match refusal(alloc, why) {
         Ok(lines) => Unparsed::Wrong(lines),
-        Err(fault) => Unparsed::from(fault),
+        Err(AllocError) => Unparsed::OutOfMemory,
     }
 }
 

@@ -1,4 +1,7 @@
 // The subcommands of the program.
+ghost use Rattle.std.specs.Prelude.{◌≡◌, map, string_bytes};
+ghost use Rattle.std.specs.Str.{bytes_eq};
+ghost use Rattle.conf_words.specs.Subcommands.{all, asked_in, name_of, named};
 
 /// A subcommand of the program.
 #[derive(Clone, Copy, Debug, PartialEq, Eq)]
@@ -69,7 +72,9 @@ impl Subcommand {
 
     /// The subcommand that the program's words ask for; `None` if there is none. The first word is the program's name,
     /// and the second one asks.
-    pub fn asked_in(words: &[String]) -> Option<Subcommand> {
+    pub fn asked_in(words: &[String]) -> Option<Subcommand>
+        ensures { result ≡ asked_in (map string_bytes words.now) }
+    {
         match words {
             [_, word, ..] => Subcommand::named(word),
             _ => None,
@@ -77,14 +82,28 @@ impl Subcommand {
     }
 
     /// The subcommand of this name; `None` if there is none.
-    pub(crate) fn named(name: &str) -> Option<Subcommand> {
-        Subcommand::ALL
-            .into_iter()
-            .find(|subcommand| subcommand.name() == name)
+    pub(crate) fn named(name: &str) -> Option<Subcommand>
+        ensures { result ≡ named name.now }
+    {
+        for subcommand in Subcommand::ALL {
+            if subcommand.is_named(name) {
+                return Some(subcommand);
+            }
+        }
+        None
+    }
+
+    /// Whether this word asks for it.
+    fn is_named(self, name: &str) -> bool
+        ensures { result ≡ bytes_eq (name_of self) name.now }
+    {
+        self.name() == name
     }
 
     /// The word that asks for it.
-    pub(crate) fn name(self) -> &'static str {
+    pub(crate) fn name(self) -> &'static str
+        ensures { result.now ≡ name_of self }
+    {
         match self {
             Subcommand::Init => "init",
             Subcommand::Import => "import",

@@ -1,13 +1,12 @@
 // The words of the program that read texts.
-ghost use Rattle.std.specs.Prelude.{IfNone, IfOk, map};
-ghost use Rattle.conf_words.specs.Invocations.{FilesFit, HasFittingFiles};
+ghost use Rattle.std.specs.Prelude.{◌≡◌, is_some, map};
+ghost use Rattle.conf_words.specs.Invocations as spec;
 
-use crate::arguments::{Argument, EXPLAIN_ARGUMENT, FILE, Form, Relation, reporting_of};
+use crate::arguments::{EXPLAIN_ARGUMENT, FILE, reporting_of};
 use crate::invocation::{Comments, Formatting, Invocation, STANDARD_INPUT, Style};
 use crate::listing::Listing;
-use crate::refusal::{OTHER, refused};
-use crate::unparsed::Unparsed;
-use clap::ArgMatches;
+use crate::refusal::{OTHER, Unasked};
+use command_line::{Argument, Form, Matches, Relation};
 use std::alloc::{AllocError, Global};
 
 const FILES_ARGUMENT: Argument = Argument {
@@ -16,11 +15,6 @@ const FILES_ARGUMENT: Argument = Argument {
     form: Form::Several,
     relation: Relation::Free,
 };
-
-/// The files that the words name.
-fn files_of<'m, 'w>(words: &'m ArgMatches<'w>) -> &'m [&'w str] {
-    words.get_strs(FILE).unwrap_or_default()
-}
 
 pub(crate) const FORMAT: Listing = Listing {
     about: "Writes the tree of a YAML text in the one style",
@@ -91,24 +85,28 @@ const ONLY_CHECK: &str = "check";
 
 pub(crate) fn format_invocation<'w>(
     alloc: Global,
-    words: &ArgMatches<'w>,
-) -> Result<Invocation<'w>, Unparsed>
-    ensures { IfOk result HasFittingFiles }
+    words: &Matches<'w>,
+) -> Result<Invocation<'w>, Unasked>
+    ensures { spec.Makes (spec.format_is_wrong words.now) (spec.IsFormat words.now) result }
 {
-    let (formatting, files) = (formatting_of(words), files_of(words));
-    match why_not(formatting, files) {
-        Some(why) => Err(refused(alloc, why)),
-        None => Ok(Invocation::Format {
-            formatting,
-            files: Vec::from_slice(alloc, files)?,
-            reporting: reporting_of(words),
-        }),
+    let files = match words.texts(alloc, FILE) {
+        Ok(files) => files,
+        Err(AllocError) => return Err(Unasked::OutOfMemory),
+    };
+    let formatting = formatting_of(words);
+    if let Some(why) = why_not(formatting, files.as_slice()) {
+        return Err(Unasked::Because(why));
     }
+    Ok(Invocation::Format {
+        formatting,
+        files,
+        reporting: reporting_of(words),
+    })
 }
 
 /// Why files may not be formatted so; `None` if they may. clap has refused to replace no file.
 fn why_not(formatting: Formatting, files: &[&str]) -> Option<&'static str>
-    ensures { IfNone result (FilesFit formatting (map (λ file. file.now) files.now)) }
+    ensures { is_some result ≡ spec.files_are_wrong formatting (map (λ file. file.now) files.now) }
 {
     match formatting {
         Formatting::Write { .. } => {
@@ -124,12 +122,14 @@ fn why_not(formatting: Formatting, files: &[&str]) -> Option<&'static str>
     }
 }
 
-fn formatting_of(words: &ArgMatches<'_>) -> Formatting {
-    if words.get_flag(IN_PLACE) {
+fn formatting_of(words: &Matches<'_>) -> Formatting
+    ensures { result ≡ spec.formatting_in words.now }
+{
+    if words.flag(IN_PLACE) {
         Formatting::InPlace {
             comments: comments_of(words),
         }
-    } else if words.get_flag(ONLY_CHECK) {
+    } else if words.flag(ONLY_CHECK) {
         Formatting::Check {
             style: style_of(words),
         }
@@ -140,10 +140,12 @@ fn formatting_of(words: &ArgMatches<'_>) -> Formatting {
     }
 }
 
-fn comments_of(words: &ArgMatches<'_>) -> Comments {
-    if words.get_flag(KEEP_COMMENTS) {
+fn comments_of(words: &Matches<'_>) -> Comments
+    ensures { result ≡ spec.comments_in words.now }
+{
+    if words.flag(KEEP_COMMENTS) {
         Comments::Kept
-    } else if words.get_flag(DROP_COMMENTS) {
+    } else if words.flag(DROP_COMMENTS) {
         Comments::Dropped
     } else {
         Comments::Refused
@@ -151,8 +153,10 @@ fn comments_of(words: &ArgMatches<'_>) -> Comments {
 }
 
 /// What texts are formatted to, and compared with.
-fn style_of(words: &ArgMatches<'_>) -> Style {
-    if words.get_flag(KEEP_COMMENTS) {
+fn style_of(words: &Matches<'_>) -> Style
+    ensures { result ≡ spec.style_in words.now }
+{
+    if words.flag(KEEP_COMMENTS) {
         Style::WithComments
     } else {
         Style::Bare
@@ -194,13 +198,17 @@ Examples:
 
 pub(crate) fn check_invocation<'w>(
     alloc: Global,
-    words: &ArgMatches<'w>,
-) -> Result<Invocation<'w>, AllocError>
-    ensures { IfOk result HasFittingFiles }
+    words: &Matches<'w>,
+) -> Result<Invocation<'w>, Unasked>
+    ensures { spec.Makes (spec.check_is_wrong words.now) (spec.IsCheck words.now) result }
 {
+    let files = match words.texts(alloc, FILE) {
+        Ok(files) => files,
+        Err(AllocError) => return Err(Unasked::OutOfMemory),
+    };
     Ok(Invocation::Check {
         style: style_of(words),
-        files: Vec::from_slice(alloc, files_of(words))?,
+        files,
         reporting: reporting_of(words),
     })
 }

@@ -1,28 +1,33 @@
-// The words that the program takes, and what they ask for.
-ghost use Rattle.std.specs.Prelude.{IfOk};
-ghost use Rattle.conf_words.specs.Invocations.{HasFittingFiles};
+// The words of the program, and what they ask for.
+ghost use Rattle.std.specs.Prelude.{◌≡◌, drop, false, map, option_map, string_bytes, true};
+ghost use Rattle.command_line.specs.declared.refusal.Refusal.TheVariants.{OutOfMemory};
+ghost use Rattle.conf_words.specs.Invocations as spec;
+ghost use Rattle.conf_words.specs.declared.unparsed.Unparsed.TheVariants as unparsed;
+ghost use Rattle.conf_words.specs.Outcomes.{Parses, ParsesAlone, Tells, is_help};
+ghost use Rattle.conf_words.specs.Subcommands.{asks_for_help, begins_with_request, is_topic};
 
 use crate::change_words::{
     checkpoint_invocation, copy_invocation, delete_invocation, import_invocation, init_invocation,
-    rename_invocation, run_invocation, set_invocation, test_pointer,
+    rename_invocation, run_invocation, set_invocation,
 };
 use crate::invocation::Invocation;
-use crate::listing::listed;
+use crate::listing::{arguments_of, listed};
 use crate::read_words::{
     backup_invocation, exists_invocation, export_invocation, get_invocation, keys_invocation,
     log_invocation, names_invocation, salvage_invocation, verify_invocation,
 };
-use crate::refusal::{OTHER, refused, wrong_words};
+use crate::refusal::{Unasked, wrong_words};
 use crate::subcommand::Subcommand;
 use crate::text_words::{check_invocation, format_invocation};
 use crate::unparsed::Unparsed;
 use crate::waiting::wait_of;
 use clap::error::ErrorKind;
 use clap::{ArgMatches, Command, Error};
+use command_line::{Matches, Refusal, read};
 use std::alloc::{AllocError, Global};
 use std::time::Duration;
 
-const VERSION: &str = "0.2.0";
+const VERSION: &str = "0.3.0";
 
 const ABOUT: &str = "A crash-safe store of named configuration trees, and tools for their texts.";
 
@@ -53,10 +58,12 @@ A fault is one line on standard error, as `confstore: KeyTwice`.
 /// - [`Unparsed::Wrong`] if they are none that the program takes.
 /// - [`Unparsed::OutOfMemory`] if memory runs out.
 pub fn parse<'w>(alloc: Global, words: &'w [String]) -> Result<Invocation<'w>, Unparsed>
-    ensures { IfOk result HasFittingFiles }
+    ensures { ParsesAlone (map string_bytes words.entry.now) result }
 {
-    let asked = parse_with_wait(alloc, words, None)?;
-    Ok(asked.invocation)
+    match parse_with_wait(alloc, words, None) {
+        Ok(asked) => Ok(asked.invocation),
+        Err(unparsed) => Err(unparsed),
+    }
 }
 
 /// What words ask for, and how long they have the locks of its store waited for.
@@ -77,26 +84,113 @@ pub fn parse_with_wait<'w>(
     words: &'w [String],
     wait: Option<&str>,
 ) -> Result<Asked<'w>, Unparsed>
-    ensures { IfOk result (λ asked. HasFittingFiles asked.invocation) }
+    ensures { Parses (map string_bytes words.entry.now) (option_map (λ s. s.now) wait.entry) result }
 {
-    match matches_of(alloc, words) {
-        Ok(matches) => {
-            let invocation = invocation_of(alloc, &matches)?;
-            let wait = wait_of(alloc, &matches, wait)?;
-            Ok(Asked { invocation, wait })
-        }
-        Err(error) => Err(unparsed(alloc, words, &error)?),
+    let Some(subcommand) = Subcommand::asked_in(words) else {
+        return Err(untaken(alloc, words));
+    };
+    let given = match read(alloc, arguments_of(subcommand), words_behind(words)) {
+        Ok(given) => given,
+        Err(refusal) => return Err(unread(alloc, words, refusal)),
+    };
+    let invocation = match invocation_of(alloc, subcommand, &given) {
+        Ok(invocation) => invocation,
+        Err(refused) => return Err(refused.told(alloc)),
+    };
+    match wait_of(subcommand, &given, wait) {
+        Ok(wait) => Ok(Asked { invocation, wait }),
+        Err(refused) => Err(refused.told(alloc)),
     }
 }
 
-/// Why words of which clap makes no matches ask for nothing. It fails only if memory runs out.
-fn unparsed(alloc: Global, words: &[String], error: &Error) -> Result<Unparsed, AllocError> {
-    if error.kind() == ErrorKind::OutOfMemory {
-        Err(AllocError)
-    } else if error.use_stderr() {
-        Ok(Unparsed::Wrong(wrong_words(alloc, words)?))
+/// The words behind the one that asks.
+fn words_behind(words: &[String]) -> &[String]
+    ensures { result.now ≡ drop 2 words.now }
+{
+    words.get(2..).unwrap_or(&[])
+}
+
+/// Why words that ask for no subcommand ask for nothing.
+fn untaken(alloc: Global, words: &[String]) -> Unparsed
+    ensures { Tells (asks_for_help (map string_bytes words.now)) result }
+{
+    if asks_for_help(words) {
+        shown(alloc, words)
     } else {
-        Ok(Unparsed::Shown(format!(in alloc; "{error}")?))
+        wrong(alloc, words)
+    }
+}
+
+/// Whether words ask for help or the version. They ask for no subcommand.
+fn asks_for_help(words: &[String]) -> bool
+    ensures { result ≡ asks_for_help (map string_bytes words.now) }
+{
+    match words {
+        [_, word, rest @ ..] => match word.as_str() {
+            "help" => are_topic(rest),
+            "--help" | "--version" => true,
+            word => begins_with_request(word.as_bytes()),
+        },
+        _ => false,
+    }
+}
+
+/// Whether a word begins with `-h` or `-V`.
+fn begins_with_request(word: &[u8]) -> bool
+    ensures { result ≡ begins_with_request word.now }
+{
+    word.len() >= 2 && word[0] == b'-' && (word[1] == b'h' || word[1] == b'V')
+}
+
+/// Whether there is help on these words.
+fn are_topic(words: &[String]) -> bool
+    ensures { result ≡ is_topic (map string_bytes words.now) }
+{
+    match words {
+        [] => true,
+        [word] => word.as_str() == "help" || Subcommand::named(word).is_some(),
+        _ => false,
+    }
+}
+
+/// Why words that are refused ask for nothing.
+fn unread(alloc: Global, words: &[String], refusal: Refusal) -> Unparsed
+    ensures told { Tells (is_help refusal) result }
+    ensures memory { refusal ≡ OutOfMemory → result ≡ unparsed.OutOfMemory }
+{
+    match refusal {
+        Refusal::Help => shown(alloc, words),
+        Refusal::OutOfMemory => Unparsed::OutOfMemory,
+        _ => wrong(alloc, words),
+    }
+}
+
+/// The words are wrong.
+fn wrong(alloc: Global, words: &[String]) -> Unparsed
+    ensures { Tells false result }
+{
+    match wrong_words(alloc, words) {
+        Ok(lines) => Unparsed::Wrong(lines),
+        Err(AllocError) => Unparsed::OutOfMemory,
+    }
+}
+
+/// The words ask for help or the version. This is what clap shows for them.
+fn shown(alloc: Global, words: &[String]) -> Unparsed
+    ensures { Tells true result }
+{
+    match help_of(alloc, words) {
+        Ok(text) => Unparsed::Shown(text),
+        Err(AllocError) => Unparsed::OutOfMemory,
+    }
+}
+
+/// What clap shows for words that ask for help or the version. It fails only if memory runs out.
+fn help_of(alloc: Global, words: &[String]) -> Result<String, AllocError> {
+    match matches_of(alloc, words) {
+        Ok(_matches) => Ok(String::new(alloc)),
+        Err(error) if error.kind() == ErrorKind::OutOfMemory => Err(AllocError),
+        Err(error) => format!(in alloc; "{error}"),
     }
 }
 
@@ -128,44 +222,33 @@ fn program<'a>(alloc: Global) -> Command<'a> {
         .subcommand_required(true)
 }
 
-/// What the words ask for that these are the matches of. Matches have a subcommand, and each argument that it requires:
-/// clap has refused other words.
-fn invocation_of<'w>(alloc: Global, matches: &ArgMatches<'w>) -> Result<Invocation<'w>, Unparsed>
-    ensures { IfOk result HasFittingFiles }
+/// What the matches of a subcommand's words ask for.
+fn invocation_of<'w>(
+    alloc: Global,
+    subcommand: Subcommand,
+    words: &Matches<'w>,
+) -> Result<Invocation<'w>, Unasked>
+    ensures { spec.Makes (spec.is_wrong subcommand words.now) (spec.IsAsked subcommand words.now) result }
 {
-    let Some((name, words)) = matches.subcommand() else {
-        return Err(refused(alloc, OTHER));
-    };
-    let asked = match Subcommand::named(name) {
-        Some(Subcommand::Init) => init_invocation(words),
-        Some(Subcommand::Import) => import_invocation(words),
-        Some(Subcommand::Set) => {
-            test_pointer(alloc, words)?;
-            set_invocation(words)
-        }
-        Some(Subcommand::Delete) => {
-            test_pointer(alloc, words)?;
-            delete_invocation(words)
-        }
-        Some(Subcommand::Copy) => copy_invocation(words),
-        Some(Subcommand::Rename) => rename_invocation(words),
-        Some(Subcommand::Checkpoint) => checkpoint_invocation(words),
-        Some(Subcommand::Run) => run_invocation(words),
-        Some(Subcommand::Export) => export_invocation(words),
-        Some(Subcommand::Names) => names_invocation(words),
-        Some(Subcommand::Get) => get_invocation(words),
-        Some(Subcommand::Keys) => keys_invocation(words),
-        Some(Subcommand::Exists) => exists_invocation(words),
-        Some(Subcommand::Log) => return log_invocation(alloc, words),
-        Some(Subcommand::Verify) => verify_invocation(words),
-        Some(Subcommand::Salvage) => salvage_invocation(words),
-        Some(Subcommand::Backup) => backup_invocation(words),
-        Some(Subcommand::Format) => return format_invocation(alloc, words),
-        Some(Subcommand::Check) => return Ok(check_invocation(alloc, words)?),
-        None => None,
-    };
-    match asked {
-        Some(invocation) => Ok(invocation),
-        None => Err(refused(alloc, OTHER)),
+    match subcommand {
+        Subcommand::Init => init_invocation(words),
+        Subcommand::Import => import_invocation(words),
+        Subcommand::Set => set_invocation(words),
+        Subcommand::Delete => delete_invocation(words),
+        Subcommand::Copy => copy_invocation(words),
+        Subcommand::Rename => rename_invocation(words),
+        Subcommand::Checkpoint => checkpoint_invocation(words),
+        Subcommand::Run => run_invocation(words),
+        Subcommand::Export => export_invocation(words),
+        Subcommand::Names => names_invocation(words),
+        Subcommand::Get => get_invocation(alloc, words),
+        Subcommand::Keys => keys_invocation(alloc, words),
+        Subcommand::Exists => exists_invocation(words),
+        Subcommand::Log => log_invocation(alloc, words),
+        Subcommand::Verify => verify_invocation(words),
+        Subcommand::Salvage => salvage_invocation(words),
+        Subcommand::Backup => backup_invocation(words),
+        Subcommand::Format => format_invocation(alloc, words),
+        Subcommand::Check => check_invocation(alloc, words),
     }
 }

@@ -1,6 +1,6 @@
 // What is done to the runs of a script, and what a next run finds then.
 use crate::guarded::GuardedSystem;
-use crate::promises::Promises;
+use crate::promises::{Found, Promises};
 use crate::script::{Ended, perform};
 use conf_disk::{Content, Disk, Name};
 use conf_protocol::SystemDisk;
@@ -8,11 +8,8 @@ use conf_system::{FileName, Note};
 use std::alloc::{AllocError, Global};
 use test_system::{Crash, Fault, MemorySystem, Torn};
 
-/// What `store.yaml` has before a script, but for one that makes a new store.
+/// What `store.yaml` has before a script.
 const BEFORE: &[u8] = b"0";
-
-/// How a script begins that makes a new store.
-const NEW: &str = "new ";
 
 /// What is noted before a script.
 const NOTE: Note = Note {
@@ -78,19 +75,11 @@ impl Attacks<'_> {
     /// Runs the script.
     fn run(&mut self) -> Result<Option<Ended>, AllocError> {
         self.tried.runs = self.tried.runs.saturating_add(1);
-        let before = if self.script.starts_with(NEW) {
-            None
-        } else {
-            Some(BEFORE)
-        };
-        let store = match before {
-            Some(bytes) => Some(bytes.to_vec(self.alloc)?),
-            None => None,
-        };
-        let system = MemorySystem::with_files(self.alloc, store, None, None, NOTE)?;
+        let store = BEFORE.to_vec(self.alloc)?;
+        let system = MemorySystem::with_files(self.alloc, Some(store), None, None, NOTE)?;
         let call = system.calls().saturating_add(self.call);
         let system = system.with_fault(call, self.fault);
-        perform(self.alloc, system, before, self.script)
+        perform(self.alloc, system, BEFORE, self.script)
     }
 
     /// Lets each call fail, in each way.
@@ -136,29 +125,20 @@ impl Attacks<'_> {
     fn crash_at(&mut self, system: &MemorySystem, promises: &Promises) -> Result<(), AllocError> {
         let stages = system.stages()?.min(MOST);
         for stage in 0..stages {
-            self.crash_stage(system, promises, stage)?;
-        }
-        Ok(())
-    }
-
-    /// Crashes the machine at a stage, in each version of `store.yaml`, or once where there is none.
-    fn crash_stage(
-        &mut self,
-        system: &MemorySystem,
-        promises: &Promises,
-        stage: usize,
-    ) -> Result<(), AllocError> {
-        for version in 0..MOST {
-            let pending = system.pending(stage, FileName::Store, version)?;
-            if pending.is_none() && version > 0 {
-                break;
+            for version in 0..MOST {
+                let Some(pending) = system.pending(stage, FileName::Store, version)? else {
+                    break;
+                };
+                self.tear(
+                    system,
+                    promises,
+                    Place {
+                        stage,
+                        version,
+                        pending,
+                    },
+                )?;
             }
-            let place = Place {
-                stage,
-                version,
-                pending: pending.unwrap_or(0),
-            };
-            self.tear(system, promises, place)?;
         }
         Ok(())
     }
@@ -204,9 +184,9 @@ impl Attacks<'_> {
             return self.lose("no such crash", moment);
         };
         let Some((system, bytes)) = find(self.alloc, found)? else {
-            return self.lose("the next run finds nothing", moment);
+            return self.lose("the next run finds no file", moment);
         };
-        if !promises.allow(moment, bytes.as_deref()) {
+        if !promises.allow(moment, &bytes, Found::AfterCrash) {
             return self.lose("the next run finds other bytes", moment);
         }
         let again = Crash {
@@ -219,7 +199,7 @@ impl Attacks<'_> {
         let Some(found) = system.crashed(&again)? else {
             return self.lose("no second crash", moment);
         };
-        if leaves(self.alloc, found, bytes.as_deref())? {
+        if leaves(self.alloc, found, &bytes)? {
             Ok(())
         } else {
             self.lose("a second crash takes bytes", moment)
@@ -265,28 +245,19 @@ fn kept_bytes(alloc: Global, pending: usize, hole: usize) -> Result<Vec<bool>, A
     Ok(kept)
 }
 
-/// Whether a run finds a file of these bytes, or none.
-fn leaves(alloc: Global, system: MemorySystem, bytes: Option<&[u8]>) -> Result<bool, AllocError> {
+/// Whether a run finds these bytes.
+fn leaves(alloc: Global, system: MemorySystem, bytes: &[u8]) -> Result<bool, AllocError> {
     match find(alloc, system)? {
-        Some((_system, left)) => Ok(is_same(left.as_deref(), bytes)),
+        Some((_system, left)) => Ok(left.as_slice() == bytes),
         None => Ok(false),
     }
 }
 
-/// Whether both files are missing, or have the same bytes.
-fn is_same(one: Option<&[u8]>, other: Option<&[u8]>) -> bool {
-    match (one, other) {
-        (Some(one), Some(other)) => one == other,
-        (None, None) => true,
-        _ => false,
-    }
-}
-
-/// What a run leaves, and what `store.yaml` has, if it is there.
-type Left = (MemorySystem, Option<Vec<u8>>);
-
-/// Begins a run on a folder as a store does, and ends it.
-fn find(alloc: Global, system: MemorySystem) -> Result<Option<Left>, AllocError> {
+/// Begins a run on a folder as a store does, and ends it. Returns the folder and what `store.yaml` has, if it is there.
+fn find(
+    alloc: Global,
+    system: MemorySystem,
+) -> Result<Option<(MemorySystem, Vec<u8>)>, AllocError> {
     let Ok(disk) = SystemDisk::open(GuardedSystem::over(system)) else {
         return Ok(None);
     };
@@ -297,8 +268,7 @@ fn find(alloc: Global, system: MemorySystem) -> Result<Option<Left>, AllocError>
     let read = disk.read(alloc, Name::Store, 1_000);
     let system = disk.release().into_inner();
     match read {
-        Ok(Content::Bytes(bytes)) => Ok(Some((system, Some(bytes)))),
-        Ok(Content::Missing) => Ok(Some((system, None))),
+        Ok(Content::Bytes(bytes)) => Ok(Some((system, bytes))),
         _ => Ok(None),
     }
 }

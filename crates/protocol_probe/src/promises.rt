@@ -13,8 +13,6 @@ pub(crate) struct Candidate {
 struct Promise {
     calls: usize,
     candidates: Vec<Candidate>,
-    /// Whether there may be no file.
-    may_be_missing: bool,
 }
 
 /// All that was promised.
@@ -27,45 +25,26 @@ pub(crate) struct Promises {
 }
 
 impl Promises {
-    /// From the first moment on, a file of these bytes is there, or none.
-    pub(crate) fn new(alloc: Global, bytes: Option<&[u8]>) -> Result<Self, AllocError> {
+    /// From the first moment on, a file of these bytes is there.
+    pub(crate) fn new(alloc: Global, bytes: &[u8]) -> Result<Self, AllocError> {
+        let mut files = Vec::new(alloc);
+        files.push(bytes.to_vec(alloc)?)?;
         let mut promises = Promises {
             alloc,
-            files: Vec::new(alloc),
+            files,
             promises: Vec::new(alloc),
         };
-        let mut candidates = Vec::new(alloc);
-        if let Some(bytes) = bytes {
-            promises.files.push(bytes.to_vec(alloc)?)?;
-            candidates.push(Candidate {
-                file: 0,
-                surely: bytes.len(),
-            })?;
-        }
-        promises.promise(0, candidates, bytes.is_none())?;
+        let all = Candidate {
+            file: 0,
+            surely: bytes.len(),
+        };
+        promises.promise(0, vec![in alloc; all]?)?;
         Ok(promises)
     }
 
-    fn promise(
-        &mut self,
-        calls: usize,
-        candidates: Vec<Candidate>,
-        may_be_missing: bool,
-    ) -> Result<(), AllocError> {
-        self.promises.push(Promise {
-            calls,
-            candidates,
-            may_be_missing,
-        })?;
+    fn promise(&mut self, calls: usize, candidates: Vec<Candidate>) -> Result<(), AllocError> {
+        self.promises.push(Promise { calls, candidates })?;
         Ok(())
-    }
-
-    /// Whether there may be no file, as was promised last.
-    fn may_be_missing(&self) -> bool {
-        match self.promises.last() {
-            Some(promise) => promise.may_be_missing,
-            None => true,
-        }
     }
 
     /// The last file that was renamed.
@@ -111,7 +90,7 @@ impl Promises {
                 candidate.surely = length;
             }
         }
-        self.promise(calls, candidates, self.may_be_missing())
+        self.promise(calls, candidates)
     }
 
     /// A file of these bytes, so many of them synced, may be under the name from now on.
@@ -125,7 +104,7 @@ impl Promises {
         self.files.push(bytes.to_vec(self.alloc)?)?;
         let file = self.last();
         candidates.push(Candidate { file, surely })?;
-        self.promise(calls, candidates, self.may_be_missing())
+        self.promise(calls, candidates)
     }
 
     /// The last renaming was not done.
@@ -143,12 +122,11 @@ impl Promises {
                 kept.push(*candidate)?;
             }
         }
-        let may_be_missing = self.may_be_missing() && kept.is_empty();
-        self.promise(calls, kept, may_be_missing)
+        self.promise(calls, kept)
     }
 
-    /// Whether a file of these bytes, or none, may be found after a crash at a moment.
-    pub(crate) fn allow(&self, calls: usize, bytes: Option<&[u8]>) -> bool {
+    /// Whether these bytes may be found after a crash or a kill at a moment.
+    pub(crate) fn allow(&self, calls: usize, bytes: &[u8], found: Found) -> bool {
         let mut last = None;
         for promise in &self.promises {
             if promise.calls <= calls {
@@ -158,17 +136,9 @@ impl Promises {
         let Some(promise) = last else {
             return false;
         };
-        match bytes {
-            Some(bytes) => self.is_candidate(&promise.candidates, bytes),
-            None => promise.may_be_missing,
-        }
-    }
-
-    /// Whether these bytes may be left of one of the candidates.
-    fn is_candidate(&self, candidates: &[Candidate], bytes: &[u8]) -> bool {
-        for candidate in candidates {
+        for candidate in &promise.candidates {
             if candidate.file < self.files.len()
-                && is_left(&self.files[candidate.file], candidate.surely, bytes)
+                && is_left(&self.files[candidate.file], candidate.surely, bytes, found)
             {
                 return true;
             }
@@ -177,14 +147,21 @@ impl Promises {
     }
 }
 
+/// After what a file is found.
+#[derive(Clone, Copy, PartialEq, Eq)]
+pub(crate) enum Found {
+    AfterKill,
+    AfterCrash,
+}
+
 /// Whether these bytes may be left of a file, so many bytes of which the device surely has.
-fn is_left(file: &[u8], surely: usize, bytes: &[u8]) -> bool {
+fn is_left(file: &[u8], surely: usize, bytes: &[u8], found: Found) -> bool {
     if bytes.len() > file.len() || bytes.len() < surely {
         return false;
     }
     for place in 0..bytes.len() {
         let is_same = place < file.len() && bytes[place] == file[place];
-        let may_be_zero = place >= surely && bytes[place] == 0;
+        let may_be_zero = found == Found::AfterCrash && place >= surely && bytes[place] == 0;
         if !is_same && !may_be_zero {
             return false;
         }

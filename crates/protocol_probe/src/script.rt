@@ -20,11 +20,11 @@ pub(crate) struct Ended {
     pub(crate) is_misused: bool,
 }
 
-/// Performs the words of a script on the folder of a system, in which `store.yaml` has these bytes, or is missing.
+/// Performs the words of a script on the folder of a system, in which `store.yaml` has these bytes.
 pub(crate) fn perform(
     alloc: Global,
     system: MemorySystem,
-    bytes: Option<&[u8]>,
+    bytes: &[u8],
     script: &str,
 ) -> Result<Option<Ended>, AllocError> {
     let mut ended = Ended {

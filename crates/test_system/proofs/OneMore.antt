@@ -124,14 +124,6 @@ reads-no-note old new error kept = record {
   time = λ honest. passes-pushed old new NoteUnread kept;
 }
 
--- and that is not kept
-pub reads-unkept : {E : Type 0} (old new : MemorySystem) (error : E) → kept_calls new ≡ kept_calls old
-    → ReadsNote memory_model old (Err error) new
-reads-unkept old new error is = record {
-  change = λ honest. ap (λ (l : List Entry). machine_after l new_machine) is;
-  time = λ honest. passes-same old new is;
-}
-
 -- a write of so many bytes
 pub wrote : (old new : MemorySystem) (call : List ℕ → Call) (bytes : List ℕ) (count : ℕ) → count ≤ length bytes
     → memory_machine new ≡ after (call (take count bytes)) (memory_machine old)

@@ -10,3 +10,4 @@ pub mod StepLaws
 pub mod Steps
 pub mod TableLemmas
 pub mod Ways
+pub mod UndoLemmas

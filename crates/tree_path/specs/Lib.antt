@@ -3,3 +3,4 @@ pub mod Chains
 pub mod Paths
 pub mod Steps
 pub mod Tables
+pub mod Undoing

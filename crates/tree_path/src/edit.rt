@@ -6,12 +6,14 @@ ghost use Rattle.tree_path.specs.Prelude.{chars, distinct, sequence, mapping, tr
 ghost use Rattle.std.specs.Vec.{vec_len, vec_capacity};
 ghost use Rattle.yaml_grammar.specs.Trees.{Tree as Meant};
 ghost use Rattle.tree_path.specs.Paths.{at_step, at, put, cut, set, delete, child, key_in};
-ghost use Rattle.tree_path.specs.Steps.{ArePlaces, Knows, KnowsWay, Lowered, Rebuilt, key_place};
+ghost use Rattle.tree_path.specs.Steps.{ArePlaces, Knows, KnowsWay, Lowered, Rebuilt, key_place, parents_of};
 ghost use Rattle.tree_path.specs.Tables.{Indexes};
+ghost use Rattle.tree_path.specs.Undoing.{IsBack, PutsBack};
 
 use crate::key_index::{KeyIndex, table_at};
 use crate::place::{self, Miss};
 use crate::step_places::{Known, StepPlaces};
+use crate::undo::Displaced;
 use json_pointer::{Path, PathFault};
 use std::alloc::{AllocError, Global};
 use std::borrow::CowStr;
@@ -179,10 +181,38 @@ fn set_at(
     ensures value_back { IfErr result (λ refused. refused.0 ≡ value) }
     ensures unchanged { OnErr result (tree_of tree.new ≡ tree_of tree.old) }
 {
-    let Some((last, parents)) = tokens.split_last() else {
+    if tokens.is_empty() {
         *tree = value;
         return Ok(());
-    };
+    }
+    match set_last(alloc, tree, tokens, known, value) {
+        Ok(_) => Ok(()),
+        Err(refused) => Err(refused),
+    }
+}
+
+/// Puts a value where tokens lead, of which there is one at least, and returns what it displaced. On a fault the value
+/// is returned, and nothing is changed.
+pub(crate) fn set_last(
+    alloc: Global,
+    tree: &mut Tree,
+    tokens: &[CowStr<'_>],
+    known: Known<'_>,
+    value: Tree,
+) -> Result<Displaced, (Tree, PathFault)>
+    requires steps { 0 < length tokens.now }
+    requires known { Knows known (tree_of tree.old) (texts tokens.now) }
+    ensures ok { OnOk result (set (tree_of tree.old) (texts tokens.now) (tree_of value)
+        ≡ Ok (tree_of tree.new)) }
+    ensures back { IfOk result (λ displaced. IsBack displaced (parents_of (texts tokens.now))
+        (tree_of tree.new) (tree_of tree.old)) }
+    ensures refused { IfErr result
+        (λ refused. (refused.1 ≡ PathFault.OutOfMemory)
+        ⊎ (set (tree_of tree.old) (texts tokens.now) (tree_of value) ≡ Err refused.1)) }
+    ensures value_back { IfErr result (λ refused. refused.0 ≡ value) }
+    ensures unchanged { OnErr result (tree_of tree.new ≡ tree_of tree.old) }
+{
+    let (last, parents) = tokens.split_last().unwrap();
     let mut above = Tree::Seq(Vec::new(alloc));
     if let Err(fault) = descend(tree, &mut above, parents, known) {
         return Err((value, fault));
@@ -271,8 +301,8 @@ fn ascend(tree: &mut Tree, above: &mut Tree, tokens: &[CowStr<'_>], known: Known
     }
 }
 
-/// Puts a value where a path's last step leads, where the place of its key is known. `step` is that step's number, from
-/// 1. On a fault the value is returned, and nothing is changed.
+/// Puts a value where a path's last step leads, where the place of its key is known, and returns what it displaced.
+/// `step` is that step's number, from 1. On a fault the value is returned, and nothing is changed.
 fn put(
     alloc: Global,
     tree: &mut Tree,
@@ -280,10 +310,12 @@ fn put(
     place: Option<usize>,
     step: usize,
     value: Tree,
-) -> Result<(), (Tree, PathFault)>
+) -> Result<Displaced, (Tree, PathFault)>
     requires { place ≡ key_in (tree_of tree.old) (chars token.now) }
     ensures ok { OnOk result (put (tree_of tree.old) (chars token.now) (tree_of value)
         ≡ Ok (tree_of tree.new)) }
+    ensures back { IfOk result (λ displaced.
+        PutsBack displaced (tree_of tree.new) (tree_of tree.old)) }
     ensures refused { IfErr result
         (λ refused. (refused.1 ≡ PathFault.OutOfMemory)
         ⊎ (at_step step (put (tree_of tree.old) (chars token.now) (tree_of value)) Ok
@@ -304,10 +336,12 @@ fn put_element(
     token: &str,
     step: usize,
     value: Tree,
-) -> Result<(), (Tree, PathFault)>
+) -> Result<Displaced, (Tree, PathFault)>
     ensures ok { OnOk result
         (put (sequence (elements_of items.old.items)) (chars token.now) (tree_of value)
         ≡ Ok (sequence (elements_of items.new.items))) }
+    ensures back { IfOk result (λ displaced. PutsBack displaced
+        (sequence (elements_of items.new.items)) (sequence (elements_of items.old.items))) }
     ensures refused { IfErr result
         (λ refused. (refused.1 ≡ PathFault.OutOfMemory)
         ⊎ (at_step step (put (sequence (elements_of items.old.items)) (chars token.now)
@@ -321,12 +355,15 @@ fn put_element(
             return Err((value, PathFault::OutOfMemory));
         };
         items.push_reserved(value);
-        return Ok(());
+        return Ok(Displaced::Nothing);
     }
     match place::element_index(token, items.len()) {
         Ok(index) => {
-            items[index] = value;
-            Ok(())
+            let old = mem::replace(&mut items[index], value);
+            Ok(Displaced::Value {
+                place: index,
+                value: old,
+            })
         }
         Err(miss) => Err((value, miss.at_step(step))),
     }
@@ -339,18 +376,20 @@ fn put_pair(
     key: &str,
     place: Option<usize>,
     value: Tree,
-) -> Result<(), (Tree, PathFault)>
+) -> Result<Displaced, (Tree, PathFault)>
     requires { place ≡ key_place (chars key.now) pairs.old.items }
     ensures ok { OnOk result
         (put (mapping (members_of pairs.old.items)) (chars key.now) (tree_of value)
         ≡ Ok (mapping (members_of pairs.new.items))) }
+    ensures back { IfOk result (λ displaced. PutsBack displaced
+        (mapping (members_of pairs.new.items)) (mapping (members_of pairs.old.items))) }
     ensures refused { IfErr result (λ refused. refused.1 ≡ PathFault.OutOfMemory) }
     ensures value_back { IfErr result (λ refused. refused.0 ≡ value) }
     ensures unchanged { OnErr result (pairs.new.items ≡ pairs.old.items) }
 {
     if let Some(place) = place {
-        pairs[place].1 = value;
-        return Ok(());
+        let old = mem::replace(&mut pairs[place].1, value);
+        return Ok(Displaced::Value { place, value: old });
     }
     let Ok(key) = Text::new(alloc, key) else {
         return Err((value, PathFault::OutOfMemory));
@@ -359,7 +398,7 @@ fn put_pair(
         return Err((value, PathFault::OutOfMemory));
     };
     pairs.push_reserved((key, value));
-    Ok(())
+    Ok(Displaced::Nothing)
 }
 
 /// Makes room for one more in a list. A full one grows by an eighth, so that a state has little more memory than it

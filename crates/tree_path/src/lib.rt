@@ -8,6 +8,7 @@ mod key_table;
 mod laws;
 mod place;
 mod step_places;
+mod undo;
 
 pub use edit::{at, at_by, delete, delete_planned, set, set_planned};
 pub use json_pointer::{Path, PathFault, text_is_read_back};
@@ -15,3 +16,4 @@ pub use key_index::KeyIndex;
 pub use laws::{keys_stay_distinct, set_is_found};
 pub use place::{Miss, child, child_at, child_in, key_in, step_place};
 pub use step_places::{Known, StepPlaces};
+pub use undo::{Undo, set_undoable, undo_set};

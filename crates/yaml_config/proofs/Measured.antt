@@ -1,7 +1,7 @@
 -- The lengths that the code finds, as those of the definitions' edits.
 use Rattle.std.proofs.Common.{◌≡◌, ℕ, suc, ◌+◌, ◌-◌, ◌*◌, ◌^◌, ◌<◌, ◌≤◌, ◌==◌, Bool, true, false, if◌then◌else◌, List, [], ◌∷◌, ◌++◌}
 use Rattle.std.proofs.Common.{length, codes, Ok, Err, Global, Vec, vec_len, refl, sym, ap, subst, ◌∙◌, arith, rules}
-use Rattle.yaml_config.proofs.Prelude.{same_text, sequence, mapping, text, Pair, elements_of, members_of, length_at, Size, after_last}
+use Rattle.yaml_config.proofs.Prelude.{same_text, sequence, mapping, Pair, elements_of, members_of, length_at, Size, after_last}
 use Rattle.yaml_config.proofs.Prelude.{index_of, push_element, put_member, child, put, cut, refusal, set, delete, Miss, put-there, set-edit}
 use Rattle.yaml_config.proofs.Prelude.{delete-edit}
 use Rattle.yaml_data.specs.declared.tree.Tree.{Tree}

@@ -3,3 +3,4 @@ pub mod Changes
 pub mod Edits
 pub mod Kept
 pub mod Limits
+pub mod Undoing

@@ -2,7 +2,7 @@
 ghost use Rattle.std.specs.Prelude.{◌≡◌, ◌⊎◌, ◌<◌, ◌≤◌, true, Ok, Err, OnOk, OnErr, IfOk, IfErr, IfSome, length};
 ghost use Rattle.std.specs.Prelude.{nat_le};
 ghost use Rattle.yaml_config.specs.Prelude.{Good, byte_len, depth, distinct, style_text, tree_of, ArePlaces, Indexes};
-ghost use Rattle.yaml_config.specs.Prelude.{PathFault};
+ghost use Rattle.yaml_config.specs.Prelude.{PathFault, set};
 ghost use Rattle.yaml_grammar.specs.Trees.{Tree as Meant};
 ghost use Rattle.yaml_config.specs.Changes.{Changes};
 ghost use Rattle.yaml_config.specs.Edits.{tree_after_edit};
@@ -189,9 +189,29 @@ impl Edit {
     }
 }
 
+/// The index of a wide mapping of this tree, as it is once a value is set at a path.
+pub(crate) fn noted_set(
+    index: Option<Box<KeyIndex>>,
+    tree: &Tree,
+    path: &Path,
+    places: &StepPlaces,
+) -> Option<Box<KeyIndex>>
+    requires steps { 0 < length path.now }
+    requires places { ArePlaces places.now (tree_of tree.now) path.now }
+    requires index { IfSome index (λ index. Indexes index.value (tree_of tree.now)) }
+    ensures { (value new : Meant) → set (tree_of tree.now) path.now value ≡ Ok new
+        → IfSome result (λ index. Indexes index.value new) }
+{
+    let Some(mut index) = index else {
+        return None;
+    };
+    index.note_set(tree, path, places);
+    Some(index)
+}
+
 /// The index, after a search for the steps of a path: it is made or replaced if there were some walks along wide
 /// mappings and there is memory.
-fn with_walk(
+pub(crate) fn with_walk(
     index: Option<Box<KeyIndex>>,
     alloc: Global,
     tree: &Tree,

@@ -11,10 +11,12 @@ mod config;
 mod edit;
 mod limits;
 mod measure;
+mod undo;
 
 pub use change::{Change, Slot};
 pub use config::Config;
 pub use edit::Edit;
 pub use limits::{Limits, limits_of_a_configuration, limits_that_are_kept};
 pub use measure::{Plan, delete_len, plan_delete, plan_set, set_len};
+pub use undo::Undo;
 pub use yaml_events::{Brief, ReadFault};

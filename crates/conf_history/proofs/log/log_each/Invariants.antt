@@ -9,8 +9,8 @@ invariant-records g l = record {
   walked : (pieces : List (List ℕ)) × (start : Contents) × (commands : List Command)
       × IsOn l.at (g.R.Read.remaining l.fn.reader) (g.R.Read.remaining l.reader)
       (with_state l.walk l.logged.part) pieces start commands
-      × Appends (g.W.Write.contents l.fn.writer) (g.W.Write.contents l.writer) (log_of_pieces l.fn.form start.count pieces commands);
-  form : l.logged.form ≡ l.fn.form;
+      × Appends (g.W.Write.contents l.fn.writer) (g.W.Write.contents l.writer) (log_of_pieces l.fn.request start.count pieces commands);
+  form : l.logged.request ≡ l.fn.request;
 }
 
 abbrev pub decreases-records : goal.decreases-records

@@ -15,31 +15,18 @@ returns-in-1-clause-refused c =
     let same = ap (λ es. step s (batch (map edit_of es)) c.args.room) alone ∙ batch-one s (edit_of c.unwrap.result) c.args.room in
     subst (λ r. IfErr c.step_edit.result (λ fault. (fault ≡ OutOfMemory) ⊎ (r ≡ Err fault))) (sym same) c.step_edit.ensures.refused
 
-pub returns-in_err-draft_edits-in_default-clause-refused : goal.returns-in_err-draft_edits-in_default-clause-refused
-returns-in_err-draft_edits-in_default-clause-refused c =
+pub returns-in_default-clause-ok : goal.returns-in_default-clause-ok
+returns-in_default-clause-ok c =
     let s = c.args.state.now in
     let edits = map edit_of c.args.edits.items in
     let some : 0 < length edits = omega (arith, length-map c.args.edits.items edit_of, c.args.edits.ok) in
-    let p = err_from_is_err_and c.from_residual.result c.from_residual.ensures.1 in
-    rw (p.1, p.2)
-    (or_so (λ is. batch-all s edits c.args.room some ∙ ap (λ r. and_then r (next_state s c.args.room))
-    (ap (λ es. all_edited es edits) (sym c.new-draft.ensures.same) ∙ is)) c.in_err-draft_edits-in_default.ensures.refused)
+    let same = batch-all s edits c.args.room some in
+    subst (λ r. OnOk c.step_edits.result (r ≡ Ok c.step_edits.new.state)) (sym same) c.step_edits.ensures.ok
 
-pub returns-in_ok-draft_edits-in_default-clause-ok : goal.returns-in_ok-draft_edits-in_default-clause-ok
-returns-in_ok-draft_edits-in_default-clause-ok c =
+pub returns-in_default-clause-refused : goal.returns-in_default-clause-refused
+returns-in_default-clause-refused c =
     let s = c.args.state.now in
     let edits = map edit_of c.args.edits.items in
     let some : 0 < length edits = omega (arith, length-map c.args.edits.items edit_of, c.args.edits.ok) in
-    let drafted_all = ap (λ es. all_edited es edits) (sym c.new-draft.ensures.same) ∙ c.in_ok-draft_edits-in_default.ensures.ok in
-    let same = batch-all s edits c.args.room some ∙ ap (λ r. and_then r (next_state s c.args.room)) drafted_all in
-    subst (λ r. OnOk c.take.result (r ≡ Ok c.take.new.self)) (sym same) c.take.ensures.ok
-
-pub returns-in_ok-draft_edits-in_default-clause-refused :
-    goal.returns-in_ok-draft_edits-in_default-clause-refused
-returns-in_ok-draft_edits-in_default-clause-refused c =
-    let s = c.args.state.now in
-    let edits = map edit_of c.args.edits.items in
-    let some : 0 < length edits = omega (arith, length-map c.args.edits.items edit_of, c.args.edits.ok) in
-    let drafted_all = ap (λ es. all_edited es edits) (sym c.new-draft.ensures.same) ∙ c.in_ok-draft_edits-in_default.ensures.ok in
-    let same = batch-all s edits c.args.room some ∙ ap (λ r. and_then r (next_state s c.args.room)) drafted_all in
-    subst (λ r. IfErr c.take.result (λ fault. (fault ≡ OutOfMemory) ⊎ (r ≡ Err fault))) (sym same) c.take.ensures.refused
+    let same = batch-all s edits c.args.room some in
+    subst (λ r. IfErr c.step_edits.result (λ fault. (fault ≡ OutOfMemory) ⊎ (r ≡ Err fault))) (sym same) c.step_edits.ensures.refused

@@ -1,8 +1,8 @@
 -- The change was made, and then it is told whether the text was refused.
-use Rattle.std.proofs.Common.{[], inl, refl, subst}
+use Rattle.std.proofs.Common.{[], subst}
 use Rattle.std.specs.Prelude.{Ok}
 use Rattle.conf_tools.specs.{Outcomes.status_of_outcome, Performs.ChangesIf, declared.world.Access.Access}
-use Rattle.conf_tools.proofs.OutcomeLemmas.{import_left}
+use Rattle.conf_tools.proofs.OutcomeLemmas.{import_left, never_done}
 use Rattle.conf_tools.proofs.change_words.import_bytes.Goals as goal
 
 pub returns-in-Ok-clause-imports : goal.returns-in-Ok-clause-imports
@@ -20,4 +20,4 @@ returns-in-Ok-clause-leaves g c =
     c.change_if-ended.ensures.told c.tell_import.ensures.tells
 
 pub returns-in-Err-clause-leaves : goal.returns-in-Err-clause-leaves
-returns-in-Err-clause-leaves g c = (c.args.errors.now, inl refl, inl refl)
+returns-in-Err-clause-leaves g c = λ zero. absurd (never_done c.in-Err.fault c.status_of.result c.status_of.ensures zero)

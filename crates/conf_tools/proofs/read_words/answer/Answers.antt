@@ -6,9 +6,9 @@ pub returns-in-Names : goal.returns-in-Names
 returns-in-Names g c = let e = c.write_names-ended.ensures in rw (c.in-Names.is)
     (record { result = c.write_names-ended.result; ends = c.outcome_of_reading.ensures; done = e.ok; refused = e.refused })
 
-pub returns-in-Value : goal.returns-in-Value
-returns-in-Value g c = let e = c.write_value-ended.ensures in rw (c.in-Value.is)
-    (record { result = c.write_value-ended.result; ends = c.outcome_of_reading-in-Value.ensures; done = e.ok; refused = e.refused })
+pub returns-in-Values : goal.returns-in-Values
+returns-in-Values g c = let e = c.write_values-ended.ensures in rw (c.in-Values.is)
+    (record { result = c.write_values-ended.result; ends = c.outcome_of_reading-in-Values.ensures; done = e.ok; refused = e.refused })
 
 pub returns-in-Presence : goal.returns-in-Presence
 returns-in-Presence g c = let e = c.find_presence-found.ensures in rw (c.in-Presence.is) (record {

@@ -7,6 +7,6 @@ use Rattle.conf_history.proofs.logged.LoggedReplayed.perform.Goals as goal
 pub returns-clause-told : goal.returns-clause-told
 returns-clause-told c = (
   refl,
-  subst (λ n. TellsEntry c.args.self.now.form c.in_ok-line.line (n + 1) (command_of c.args.command)) c.count.ensures.count
-      c.in_ok-line.ensures,
+  subst (λ n. TellsEntry c.args.self.now.request c.in_ok-told.told (n + 1) (command_of c.args.command)) c.count.ensures.count
+      c.in_ok-told.ensures,
 )

@@ -1,0 +1,4 @@
+pub mod LookLemmas
+pub mod FindLemmas
+pub mod NumberLemmas
+pub mod WordLemmas

@@ -1,0 +1,5 @@
+pub mod Modes
+pub mod Standing
+pub mod Replacing
+pub mod Creating
+pub mod Steps

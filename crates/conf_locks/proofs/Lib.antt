@@ -1,0 +1,5 @@
+pub mod Staying
+pub mod Going
+pub mod Told
+pub mod Holding
+pub mod Steps

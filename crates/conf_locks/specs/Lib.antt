@@ -1,0 +1,4 @@
+pub mod Locks
+pub mod Models
+pub mod Laws
+pub mod Taking

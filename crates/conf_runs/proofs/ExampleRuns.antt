@@ -1,0 +1,286 @@
+-- The runs of README's first example.
+use Rattle.std.proofs.Common.{◌≡◌, ◌≤◌, ◌<◌, inl, inr, ℕ, suc, zero, List, [], ◌∷◌, ◌++◌, length, take, Option}
+use Rattle.std.proofs.Common.{None, Some, Result, Ok, Err, IfOk, codes, refl, sym, ap, ◌∙◌, subst, arith}
+use Rattle.std.proofs.lemmas.List.{append-nil, length-append}
+use Rattle.std.proofs.lemmas.Str.{chars-nil}
+use Rattle.std.specs.Str.{chars}
+use Rattle.conf_disk.specs.Image.{Image, IsImage}
+use Rattle.conf_disk.specs.Laws.{ReadingIsAnImage}
+use Rattle.conf_disk.specs.Models.{DiskModel}
+use Rattle.conf_record.specs.Documents.{BasesAreRead, BasesClose, BasesFit, OneRecord}
+use Rattle.conf_session.specs.Answers.{value_at_path}
+use Rattle.conf_state.proofs.RunLaws.{and_then-Ok}
+use Rattle.conf_state.specs.Commands.{Command, set_at, single}
+use Rattle.conf_state.specs.States.{Contents}
+use Rattle.conf_state.specs.Steps.{after, step}
+use Rattle.conf_state.specs.declared.fault.StoreFault.{StoreFault}
+use Rattle.conf_state.specs.declared.room.Room.TheVariants.{Enough}
+use Rattle.conf_store.specs.Opens.{OneMeaning, RefusedMeansNothing}
+use Rattle.conf_words.specs.declared.invocation.Conditions.{Conditions}
+use Rattle.conf_words.specs.declared.invocation.Invocation.{Invocation}
+use Rattle.conf_words.specs.declared.invocation.Invocation.TheVariants.{Get, Import, Set}
+use Rattle.conf_words.specs.declared.invocation.TreeForm.TheVariants.{Styled}
+use Rattle.conf_words.specs.declared.invocation.Value.TheVariants.{Text}
+use Rattle.conf_words.specs.declared.invocation.ValueForm.TheVariants.{Whole}
+use Rattle.conf_tools.specs.Asking.{AskedConditions}
+use Rattle.conf_tools.specs.Changes.{ChangeSurvives, Performs as ChangePerforms}
+use Rattle.conf_tools.specs.Performs.{ChangesAt, Performs}
+use Rattle.conf_tools.specs.Prelude.{IsRead}
+use Rattle.conf_tools.specs.ProgramCalls.{CallHolds, changing}
+use Rattle.conf_tools.specs.Reads.{ShowsTree}
+use Rattle.conf_tools.specs.StoreWords.{ChangesInFolder, Condition, MakesChange, conditions_of, status_at_end}
+use Rattle.conf_tools.specs.TextWords.{SetsAt, SetsText, TakesText}
+use Rattle.conf_tools.specs.Tools.{IsTaken, Taken, most_input}
+use Rattle.conf_tools.specs.Worlds.{Around, WorldModel}
+use Rattle.conf_tools.specs.declared.changes.Change.{Change}
+use Rattle.conf_tools.specs.declared.changes.Change.TheVariants as change
+use Rattle.conf_tools.specs.declared.program.Status.{Status}
+use Rattle.conf_tools.specs.declared.program.Status.TheVariants.{Done}
+use Rattle.conf_tools.specs.declared.stores.StoreToolFault.{StoreToolFault}
+use Rattle.conf_tools.specs.declared.stores.StoreToolFault.TheVariants.{Folder as InFolder}
+use Rattle.conf_tools.specs.declared.texts.ToolFault.{ToolFault}
+use Rattle.conf_tools.specs.declared.world.Access.{Access}
+use Rattle.conf_tools.specs.declared.world.Access.TheVariants.{Changing}
+use Rattle.conf_runs.specs.Example.{IsDone, SaysGet, SaysImport, SaysInit, SaysSet}
+use Rattle.conf_runs.specs.Folders.{KeepsFolders}
+use Rattle.conf_runs.specs.FoldersRead.{ShowsFolders}
+use Rattle.conf_runs.specs.Reads.{Asks, Puts, Shows, Turn}
+use Rattle.conf_runs.specs.Runs.{AreRuns, Deed, Ending, Event, IsMade, KeepsCommands, Where, accepted_in, acknowledged, anew, asked_for}
+use Rattle.conf_runs.specs.Runs.{calls, changed_if, changed_in, cut_off, deed_at, elsewhere, here, if_done}
+use Rattle.conf_runs.specs.Runs.{not_begun, own, returned}
+use Rattle.conf_runs.proofs.ExampleLemmas.{AreUnambiguous, path-so, port-read, port_is, set-so, word-so}
+use Rattle.conf_runs.proofs.StateLemmas.{set-turns}
+use Rattle.conf_runs.proofs.StatusLemmas.{not-done}
+use Rattle.conf_runs.proofs.WriteLemmas.{OneTree, not-read, reads-see-writes}
+use Rattle.yaml_config.specs.Limits.{config_limits}
+use Rattle.yaml_grammar.specs.Trees.{Tree, text}
+
+-- ---- what is kept of a set that was done
+
+take-one : (count : ℕ) (command : Command) → 1 ≤ count → take count (command ∷ []) ≡ command ∷ []
+take-one zero command more = absurd (omega (arith, more))
+take-one (suc zero) command more = refl
+take-one (suc (suc count)) command more = refl
+
+module _ {W D F P : Type 0} (world : WorldModel W D F P) (disk : DiskModel D) (remaining : F → Option (List ℕ))
+    (honest : disk.honest) (leaves : W → List ℕ → Image → Type 0) (path : List ℕ) where
+  -- one command was accepted, and acknowledged
+  record AcceptsOne (status : Status) (deed : Option (Deed disk)) (command : Command) : Type 0 where
+    one : accepted_in world disk remaining honest leaves path deed ≡ command ∷ []
+    least : (count : ℕ) → acknowledged world disk remaining honest leaves path status deed ≤ count → 1 ≤ count
+
+  abbrev Made : Status → Option (Deed disk) → Type 0
+  Made = IsMade world disk remaining honest leaves path
+
+  module _ (status : Status) (done : status ≡ Done) (change : Change) (command : Command)
+      (performs : (s : Contents) (accepted : List Command) → ChangePerforms s change accepted → accepted ≡ command ∷ []) where
+    changed-one : (first : D) (result : Result D (D × StoreToolFault)) → status ≡ status_at_end result
+        → (survives : ChangeSurvives disk first change result) → Made status (Some (calls (changing change first result survives)))
+        → AcceptsOne status (Some (calls (changing change first result survives))) command
+    changed-one first (Err (last, fault)) ends survives made = absurd (not-done fault (sym done ∙ ends))
+    changed-one first (Ok last) ends survives made =
+        let one = performs survives.start survives.accepted (made done) in
+        record {
+          one = one;
+          least = λ count le. at-least count one (subst (λ (s : Status). if_done s (length survives.accepted) ≤ count) done le);
+        }
+      where
+        at-least : (count : ℕ) → survives.accepted ≡ command ∷ [] → length survives.accepted ≤ count → 1 ≤ count
+        at-least count one le = subst (λ (l : List Command). length l ≤ count) one le
+
+    changed-in-one : (access : Access) (folder : List ℕ) (conditions : List Condition) (old new : W)
+        (does : ChangesInFolder world disk access folder conditions change old new status)
+        → Made status (own disk (changed_in world disk honest change does))
+        → AcceptsOne status (own disk (changed_in world disk honest change does)) command
+    changed-in-one access folder conditions old new (inl cannot) made = absurd (not-done (InFolder cannot.fault) (sym done ∙ cannot.ends))
+    changed-in-one access folder conditions old new (inr changes) made =
+        changed-one changes.first changes.result changes.ends (changes.survives honest) made
+
+    changed-if-one : (access : Access) (folder : List ℕ) (asked : AskedConditions) (old new : W)
+        (does : MakesChange world disk access folder asked change old new status)
+        → Made status (own disk (changed_if world disk honest access folder asked change old new status does))
+        → AcceptsOne status (own disk (changed_if world disk honest access folder asked change old new status does)) command
+    changed-if-one access folder (Ok conditions) old new does made =
+        changed-in-one access folder (conditions_of conditions.items) old new does made
+    changed-if-one access folder (Err fault) old new does made = absurd (not-read fault (sym done ∙ does.1))
+
+  performs-set : (name pointer : List ℕ) (value : Tree) (change : Change) → SetsAt name pointer value change
+      → (s : Contents) (accepted : List Command) → ChangePerforms s change accepted
+      → accepted ≡ single (set_at (chars name) (chars pointer) value) ∷ []
+  performs-set name pointer value (change.Perform command) sets s accepted performs =
+      performs ∙ ap (λ (c : Command). c ∷ []) sets
+  performs-set name pointer value (change.Import imported bytes) sets s accepted performs = absurd sets
+  performs-set name pointer value (change.Copy from to) sets s accepted performs = absurd sets
+  performs-set name pointer value (change.Rename from to) sets s accepted performs = absurd sets
+  performs-set name pointer value change.Checkpoint sets s accepted performs = absurd sets
+
+  asked-one : (status : Status) → status ≡ Done → (name pointer : List ℕ) (value : Tree) (wanted : Conditions) (access : Access)
+      (folder : List ℕ) (change : Result Change ToolFault) → IfOk change (SetsAt name pointer value) → (old new : W)
+      (does : ChangesAt world disk wanted access folder name pointer change old new status)
+      → Made status (own disk (asked_for world disk honest wanted access folder name pointer change old new status does))
+      → AcceptsOne status (own disk (asked_for world disk honest wanted access folder name pointer change old new status does))
+      (single (set_at (chars name) (chars pointer) value))
+  asked-one status done name pointer value wanted access folder (Ok change) sets old new does made =
+      changed-if-one status done change (single (set_at (chars name) (chars pointer) value))
+      (performs-set name pointer value change sets) access folder does.conditions old new does.makes made
+  asked-one status done name pointer value wanted access folder (Err fault) sets old new does made =
+      absurd (not-read fault (sym done ∙ does.1))
+
+  -- a set of a value in this folder
+  module _ (name pointer : List ℕ) (value : Tree) where
+    abbrev Put : (invocation : Invocation) (old new : Around W) (status : Status)
+        → Performs world disk remaining invocation old new status → Type 0
+    Put (Set folder named place given conditions reporting) old new status does =
+        (folder.now ≡ path) × (named.now ≡ name) × (place.now ≡ pointer) × IfOk does.0.change (SetsAt name pointer value)
+    Put invocation old new status does = ⊥
+
+    set-one : (invocation : Invocation) (place : Where world disk path invocation) (ending : Ending) → ending ≡ returned
+        → (old new : Around W) (status : Status) → status ≡ Done
+        → (does : Performs world disk remaining invocation old new status) → Put invocation old new status does
+        → Made status (deed_at world disk remaining honest leaves path invocation place ending old new status does)
+        → AcceptsOne status (deed_at world disk remaining honest leaves path invocation place ending old new status does)
+        (single (set_at (chars name) (chars pointer) value))
+    set-one invocation place cut_off ended old new status done does put made = cc
+    set-one invocation place not_begun ended old new status done does put made = cc
+    set-one (Set folder named pointed given conditions reporting) (elsewhere is_other) returned ended old new status done does
+        (of_path, of_name, of_pointer, sets) made = absurd (is_other (ap Some of_path))
+    set-one (Set folder named pointed given conditions reporting) (anew is is_new empty) returned ended old new status done does
+        (of_path, of_name, of_pointer, sets) made = cc
+    set-one (Set folder named pointed given conditions reporting) (here is not_new) returned ended old new status done does
+        (of_path, of_name, of_pointer, sets) made =
+        let one = asked-one status done named.now pointed.now value conditions Changing folder.now does.0.change
+        (subst (λ (n : List ℕ). IfOk does.0.change (SetsAt n pointed.now value)) (sym of_name)
+        (subst (λ (q : List ℕ). IfOk does.0.change (SetsAt name q value)) (sym of_pointer) sets))
+        does.0.seen new.world does.0.changes made in
+        subst (λ (n : List ℕ). AcceptsOne status
+        (deed_at world disk remaining honest leaves path (Set folder named pointed given conditions reporting) (here is not_new)
+        returned old new status does) (single (set_at (chars n) (chars pointer) value))) of_name
+        (subst (λ (q : List ℕ). AcceptsOne status
+        (deed_at world disk remaining honest leaves path (Set folder named pointed given conditions reporting) (here is not_new)
+        returned old new status does) (single (set_at (chars named.now) (chars q) value))) of_pointer one)
+    set-one invocation place ending ended old new status done does put made = absurd put
+
+    -- its command is kept
+    pub set-kept : (event : Event world disk remaining honest leaves path) → event.ending ≡ returned → event.status ≡ Done
+        → Put event.invocation event.old event.new event.status event.does → (kept : List Command)
+        → KeepsCommands world disk remaining honest leaves path event kept
+        → kept ≡ single (set_at (chars name) (chars pointer) value) ∷ []
+    set-kept event ended done put kept keeps =
+        let one = set-one event.invocation event.place event.ending ended event.old event.new event.status done event.does put
+        (keeps.is_made ended) in
+        keeps.are ∙ ap (take keeps.count) one.one
+        ∙ take-one keeps.count (single (set_at (chars name) (chars pointer) value)) (one.least keeps.count (keeps.all_acknowledged ended))
+
+-- ---- the words of the example
+
+-- the configuration in the one style
+shown-so : ShowsTree (Whole Styled) (port_is (codes "81")) (codes "port: \"81\"\n")
+unfolding lib.Utf8.encode
+shown-so = refl
+
+-- what an import reads of an input that is known
+input-read : (bytes : List ℕ) → length bytes < most_input → (read : Taken) (given left : Option (List ℕ)) → given ≡ Some bytes
+    → IsTaken read given left → IfOk read (λ taken. taken.items ≡ bytes)
+input-read bytes short (Err fault) given left is taken = tt
+input-read bytes short (Ok read) None left is taken = cc
+input-read bytes short (Ok read) (Some all) None is taken = absurd taken.ok.taken
+input-read bytes short (Ok read) (Some all) (Some rest) is taken =
+    let same : all ≡ bytes = cc in
+    let cut = taken.ok.taken in
+    let at_most : length read.items ≤ length all = longer read.items rest all cut in
+    let none = taken.ok.at_end (omega (arith, at_most, short, ap length same)) in
+    ends read.items rest all cut none ∙ same
+  where
+    longer : (one other all : List ℕ) → all ≡ one ++ other → length one ≤ length all
+    longer one other all is = omega (arith, ap length is, length-append one other)
+
+    ends : (one other all : List ℕ) → all ≡ one ++ other → other ≡ [] → one ≡ all
+    ends one other all is none = sym (is ∙ ap (λ (o : List ℕ). one ++ o) none ∙ append-nil one)
+
+module _ {W D F P : Type 0} (world : WorldModel W D F P) (disk : DiskModel D) (remaining : F → Option (List ℕ))
+    (honest : disk.honest) (leaves : W → List ℕ → Image → Type 0) (unambiguous : AreUnambiguous) where
+  says-import : (invocation : Invocation) → SaysImport invocation → (old new : Around W) (status : Status)
+      (does : Performs world disk remaining invocation old new status) → old.input ≡ Some (codes "port: 80\n")
+      → Puts world disk remaining honest leaves (codes "shop") (codes "web") [] (port_is (codes "80")) invocation old new status does
+  says-import (Import folder named file root absent conditions reporting) (of_folder, of_name, of_file) old new status does given =
+      (of_folder, of_name, refl, by does.takes)
+    where
+      gives : (read : Taken) → IfOk read (λ taken. taken.items ≡ codes "port: 80\n")
+          → IfOk read (λ taken. IsRead taken.items config_limits (port_is (codes "80")))
+      gives (Ok taken) is = subst (λ (b : List ℕ). IsRead b config_limits (port_is (codes "80"))) (sym is) (port-read unambiguous)
+      gives (Err fault) is = tt
+
+      by : TakesText world remaining file.now does.read old.world does.seen old.input new.input
+          → IfOk does.read (λ taken. IsRead taken.items config_limits (port_is (codes "80")))
+      by (inl input) =
+          gives does.read (input-read (codes "port: 80\n") (omega arith) does.read old.input new.input given input.2)
+      by (inr named_file) = absurd (named_file.0 of_file)
+  says-import invocation says old new status does given = absurd says
+
+  says-set : (invocation : Invocation) → SaysSet invocation → (old new : Around W) (status : Status)
+      (does : Performs world disk remaining invocation old new status)
+      → Put world disk remaining honest leaves (codes "shop") (codes "web") (codes "/port") (text (codes "81")) invocation old new
+      status does
+  says-set (Set folder named place (Text word) conditions reporting) (of_folder, of_name, of_place, of_word) old new status does =
+      (of_folder, of_name, of_place, by does.0.change does.0.is.2)
+    where
+      by : (change : Result Change ToolFault) → SetsText named.now place.now (chars word.now) change
+          → IfOk change (SetsAt (codes "web") (codes "/port") (text (codes "81")))
+      by (Ok change) sets =
+          subst (λ (n : List ℕ). SetsAt n (codes "/port") (text (codes "81")) change) of_name
+          (subst (λ (q : List ℕ). SetsAt named.now q (text (codes "81")) change) of_place
+          (subst (λ (w : List ℕ). SetsAt named.now place.now (text w) change) (ap chars of_word ∙ word-so) sets))
+      by (Err fault) sets = tt
+  says-set invocation says old new status does = absurd says
+
+  says-get : (invocation : Invocation) → SaysGet invocation
+      → Asks world disk remaining honest leaves (codes "shop") (codes "web") [] invocation (Whole Styled)
+  says-get (Get folder named pointers None missing (Whole Styled)) (of_folder, of_name, of_place) =
+      (of_folder, of_name, of_place ∙ ap (λ (q : List ℕ). q ∷ []) (sym chars-nil), refl)
+  says-get invocation says = absurd says
+
+  module _ (keeps : KeepsFolders world disk leaves) (gives_one : OneTree) (one : OneMeaning) (reads_one : ReadingIsAnImage)
+      (counts : (d : D) (t : ℕ) (image : Image) → t ≤ disk.moment d → IsImage (disk.folder d) image → disk.left d t image)
+      (read : BasesAreRead) (close : BasesClose) (fit : BasesFit) (holds : CallHolds disk) (nothing : RefusedMeansNothing)
+      (one_record : OneRecord) where
+    turns-port : (kept : List Command) → kept ≡ single (set_at (chars (codes "web")) (chars (codes "/port")) (text (codes "81"))) ∷ []
+        → Turn (codes "web") [] (port_is (codes "80")) kept (port_is (codes "81"))
+    turns-port kept is from to stood led =
+        let one = subst (λ (c : List Command). after from c ≡ Ok to) is led in
+        let done = and_then-Ok (step from (single (set_at (chars (codes "web")) (chars (codes "/port")) (text (codes "81")))) Enough)
+        (λ t. Ok t) to one in
+        let same : done.0 ≡ to = ended done.0 to done.2 in
+        subst (λ (q : List ℕ). value_at_path to (chars (codes "web")) q ≡ Ok (port_is (codes "81"))) (sym chars-nil)
+        (set-turns from to (chars (codes "web")) (chars (codes "/port")) (text (codes "81")) (codes "port" ∷ []) (port_is (codes "80"))
+        (port_is (codes "81")) path-so set-so
+        (subst (λ (q : List ℕ). value_at_path from (chars (codes "web")) q ≡ Ok (port_is (codes "80"))) chars-nil stood)
+        (subst (λ (t : Contents).
+        step from (single (set_at (chars (codes "web")) (chars (codes "/port")) (text (codes "81")))) Enough ≡ Ok t) same done.1))
+      where
+        ended : (x y : Contents) → ◌≡◌ {A = Result Contents StoreFault} (Ok x) (Ok y) → x ≡ y
+        ended x y is = cc
+
+    pub first-example : ShowsFolders world remaining leaves → (init import set : Event world disk remaining honest leaves (codes "shop"))
+        → IsDone world disk remaining honest leaves SaysInit init → IsDone world disk remaining honest leaves SaysImport import
+        → import.old.input ≡ Some (codes "port: 80\n") → IsDone world disk remaining honest leaves SaysSet set
+        → (get : Invocation) (old new : Around W) (status : Status)
+        (does : Performs world disk remaining get old new status) → SaysGet get
+        → AreRuns world disk remaining honest leaves (codes "shop") (leaves init.old.world (codes "shop"))
+        (init ∷ import ∷ set ∷ []) (leaves old.world (codes "shop"))
+        → Shows world disk remaining honest leaves (codes "shop") (codes "web") [] (codes "port: \"81\"\n") get old new status does
+    first-example shows_folders init import set inits imports given sets get old new status does gets runs =
+        reads-see-writes world disk remaining honest leaves (codes "shop") (codes "web") [] keeps gives_one one reads_one counts read close
+        fit holds nothing one_record shows_folders import (port_is (codes "80"))
+        (record {
+          ended = imports.ended;
+          done = imports.done;
+          puts = says-import import.invocation imports.says import.old import.new import.status import.does given;
+        })
+        (set ∷ []) (port_is (codes "81")) (
+          port_is (codes "81"),
+          (λ kept keeps_kept. turns-port kept
+              (set-kept world disk remaining honest leaves (codes "shop") (codes "web") (codes "/port") (text (codes "81")) set
+              sets.ended sets.done (says-set set.invocation sets.says set.old set.new set.status set.does) kept keeps_kept)),
+          refl,
+        )
+        get old new status does (Whole Styled) (says-get get gets) ((λ image is. is), runs.1.1) (codes "port: \"81\"\n") shown-so

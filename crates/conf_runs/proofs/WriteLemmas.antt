@@ -1,0 +1,278 @@
+-- What stands at a place after runs.
+use Rattle.std.proofs.Common.{◌≡◌, ◌≤◌, inl, inr, ℕ, List, [], ◌∷◌, Option}
+use Rattle.std.proofs.Common.{Result, Ok, Err, IfOk, refl, sym, ap, ◌∙◌, subst}
+use Rattle.std.proofs.lemmas.Str.{chars-nil}
+use Rattle.std.specs.Str.{chars}
+use Rattle.conf_disk.specs.Image.{Image, IsImage}
+use Rattle.conf_disk.specs.Laws.{ReadingIsAnImage}
+use Rattle.conf_disk.specs.Models.{DiskModel}
+use Rattle.conf_record.specs.Documents.{BasesAreRead, BasesClose, BasesFit, OneRecord}
+use Rattle.conf_session.specs.Answers.{value_at_path}
+use Rattle.conf_state.specs.Commands.{Command, import_as, set_at, single, text_of}
+use Rattle.conf_state.specs.States.{Contents}
+use Rattle.conf_store.specs.Calls.{journal_length, outcome, room_for}
+use Rattle.conf_store.specs.Meaning.{ImageMeans}
+use Rattle.conf_store.specs.Opens.{OneMeaning, RefusedMeansNothing}
+use Rattle.conf_store.specs.View.{StoreView}
+use Rattle.conf_words.specs.declared.invocation.Root.{Root}
+use Rattle.conf_words.specs.declared.invocation.Root.TheVariants.{Any, Collection}
+use Rattle.conf_words.specs.declared.invocation.Conditions.{Conditions}
+use Rattle.conf_words.specs.declared.invocation.Invocation.{Invocation}
+use Rattle.conf_words.specs.declared.invocation.Invocation.TheVariants.{Import, Set}
+use Rattle.conf_words.specs.declared.invocation.ValueForm.{ValueForm}
+use Rattle.conf_tools.specs.Asking.{AskedConditions}
+use Rattle.conf_tools.specs.Changes.{ChangesOn, Makes}
+use Rattle.conf_tools.specs.Performs.{ChangesAt, ImportsRead, Performs, access_of}
+use Rattle.conf_tools.specs.Exports.{disk_handed_back}
+use Rattle.conf_tools.specs.Prelude.{IsRead}
+use Rattle.conf_tools.specs.ProgramCalls.{CallHolds}
+use Rattle.conf_tools.specs.Reads.{ShowsTree}
+use Rattle.conf_tools.specs.Statuses.{status_of}
+use Rattle.conf_tools.specs.StoreWords.{ChangesInFolder, Condition, MakesChange, conditions_of, status_at_end}
+use Rattle.conf_tools.specs.TextWords.{IsImport, SetsAt}
+use Rattle.conf_tools.specs.Tools.{Taken}
+use Rattle.conf_tools.specs.Worlds.{Around, WorldModel}
+use Rattle.conf_tools.specs.declared.changes.Change.{Change}
+use Rattle.conf_tools.specs.declared.changes.Change.TheVariants as change
+use Rattle.conf_tools.specs.declared.program.Status.{Status}
+use Rattle.conf_tools.specs.declared.program.Status.TheVariants.{Done}
+use Rattle.conf_tools.specs.declared.stores.StoreToolFault.{StoreToolFault}
+use Rattle.conf_tools.specs.declared.stores.StoreToolFault.TheVariants.{Folder as InFolder}
+use Rattle.conf_tools.specs.declared.texts.ToolFault.{ToolFault}
+use Rattle.conf_tools.specs.declared.texts.ToolFault.TheVariants as tool_fault
+use Rattle.conf_tools.specs.declared.world.Access.{Access}
+use Rattle.conf_tools.specs.declared.world.Access.TheVariants.{Changing}
+use Rattle.conf_runs.specs.Folders.{KeepsFolders}
+use Rattle.conf_runs.specs.FoldersRead.{ShowsFolders}
+use Rattle.conf_runs.specs.Others.{AllSpare}
+use Rattle.conf_runs.specs.Reads.{Asks, IsSteady, Puts, Shows, Turn, TurnInto, Writes}
+use Rattle.conf_runs.specs.Runs.{AreRuns, Ending, Event, Kept, KeepsCommands, KeptOf, LeavesAfter, MayLeave, accepted_in}
+use Rattle.conf_runs.specs.Runs.{commands, cut_off, deed_in, new_store}
+use Rattle.conf_runs.specs.Runs.{not_begun, returned}
+use Rattle.conf_runs.proofs.OtherLemmas.{first-spare, value-stays}
+use Rattle.conf_runs.proofs.ReadLemmas.{StandsIn, There, asked, stands-as}
+use Rattle.conf_runs.proofs.RunLemmas.{LedBy, kept-run}
+use Rattle.conf_runs.proofs.StateLemmas.{empty-lacks, import-there, set-there}
+use Rattle.conf_runs.proofs.StatusLemmas.{not-done}
+use Rattle.yaml_config.specs.Limits.{config_limits}
+use Rattle.yaml_grammar.specs.Trees.{Tree}
+
+pub not-read : (fault : ToolFault) → Done ≡ status_of fault → ⊥
+not-read tool_fault.Input is = cc
+not-read tool_fault.Output is = cc
+not-read (tool_fault.Read fault) is = cc
+not-read (tool_fault.Comments place) is = cc
+not-read tool_fault.Unsettled is = cc
+not-read tool_fault.OneValue is = cc
+
+-- ---- a run of commands of other configurations
+
+module _ {W D F P : Type 0} (world : WorldModel W D F P) (disk : DiskModel D) (remaining : F → Option (List ℕ))
+    (honest : disk.honest) (leaves : W → List ℕ → Image → Type 0) (path name pointer : List ℕ) where
+  pub others-stay : (event : Event world disk remaining honest leaves path) (value : Tree)
+      → AllSpare (chars name) (accepted_in world disk remaining honest leaves path (deed_in world disk remaining honest leaves path event))
+      → (kept : List Command) → KeepsCommands world disk remaining honest leaves path event kept → Turn name pointer value kept value
+  others-stay event value spares kept keeps_kept from to there led =
+      let first = first-spare keeps_kept.count
+      (accepted_in world disk remaining honest leaves path (deed_in world disk remaining honest leaves path event)) (chars name) spares in
+      value-stays kept from to (chars name) (chars pointer)
+      (subst (λ (c : List Command). AllSpare (chars name) c) (sym keeps_kept.are) first) led ∙ there
+
+-- bytes give one tree at most
+abbrev pub OneTree : Type 0
+OneTree = (bytes : List ℕ) (one other : Tree) → IsRead bytes config_limits one → IsRead bytes config_limits other → one ≡ other
+
+module _ {W D F P : Type 0} (world : WorldModel W D F P) (disk : DiskModel D) (remaining : F → Option (List ℕ))
+    (honest : disk.honest) (leaves : W → List ℕ → Image → Type 0) (keeps : KeepsFolders world disk leaves)
+    (name pointer : List ℕ) (value : Tree) where
+  -- ---- a change that leaves the value at the place
+
+  -- whatever the change was made of, the value is there after it
+  abbrev Leads : Change → Type 0
+  Leads change = (opened closed : StoreView D) → Makes opened change closed
+      → value_at_path closed.state (chars name) (chars pointer) ≡ Ok value
+
+  changed-in : (access : Access) (folder : List ℕ) (conditions : List Condition) (change : Change) (old new : W) (status : Status)
+      → status ≡ Done → Leads change → ChangesInFolder world disk access folder conditions change old new status
+      → StandsIn leaves folder name pointer value new
+  changed-in access folder conditions change old new status done leads (inl cannot) =
+      absurd (not-done (InFolder cannot.fault) (sym done ∙ cannot.ends))
+  changed-in access folder conditions change old new status done leads (inr changes) =
+      by changes.result changes.ends changes.gives_back changes.made
+    where
+      by : (result : Result D (D × StoreToolFault)) → status ≡ status_at_end result
+          → world.given_back (disk_handed_back result) changes.opened new
+          → IfOk result (ChangesOn disk changes.first conditions change)
+          → StandsIn leaves folder name pointer value new
+      by (Err refused) ends gives_back made = absurd (not-done refused.1 (sym done ∙ ends))
+      by (Ok last) ends gives_back made = λ image is.
+          let of = keeps.disks access folder old changes.opened new changes.first last changes.opens gives_back in
+          (made.closed.state, leads made.opened made.closed made.makes, made.images honest image (of.given_back image is))
+
+  changed-if : (access : Access) (folder : List ℕ) (asked : AskedConditions) (change : Change) (old new : W) (status : Status)
+      → status ≡ Done → Leads change → MakesChange world disk access folder asked change old new status
+      → StandsIn leaves folder name pointer value new
+  changed-if access folder (Ok conditions) change old new status done leads makes =
+      changed-in access folder (conditions_of conditions.items) change old new status done leads makes
+  changed-if access folder (Err fault) change old new status done leads makes = absurd (not-read fault (sym done ∙ makes.1))
+
+  changed-at : (wanted : Conditions) (access : Access) (folder place_name place : List ℕ) (change : Result Change ToolFault)
+      (old new : W) (status : Status) → status ≡ Done → IfOk change Leads
+      → ChangesAt world disk wanted access folder place_name place change old new status
+      → StandsIn leaves folder name pointer value new
+  changed-at wanted access folder place_name place (Ok change) old new status done leads does =
+      changed-if access folder does.conditions change old new status done leads does.makes
+  changed-at wanted access folder place_name place (Err fault) old new status done leads does =
+      absurd (not-read fault (sym done ∙ does.1))
+
+  -- ---- `set`
+
+  set-leads : IsSteady pointer → (change : Change) → SetsAt name pointer value change → Leads change
+  set-leads steady (change.Perform command) sets opened closed makes =
+      set-there opened.state closed.state (chars name) (chars pointer) value
+      (room_for (journal_length opened) opened.state (single (set_at (chars name) (chars pointer) value))) steady
+      (subst (λ (c : Command). outcome (journal_length opened) opened.state c ≡ Ok closed.state) sets makes.step)
+  set-leads steady (change.Import imported bytes) sets opened closed makes = absurd sets
+  set-leads steady (change.Copy from to) sets opened closed makes = absurd sets
+  set-leads steady (change.Rename from to) sets opened closed makes = absurd sets
+  set-leads steady change.Checkpoint sets opened closed makes = absurd sets
+
+  set-leads-all : IsSteady pointer → (change : Result Change ToolFault) → IfOk change (SetsAt name pointer value) → IfOk change Leads
+  set-leads-all steady (Ok change) sets = set-leads steady change sets
+  set-leads-all steady (Err fault) sets = tt
+
+  -- ---- `import`
+
+  module _ (gives_one : OneTree) (whole : pointer ≡ []) where
+    import-leads : (root : Root) (bytes : List ℕ) → IsRead bytes config_limits value → (change : Change)
+        → IsImport root name bytes (Ok change) → Leads change
+    import-leads root bytes reads (change.Import kept imported) (named, is, left) opened closed makes =
+        let tree : makes.tree ≡ value =
+        gives_one bytes makes.tree value
+        (subst (λ (b : List ℕ). IsRead b config_limits makes.tree) is makes.reads) reads in
+        let there : value_at_path closed.state (text_of kept) [] ≡ Ok makes.tree =
+        import-there opened.state closed.state (text_of kept) makes.tree
+        (room_for (journal_length opened) opened.state (single (import_as (text_of kept) makes.tree))) makes.accepts.step in
+        subst (λ (q : List ℕ). value_at_path closed.state (chars name) q ≡ Ok value) (sym (ap chars whole ∙ chars-nil))
+        (subst (λ (n : List ℕ). value_at_path closed.state n [] ≡ Ok value) named (there ∙ ap Ok tree))
+    import-leads Collection bytes reads (change.Perform command) (tree, tree_read, (collection, said)) opened closed makes =
+        let tree_is : tree ≡ value = gives_one bytes tree value tree_read reads in
+        let there : value_at_path closed.state (chars name) [] ≡ Ok tree =
+        import-there opened.state closed.state (chars name) tree
+        (room_for (journal_length opened) opened.state (single (import_as (chars name) tree)))
+        (subst (λ (c : Command). outcome (journal_length opened) opened.state c ≡ Ok closed.state) said makes.step) in
+        subst (λ (q : List ℕ). value_at_path closed.state (chars name) q ≡ Ok value) (sym (ap chars whole ∙ chars-nil))
+        (there ∙ ap Ok tree_is)
+    import-leads Any bytes reads (change.Perform command) is opened closed makes = absurd is
+    import-leads root bytes reads (change.Copy from to) is opened closed makes = absurd is
+    import-leads root bytes reads (change.Rename from to) is opened closed makes = absurd is
+    import-leads root bytes reads change.Checkpoint is opened closed makes = absurd is
+
+    import-leads-all : (root : Root) (bytes : List ℕ) → IsRead bytes config_limits value → (change : Result Change ToolFault)
+        → IsImport root name bytes change → IfOk change Leads
+    import-leads-all root bytes reads (Ok change) is = import-leads root bytes reads change is
+    import-leads-all root bytes reads (Err fault) is = tt
+
+    imported : (wanted : Conditions) (root : Root) (access : Access) (folder : List ℕ) (read : Taken) (old new : W) (status : Status)
+        → status ≡ Done → IfOk read (λ taken. IsRead taken.items config_limits value)
+        → ImportsRead world disk wanted root access folder name read old new status
+        → StandsIn leaves folder name pointer value new
+    imported wanted root access folder (Ok bytes) old new status done reads does =
+        changed-at wanted access folder name [] does.change old new status done
+        (import-leads-all root bytes.items reads does.change does.is) does.changes
+    imported wanted root access folder (Err fault) old new status done reads does = absurd (not-read fault (sym done ∙ does.1))
+
+module _ {W D F P : Type 0} (world : WorldModel W D F P) (disk : DiskModel D) (remaining : F → Option (List ℕ))
+    (honest : disk.honest) (leaves : W → List ℕ → Image → Type 0) (path name pointer : List ℕ)
+    (keeps : KeepsFolders world disk leaves) (gives_one : OneTree) where
+  -- a run that put a value at the place, with the status Done
+  put-there : (value : Tree) (invocation : Invocation) (old new : Around W) (status : Status)
+      (does : Performs world disk remaining invocation old new status)
+      → Puts world disk remaining honest leaves path name pointer value invocation old new status does → status ≡ Done
+      → StandsIn leaves path name pointer value new.world
+  put-there value (Set folder named place given conditions reporting) old new status does
+      (of_path, of_name, of_pointer, steady, sets) done =
+      stands-as leaves folder.now named.now place.now path name pointer (sym of_path) (sym of_name) (sym of_pointer) value new.world
+      (changed-at world disk remaining honest leaves keeps named.now place.now value conditions Changing folder.now named.now place.now
+      does.0.change does.0.seen new.world status done
+      (set-leads-all world disk remaining honest leaves keeps named.now place.now value
+      (subst (λ (q : List ℕ). IsSteady q) (sym of_pointer) steady) does.0.change
+      (subst (λ (q : List ℕ). IfOk does.0.change (SetsAt named.now q value)) (sym of_pointer)
+      (subst (λ (n : List ℕ). IfOk does.0.change (SetsAt n pointer value)) (sym of_name) sets)))
+      does.0.changes)
+  put-there value (Import folder named file root absent conditions reporting) old new status does
+      (of_path, of_name, whole, reads) done =
+      stands-as leaves folder.now named.now pointer path name pointer (sym of_path) (sym of_name) refl value new.world
+      (imported world disk remaining honest leaves keeps named.now pointer value gives_one whole conditions root (access_of absent)
+      folder.now does.read does.seen new.world status done reads does.imports)
+  put-there value invocation old new status does puts done = absurd puts
+
+  -- ---- what runs leave
+
+  abbrev Run : Type 0
+  Run = Event world disk remaining honest leaves path
+
+  -- whatever is left means a state that has the value at the place
+  abbrev Left : (Image → Type 0) → Tree → Type 0
+  Left left value = (image : Image) → left image → (s : Contents) × There leaves path name pointer value s × ImageMeans image s
+
+  left-returned : (ending : Ending) → ending ≡ returned → (event : Run) (image : Image)
+      → LeavesAfter world disk remaining honest leaves path ending (deed_in world disk remaining honest leaves path event)
+      event.old.world event.new.world image
+      → leaves event.new.world path image
+  left-returned returned is event image left = left
+  left-returned cut_off is event image left = cc
+  left-returned not_begun is event image left = cc
+
+  written : (write : Run) (value : Tree) → Writes world disk remaining honest leaves path name pointer write value
+      → Left (MayLeave world disk remaining honest leaves path write) value
+  written write value writes image left =
+      put-there value write.invocation write.old write.new write.status write.does writes.puts writes.done image
+      (left-returned write.ending writes.ended write image left)
+
+  module _ (one : OneMeaning) (reads_one : ReadingIsAnImage)
+      (counts : (d : D) (t : ℕ) (image : Image) → t ≤ disk.moment d → IsImage (disk.folder d) image → disk.left d t image)
+      (read : BasesAreRead) (close : BasesClose) (fit : BasesFit) (holds : CallHolds disk) where
+    turned : (event : Run) (value next : Tree)
+        → ((kept : List Command) → KeepsCommands world disk remaining honest leaves path event kept → Turn name pointer value kept next)
+        → Left (leaves event.old.world path) value → Left (MayLeave world disk remaining honest leaves path event) next
+    turned event value next turns stands image left =
+        let run = kept-run world disk remaining honest leaves path keeps one reads_one counts read close fit holds
+        (There leaves path name pointer value) event stands image left in
+        by run.kept run.of run.from run.stood run.to run.leads run.means
+      where
+        by : (kept : Kept) → KeptOf world disk remaining honest leaves path event kept → (from : Contents)
+            → There leaves path name pointer value from → (to : Contents)
+            → LedBy from kept to → ImageMeans image to
+            → (s : Contents) × There leaves path name pointer next s × ImageMeans image s
+        by (commands kept) of from stood to led means = (to, turns kept of from to stood led, means)
+        by (new_store state) of from stood to led means =
+            absurd (empty-lacks (chars name) (chars pointer) value
+            (subst (λ (s : Contents). There leaves path name pointer value s) led.0 stood))
+
+    -- each run between turns the value into the next one
+    turned-all : (events : List Run) (value last : Tree)
+        → TurnInto world disk remaining honest leaves path name pointer value events last → (before behind : Image → Type 0)
+        → Left before value → AreRuns world disk remaining honest leaves path before events behind → Left behind last
+    turned-all [] value last turns before behind stands fewer = λ image is.
+        let here = stands image (fewer image is) in
+        (here.0, here.1 ∙ ap Ok (sym turns), here.2)
+    turned-all (event ∷ events) value last (next, turns, others) before behind stands (found, further) =
+        turned-all events next last others (MayLeave world disk remaining honest leaves path event) behind
+        (turned event value next turns (λ image is. stands image (found image is))) further
+
+    pub reads-see-writes : (nothing : RefusedMeansNothing) (one_record : OneRecord) → ShowsFolders world remaining leaves
+        → (write : Run) (value : Tree) → Writes world disk remaining honest leaves path name pointer write value
+        → (between : List Run) (last : Tree) → TurnInto world disk remaining honest leaves path name pointer value between last
+        → (invocation : Invocation) (old new : Around W) (status : Status)
+        (does : Performs world disk remaining invocation old new status) (form : ValueForm)
+        → Asks world disk remaining honest leaves path name pointer invocation form
+        → AreRuns world disk remaining honest leaves path (leaves write.old.world path) (write ∷ between) (leaves old.world path)
+        → (text : List ℕ) → ShowsTree form last text
+        → Shows world disk remaining honest leaves path name pointer text invocation old new status does
+    reads-see-writes nothing one_record shows_folders write value writes between last turns invocation old new status does form asks
+        (first, further) text shows =
+        asked world disk remaining honest leaves keeps shows_folders path name pointer one reads_one nothing one_record counts
+        last invocation old new status does form asks
+        (turned-all between value last turns (MayLeave world disk remaining honest leaves path write) (leaves old.world path)
+        (written write value writes) further) text shows

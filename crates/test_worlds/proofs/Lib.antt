@@ -1,0 +1,5 @@
+pub mod Keeping
+pub mod Setting
+pub mod Blank
+pub mod Missing
+pub mod Kept
