@@ -69,7 +69,10 @@ PAGES = os.path.join(TOP, "python", "pages_of_confstorectl.py")
 OF_PROGRAM_ALONE = {"help"}
 
 # The words that confstorectl has alone.
-OF_CTL_ALONE = {"batch", "watch", "edit", "render", "undo", "rollback", "sync", "diff", "page"}
+OF_CTL_ALONE = {"watch", "edit", "render", "undo", "rollback", "sync", "diff", "page"}
+
+# What is told of an edit that is none, or of the text of an import among edits: confstorectl tells no file.
+OF_EDITS = re.compile(r"^(?:-: )?(\w+)(?: \d+:\d+ \w+)?(?: \((?:no list of edits|the text of an import)\))?$")
 
 # How long anything here is waited for, in seconds.
 PATIENCE = 60
@@ -218,10 +221,7 @@ class Side:
         for row in rows:
             words = [word.replace("STORE", self.folder).replace("TOP", top) for word in row.words]
             todo.append(([*self.words, *words], row.given))
-        self.results = [self.do_one(*one) for one in todo] if self.program == "confstore" else do_forked(todo)
-
-    def do_one(self, words: list[str], given: bytes) -> Done:
-        return batch_by_session(words, given) if words[1] == "batch" else done(words, given)
+        self.results = [done(*one) for one in todo] if self.program == "confstore" else do_forked(todo)
 
 
 def do_forked(todo: Sequence[tuple[list[str], bytes]]) -> list[Done]:
@@ -232,20 +232,9 @@ def do_forked(todo: Sequence[tuple[list[str], bytes]]) -> list[Done]:
     return [Done(*result) for result in pickle.loads(driven.output)]
 
 
-def batch_by_session(words: Sequence[str], text: bytes) -> Done:
-    """What confstore does of a batch that is valid YAML: in a session, since it has no such word."""
-    options, (folder, *file) = [], [word for word in words[2:] if word != "--explain"]
-    if "--explain" in words:
-        options.append("--explain")
-    listed = done([PROGRAM, "format", *options, *(file or ["-"])], text)
-    if listed.status:
-        return listed
-    indented = b"".join(b"  " + line for line in listed.output.splitlines(keepends=True))
-    answer = done([PROGRAM, "run", folder], b"---\nbatch:\n" + indented + b"...\n")
-    refused = re.search(rb"(?m)^refused: (\w+)$", answer.output)
-    if refused is None:
-        return Done(answer.status, b"", answer.errors)
-    return Done(1, b"", f"confstore: {refused[1].decode()}\n")
+def named(line: str) -> str:
+    """The name alone of what is told of a list of edits, if it is one of its edits, and not its text."""
+    return OF_EDITS.sub(r"\1", line)
 
 
 def compare(side: Side, model: Side, rows: Sequence[Row], failures: Failures) -> None:
@@ -254,8 +243,8 @@ def compare(side: Side, model: Side, rows: Sequence[Row], failures: Failures) ->
         failures.expect(f"{name}: status", found.status, wanted.status)
         failures.expect(f"{name}: output", found.output, wanted.output)
         told, of_model = found.told("confstorectl"), wanted.told("confstore")
-        if row.words[0] == "batch":  # a session does not say where in the text of an import
-            told = [line.split()[0] if re.match(r"Syntax \d", line) else line for line in told]
+        if row.words[0] == "batch":  # confstorectl names what an edit is refused for, and the program the file, too
+            told, of_model = [named(line) for line in told], [named(line) for line in of_model]
         failures.expect(f"{name}: what is told", told, of_model)
 
 
@@ -296,7 +285,7 @@ def known(rows: Sequence[Row]) -> list[Row]:
 def lacking(row: Row, of_program: Table, of_ctl: Table) -> bool:
     """Whether the program lacks a word or an option of a row that confstorectl has."""
     word = row.words[0]
-    if word == "batch" or word not in of_ctl:
+    if word not in of_ctl:
         return False
     options = {given.partition("=")[0] for given in row.words[1:]} & set(of_ctl[word].options)
     return word not in of_program or bool(options - set(of_program[word].options))

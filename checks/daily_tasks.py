@@ -91,10 +91,10 @@ def between_hosts(user: User) -> None:
 def many_keys(user: User) -> None:
     edits = [f"- {{set: web, path: /k{number}, value: v{number}}}\n" for number in range(KEYS)]
     user.writes("edits.yaml", "".join(edits))
-    user.does("confstorectl batch s edits.yaml")
+    user.does("confstore batch s edits.yaml")
     assert len(user.does("confstore keys s web").splitlines()) == KEYS + 2
     user.writes("bad.yaml", "".join(edits) + "- {set: none, path: /x, value: y}\n")
-    user.is_refused("confstorectl batch s bad.yaml", "NoConfig")
+    user.is_refused("confstore batch s bad.yaml", "NoConfig")
     assert len(user.does("confstore log s").splitlines()) == 2
 
 
@@ -331,7 +331,7 @@ class Task(NamedTuple):
 TASKS = [
     Task("guarded change", "`--if-value`", guarded_change),
     Task("move between hosts", "`backup` and tar", between_hosts),
-    Task("500 keys at once", "`confstorectl batch`", many_keys),
+    Task("500 keys at once", "`batch`", many_keys),
     Task("compare-and-set from 8 shells", "`--if-value`, `--wait`", from_many_shells),
     Task("8 changes side by side", "`--wait`", eight_at_once),
     Task("roll back one configuration", "`get --at`, `import --if-count`", roll_back),

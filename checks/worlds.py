@@ -107,8 +107,8 @@ class World:
     def word(self) -> Word:
         """A random word. The world is then the one after it."""
         kinds = {
-            self.init: 2, self.imported: 4, self.edit: 6, self.moved: 3, self.checkpoint: 1, self.session: 5,
-            self.backup: 2,
+            self.init: 2, self.imported: 4, self.edit: 6, self.moved: 3, self.listed: 3, self.checkpoint: 1,
+            self.session: 5, self.backup: 2,
         }  # fmt: skip
         makes: Callable[[str], Word] = self.init
         if self.folders:
@@ -167,6 +167,19 @@ class World:
         put: Document = {"import": to, "text": json.dumps(as_json(state.configs[name]))}
         taken: Document = {"delete": name, "path": ""}
         return self.changed(words, folder, [put] if kind == "copy" else [taken, put])
+
+    def listed(self, folder: str) -> Word:
+        """Some edits or none in a list, perhaps with the count as its condition."""
+        edits = [self.some_edit() for _ in range(self.chance.choice((0, 1, 2, 3)))]
+        if self.chance.random() < 0.3:
+            edits.append({"import": self.chance.choice(NAMES), "tree": self.chance.choice(VALUES)})
+        words, text, state = ["batch", folder], json.dumps(edits), self.folders.get(folder)
+        if state is not None and self.chance.random() < 0.2:
+            count = self.chance.choice((state.count, state.count + 1))
+            words += ["--if-count", str(count)]
+            if count != state.count:
+                return self.refused(words, folder, text)
+        return self.changed(words, folder, edits, text)
 
     def changed(self, words: list[str], folder: str, edits: list[Document], more: str = "") -> Word:
         """Words that make a command of these edits."""

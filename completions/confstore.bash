@@ -1,6 +1,6 @@
 # Completion of confstore for bash: `source` it, or put it as `confstore` where bash-completion looks for such files.
 
-_confstore_words='init import set delete copy rename checkpoint run export names get keys exists log verify salvage backup format check help'
+_confstore_words='init import set delete copy rename batch checkpoint run export names get keys exists log verify salvage backup format check help'
 
 _confstore_options() {
     local conditions='--if-value --if-absent --if-count'
@@ -12,6 +12,7 @@ _confstore_options() {
     delete) echo "--whole $conditions --wait --help" ;;
     copy) echo "--replace $conditions --wait --help" ;;
     rename) echo "$conditions --wait --help" ;;
+    batch) echo '--explain --if-count --wait --help' ;;
     export) echo '--json --plain --wait --help' ;;
     names) echo '--json --at --help' ;;
     get) echo '--raw --no-newline --json --plain --default --at --help' ;;
@@ -67,7 +68,7 @@ _confstore() {
         return
     fi
     case $word:$place in
-    import:2 | format:* | check:*)
+    import:2 | batch:1 | format:* | check:*)
         compopt -o filenames
         mapfile -t COMPREPLY < <(compgen -f -- "$current")
         ;;

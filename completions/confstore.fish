@@ -1,9 +1,9 @@
 # Completion of confstore for fish: put it into a folder of `fish_complete_path`.
 
-set -l stores run export import set delete copy rename checkpoint init names get keys exists log verify salvage backup
+set -l stores run export import set delete copy rename batch checkpoint init names get keys exists log verify salvage backup
 set -l named export import set delete copy rename get keys exists log
 set -l conditional import set delete copy rename
-set -l locking init import set delete copy rename checkpoint run export
+set -l locking init import set delete copy rename batch checkpoint run export
 
 # The words after the subcommand that are no options and no option's value.
 function __confstore_places
@@ -54,6 +54,7 @@ complete -c confstore -n __fish_use_subcommand -a set -d 'Set the value at a poi
 complete -c confstore -n __fish_use_subcommand -a delete -d 'Take out a value, or a configuration'
 complete -c confstore -n __fish_use_subcommand -a copy -d 'Put a copy of a configuration under another name'
 complete -c confstore -n __fish_use_subcommand -a rename -d 'Give a configuration another name'
+complete -c confstore -n __fish_use_subcommand -a batch -d 'Make all edits that a text lists, or none'
 complete -c confstore -n __fish_use_subcommand -a checkpoint -d 'Make the store file as short as its state'
 complete -c confstore -n __fish_use_subcommand -a init -d 'Make an empty store'
 complete -c confstore -n __fish_use_subcommand -a format -d 'Write a text in the one style'
@@ -66,6 +67,7 @@ complete -c confstore -n '__confstore_at 1 salvage backup' -a '(__fish_complete_
 complete -c confstore -n '__confstore_at 2 copy rename' -a '(__confstore_names)'
 complete -c confstore -n '__fish_seen_subcommand_from copy' -l replace -d 'Replace a configuration of that name'
 complete -c confstore -n '__confstore_at 2 import' -F
+complete -c confstore -n '__confstore_at 1 batch' -F
 complete -c confstore -n '__fish_seen_subcommand_from run' -l group -d 'Sync once for all commands at hand'
 complete -c confstore -n '__fish_seen_subcommand_from run' -l checkpoint-after -x -d 'Make checkpoints meanwhile'
 complete -c confstore -n '__fish_seen_subcommand_from import' -l init -d 'Make a store where there is none'
@@ -74,10 +76,10 @@ complete -c confstore -n '__fish_seen_subcommand_from set' -l yaml -d 'Read the 
 complete -c confstore -n '__fish_seen_subcommand_from set' -l file -r -F -d 'Take the text of a file'
 complete -c confstore -n "__fish_seen_subcommand_from $conditional" -l if-value -x -d 'Change only if this text is there'
 complete -c confstore -n "__fish_seen_subcommand_from $conditional" -l if-absent -d 'Change only if nothing is there'
-complete -c confstore -n "__fish_seen_subcommand_from $conditional" -l if-count -x -d 'Change only after so many commands'
+complete -c confstore -n "__fish_seen_subcommand_from batch $conditional" -l if-count -x -d 'Change only after so many commands'
 complete -c confstore -n "__fish_seen_subcommand_from $locking" -l wait -x -d 'Try again for so many seconds'
 complete -c confstore -n '__fish_seen_subcommand_from set delete' -l whole -d 'Allow the empty pointer'
-complete -c confstore -n '__fish_seen_subcommand_from import set format check' -l explain -d 'Show the line at fault of a refused text'
+complete -c confstore -n '__fish_seen_subcommand_from import set batch format check' -l explain -d 'Show the line at fault of a refused text'
 complete -c confstore -n '__fish_seen_subcommand_from names get keys exists log' -l at -x -d 'Read the store as it was after a command'
 complete -c confstore -n '__fish_seen_subcommand_from get' -l raw -d 'Write a text as it is'
 complete -c confstore -n '__fish_seen_subcommand_from get' -l no-newline -d 'Write no line feed after it'

@@ -12,7 +12,7 @@ _confstorectl_options() {
     copy) echo '--replace --if-value --if-absent --if-count --check --dry-run --socket --wait --help' ;;
     rename) echo '--if-value --if-absent --if-count --check --dry-run --socket --wait --help' ;;
     edit) echo '--check --socket --wait --help' ;;
-    batch) echo '--explain --check --dry-run --socket --wait --help' ;;
+    batch) echo '--explain --if-count --check --dry-run --socket --wait --help' ;;
     undo) echo '--if-count --check --dry-run --socket --wait --help' ;;
     rollback) echo '--to --if-count --check --dry-run --socket --wait --help' ;;
     sync) echo '--delete --explain --if-count --check --dry-run --socket --wait --help' ;;

@@ -184,6 +184,8 @@ complete -c confstorectl -n '__confstorectl_is edit' -l check -x \
     -d 'Makes the change only if COMMAND, of a shell, takes the text that comes of it'
 complete -c confstorectl -n '__confstorectl_is batch' -l explain \
     -d 'Shows the line at fault of a refused text, and says what to do'
+complete -c confstorectl -n '__confstorectl_is batch' -l if-count -x \
+    -d 'Changes the store only if it has accepted N commands'
 complete -c confstorectl -n '__confstorectl_is batch' -l check -x \
     -d 'Makes the change only if COMMAND, of a shell, takes the text that comes of it'
 complete -c confstorectl -n '__confstorectl_is batch' -l dry-run \

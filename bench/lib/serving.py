@@ -13,14 +13,14 @@ from lib.waiting import accepts, until
 
 
 @contextmanager
-def served(path: str, folder: str) -> Iterator[None]:
-    """Serves the store in a folder on a socket until the block ends."""
+def served(path: str, folder: str) -> Iterator[int]:
+    """Serves the store in a folder on a socket until the block ends. The block gets the number of the server's process."""
     words = [sys.executable, os.path.join(TOP, "clients", "serve.py"), path, folder]
     server = subprocess.Popen(words, env={**os.environ, "CONFSTORE": PROGRAM})
     try:
         if not until(lambda: accepts(path), 10):
             sys.exit("the server takes no clients")
-        yield
+        yield server.pid
     finally:
         server.terminate()
         server.wait()

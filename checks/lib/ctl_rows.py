@@ -205,6 +205,8 @@ PLAIN_ROWS = [
     row("batch STORE", b"[a"),
     row("batch STORE --explain", b"- {set: web, path: /a, value: b}\n- {c: d, c: e}\n"),
     row("batch STORE TOP/twice.yaml"),
+    row("batch STORE", b"- {import: mail, tree: {a: [b]}}\n- {set: mail, path: /a/-, value: c}\n"),
+    row("batch STORE --if-count 0", b"- {delete: mail, path: ''}\n"),
     row("set STORE web", b"x"),
     row("get STORE web /a /b"),
     row("get STORE web --no"),

@@ -275,7 +275,7 @@ EDIT = Word(
 BATCH = Word(
     "batch",
     "Makes all edits of a list, or none of them",
-    (EXPLAIN, *PLANNED),
+    (EXPLAIN, IF_COUNT, *PLANNED),
     (FOLDER, FILE),
     (
         "The text is a YAML list. Each edit is a mapping with the keys `import` and `text`, or `import` and `tree`; or"

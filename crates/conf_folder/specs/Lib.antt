@@ -1,2 +1,3 @@
 pub mod Modes
+pub mod NewFolders
 pub mod Refusals

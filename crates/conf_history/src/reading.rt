@@ -20,7 +20,7 @@ use yaml_recognizers::closings::one_list_of_pieces;
 /// whether a crash left a piece with a zero, and all that follows, which are dropped then.
 ///
 /// The file is read once. With a number nothing is read that this does not need, so that damage after that record is
-/// not found. It takes memory for the state, one piece and a chunk of 65,536 bytes, and time linear in what is read.
+/// not found. It takes memory for the state, one piece and 65,536 bytes at most, and time linear in what is read.
 ///
 /// What was read may not be synced: a crash may take back its last commands, until the store is opened or flushed.
 ///

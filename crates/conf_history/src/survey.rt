@@ -56,7 +56,7 @@ pub struct Survey {
 /// damaged file is no fault here.
 ///
 /// The file is read once, to its end. Of its configurations only those are built that the records put or edit. It takes
-/// memory for these, for the text of the base, one piece and a chunk of 65,536 bytes, and time linear in the file.
+/// memory for these, for the text of the base, one piece and 65,536 bytes at most, and time linear in the file.
 ///
 /// # Errors
 /// - `Input`: a read failed.

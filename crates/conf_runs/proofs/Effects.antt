@@ -1,6 +1,6 @@
 -- What each word does to the folders of a world.
 use Rattle.std.proofs.Common.{◌≡◌, ◌≢◌, inl, inr, ℕ, Bool, true, false, List, [], ◌∷◌, Option, None, Some, Result, Ok}
-use Rattle.std.proofs.Common.{Err, IfOk, drop, map, refl, sym, ap, subst, codes}
+use Rattle.std.proofs.Common.{Err, IfOk, drop, map, refl, sym, ap, ◌∙◌, subst, codes}
 use Rattle.std.specs.Borrow.{Bor}
 use Rattle.conf_disk.specs.Image.{Image}
 use Rattle.conf_disk.specs.Models.{DiskModel}
@@ -18,7 +18,7 @@ use Rattle.conf_words.specs.declared.invocation.Conditions.{Conditions}
 use Rattle.conf_words.specs.declared.invocation.{Invocation.Invocation, Root.Root}
 use Rattle.conf_words.specs.declared.invocation.TreeForm.{TreeForm}
 use Rattle.conf_words.specs.declared.invocation.Invocation.TheVariants.{Init, Import, Set, Delete, Copy, Rename}
-use Rattle.conf_words.specs.declared.invocation.Invocation.TheVariants.{Checkpoint, Run, Export, Names, Get, Exists}
+use Rattle.conf_words.specs.declared.invocation.Invocation.TheVariants.{Batch, Checkpoint, Run, Export, Names, Get, Exists}
 use Rattle.conf_words.specs.declared.invocation.Invocation.TheVariants.{Log, Verify, Salvage, Backup, Format, Check}
 use Rattle.conf_words.specs.declared.invocation.Comments.{Comments}
 use Rattle.conf_words.specs.declared.invocation.Formatting.{Formatting}
@@ -28,17 +28,20 @@ use Rattle.conf_words.specs.declared.invocation.Style.{Style}
 use Rattle.conf_words.specs.declared.invocation.LogForm.TheVariants as asked
 use Rattle.conf_words.specs.declared.invocation.Value.{Value}
 use Rattle.conf_words.specs.declared.invocation.Value.TheVariants.{Text, Yaml, File}
-use Rattle.conf_tools.specs.Backups.{BacksUpFound, BacksUpInFolder, BacksUpStore, status_after_backup}
+use Rattle.conf_tools.specs.Backups.{BacksUpFound, BacksUpInFolder, BacksUpStore}
 use Rattle.conf_tools.specs.Asking.{AskedConditions}
 use Rattle.conf_tools.specs.LogWords.{Logs, LogsValues, commands_of}
 use Rattle.conf_tools.specs.Keeping.{CannotKeep, KeepsDropped, PutsFile, SalvagesTo, Verifies}
-use Rattle.conf_tools.specs.Performs.{ChangesAt, FormatsAll, ChecksAll, ImportsRead, Performs, access_of, grouping_of}
+use Rattle.conf_tools.specs.Batches.{counted_alone}
+use Rattle.conf_tools.specs.Performs.{BatchesRead, ChangesAt, ChecksAll, Does, FormatsAll, ImportsRead, access_of, grouping_of}
 use Rattle.conf_tools.specs.Exports.{disk_back}
 use Rattle.conf_tools.specs.Tools.{Taken}
 use Rattle.conf_tools.specs.ProgramCalls.{Call, changing, disk_before, disk_behind, exporting, running}
 use Rattle.conf_tools.specs.StoreWords.{Condition, conditions_of, ChangesInFolder, ExportsFromFolder, Inits, MakesChange, MakesInFolder}
 use Rattle.conf_tools.specs.StoreWords.{OpensFile, OpensNew, RunsOnFolder, Salvages, SavesFound, SavesInFolder}
-use Rattle.conf_tools.specs.StoreWords.{WritesFindings, status_at_end}
+use Rattle.conf_tools.specs.StoreWords.{WritesFindings}
+use Rattle.conf_tools.specs.Endings.{EndsTold, ending_after_backup, ending_at_end, told_of}
+use Rattle.conf_tools.specs.Outcomes.{status_of_ending}
 use Rattle.conf_tools.specs.TextWords.{IfSo, IsSet, ReplacesAt, ReplacesRead, ReportsOnAll, RestylesAll}
 use Rattle.conf_tools.specs.TextWords.{RestylesOpened, TakesText, stops_all, status_of_report}
 use Rattle.conf_tools.specs.Statuses.{worst}
@@ -49,6 +52,7 @@ use Rattle.conf_tools.specs.declared.file_texts.Restyled.{Restyled}
 use Rattle.conf_tools.specs.declared.file_texts.Restyled.TheVariants.{Same, Changed}
 use Rattle.conf_tools.specs.declared.file_words.Report.{Report}
 use Rattle.conf_tools.specs.declared.file_words.Report.TheVariants.{Findings, Name}
+use Rattle.conf_tools.specs.EndOfRun.{EndOfRun as Ended}
 use Rattle.conf_tools.specs.declared.program.Status.{Status}
 use Rattle.conf_tools.specs.declared.program.Status.TheVariants.{Done}
 use Rattle.conf_tools.specs.declared.reading_fault.ReadingFault.{ReadingFault}
@@ -58,9 +62,10 @@ use Rattle.conf_tools.specs.declared.texts.ToolFault.{ToolFault}
 use Rattle.conf_tools.specs.declared.world.Access.{Access}
 use Rattle.conf_tools.specs.declared.world.Access.TheVariants.{Changing, New}
 use Rattle.conf_runs.specs.Folders.{IsDiskOf, KeepsFolders, LeavesNoMore}
-use Rattle.conf_runs.specs.Runs.{Deed, asked_for, call_of, changed_if, changed_in, copied_in, copied_of, copies}
+use Rattle.conf_runs.specs.Runs.{Deed, asked_for, batched, call_of, changed_if, changed_in, copied_in, copied_of, copies}
 use Rattle.conf_runs.specs.Runs.{exported_from, folder_of, imported, initialised, made_in, makes_new, ran_in}
 use Rattle.conf_runs.specs.Runs.{saved_in, saved_of, saved_to, saves}
+use Rattle.conf_tools.proofs.EndingLemmas.{imported-status}
 
 module _ {W D F P : Type 0} (world : WorldModel W D F P) (disk : DiskModel D) (remaining : F → Option (List ℕ))
     (honest : disk.honest) (leaves : W → List ℕ → Image → Type 0) (keeps : KeepsFolders world disk leaves) where
@@ -80,7 +85,7 @@ module _ {W D F P : Type 0} (world : WorldModel W D F P) (disk : DiskModel D) (r
   -- the status of a change is that of its result
   abbrev pub Fits : Status → Call disk → Type 0
   Fits status (running io grouping old result crashes) = Unit {0}
-  Fits status (changing change old result crashes) = status ≡ status_at_end result
+  Fits status (changing change old result crashes) = status ≡ status_of_ending (ending_at_end result)
   Fits status (exporting old new crashes) = Unit {0}
 
   -- What a run does to folders, with the call that it makes on a disk.
@@ -99,64 +104,77 @@ module _ {W D F P : Type 0} (world : WorldModel W D F P) (disk : DiskModel D) (r
 
   -- ---- words that take a disk
 
-  of-making : (folder : List ℕ) (old new : W) (status : Status) (makes : MakesInFolder world disk folder old new status)
-      → Effect old new status (Some folder) (made_in world disk honest makes)
-  of-making folder old new status (inl cannot) = nothing (Some folder) (keeps.no_disk _ folder old new cannot.fault cannot.opens)
-  of-making folder old new status (inr makes) =
+  of-making : (folder : List ℕ) (old new : W) (end : Ended) (makes : MakesInFolder world disk folder old new end)
+      → Effect old new (status_of_ending end) (Some folder) (made_in world disk honest makes)
+  of-making folder old new end (inl cannot) = nothing (Some folder) (keeps.no_disk _ folder old new cannot.fault cannot.opens)
+  of-making folder old new end (inr makes) =
       on_disk folder old _ (stays old) (keeps.disks _ folder old makes.opened new makes.first _ makes.opens makes.gives_back) tt
 
-  of-init : (folder : List ℕ) (old new : W) (status : Status) (does : Inits world disk folder old new status)
-      → Effect old new status (Some folder) (initialised world disk honest does)
-  of-init folder old new status (inl cannot) = nothing (Some folder) (keeps.made folder old new _ cannot.makes)
-  of-init folder old new status (inr makes) =
-      after old makes.made new (keeps.made folder old makes.made _ makes.makes) (of-making folder makes.made new status makes.then)
+  of-init : (folder : List ℕ) (old new : W) (end : Ended) (does : Inits world disk folder old new end)
+      → Effect old new (status_of_ending end) (Some folder) (initialised world disk honest does)
+  of-init folder old new end (inl cannot) = nothing (Some folder) (keeps.made folder old new _ cannot.makes)
+  of-init folder old new end (inr makes) =
+      after old makes.made new (keeps.made folder old makes.made _ makes.makes) (of-making folder makes.made new end makes.then)
 
-  of-change : (access : Access) (folder : List ℕ) (conditions : List Condition) (change : Change) (old new : W) (status : Status)
-      (does : ChangesInFolder world disk access folder conditions change old new status)
-      → Effect old new status (Some folder) (changed_in world disk honest change does)
-  of-change access folder conditions change old new status (inl cannot) =
+  of-change : (access : Access) (folder : List ℕ) (conditions : List Condition) (change : Change) (old new : W) (end : Ended)
+      (does : ChangesInFolder world disk access folder conditions change old new end)
+      → Effect old new (status_of_ending end) (Some folder) (changed_in world disk honest change does)
+  of-change access folder conditions change old new end (inl cannot) =
       nothing (Some folder) (keeps.no_disk _ folder old new cannot.fault cannot.opens)
-  of-change access folder conditions change old new status (inr changes) =
+  of-change access folder conditions change old new end (inr changes) =
       on_disk folder old _ (stays old) (keeps.disks _ folder old changes.opened new changes.first _ changes.opens
-      changes.gives_back) changes.ends
+      changes.gives_back) (ap status_of_ending changes.ends)
 
-  of-conditional : (access : Access) (folder : List ℕ) (asked : AskedConditions) (change : Change) (old new : W) (status : Status)
-      (does : MakesChange world disk access folder asked change old new status)
-      → Effect old new status (Some folder) (changed_if world disk honest access folder asked change old new status does)
-  of-conditional access folder (Ok conditions) change old new status does =
-      of-change access folder (conditions_of conditions.items) change old new status does
-  of-conditional access folder (Err fault) change old new status does = nothing (Some folder) (same old new does.0)
+  of-conditional : (access : Access) (folder : List ℕ) (asked : AskedConditions) (change : Change) (old new : W) (end : Ended)
+      (does : MakesChange world disk access folder asked change old new end)
+      → Effect old new (status_of_ending end) (Some folder) (changed_if world disk honest access folder asked change old new end does)
+  of-conditional access folder (Ok conditions) change old new end does =
+      of-change access folder (conditions_of conditions.items) change old new end does
+  of-conditional access folder (Err fault) change old new end does = nothing (Some folder) (same old new does.0)
 
   of-asked : (wanted : Conditions) (access : Access) (folder name path : List ℕ) (change : Result Change ToolFault)
-      (old new : W) (status : Status)
-      (does : ChangesAt world disk wanted access folder name path change old new status)
-      → Effect old new status (Some folder) (asked_for world disk honest wanted access folder name path change old new status does)
-  of-asked wanted access folder name path (Ok change) old new status does =
-      of-conditional access folder does.conditions change old new status does.makes
-  of-asked wanted access folder name path (Err fault) old new status does = nothing (Some folder) (same old new does.0)
+      (old new : W) (end : Ended)
+      (does : ChangesAt world disk wanted access folder name path change old new end)
+      → Effect old new (status_of_ending end) (Some folder)
+      (asked_for world disk honest wanted access folder name path change old new end does)
+  of-asked wanted access folder name path (Ok change) old new end does =
+      of-conditional access folder does.conditions change old new end does.makes
+  of-asked wanted access folder name path (Err fault) old new end does = nothing (Some folder) (same old new does.0)
 
-  of-import : (wanted : Conditions) (root : Root) (access : Access) (folder name : List ℕ) (read : Taken) (old new : W) (status : Status)
-      (does : ImportsRead world disk wanted root access folder name read old new status)
-      → Effect old new status (Some folder) (imported world disk honest wanted root access folder name read old new status does)
-  of-import wanted root access folder name (Ok bytes) old new status does =
-      of-asked wanted access folder name [] does.change old new status does.changes
-  of-import wanted root access folder name (Err fault) old new status does = nothing (Some folder) (same old new does.0)
+  of-import : (wanted : Conditions) (root : Root) (access : Access) (folder name : List ℕ) (read : Taken) (old new : W) (end : Ended)
+      (does : ImportsRead world disk wanted root access folder name read old new end)
+      → Effect old new (status_of_ending end) (Some folder)
+      (imported world disk honest wanted root access folder name read old new end does)
+  of-import wanted root access folder name (Ok bytes) old new end does =
+      let same : status_of_ending end ≡ status_of_ending does.made =
+      ap status_of_ending does.ends ∙ imported-status does.made in
+      subst (λ (s : Status). Effect old new s (Some folder)
+      (asked_for world disk honest wanted access folder name [] does.change old new does.made does.changes)) (sym same)
+      (of-asked wanted access folder name [] does.change old new does.made does.changes)
+  of-import wanted root access folder name (Err fault) old new end does = nothing (Some folder) (same old new does.0)
 
-  of-run : (folder : List ℕ) (grouping : Grouping) (old new : Around W) (status : Status)
-      (does : RunsOnFolder world disk folder grouping old new status)
-      → Effect old.world new.world status (Some folder) (ran_in world disk honest grouping old new does)
-  of-run folder grouping old new status (inl cannot) =
+  of-batch : (folder : List ℕ) (count : Option ℕ) (read : Taken) (old new : W) (end : Ended)
+      (does : BatchesRead world disk folder count read old new end)
+      → Effect old new (status_of_ending end) (Some folder) (batched world disk honest folder count read old new end does)
+  of-batch folder count (Ok bytes) old new end does =
+      of-asked (counted_alone count) Changing folder [] [] does.change old new end does.changes
+  of-batch folder count (Err fault) old new end does = nothing (Some folder) (same old new does.0)
+
+  of-run : (folder : List ℕ) (grouping : Grouping) (old new : Around W) (end : Ended)
+      (does : RunsOnFolder world disk folder grouping old new end)
+      → Effect old.world new.world (status_of_ending end) (Some folder) (ran_in world disk honest grouping old new does)
+  of-run folder grouping old new end (inl cannot) =
       nothing (Some folder) (keeps.no_disk _ folder old.world new.world cannot.cannot.fault cannot.cannot.opens)
-  of-run folder grouping old new status (inr runs) =
+  of-run folder grouping old new end (inr runs) =
       on_disk folder old.world _ (stays old.world)
       (keeps.disks _ folder old.world runs.opened new.world runs.first _ runs.opens runs.gives_back) tt
 
-  of-export : (form : TreeForm) (folder name : List ℕ) (old new : W) (held written : Option (List ℕ)) (status : Status)
-      (does : ExportsFromFolder world disk form folder name old new held written status)
-      → Effect old new status (Some folder) (exported_from world disk honest does)
-  of-export form folder name old new held written status (inl cannot) =
+  of-export : (form : TreeForm) (folder name : List ℕ) (old new : W) (held written : Option (List ℕ)) (end : Ended)
+      (does : ExportsFromFolder world disk form folder name old new held written end)
+      → Effect old new (status_of_ending end) (Some folder) (exported_from world disk honest does)
+  of-export form folder name old new held written end (inl cannot) =
       nothing (Some folder) (keeps.no_disk _ folder old new cannot.cannot.fault cannot.cannot.opens)
-  of-export form folder name old new held written status (inr exports) =
+  of-export form folder name old new held written end (inr exports) =
       on_disk folder old _ (stays old) (keeps.disks _ folder old exports.opened new exports.first _ exports.opens exports.gives_back) tt
 
   -- ---- words that read the file of a store
@@ -177,20 +195,20 @@ module _ {W D F P : Type 0} (world : WorldModel W D F P) (disk : DiskModel D) (r
   of-open folder old (Err reading.Output) new opens = absurd opens
 
   of-values : (folder : List ℕ) (name : Option (Bor (List ℕ))) (from : ℕ) (at : Option ℕ) (hidden : List (List ℕ))
-      (old new : W) (held written : Option (List ℕ)) (status : Status)
-      → LogsValues world remaining folder (commands_of name from at) hidden old new held written status → Steady old new
-  of-values folder name from at [] old new held written status does = of-open folder old does.file new does.opens
-  of-values folder name from at (pointer ∷ pointers) old new held written status (inl hides) =
+      (old new : W) (held written : Option (List ℕ)) (end : Ended)
+      → LogsValues world remaining folder (commands_of name from at) hidden old new held written end → Steady old new
+  of-values folder name from at [] old new held written end does = of-open folder old does.file new does.opens
+  of-values folder name from at (pointer ∷ pointers) old new held written end (inl hides) =
       of-open folder old hides.logs.file new hides.logs.opens
-  of-values folder name from at (pointer ∷ pointers) old new held written status (inr refuses) = same old new refuses.world_stays
+  of-values folder name from at (pointer ∷ pointers) old new held written end (inr refuses) = same old new refuses.world_stays
 
   of-log : (folder : List ℕ) (name : Option (Bor (List ℕ))) (from : ℕ) (at : Option ℕ) (form : AskedLog)
-      (old new : W) (held written : Option (List ℕ)) (status : Status)
-      → Logs world remaining folder (commands_of name from at) form old new held written status → Steady old new
-  of-log folder name from at asked.Lines old new held written status does = of-open folder old does.file new does.opens
-  of-log folder name from at (asked.Values hidden) old new held written status does =
-      of-values folder name from at (map (λ pointer. pointer.now) hidden.items) old new held written status does
-  of-log folder name from at asked.Records old new held written status does = of-open folder old does.file new does.opens
+      (old new : W) (held written : Option (List ℕ)) (end : Ended)
+      → Logs world remaining folder (commands_of name from at) form old new held written end → Steady old new
+  of-log folder name from at asked.Lines old new held written end does = of-open folder old does.file new does.opens
+  of-log folder name from at (asked.Values hidden) old new held written end does =
+      of-values folder name from at (map (λ pointer. pointer.now) hidden.items) old new held written end does
+  of-log folder name from at asked.Records old new held written end does = of-open folder old does.file new does.opens
 
   -- a store is made in one folder alone of what another one says
   abbrev Spares : List ℕ → W → W → Type 0
@@ -219,11 +237,11 @@ module _ {W D F P : Type 0} (world : WorldModel W D F P) (disk : DiskModel D) (r
       then old made new (keeps.made folder old made _ makes)
       (then made seen new (keeps.stores folder made seen _ opens) (keeps.no_disk _ folder seen new fault fails))
 
-  of-saving : (folder : List ℕ) (several : Bool) (given : Option (List ℕ)) (old new : W) (held written : Option (List ℕ)) (status : Status)
-      → SavesInFolder world disk folder several given old new held written status → Spares folder old new
-  of-saving folder several given old new held written status (inl cannot) = spared folder old new
+  of-saving : (folder : List ℕ) (several : Bool) (given : Option (List ℕ)) (old new : W) (held written : Option (List ℕ)) (end : Ended)
+      → SavesInFolder world disk folder several given old new held written end → Spares folder old new
+  of-saving folder several given old new held written end (inl cannot) = spared folder old new
       (of-new folder old cannot.fault new cannot.opens)
-  of-saving folder several given old new held written status (inr saving) = λ other image is_other is.
+  of-saving folder several given old new held written end (inr saving) = λ other image is_other is.
       let opens = saving.opens in
       let made = opens.0 in
       let seen = opens.1 in
@@ -231,10 +249,10 @@ module _ {W D F P : Type 0} (world : WorldModel W D F P) (disk : DiskModel D) (r
       then old made seen (keeps.made folder old made _ opens.2) (keeps.stores folder made seen _ opens.3) other image
       (now.elsewhere other image is_other is)
 
-  of-backing-up : (folder : List ℕ) (several : Bool) (given : Option (List ℕ)) (old new : W) (status : Status)
-      → BacksUpInFolder world disk folder several given old new status → Spares folder old new
-  of-backing-up folder several given old new status (inl cannot) = spared folder old new (of-new folder old cannot.fault new cannot.opens)
-  of-backing-up folder several given old new status (inr makes) = λ other image is_other is.
+  of-backing-up : (folder : List ℕ) (several : Bool) (given : Option (List ℕ)) (old new : W) (end : Ended)
+      → BacksUpInFolder world disk folder several given old new end → Spares folder old new
+  of-backing-up folder several given old new end (inl cannot) = spared folder old new (of-new folder old cannot.fault new cannot.opens)
+  of-backing-up folder several given old new end (inr makes) = λ other image is_other is.
       let opens = makes.opens in
       let made = opens.0 in
       let seen = opens.1 in
@@ -242,16 +260,16 @@ module _ {W D F P : Type 0} (world : WorldModel W D F P) (disk : DiskModel D) (r
       then old made seen (keeps.made folder old made _ opens.2) (keeps.stores folder made seen _ opens.3) other image
       (now.elsewhere other image is_other is)
 
-  of-copied : (folder : List ℕ) (file : Result F ReadingFault) (old new : W) (status : Status)
-      → BacksUpFound world disk remaining folder file old new status → Spares folder old new
-  of-copied folder (Ok file) old new status makes = of-backing-up folder (world.several file) (remaining file) old new status makes
-  of-copied folder (Err fault) old new status makes = spared folder old new (same old new makes.0)
+  of-copied : (folder : List ℕ) (file : Result F ReadingFault) (old new : W) (end : Ended)
+      → BacksUpFound world disk remaining folder file old new end → Spares folder old new
+  of-copied folder (Ok file) old new end makes = of-backing-up folder (world.several file) (remaining file) old new end makes
+  of-copied folder (Err fault) old new end makes = spared folder old new (same old new makes.0)
 
-  of-found : (folder : List ℕ) (file : Result F ReadingFault) (old new : W) (held written : Option (List ℕ)) (status : Status)
-      → SavesFound world disk remaining folder file old new held written status → Spares folder old new
-  of-found folder (Ok file) old new held written status saving = of-saving folder (world.several file)
-      (remaining file) old new held written status saving
-  of-found folder (Err fault) old new held written status saving = spared folder old new (same old new saving.0)
+  of-found : (folder : List ℕ) (file : Result F ReadingFault) (old new : W) (held written : Option (List ℕ)) (end : Ended)
+      → SavesFound world disk remaining folder file old new held written end → Spares folder old new
+  of-found folder (Ok file) old new held written end saving = of-saving folder (world.several file)
+      (remaining file) old new held written end saving
+  of-found folder (Err fault) old new held written end saving = spared folder old new (same old new saving.0)
 
   -- ---- words that keep what an opening drops
 
@@ -266,31 +284,31 @@ module _ {W D F P : Type 0} (world : WorldModel W D F P) (disk : DiskModel D) (r
       then old kept.found new (of-open folder old (Ok kept.file) kept.found kept.opens)
       (of-putting path (drop kept.kept bytes) kept.found result new kept.puts)
 
-  of-unkept : (folder path : List ℕ) (old new : W) (status : Status) → CannotKeep world remaining folder path old new status
+  of-unkept : (folder path : List ℕ) (old new : W) (end : Ended) → CannotKeep world remaining folder path old new end
       → Steady old new
-  of-unkept folder path old new status (inl cannot) = of-open folder old (Err cannot.fault) new cannot.opens
-  of-unkept folder path old new status (inr (inl cannot)) = of-open folder old (Ok cannot.file) new cannot.opens
-  of-unkept folder path old new status (inr (inr cannot)) =
+  of-unkept folder path old new end (inl cannot) = of-open folder old (Err cannot.fault) new cannot.opens
+  of-unkept folder path old new end (inr (inl cannot)) = of-open folder old (Ok cannot.file) new cannot.opens
+  of-unkept folder path old new end (inr (inr cannot)) =
       of-kept folder path cannot.several cannot.bytes old (Err cannot.fault) new cannot.keeps
 
   of-verify : (folder : List ℕ) (keep_dropped : Option (Bor (List ℕ))) (old new : W) (held written : Option (List ℕ))
-      (status : Status) → Verifies world remaining folder keep_dropped old new held written status → Steady old new
-  of-verify folder None old new held written status does = of-open folder old does.file new does.opens
-  of-verify folder (Some path) old new held written status (inl unkept) = of-unkept folder path.now old new status unkept.cannot
-  of-verify folder (Some path) old new held written status (inr does) =
+      (end : Ended) → Verifies world remaining folder keep_dropped old new held written end → Steady old new
+  of-verify folder None old new held written end does = of-open folder old does.file new does.opens
+  of-verify folder (Some path) old new held written end (inl unkept) = of-unkept folder path.now old new end unkept.cannot
+  of-verify folder (Some path) old new held written end (inr does) =
       of-kept folder path.now does.several does.bytes old (Ok tt) new does.keeps
 
   of-salvage : (folder : List ℕ) (keep_dropped : Option (Bor (List ℕ))) (new_folder : List ℕ) (old new : W)
-      (held written : Option (List ℕ)) (status : Status)
-      → SalvagesTo world disk remaining folder keep_dropped new_folder old new held written status → Spares new_folder old new
-  of-salvage folder None new_folder old new held written status does = λ other image is_other is.
+      (held written : Option (List ℕ)) (end : Ended)
+      → SalvagesTo world disk remaining folder keep_dropped new_folder old new held written end → Spares new_folder old new
+  of-salvage folder None new_folder old new held written end does = λ other image is_other is.
       of-open folder old does.file does.found does.opens other image
-      (of-found new_folder does.file does.found new held written status does.saves other image is_other is)
-  of-salvage folder (Some path) new_folder old new held written status (inl unkept) =
-      spared new_folder old new (of-unkept folder path.now old new status unkept.cannot)
-  of-salvage folder (Some path) new_folder old new held written status (inr does) = λ other image is_other is.
+      (of-found new_folder does.file does.found new held written end does.saves other image is_other is)
+  of-salvage folder (Some path) new_folder old new held written end (inl unkept) =
+      spared new_folder old new (of-unkept folder path.now old new end unkept.cannot)
+  of-salvage folder (Some path) new_folder old new held written end (inr does) = λ other image is_other is.
       of-kept folder path.now does.several does.bytes old (Ok tt) does.found does.keeps other image
-      (of-saving new_folder does.several (Some does.bytes) does.found new held written status does.saves other image is_other is)
+      (of-saving new_folder does.several (Some does.bytes) does.found new held written end does.saves other image is_other is)
 
   -- ---- words on texts
 
@@ -344,63 +362,73 @@ module _ {W D F P : Type 0} (world : WorldModel W D F P) (disk : DiskModel D) (r
       (then old one.seen now (keeps.places path old one.seen _ one.opens) (of-restyling comments one.found one.seen now of_file one.does))
       (of-restyles comments paths (worst so_far of_file) now new status rest)
 
-  of-formatting : (formatting : Formatting) (paths : List (List ℕ)) (old new : Around W) (status : Status)
-      → FormatsAll world remaining formatting paths old new status → Steady old.world new.world
-  of-formatting (formatting.Write style) [] old new status does = same old.world new.world does.1
-  of-formatting (formatting.Write style) (path ∷ paths) old new status does =
-      of-text path does.read old.world new.world old.input new.input does.takes
-  of-formatting (formatting.InPlace comments) paths old new status does =
-      of-restyles comments paths Done old.world new.world status does.does
-  of-formatting (formatting.Check style) [] old new status does =
-      of-reports (Name style) (codes "-" ∷ []) Done old new status does
-  of-formatting (formatting.Check style) (path ∷ paths) old new status does =
-      of-reports (Name style) (path ∷ paths) Done old new status does
+  -- a word that told what is wrong with texts
+  of-told : (Told : Status → Type 0) (end : Ended) (old new : Around W) → ((status : Status) → Told status → Steady old.world new.world)
+      → EndsTold Told end → Steady old.world new.world
+  of-told Told end old new goes does = let told = told_of Told end does in goes told.0 told.1
 
-  of-checking : (style : Style) (paths : List (List ℕ)) (old new : Around W) (status : Status)
-      → ChecksAll world remaining style paths old new status → Steady old.world new.world
-  of-checking style [] old new status does = same old.world new.world does.1
-  of-checking style (path ∷ paths) old new status does =
-      of-reports (Findings style) (path ∷ paths) Done old new status does
+  of-formatting : (formatting : Formatting) (paths : List (List ℕ)) (old new : Around W) (end : Ended)
+      → FormatsAll world remaining formatting paths old new end → Steady old.world new.world
+  of-formatting (formatting.Write style) [] old new end does = same old.world new.world does.1
+  of-formatting (formatting.Write style) (path ∷ paths) old new end does =
+      of-text path does.read old.world new.world old.input new.input does.takes
+  of-formatting (formatting.InPlace comments) paths old new end does =
+      of-told _ end old new (λ status did. of-restyles comments paths Done old.world new.world status did.does) does
+  of-formatting (formatting.Check style) [] old new end does =
+      of-told _ end old new (of-reports (Name style) (codes "-" ∷ []) Done old new) does
+  of-formatting (formatting.Check style) (path ∷ paths) old new end does =
+      of-told _ end old new (of-reports (Name style) (path ∷ paths) Done old new) does
+
+  of-checking : (style : Style) (paths : List (List ℕ)) (old new : Around W) (end : Ended)
+      → ChecksAll world remaining style paths old new end → Steady old.world new.world
+  of-checking style [] old new end does = same old.world new.world does.1
+  of-checking style (path ∷ paths) old new end does =
+      of-told _ end old new (of-reports (Findings style) (path ∷ paths) Done old new) does
 
   -- ---- all words
 
   -- what a run does, unless it makes a store of another one
-  pub effect : (invocation : Invocation) (old new : Around W) (status : Status)
-      (does : Performs world disk remaining invocation old new status)
+  pub effect : (invocation : Invocation) (old new : Around W) (end : Ended)
+      (does : Does world disk remaining invocation old new end)
       → makes_new invocation ≡ false
-      → Effect old.world new.world status (folder_of invocation) (call_of world disk remaining honest invocation old new status does)
-  effect (Init folder) old new status does not_new = of-init folder.now old.world new.world status does.0
-  effect (Import folder name file root absent conditions reporting) old new status does not_new =
+      → Effect old.world new.world (status_of_ending end) (folder_of invocation)
+      (call_of world disk remaining honest invocation old new end does)
+  effect (Init folder) old new end does not_new = of-init folder.now old.world new.world end does.0
+  effect (Import folder name file root absent conditions reporting) old new end does not_new =
       after old.world does.seen new.world (of-text file.now does.read old.world does.seen old.input new.input does.takes)
-      (of-import conditions root (access_of absent) folder.now name.now does.read does.seen new.world status does.imports)
-  effect (Set folder name pointer value conditions reporting) old new status does not_new =
+      (of-import conditions root (access_of absent) folder.now name.now does.read does.seen new.world end does.imports)
+  effect (Set folder name pointer value conditions reporting) old new end does not_new =
       after old.world does.0.seen new.world (of-value name.now pointer.now value does.0.change old.world does.0.seen
       old.input new.input does.0.is)
-      (of-asked conditions Changing folder.now name.now pointer.now does.0.change does.0.seen new.world status does.0.changes)
-  effect (Delete folder name pointer conditions) old new status does not_new =
-      of-asked conditions Changing folder.now name.now pointer.now does.0.change old.world new.world status does.0.changes
-  effect (Copy folder name to conditions) old new status does not_new =
-      of-asked conditions Changing folder.now to.now [] does.0.change old.world new.world status does.0.changes
-  effect (Rename folder name to conditions) old new status does not_new =
-      of-asked conditions Changing folder.now to.now [] does.0.change old.world new.world status does.0.changes
-  effect (Checkpoint folder) old new status does not_new =
-      of-change Changing folder.now [] change.Checkpoint old.world new.world status does.0
-  effect (Run folder grouping) old new status does not_new = of-run folder.now (grouping_of grouping) old new status does
-  effect (Export folder name form) old new status does not_new =
-      of-export form folder.now name.now old.world new.world old.output new.output status does.0
-  effect (Names folder at form) old new status does not_new = nothing None (of-open folder.now old.world does.0.file new.world does.0.opens)
-  effect (Get folder name pointers at missing form) old new status does not_new =
+      (of-asked conditions Changing folder.now name.now pointer.now does.0.change does.0.seen new.world end does.0.changes)
+  effect (Delete folder name pointer conditions) old new end does not_new =
+      of-asked conditions Changing folder.now name.now pointer.now does.0.change old.world new.world end does.0.changes
+  effect (Copy folder name to conditions) old new end does not_new =
+      of-asked conditions Changing folder.now to.now [] does.0.change old.world new.world end does.0.changes
+  effect (Rename folder name to conditions) old new end does not_new =
+      of-asked conditions Changing folder.now to.now [] does.0.change old.world new.world end does.0.changes
+  effect (Batch folder file count reporting) old new end does not_new =
+      after old.world does.seen new.world (of-text file.now does.read old.world does.seen old.input new.input does.takes)
+      (of-batch folder.now count does.read does.seen new.world end does.makes)
+  effect (Checkpoint folder) old new end does not_new =
+      of-change Changing folder.now [] change.Checkpoint old.world new.world end does.0
+  effect (Run folder grouping) old new end does not_new = of-run folder.now (grouping_of grouping) old new end does
+  effect (Export folder name form) old new end does not_new =
+      of-export form folder.now name.now old.world new.world old.output new.output end does.0
+  effect (Names folder at form) old new end does not_new = nothing None (of-open folder.now old.world does.0.file new.world does.0.opens)
+  effect (Get folder name pointers at missing form) old new end does not_new =
       nothing None (of-open folder.now old.world does.0.file new.world does.0.opens)
-  effect (Exists folder name pointer at) old new status does not_new =
+  effect (Exists folder name pointer at) old new end does not_new =
       nothing None (of-open folder.now old.world does.0.file new.world does.0.opens)
-  effect (Log folder name from at form) old new status does not_new =
-      nothing None (of-log folder.now name from at form old.world new.world old.output new.output status does.0)
-  effect (Verify folder keep_dropped) old new status does not_new =
-      nothing None (of-verify folder.now keep_dropped old.world new.world old.output new.output status does.0)
-  effect (Format formatting files reporting) old new status does not_new = nothing None (of-formatting formatting _ old new status does)
-  effect (Salvage folder new_folder keep_dropped) old new status does not_new = cc
-  effect (Backup folder new_folder) old new status does not_new = cc
-  effect (Check style files reporting) old new status does not_new = nothing None (of-checking style _ old new status does)
+  effect (Log folder name from at form) old new end does not_new =
+      nothing None (of-log folder.now name from at form old.world new.world old.output new.output end does.0)
+  effect (Verify folder keep_dropped) old new end does not_new =
+      nothing None (of-verify folder.now keep_dropped old.world new.world old.output new.output end does.0)
+  effect (Format formatting files reporting) old new end does not_new =
+      nothing None (of-formatting formatting _ old new end does)
+  effect (Salvage folder new_folder keep_dropped) old new end does not_new = cc
+  effect (Backup folder new_folder) old new end does not_new = cc
+  effect (Check style files reporting) old new end does not_new = nothing None (of-checking style _ old new end does)
 
   -- what is done to one folder leaves another as it was
   beside : (path : List ℕ) (old new : W) {status : Status} {folder : Option (List ℕ)} {call : Option (Call disk)}
@@ -410,76 +438,78 @@ module _ {W D F P : Type 0} (world : WorldModel W D F P) (disk : DiskModel D) (r
   beside path old new (on_disk own found call begins of fits) is_other image is =
       begins path image (of.elsewhere path image (λ same. is_other (ap Some (sym same))) is)
 
-  pub spares : (path : List ℕ) (invocation : Invocation) (old new : Around W) (status : Status)
-      → Performs world disk remaining invocation old new status → folder_of invocation ≢ Some path
+  pub spares : (path : List ℕ) (invocation : Invocation) (old new : Around W) (end : Ended)
+      → Does world disk remaining invocation old new end → folder_of invocation ≢ Some path
       → (image : Image) → leaves new.world path image → leaves old.world path image
-  spares path (Salvage folder new_folder keep_dropped) old new status does is_other image is =
-      of-salvage folder.now keep_dropped new_folder.now old.world new.world old.output new.output status does.0 path image
+  spares path (Salvage folder new_folder keep_dropped) old new end does is_other image is =
+      of-salvage folder.now keep_dropped new_folder.now old.world new.world old.output new.output end does.0 path image
       (λ same. is_other (ap Some (sym same))) is
-  spares path (Backup folder new_folder) old new status does is_other image is =
+  spares path (Backup folder new_folder) old new end does is_other image is =
       let says = does.0 in
       let begins = of-open folder.now old.world says.file says.found says.opens in
-      begins path image (of-copied new_folder.now says.file says.found new.world status says.makes path image
+      begins path image (of-copied new_folder.now says.file says.found new.world end says.makes path image
       (λ same. is_other (ap Some (sym same))) is)
-  spares path (Init folder) old new status does is_other image is =
-      beside path old.world new.world (effect (Init folder) old new status does refl) is_other image is
-  spares path (Import folder name file root absent conditions reporting) old new status does is_other image is =
-      beside path old.world new.world (effect (Import folder name file root absent conditions reporting) old new status
+  spares path (Init folder) old new end does is_other image is =
+      beside path old.world new.world (effect (Init folder) old new end does refl) is_other image is
+  spares path (Import folder name file root absent conditions reporting) old new end does is_other image is =
+      beside path old.world new.world (effect (Import folder name file root absent conditions reporting) old new end
       does refl) is_other image is
-  spares path (Set folder name pointer value conditions reporting) old new status does is_other image is =
-      beside path old.world new.world (effect (Set folder name pointer value conditions reporting) old new status does
+  spares path (Set folder name pointer value conditions reporting) old new end does is_other image is =
+      beside path old.world new.world (effect (Set folder name pointer value conditions reporting) old new end does
       refl) is_other image is
-  spares path (Delete folder name pointer conditions) old new status does is_other image is =
-      beside path old.world new.world (effect (Delete folder name pointer conditions) old new status does refl) is_other image is
-  spares path (Copy folder name to conditions) old new status does is_other image is =
-      beside path old.world new.world (effect (Copy folder name to conditions) old new status does refl) is_other image is
-  spares path (Rename folder name to conditions) old new status does is_other image is =
-      beside path old.world new.world (effect (Rename folder name to conditions) old new status does refl) is_other image is
-  spares path (Checkpoint folder) old new status does is_other image is =
-      beside path old.world new.world (effect (Checkpoint folder) old new status does refl) is_other image is
-  spares path (Run folder grouping) old new status does is_other image is =
-      beside path old.world new.world (effect (Run folder grouping) old new status does refl) is_other image is
-  spares path (Export folder name form) old new status does is_other image is =
-      beside path old.world new.world (effect (Export folder name form) old new status does refl) is_other image is
-  spares path (Names folder at form) old new status does is_other image is =
-      beside path old.world new.world (effect (Names folder at form) old new status does refl) is_other image is
-  spares path (Get folder name pointers at missing form) old new status does is_other image is =
-      beside path old.world new.world (effect (Get folder name pointers at missing form) old new status does refl) is_other image is
-  spares path (Exists folder name pointer at) old new status does is_other image is =
-      beside path old.world new.world (effect (Exists folder name pointer at) old new status does refl) is_other image is
-  spares path (Log folder name from at form) old new status does is_other image is =
-      beside path old.world new.world (effect (Log folder name from at form) old new status does refl) is_other image is
-  spares path (Verify folder keep_dropped) old new status does is_other image is =
-      beside path old.world new.world (effect (Verify folder keep_dropped) old new status does refl) is_other image is
-  spares path (Format formatting files reporting) old new status does is_other image is =
-      beside path old.world new.world (effect (Format formatting files reporting) old new status does refl) is_other image is
-  spares path (Check style files reporting) old new status does is_other image is =
-      beside path old.world new.world (effect (Check style files reporting) old new status does refl) is_other image is
+  spares path (Delete folder name pointer conditions) old new end does is_other image is =
+      beside path old.world new.world (effect (Delete folder name pointer conditions) old new end does refl) is_other image is
+  spares path (Copy folder name to conditions) old new end does is_other image is =
+      beside path old.world new.world (effect (Copy folder name to conditions) old new end does refl) is_other image is
+  spares path (Rename folder name to conditions) old new end does is_other image is =
+      beside path old.world new.world (effect (Rename folder name to conditions) old new end does refl) is_other image is
+  spares path (Batch folder file count reporting) old new end does is_other image is =
+      beside path old.world new.world (effect (Batch folder file count reporting) old new end does refl) is_other image is
+  spares path (Checkpoint folder) old new end does is_other image is =
+      beside path old.world new.world (effect (Checkpoint folder) old new end does refl) is_other image is
+  spares path (Run folder grouping) old new end does is_other image is =
+      beside path old.world new.world (effect (Run folder grouping) old new end does refl) is_other image is
+  spares path (Export folder name form) old new end does is_other image is =
+      beside path old.world new.world (effect (Export folder name form) old new end does refl) is_other image is
+  spares path (Names folder at form) old new end does is_other image is =
+      beside path old.world new.world (effect (Names folder at form) old new end does refl) is_other image is
+  spares path (Get folder name pointers at missing form) old new end does is_other image is =
+      beside path old.world new.world (effect (Get folder name pointers at missing form) old new end does refl) is_other image is
+  spares path (Exists folder name pointer at) old new end does is_other image is =
+      beside path old.world new.world (effect (Exists folder name pointer at) old new end does refl) is_other image is
+  spares path (Log folder name from at form) old new end does is_other image is =
+      beside path old.world new.world (effect (Log folder name from at form) old new end does refl) is_other image is
+  spares path (Verify folder keep_dropped) old new end does is_other image is =
+      beside path old.world new.world (effect (Verify folder keep_dropped) old new end does refl) is_other image is
+  spares path (Format formatting files reporting) old new end does is_other image is =
+      beside path old.world new.world (effect (Format formatting files reporting) old new end does refl) is_other image is
+  spares path (Check style files reporting) old new end does is_other image is =
+      beside path old.world new.world (effect (Check style files reporting) old new end does refl) is_other image is
 
   -- ---- a new store
 
   -- What a backup or a salvage does to folders, with the store that it makes.
-  pub data Backed (path : List ℕ) (old new : W) (status : Status) : Option (Deed disk) → Type 0 where
-    none_made : Steady old new → Backed path old new status None
+  pub data Backed (path : List ℕ) (old new : W) (end : Ended) : Option (Deed disk) → Type 0 where
+    none_made : Steady old new → Backed path old new end None
     made_there : (found opened : W) (several : Bool) (given left : Option (List ℕ)) (first : D) (result : Result D (D × SalvageFault))
         (made : IfOk result (λ made. BacksUp several given left (disk.folder first) (disk.folder made)))
         (survives : LeavesOldOrCopy several disk given left first (copied_disk result))
         → Steady old found → world.opened New path found (Ok first) opened
-        → IsDiskOf disk leaves path found first (copied_disk result) new → status ≡ status_after_backup result
-        → Backed path old new status (Some (copies several given left first result made survives))
+        → IsDiskOf disk leaves path found first (copied_disk result) new → end ≡ ending_after_backup result
+        → Backed path old new end (Some (copies several given left first result made survives))
     saved_there : (found opened : W) (several : Bool) (given left : Option (List ℕ)) (first : D) (result : Result (D
         × Surveyed) (D × SalvageFault))
         (made : IfOk result (λ saved. Saves several given left (disk.folder first) (disk.folder saved.0) saved.1))
         (survives : LeavesOldOrSaved several disk given left first (saved_disk result)) (held written : Option (List ℕ))
         → Steady old found → world.opened New path found (Ok first) opened
-        → IsDiskOf disk leaves path found first (saved_disk result) new → WritesFindings result held written status
-        → Backed path old new status (Some (saves several given left first result made survives))
+        → IsDiskOf disk leaves path found first (saved_disk result) new → WritesFindings result held written end
+        → Backed path old new end (Some (saves several given left first result made survives))
 
-  of-copy-in : (folder : List ℕ) (several : Bool) (given : Option (List ℕ)) (old new : W) (status : Status)
-      (makes : BacksUpInFolder world disk folder several given old new status)
-      → Backed folder old new status (copied_in world disk remaining honest folder several given old new status makes)
-  of-copy-in folder several given old new status (inl cannot) = none_made (of-new folder old cannot.fault new cannot.opens)
-  of-copy-in folder several given old new status (inr makes) =
+  of-copy-in : (folder : List ℕ) (several : Bool) (given : Option (List ℕ)) (old new : W) (end : Ended)
+      (makes : BacksUpInFolder world disk folder several given old new end)
+      → Backed folder old new end (copied_in world disk remaining honest folder several given old new end makes)
+  of-copy-in folder several given old new end (inl cannot) = none_made (of-new folder old cannot.fault new cannot.opens)
+  of-copy-in folder several given old new end (inr makes) =
       let opens = makes.opens in
       let made = opens.0 in
       let seen = opens.1 in
@@ -487,15 +517,15 @@ module _ {W D F P : Type 0} (world : WorldModel W D F P) (disk : DiskModel D) (r
       (then old made seen (keeps.made folder old made _ opens.2) (keeps.stores folder made seen _ opens.3)) opens.4
       (keeps.disks _ folder seen makes.opened new makes.first _ opens.4 makes.gives_back) makes.ends
 
-  of-copy : (folder : List ℕ) (file : Result F ReadingFault) (old new : W) (status : Status)
-      (makes : BacksUpFound world disk remaining folder file old new status)
-      → Backed folder old new status (copied_of world disk remaining honest folder file old new status makes)
-  of-copy folder (Ok file) old new status makes = of-copy-in folder (world.several file) (remaining file) old new status makes
-  of-copy folder (Err fault) old new status makes = none_made (same old new makes.0)
+  of-copy : (folder : List ℕ) (file : Result F ReadingFault) (old new : W) (end : Ended)
+      (makes : BacksUpFound world disk remaining folder file old new end)
+      → Backed folder old new end (copied_of world disk remaining honest folder file old new end makes)
+  of-copy folder (Ok file) old new end makes = of-copy-in folder (world.several file) (remaining file) old new end makes
+  of-copy folder (Err fault) old new end makes = none_made (same old new makes.0)
 
   -- no folder has changed before
-  after-that : {path : List ℕ} {deed : Option (Deed disk)} {status : Status} (old between new : W) → Steady old between
-      → Backed path between new status deed → Backed path old new status deed
+  after-that : {path : List ℕ} {deed : Option (Deed disk)} {end : Ended} (old between new : W) → Steady old between
+      → Backed path between new end deed → Backed path old new end deed
   after-that old between new steady (none_made ends) = none_made (then old between new steady ends)
   after-that old between new steady (made_there found opened several given left first result made survives begins opens is ends) =
       made_there found opened several given left first result made survives (then old between found steady begins) opens is ends
@@ -511,11 +541,11 @@ module _ {W D F P : Type 0} (world : WorldModel W D F P) (disk : DiskModel D) (r
   same-disk (Err refused) path found first new is = is
 
   of-saved-in : (folder : List ℕ) (several : Bool) (given : Option (List ℕ)) (old new : W) (held written : Option
-      (List ℕ)) (status : Status)
-      (saving : SavesInFolder world disk folder several given old new held written status)
-      → Backed folder old new status (saved_in world disk remaining honest folder several given old new held written status saving)
-  of-saved-in folder several given old new held written status (inl cannot) = none_made (of-new folder old cannot.fault new cannot.opens)
-  of-saved-in folder several given old new held written status (inr saving) =
+      (List ℕ)) (end : Ended)
+      (saving : SavesInFolder world disk folder several given old new held written end)
+      → Backed folder old new end (saved_in world disk remaining honest folder several given old new held written end saving)
+  of-saved-in folder several given old new held written end (inl cannot) = none_made (of-new folder old cannot.fault new cannot.opens)
+  of-saved-in folder several given old new held written end (inr saving) =
       let opens = saving.opens in
       let made = opens.0 in
       let seen = opens.1 in
@@ -525,39 +555,39 @@ module _ {W D F P : Type 0} (world : WorldModel W D F P) (disk : DiskModel D) (r
       (same-disk saving.result folder seen saving.first new
       (keeps.disks _ folder seen saving.opened new saving.first _ opens.4 saving.gives_back)) saving.writes
 
-  of-saved : (folder : List ℕ) (file : Result F ReadingFault) (old new : W) (held written : Option (List ℕ)) (status : Status)
-      (saving : SavesFound world disk remaining folder file old new held written status)
-      → Backed folder old new status (saved_of world disk remaining honest folder file old new held written status saving)
-  of-saved folder (Ok file) old new held written status saving = of-saved-in folder (world.several file)
-      (remaining file) old new held written status saving
-  of-saved folder (Err fault) old new held written status saving = none_made (same old new saving.0)
+  of-saved : (folder : List ℕ) (file : Result F ReadingFault) (old new : W) (held written : Option (List ℕ)) (end : Ended)
+      (saving : SavesFound world disk remaining folder file old new held written end)
+      → Backed folder old new end (saved_of world disk remaining honest folder file old new held written end saving)
+  of-saved folder (Ok file) old new held written end saving = of-saved-in folder (world.several file)
+      (remaining file) old new held written end saving
+  of-saved folder (Err fault) old new held written end saving = none_made (same old new saving.0)
 
   -- what a salvage does
-  salvaged : (folder new_folder : List ℕ) (old new : W) (held written : Option (List ℕ)) (status : Status)
-      (does : Salvages world disk remaining folder new_folder old new held written status)
-      → Backed new_folder old new status (saved_of world disk remaining honest new_folder does.file does.found new
-      held written status does.saves)
-  salvaged folder new_folder old new held written status does =
+  salvaged : (folder new_folder : List ℕ) (old new : W) (held written : Option (List ℕ)) (end : Ended)
+      (does : Salvages world disk remaining folder new_folder old new held written end)
+      → Backed new_folder old new end (saved_of world disk remaining honest new_folder does.file does.found new
+      held written end does.saves)
+  salvaged folder new_folder old new held written end does =
       after-that old does.found new (of-open folder old does.file does.found does.opens)
-      (of-saved new_folder does.file does.found new held written status does.saves)
+      (of-saved new_folder does.file does.found new held written end does.saves)
 
   -- the same, with a path for what an opening drops, or with none
   pub salvaged-to : (folder : List ℕ) (keep_dropped : Option (Bor (List ℕ))) (new_folder : List ℕ) (old new : W)
-      (held written : Option (List ℕ)) (status : Status)
-      (does : SalvagesTo world disk remaining folder keep_dropped new_folder old new held written status)
-      → Backed new_folder old new status
-      (saved_to world disk remaining honest folder keep_dropped new_folder old new held written status does)
-  salvaged-to folder None new_folder old new held written status does = salvaged folder new_folder old new held written status does
-  salvaged-to folder (Some path) new_folder old new held written status (inl unkept) =
-      none_made (of-unkept folder path.now old new status unkept.cannot)
-  salvaged-to folder (Some path) new_folder old new held written status (inr does) =
+      (held written : Option (List ℕ)) (end : Ended)
+      (does : SalvagesTo world disk remaining folder keep_dropped new_folder old new held written end)
+      → Backed new_folder old new end
+      (saved_to world disk remaining honest folder keep_dropped new_folder old new held written end does)
+  salvaged-to folder None new_folder old new held written end does = salvaged folder new_folder old new held written end does
+  salvaged-to folder (Some path) new_folder old new held written end (inl unkept) =
+      none_made (of-unkept folder path.now old new end unkept.cannot)
+  salvaged-to folder (Some path) new_folder old new held written end (inr does) =
       after-that old does.found new (of-kept folder path.now does.several does.bytes old (Ok tt) does.found does.keeps)
-      (of-saved-in new_folder does.several (Some does.bytes) does.found new held written status does.saves)
+      (of-saved-in new_folder does.several (Some does.bytes) does.found new held written end does.saves)
 
   -- what a backup does
-  pub backed : (folder new_folder : List ℕ) (old new : W) (status : Status)
-      (does : BacksUpStore world disk remaining folder new_folder old new status)
-      → Backed new_folder old new status (copied_of world disk remaining honest new_folder does.file does.found new status does.makes)
-  backed folder new_folder old new status does =
+  pub backed : (folder new_folder : List ℕ) (old new : W) (end : Ended)
+      (does : BacksUpStore world disk remaining folder new_folder old new end)
+      → Backed new_folder old new end (copied_of world disk remaining honest new_folder does.file does.found new end does.makes)
+  backed folder new_folder old new end does =
       after-that old does.found new (of-open folder old does.file does.found does.opens)
-      (of-copy new_folder does.file does.found new status does.makes)
+      (of-copy new_folder does.file does.found new end does.makes)

@@ -24,16 +24,18 @@ use Rattle.conf_words.specs.declared.invocation.Value.TheVariants.{Text}
 use Rattle.conf_words.specs.declared.invocation.ValueForm.TheVariants.{Whole}
 use Rattle.conf_tools.specs.Asking.{AskedConditions}
 use Rattle.conf_tools.specs.Changes.{ChangeSurvives, Performs as ChangePerforms}
-use Rattle.conf_tools.specs.Performs.{ChangesAt, Performs}
+use Rattle.conf_tools.specs.{Endings.ending_at_end, Outcomes.status_of_ending}
+use Rattle.conf_tools.specs.Performs.{ChangesAt, Does, Performs}
 use Rattle.conf_tools.specs.Prelude.{IsRead}
 use Rattle.conf_tools.specs.ProgramCalls.{CallHolds, changing}
 use Rattle.conf_tools.specs.Reads.{ShowsTree}
-use Rattle.conf_tools.specs.StoreWords.{ChangesInFolder, Condition, MakesChange, conditions_of, status_at_end}
+use Rattle.conf_tools.specs.StoreWords.{ChangesInFolder, Condition, MakesChange, conditions_of}
 use Rattle.conf_tools.specs.TextWords.{SetsAt, SetsText, TakesText}
 use Rattle.conf_tools.specs.Tools.{IsTaken, Taken, most_input}
 use Rattle.conf_tools.specs.Worlds.{Around, WorldModel}
 use Rattle.conf_tools.specs.declared.changes.Change.{Change}
 use Rattle.conf_tools.specs.declared.changes.Change.TheVariants as change
+use Rattle.conf_tools.specs.EndOfRun.{EndOfRun as Ended}
 use Rattle.conf_tools.specs.declared.program.Status.{Status}
 use Rattle.conf_tools.specs.declared.program.Status.TheVariants.{Done}
 use Rattle.conf_tools.specs.declared.stores.StoreToolFault.{StoreToolFault}
@@ -46,12 +48,13 @@ use Rattle.conf_runs.specs.Folders.{KeepsFolders}
 use Rattle.conf_runs.specs.FoldersRead.{ShowsFolders}
 use Rattle.conf_runs.specs.Reads.{Asks, Puts, Shows, Turn}
 use Rattle.conf_runs.specs.Runs.{AreRuns, Deed, Ending, Event, IsMade, KeepsCommands, Where, accepted_in, acknowledged, anew, asked_for}
-use Rattle.conf_runs.specs.Runs.{calls, changed_if, changed_in, cut_off, deed_at, elsewhere, here, if_done}
+use Rattle.conf_runs.specs.Runs.{calls, changed_if, changed_in, cut_off, deed_at, deed_in, elsewhere, here, if_done}
 use Rattle.conf_runs.specs.Runs.{not_begun, own, returned}
 use Rattle.conf_runs.proofs.ExampleLemmas.{AreUnambiguous, path-so, port-read, port_is, set-so, word-so}
 use Rattle.conf_runs.proofs.StateLemmas.{set-turns}
 use Rattle.conf_runs.proofs.StatusLemmas.{not-done}
-use Rattle.conf_runs.proofs.WriteLemmas.{OneTree, not-read, reads-see-writes}
+use Rattle.conf_tools.proofs.EndingLemmas.{not-with}
+use Rattle.conf_runs.proofs.WriteLemmas.{OneTree, reads-see-writes}
 use Rattle.yaml_config.specs.Limits.{config_limits}
 use Rattle.yaml_grammar.specs.Trees.{Tree, text}
 
@@ -72,12 +75,13 @@ module _ {W D F P : Type 0} (world : WorldModel W D F P) (disk : DiskModel D) (r
   abbrev Made : Status → Option (Deed disk) → Type 0
   Made = IsMade world disk remaining honest leaves path
 
-  module _ (status : Status) (done : status ≡ Done) (change : Change) (command : Command)
+  module _ (end : Ended) (done : status_of_ending end ≡ Done) (change : Change) (command : Command)
       (performs : (s : Contents) (accepted : List Command) → ChangePerforms s change accepted → accepted ≡ command ∷ []) where
-    changed-one : (first : D) (result : Result D (D × StoreToolFault)) → status ≡ status_at_end result
-        → (survives : ChangeSurvives disk first change result) → Made status (Some (calls (changing change first result survives)))
-        → AcceptsOne status (Some (calls (changing change first result survives))) command
-    changed-one first (Err (last, fault)) ends survives made = absurd (not-done fault (sym done ∙ ends))
+    changed-one : (first : D) (result : Result D (D × StoreToolFault)) → end ≡ ending_at_end result
+        → (survives : ChangeSurvives disk first change result)
+        → Made (status_of_ending end) (Some (calls (changing change first result survives)))
+        → AcceptsOne (status_of_ending end) (Some (calls (changing change first result survives))) command
+    changed-one first (Err (last, fault)) ends survives made = absurd (not-done fault (sym done ∙ ap status_of_ending ends))
     changed-one first (Ok last) ends survives made =
         let one = performs survives.start survives.accepted (made done) in
         record {
@@ -89,20 +93,21 @@ module _ {W D F P : Type 0} (world : WorldModel W D F P) (disk : DiskModel D) (r
         at-least count one le = subst (λ (l : List Command). length l ≤ count) one le
 
     changed-in-one : (access : Access) (folder : List ℕ) (conditions : List Condition) (old new : W)
-        (does : ChangesInFolder world disk access folder conditions change old new status)
-        → Made status (own disk (changed_in world disk honest change does))
-        → AcceptsOne status (own disk (changed_in world disk honest change does)) command
-    changed-in-one access folder conditions old new (inl cannot) made = absurd (not-done (InFolder cannot.fault) (sym done ∙ cannot.ends))
+        (does : ChangesInFolder world disk access folder conditions change old new end)
+        → Made (status_of_ending end) (own disk (changed_in world disk honest change does))
+        → AcceptsOne (status_of_ending end) (own disk (changed_in world disk honest change does)) command
+    changed-in-one access folder conditions old new (inl cannot) made =
+        absurd (not-done (InFolder cannot.fault) (sym done ∙ ap status_of_ending cannot.ends))
     changed-in-one access folder conditions old new (inr changes) made =
         changed-one changes.first changes.result changes.ends (changes.survives honest) made
 
     changed-if-one : (access : Access) (folder : List ℕ) (asked : AskedConditions) (old new : W)
-        (does : MakesChange world disk access folder asked change old new status)
-        → Made status (own disk (changed_if world disk honest access folder asked change old new status does))
-        → AcceptsOne status (own disk (changed_if world disk honest access folder asked change old new status does)) command
+        (does : MakesChange world disk access folder asked change old new end)
+        → Made (status_of_ending end) (own disk (changed_if world disk honest access folder asked change old new end does))
+        → AcceptsOne (status_of_ending end) (own disk (changed_if world disk honest access folder asked change old new end does)) command
     changed-if-one access folder (Ok conditions) old new does made =
         changed-in-one access folder (conditions_of conditions.items) old new does made
-    changed-if-one access folder (Err fault) old new does made = absurd (not-read fault (sym done ∙ does.1))
+    changed-if-one access folder (Err fault) old new does made = absurd (not-with fault end does.1 done)
 
   performs-set : (name pointer : List ℕ) (value : Tree) (change : Change) → SetsAt name pointer value change
       → (s : Contents) (accepted : List Command) → ChangePerforms s change accepted
@@ -114,60 +119,62 @@ module _ {W D F P : Type 0} (world : WorldModel W D F P) (disk : DiskModel D) (r
   performs-set name pointer value (change.Rename from to) sets s accepted performs = absurd sets
   performs-set name pointer value change.Checkpoint sets s accepted performs = absurd sets
 
-  asked-one : (status : Status) → status ≡ Done → (name pointer : List ℕ) (value : Tree) (wanted : Conditions) (access : Access)
+  asked-one : (end : Ended) → status_of_ending end ≡ Done → (name pointer : List ℕ) (value : Tree) (wanted : Conditions) (access : Access)
       (folder : List ℕ) (change : Result Change ToolFault) → IfOk change (SetsAt name pointer value) → (old new : W)
-      (does : ChangesAt world disk wanted access folder name pointer change old new status)
-      → Made status (own disk (asked_for world disk honest wanted access folder name pointer change old new status does))
-      → AcceptsOne status (own disk (asked_for world disk honest wanted access folder name pointer change old new status does))
+      (does : ChangesAt world disk wanted access folder name pointer change old new end)
+      → Made (status_of_ending end) (own disk (asked_for world disk honest wanted access folder name pointer change old new end does))
+      → AcceptsOne (status_of_ending end) (own disk (asked_for world disk honest wanted access folder name pointer change old new end does))
       (single (set_at (chars name) (chars pointer) value))
-  asked-one status done name pointer value wanted access folder (Ok change) sets old new does made =
-      changed-if-one status done change (single (set_at (chars name) (chars pointer) value))
+  asked-one end done name pointer value wanted access folder (Ok change) sets old new does made =
+      changed-if-one end done change (single (set_at (chars name) (chars pointer) value))
       (performs-set name pointer value change sets) access folder does.conditions old new does.makes made
-  asked-one status done name pointer value wanted access folder (Err fault) sets old new does made =
-      absurd (not-read fault (sym done ∙ does.1))
+  asked-one end done name pointer value wanted access folder (Err fault) sets old new does made =
+      absurd (not-with fault end does.1 done)
 
   -- a set of a value in this folder
   module _ (name pointer : List ℕ) (value : Tree) where
-    abbrev Put : (invocation : Invocation) (old new : Around W) (status : Status)
-        → Performs world disk remaining invocation old new status → Type 0
-    Put (Set folder named place given conditions reporting) old new status does =
+    abbrev Put : (invocation : Invocation) (old new : Around W) (end : Ended)
+        → Does world disk remaining invocation old new end → Type 0
+    Put (Set folder named place given conditions reporting) old new end does =
         (folder.now ≡ path) × (named.now ≡ name) × (place.now ≡ pointer) × IfOk does.0.change (SetsAt name pointer value)
-    Put invocation old new status does = ⊥
+    Put invocation old new end does = ⊥
 
     set-one : (invocation : Invocation) (place : Where world disk path invocation) (ending : Ending) → ending ≡ returned
-        → (old new : Around W) (status : Status) → status ≡ Done
-        → (does : Performs world disk remaining invocation old new status) → Put invocation old new status does
-        → Made status (deed_at world disk remaining honest leaves path invocation place ending old new status does)
-        → AcceptsOne status (deed_at world disk remaining honest leaves path invocation place ending old new status does)
+        → (old new : Around W) (end : Ended) → status_of_ending end ≡ Done
+        → (does : Does world disk remaining invocation old new end) → Put invocation old new end does
+        → Made (status_of_ending end) (deed_at world disk remaining honest leaves path invocation place ending old new end does)
+        → AcceptsOne (status_of_ending end) (deed_at world disk remaining honest leaves path invocation place ending old new end does)
         (single (set_at (chars name) (chars pointer) value))
-    set-one invocation place cut_off ended old new status done does put made = cc
-    set-one invocation place not_begun ended old new status done does put made = cc
-    set-one (Set folder named pointed given conditions reporting) (elsewhere is_other) returned ended old new status done does
+    set-one invocation place cut_off ended old new end done does put made = cc
+    set-one invocation place not_begun ended old new end done does put made = cc
+    set-one (Set folder named pointed given conditions reporting) (elsewhere is_other) returned ended old new end done does
         (of_path, of_name, of_pointer, sets) made = absurd (is_other (ap Some of_path))
-    set-one (Set folder named pointed given conditions reporting) (anew is is_new empty) returned ended old new status done does
+    set-one (Set folder named pointed given conditions reporting) (anew is is_new empty) returned ended old new end done does
         (of_path, of_name, of_pointer, sets) made = cc
-    set-one (Set folder named pointed given conditions reporting) (here is not_new) returned ended old new status done does
+    set-one (Set folder named pointed given conditions reporting) (here is not_new) returned ended old new end done does
         (of_path, of_name, of_pointer, sets) made =
-        let one = asked-one status done named.now pointed.now value conditions Changing folder.now does.0.change
+        let one = asked-one end done named.now pointed.now value conditions Changing folder.now does.0.change
         (subst (λ (n : List ℕ). IfOk does.0.change (SetsAt n pointed.now value)) (sym of_name)
         (subst (λ (q : List ℕ). IfOk does.0.change (SetsAt name q value)) (sym of_pointer) sets))
         does.0.seen new.world does.0.changes made in
-        subst (λ (n : List ℕ). AcceptsOne status
+        subst (λ (n : List ℕ). AcceptsOne (status_of_ending end)
         (deed_at world disk remaining honest leaves path (Set folder named pointed given conditions reporting) (here is not_new)
-        returned old new status does) (single (set_at (chars n) (chars pointer) value))) of_name
-        (subst (λ (q : List ℕ). AcceptsOne status
+        returned old new end does) (single (set_at (chars n) (chars pointer) value))) of_name
+        (subst (λ (q : List ℕ). AcceptsOne (status_of_ending end)
         (deed_at world disk remaining honest leaves path (Set folder named pointed given conditions reporting) (here is not_new)
-        returned old new status does) (single (set_at (chars named.now) (chars q) value))) of_pointer one)
-    set-one invocation place ending ended old new status done does put made = absurd put
+        returned old new end does) (single (set_at (chars named.now) (chars q) value))) of_pointer one)
+    set-one invocation place ending ended old new end done does put made = absurd put
 
     -- its command is kept
     pub set-kept : (event : Event world disk remaining honest leaves path) → event.ending ≡ returned → event.status ≡ Done
-        → Put event.invocation event.old event.new event.status event.does → (kept : List Command)
+        → Put event.invocation event.old event.new event.does.ending event.does.does → (kept : List Command)
         → KeepsCommands world disk remaining honest leaves path event kept
         → kept ≡ single (set_at (chars name) (chars pointer) value) ∷ []
     set-kept event ended done put kept keeps =
-        let one = set-one event.invocation event.place event.ending ended event.old event.new event.status done event.does put
-        (keeps.is_made ended) in
+        let deed = deed_in world disk remaining honest leaves path event in
+        let one = subst (λ (s : Status). AcceptsOne s deed (single (set_at (chars name) (chars pointer) value))) (sym event.does.is)
+        (set-one event.invocation event.place event.ending ended event.old event.new event.does.ending (sym event.does.is ∙ done)
+        event.does.does put (subst (λ (s : Status). Made s deed) event.does.is (keeps.is_made ended))) in
         keeps.are ∙ ap (take keeps.count) one.one
         ∙ take-one keeps.count (single (set_at (chars name) (chars pointer) value)) (one.least keeps.count (keeps.all_acknowledged ended))
 
@@ -203,25 +210,25 @@ module _ {W D F P : Type 0} (world : WorldModel W D F P) (disk : DiskModel D) (r
       (does : Performs world disk remaining invocation old new status) → old.input ≡ Some (codes "port: 80\n")
       → Puts world disk remaining honest leaves (codes "shop") (codes "web") [] (port_is (codes "80")) invocation old new status does
   says-import (Import folder named file root absent conditions reporting) (of_folder, of_name, of_file) old new status does given =
-      (of_folder, of_name, refl, by does.takes)
+      (of_folder, of_name, refl, by does.does.takes)
     where
       gives : (read : Taken) → IfOk read (λ taken. taken.items ≡ codes "port: 80\n")
           → IfOk read (λ taken. IsRead taken.items config_limits (port_is (codes "80")))
       gives (Ok taken) is = subst (λ (b : List ℕ). IsRead b config_limits (port_is (codes "80"))) (sym is) (port-read unambiguous)
       gives (Err fault) is = tt
 
-      by : TakesText world remaining file.now does.read old.world does.seen old.input new.input
-          → IfOk does.read (λ taken. IsRead taken.items config_limits (port_is (codes "80")))
+      by : TakesText world remaining file.now does.does.read old.world does.does.seen old.input new.input
+          → IfOk does.does.read (λ taken. IsRead taken.items config_limits (port_is (codes "80")))
       by (inl input) =
-          gives does.read (input-read (codes "port: 80\n") (omega arith) does.read old.input new.input given input.2)
+          gives does.does.read (input-read (codes "port: 80\n") (omega arith) does.does.read old.input new.input given input.2)
       by (inr named_file) = absurd (named_file.0 of_file)
   says-import invocation says old new status does given = absurd says
 
-  says-set : (invocation : Invocation) → SaysSet invocation → (old new : Around W) (status : Status)
-      (does : Performs world disk remaining invocation old new status)
+  says-set : (invocation : Invocation) → SaysSet invocation → (old new : Around W) (end : Ended)
+      (does : Does world disk remaining invocation old new end)
       → Put world disk remaining honest leaves (codes "shop") (codes "web") (codes "/port") (text (codes "81")) invocation old new
-      status does
-  says-set (Set folder named place (Text word) conditions reporting) (of_folder, of_name, of_place, of_word) old new status does =
+      end does
+  says-set (Set folder named place (Text word) conditions reporting) (of_folder, of_name, of_place, of_word) old new end does =
       (of_folder, of_name, of_place, by does.0.change does.0.is.2)
     where
       by : (change : Result Change ToolFault) → SetsText named.now place.now (chars word.now) change
@@ -231,7 +238,7 @@ module _ {W D F P : Type 0} (world : WorldModel W D F P) (disk : DiskModel D) (r
           (subst (λ (q : List ℕ). SetsAt named.now q (text (codes "81")) change) of_place
           (subst (λ (w : List ℕ). SetsAt named.now place.now (text w) change) (ap chars of_word ∙ word-so) sets))
       by (Err fault) sets = tt
-  says-set invocation says old new status does = absurd says
+  says-set invocation says old new end does = absurd says
 
   says-get : (invocation : Invocation) → SaysGet invocation
       → Asks world disk remaining honest leaves (codes "shop") (codes "web") [] invocation (Whole Styled)
@@ -280,7 +287,7 @@ module _ {W D F P : Type 0} (world : WorldModel W D F P) (disk : DiskModel D) (r
           port_is (codes "81"),
           (λ kept keeps_kept. turns-port kept
               (set-kept world disk remaining honest leaves (codes "shop") (codes "web") (codes "/port") (text (codes "81")) set
-              sets.ended sets.done (says-set set.invocation sets.says set.old set.new set.status set.does) kept keeps_kept)),
+              sets.ended sets.done (says-set set.invocation sets.says set.old set.new set.does.ending set.does.does) kept keeps_kept)),
           refl,
         )
         get old new status does (Whole Styled) (says-get get gets) ((λ image is. is), runs.1.1) (codes "port: \"81\"\n") shown-so

@@ -29,6 +29,8 @@ not-done (tool.Read fault) is = cc
 not-done (tool.Comments place) is = cc
 not-done tool.Unsettled is = cc
 not-done tool.OneValue is = cc
+not-done tool.NoEdits is = cc
+not-done (tool.ImportText fault) is = cc
 
 never-done : (status : Status) (fault : ToolFault) → status ≡ Done → status ≡ status_of fault → ⊥
 never-done status fault done is = not-done fault (subst (λ (s : Status). s ≡ status_of fault) done is)

@@ -1,3 +1,4 @@
+pub mod CallLemmas
 pub mod Effects
 pub mod ExampleLemmas
 pub mod ExampleRuns

@@ -45,8 +45,12 @@ use Rattle.conf_tools.specs.Exports.{HasText, LacksText, disk_back}
 use Rattle.conf_tools.specs.Performs.{Performs}
 use Rattle.conf_tools.specs.Reads.{RefusesValues, ShowsAll, ShowsTree, WritesValues, found_or, pointers_of, shown, tree_text, value_or}
 use Rattle.conf_tools.specs.Statuses.{status_of_store}
-use Rattle.conf_tools.specs.StoreWords.{ExportsFromFolder, OpensFile, SaysOfFile, SaysValues, WritesFound, status_after_reading}
+use Rattle.conf_tools.specs.StoreWords.{ExportsFromFolder, OpensFile, SaysOfFile, SaysValues, WritesFound, WritesWhole}
+use Rattle.conf_tools.specs.Endings.{ending_after_reading}
+use Rattle.conf_tools.specs.Outcomes.{status_of_ending}
+use Rattle.conf_tools.specs.ReadingStatuses.{status_of_reading}
 use Rattle.conf_tools.specs.Worlds.{Around, WorldModel}
+use Rattle.conf_tools.specs.EndOfRun.{EndOfRun as Ended}
 use Rattle.conf_tools.specs.declared.program.Status.{Status}
 use Rattle.conf_tools.specs.declared.program.Status.TheVariants.{Device, Done, Refused}
 use Rattle.conf_tools.specs.declared.reading_fault.ReadingFault.{ReadingFault}
@@ -171,7 +175,7 @@ module _ (one : OneMeaning) (one_record : OneRecord) (nothing : RefusedMeansNoth
       absurd (cc both)
 
   says-of : (result : Result (Unit {0}) ReadingFault) (held written : Option (List ℕ)) (status : Status)
-      → status ≡ status_after_reading result
+      → status ≡ status_of_ending (ending_after_reading result)
       → OnOk result (WritesValues several (Some bytes) None (chars name) (chars pointer ∷ []) missing form held written)
       → IfErr result (RefusesValues several (Some bytes) None (chars name) (chars pointer ∷ []) missing form held written)
       → Outcome (IsErrAnd result RanOut) text held written status
@@ -265,7 +269,7 @@ module _ {W D F P : Type 0} (world : WorldModel W D F P) (disk : DiskModel D) (r
 
     -- the store of the folder is read, unless the system fails or memory runs out
     read-or-not : (held written : Option (List ℕ)) → written ≡ held → (fault : FolderFault) → IsUnread leaves fault path now
-        → (text : List ℕ) (status : Status) → (status ≡ status_after_reading {A = Unit {0}} (Err (reading.Folder fault)))
+        → (text : List ℕ) (status : Status) → status ≡ status_of_reading (reading.Folder fault)
         → Outcome (RanOut (reading.Folder fault)) text held written status
     read-or-not held written same folder_fault.Device unread text status ends = inr (inr ends)
     read-or-not held written same folder_fault.Locked unread text status ends = inr (inr ends)
@@ -297,14 +301,14 @@ module _ {W D F P : Type 0} (world : WorldModel W D F P) (disk : DiskModel D) (r
     -- ---- `get`
 
     module _ (missing : MissingValue) (form : ValueForm) (text : List ℕ) (shows : ShowsTree form value text) (new : W)
-        (held written : Option (List ℕ)) (status : Status) (pointers : List (List ℕ)) (one_place : pointers ≡ chars pointer ∷ []) where
+        (held written : Option (List ℕ)) (end : Ended) (pointers : List (List ℕ)) (one_place : pointers ≡ chars pointer ∷ []) where
       says-at : (file : F) (given : Option (List ℕ)) (bytes : List ℕ) → given ≡ Some bytes → (s : Contents) → Has value s
           → Means (world.several file) bytes s
-          → (says : SaysValues None name pointers missing form (world.several file) given held written status)
-          → Outcome (IsErrAnd says.result RanOut) text held written status
+          → (says : SaysValues None name pointers missing form (world.several file) given held written end)
+          → Outcome (IsErrAnd says.result RanOut) text held written (status_of_ending end)
       says-at file given bytes is s there means says =
           says-of one one_record nothing (world.several file) bytes s means name pointer missing form value there text shows
-          says.result held written status says.ends
+          says.result held written (status_of_ending end) (ap status_of_ending says.ends)
           (subst (λ (g : Option (List ℕ)). OnOk says.result
           (WritesValues (world.several file) g None (chars name) (chars pointer ∷ []) missing form held written)) is
           (subst (λ (ps : List (List ℕ)). OnOk says.result
@@ -315,15 +319,16 @@ module _ {W D F P : Type 0} (world : WorldModel W D F P) (disk : DiskModel D) (r
           (RefusesValues (world.several file) given None (chars name) ps missing form held written)) one_place says.refused))
 
       got : (file : Result F ReadingFault) → OpensFile world path now file new
-          → (says : SaysOfFile world.several remaining (SaysValues None name pointers missing form) file held written status)
-          → Outcome (GetRanOut world.several remaining None name pointers missing form file held written status says) text held
-          written status
+          → (says : SaysOfFile world.several remaining (SaysValues None name pointers missing form) file held written end)
+          → Outcome (GetRanOut world.several remaining None name pointers missing form file held written end says) text held
+          written (status_of_ending end)
       got (Ok file) opens says =
           let has = opened-file file (shows_folders.file path now new file opens) in
           says-at file (remaining file) has.bytes has.gives has.state has.there has.means says
       got (Err (reading.History history.NotAStore)) opens says = absurd (none-lacking (shows_folders.no_file path now new opens))
       got (Err (reading.Folder fault)) opens says =
-          read-or-not held written says.0 fault (shows_folders.unread path now new fault opens) text status says.1
+          read-or-not held written says.0 fault (shows_folders.unread path now new fault opens) text (status_of_ending end)
+          (ap status_of_ending says.1)
       got (Err (reading.History history.Input)) opens says = absurd opens
       got (Err (reading.History history.Output)) opens says = absurd opens
       got (Err (reading.History (history.Damaged bad))) opens says = absurd opens
@@ -365,7 +370,10 @@ module _ {W D F P : Type 0} (world : WorldModel W D F P) (disk : DiskModel D) (r
         record { state = entry.0; there = entry.1; means = (meant.alike entry.0).1 entry.2 }
 
     module _ (whole : pointer ≡ []) (form : TreeForm) (text : List ℕ) (shows : ShowsTree (Whole form) value text)
-        (held written : Option (List ℕ)) (status : Status) where
+        (held written : Option (List ℕ)) (end : Ended) where
+      abbrev reached : Status
+      reached = status_of_ending end
+
       named-there : (s : Contents) → Has value s → tree_named s (chars name) ≡ Ok value
       named-there s there =
           tree-there s (chars name) value
@@ -390,14 +398,14 @@ module _ {W D F P : Type 0} (world : WorldModel W D F P) (disk : DiskModel D) (r
           some-one x y is = cc
 
       done-or-not : (bytes : List ℕ) (ran_out : Type 0) → bytes ≡ text
-          → (Appends held written bytes × (status ≡ Done)) ⊎ (status ≡ Device) → Outcome ran_out text held written status
+          → WritesWhole bytes held written end → Outcome ran_out text held written reached
       done-or-not bytes ran_out same (inl (writes, ends)) =
-          inl (ends, subst (λ (b : List ℕ). Appends held written b) same writes)
-      done-or-not bytes ran_out same (inr ends) = inr (inr ends)
+          inl (ap status_of_ending ends, subst (λ (b : List ℕ). Appends held written b) same writes)
+      done-or-not bytes ran_out same (inr (part, ends)) = inr (inr (ap status_of_ending ends))
 
-      not-opened : (last : D) → DiskHolds last → (fault : OpenFault) → written ≡ held → status ≡ status_of_store (tool.Open fault)
+      not-opened : (last : D) → DiskHolds last → (fault : OpenFault) → written ≡ held → reached ≡ status_of_store (tool.Open fault)
           → RefusesOpening fault (several_waited (disk.folder last)) (bytes_under (disk.folder last) Store)
-          → Outcome (RanOutOn (tool.Open fault)) text held written status
+          → Outcome (RanOutOn (tool.Open fault)) text held written reached
       not-opened last holds opening.Device same ends refuses = inr (inr ends)
       not-opened last holds opening.OutOfMemory same ends refuses = inr (inl (ends, tt, keeps-same held written same))
       not-opened last holds opening.NotAStore same ends refuses =
@@ -408,22 +416,22 @@ module _ {W D F P : Type 0} (world : WorldModel W D F P) (disk : DiskModel D) (r
           (bytes_under (disk.folder last) Store) refuses holds.state holds.means)
 
       exported-of : (first : D) (result : Result (D × String Global) (D × StoreToolFault)) → DiskHolds (disk_back result)
-          → WritesFound result held written status
+          → WritesFound result held written end
           → IfOk result (λ found. HasText disk form first found.0 (chars name) (string_bytes found.1))
           → IfErr result (λ refused. LacksText disk first refused.0 (chars name) refused.1)
-          → Outcome (IsErrAnd result (λ refused. RanOutOn refused.1)) text held written status
+          → Outcome (IsErrAnd result (λ refused. RanOutOn refused.1)) text held written reached
       exported-of first (Ok found) holds writes has lacks =
           let named = found-named found.0 holds has.state (has.finds.at_end honest) in
           done-or-not (string_bytes found.1) ⊥
           (text-is (string_bytes found.1) has.exports.tree (sym has.exports.named ∙ named) has.exports.is) writes
       exported-of first (Err (last, tool.Open fault)) holds writes has lacks =
-          not-opened last holds fault writes.0 writes.1 (lacks.0 honest)
+          not-opened last holds fault writes.0 (ap status_of_ending writes.1) (lacks.0 honest)
       exported-of first (Err (last, tool.Export fault)) holds writes has lacks = by lacks.why
         where
           by : (fault ≡ state_fault.OutOfMemory) ⊎ (tree_named lacks.state (chars name) ≡ Err fault)
-              → Outcome (RanOutOn (tool.Export fault)) text held written status
+              → Outcome (RanOutOn (tool.Export fault)) text held written reached
           by (inl memory) = inr (inl (
-            writes.1 ∙ ap (λ (f : StoreFault). status_of_store (tool.Export f)) memory,
+            ap status_of_ending writes.1 ∙ ap (λ (f : StoreFault). status_of_store (tool.Export f)) memory,
             subst (λ (f : StoreFault). RanOutOn (tool.Export f)) (sym memory) tt,
             keeps-same held written writes.0,
           ))
@@ -437,11 +445,12 @@ module _ {W D F P : Type 0} (world : WorldModel W D F P) (disk : DiskModel D) (r
       exported-of first (Err (last, tool.Refused fault)) holds writes has lacks = absurd lacks
       exported-of first (Err (last, tool.StoreExists)) holds writes has lacks = absurd lacks
 
-      exported : (new : W) (does : ExportsFromFolder world disk form path name now new held written status)
-          → Outcome (ExportRanOut world disk form path name now new held written status does) text held written status
+      exported : (new : W) (does : ExportsFromFolder world disk form path name now new held written end)
+          → Outcome (ExportRanOut world disk form path name now new held written end does) text held written reached
       exported new (inl cannot) =
           unused-or-not held written cannot.keeps cannot.cannot.fault
-          (shows_folders.unused path now new cannot.cannot.fault cannot.cannot.opens) text status cannot.cannot.ends
+          (shows_folders.unused path now new cannot.cannot.fault cannot.cannot.opens) text reached
+          (ap status_of_ending cannot.cannot.ends)
       exported new (inr exports) =
           exported-of exports.first exports.result
           (last-holds exports.opened new exports.first (disk_back exports.result) exports.opens exports.gives_back
@@ -461,15 +470,19 @@ module _ {W D F P : Type 0} (world : WorldModel W D F P) (disk : DiskModel D) (r
       → Shows world disk remaining honest leaves path name pointer text invocation old new status does
   asked value (Get folder named pointers None missing form) old new status does wanted (of_path, of_name, of_place, of_form)
       stands text shows =
-      got world disk remaining honest leaves keeps shows_folders folder.now named.now pointer one reads_one nothing one_record counts
+      subst (λ (s : Status). Outcome (GetRanOut world.several remaining None named.now (pointers_of pointers.items) missing form
+      does.does.0.file old.output new.output does.ending does.does.0.does) text old.output new.output s) (sym does.is)
+      (got world disk remaining honest leaves keeps shows_folders folder.now named.now pointer one reads_one nothing one_record counts
       value old.world
       (stands-as leaves path name pointer folder.now named.now pointer of_path of_name refl value old.world stands)
-      missing form text (subst (λ (f : ValueForm). ShowsTree f value text) (sym of_form) shows) new.world old.output new.output status
-      (pointers_of pointers.items) of_place does.0.file does.0.opens does.0.does
+      missing form text (subst (λ (f : ValueForm). ShowsTree f value text) (sym of_form) shows) new.world old.output new.output
+      does.ending (pointers_of pointers.items) of_place does.does.0.file does.does.0.opens does.does.0.does)
   asked value (Export folder named form) old new status does wanted (of_path, of_name, whole, of_form) stands text shows =
-      exported world disk remaining honest leaves keeps shows_folders folder.now named.now pointer one reads_one nothing one_record counts
+      subst (λ (s : Status). Outcome (ExportRanOut world disk form folder.now named.now old.world new.world old.output new.output
+      does.ending does.does.0) text old.output new.output s) (sym does.is)
+      (exported world disk remaining honest leaves keeps shows_folders folder.now named.now pointer one reads_one nothing one_record counts
       value old.world
       (stands-as leaves path name pointer folder.now named.now pointer of_path of_name refl value old.world stands)
-      whole form text (subst (λ (f : ValueForm). ShowsTree f value text) (sym of_form) shows) old.output new.output status
-      new.world does.0
+      whole form text (subst (λ (f : ValueForm). ShowsTree f value text) (sym of_form) shows) old.output new.output does.ending
+      new.world does.does.0)
   asked value invocation old new status does form asks stands text shows = absurd asks

@@ -23,12 +23,13 @@ use Rattle.conf_store.proofs.StoreLemmas.{base-file-means, base-of}
 use Rattle.conf_store.specs.Opens.{OneMeaning}
 use Rattle.conf_words.specs.declared.invocation.Invocation.{Invocation}
 use Rattle.conf_words.specs.declared.invocation.Invocation.TheVariants.{Backup, Salvage}
-use Rattle.conf_tools.specs.Backups.{status_after_backup}
-use Rattle.conf_tools.specs.Performs.{Performs}
+use Rattle.conf_tools.specs.{Endings.ending_after_backup, Outcomes.status_of_ending}
+use Rattle.conf_tools.specs.Performs.{Does}
 use Rattle.conf_tools.specs.StoreWords.{WritesFindings}
 use Rattle.conf_tools.specs.ProgramCalls.{Call, CallHolds, EachMeans, disk_before, disk_behind}
 use Rattle.conf_tools.specs.ProgramCalls as program
 use Rattle.conf_tools.specs.Worlds.{Around, WorldModel}
+use Rattle.conf_tools.specs.EndOfRun.{EndOfRun as Ended}
 use Rattle.conf_tools.specs.declared.program.Status.{Status}
 use Rattle.conf_tools.specs.declared.program.Status.TheVariants.{Done, Found, Absent, Refused, WrongWords, Device}
 use Rattle.conf_runs.specs.Folders.{HandsOutNone, IsDiskOf, KeepsFolders}
@@ -100,28 +101,28 @@ module _ {W D F P : Type 0} (world : WorldModel W D F P) (disk : DiskModel D) (r
     means = subst (λ (f : Option (List ℕ)). FileMeans image.several f copied.reads.s) (sym copied.is) (copied.reads.means image.several);
   })
 
-  copy-done : (status : Status) (several : Bool) (given left : Option (List ℕ)) (first : D) (result : Result D (D × SalvageFault))
+  copy-done : (end : Ended) (several : Bool) (given left : Option (List ℕ)) (first : D) (result : Result D (D × SalvageFault))
       (made : IfOk result (λ made. BacksUp several given left (disk.folder first) (disk.folder made)))
       (survives : LeavesOldOrCopy several disk given left first (copied_disk result))
-      → status ≡ status_after_backup result → status ≡ Done
+      → end ≡ ending_after_backup result → status_of_ending end ≡ Done
       → (image : Image) → IsImage (disk.folder (copied_disk result)) image
       → IsNew (copies several given left first result made survives) image
-  copy-done status several given left first (Ok new) made survives ends done image is = record {
+  copy-done end several given left first (Ok new) made survives ends done image is = record {
     state = made.reads.s;
     makes = record { copy = made.copy; reads = made.reads; is = refl };
     means = made.now image is;
   }
-  copy-done status several given left first (Err refused) made survives ends done image is = absurd
-      (not-backed-up refused.1 (sym done ∙ ends))
+  copy-done end several given left first (Err refused) made survives ends done image is = absurd
+      (not-backed-up refused.1 (sym done ∙ ap status_of_ending ends))
 
-  makes-copy : (status : Status) (several : Bool) (given left : Option (List ℕ)) (first : D) (result : Result D (D × SalvageFault))
+  makes-copy : (end : Ended) (several : Bool) (given left : Option (List ℕ)) (first : D) (result : Result D (D × SalvageFault))
       (made : IfOk result (λ made. BacksUp several given left (disk.folder first) (disk.folder made)))
-      (survives : LeavesOldOrCopy several disk given left first (copied_disk result)) → status ≡ status_after_backup result
-      → MakesNew status (copies several given left first result made survives)
-  makes-copy status several given left first result made survives ends = record {
+      (survives : LeavesOldOrCopy several disk given left first (copied_disk result)) → end ≡ ending_after_backup result
+      → MakesNew (status_of_ending end) (copies several given left first result made survives)
+  makes-copy end several given left first result made survives ends = record {
     later = survives.later;
     either = λ image was. is-copied several given left first result made survives image (survives.each image was);
-    done = copy-done status several given left first result made survives ends;
+    done = copy-done end several given left first result made survives ends;
     no_commands = refl;
     none_acknowledged = refl;
     not_kept = λ not. not;
@@ -140,30 +141,30 @@ module _ {W D F P : Type 0} (world : WorldModel W D F P) (disk : DiskModel D) (r
         (base-of read close fit saved.s (base_bytes saved.s) saved.reads.kept refl) image saved.is;
   })
 
-  salvage-done : (status : Status) (held written : Option (List ℕ)) (several : Bool) (given left : Option (List ℕ)) (first : D)
+  salvage-done : (end : Ended) (held written : Option (List ℕ)) (several : Bool) (given left : Option (List ℕ)) (first : D)
       (result : Result (D × Findings) (D × SalvageFault))
       (made : IfOk result (λ saved. Saves several given left (disk.folder first) (disk.folder saved.0) saved.1))
       (survives : LeavesOldOrSaved several disk given left first (saved_disk result))
-      → WritesFindings result held written status → status ≡ Done
+      → WritesFindings result held written end → status_of_ending end ≡ Done
       → (image : Image) → IsImage (disk.folder (saved_disk result)) image → IsNew
       (saves several given left first result made survives) image
-  salvage-done status held written several given left first (Ok saved) made survives writes done image is = record {
+  salvage-done end held written several given left first (Ok saved) made survives writes done image is = record {
     state = made.s;
     makes = record { findings = saved.1; reads = made.reads };
     means = made.now image is;
   }
-  salvage-done status held written several given left first (Err refused) made survives writes done image is =
-      absurd (not-backed-up refused.1 (sym done ∙ writes.1))
+  salvage-done end held written several given left first (Err refused) made survives writes done image is =
+      absurd (not-backed-up refused.1 (sym done ∙ ap status_of_ending writes.1))
 
-  makes-saved : (status : Status) (held written : Option (List ℕ)) (several : Bool) (given left : Option (List ℕ)) (first : D)
+  makes-saved : (end : Ended) (held written : Option (List ℕ)) (several : Bool) (given left : Option (List ℕ)) (first : D)
       (result : Result (D × Findings) (D × SalvageFault))
       (made : IfOk result (λ saved. Saves several given left (disk.folder first) (disk.folder saved.0) saved.1))
-      (survives : LeavesOldOrSaved several disk given left first (saved_disk result)) → WritesFindings result held written status
-      → MakesNew status (saves several given left first result made survives)
-  makes-saved status held written several given left first result made survives writes = record {
+      (survives : LeavesOldOrSaved several disk given left first (saved_disk result)) → WritesFindings result held written end
+      → MakesNew (status_of_ending end) (saves several given left first result made survives)
+  makes-saved end held written several given left first result made survives writes = record {
     later = survives.later;
     either = λ image was. is-saved several given left first result made survives image (survives.each image was);
-    done = salvage-done status held written several given left first result made survives writes;
+    done = salvage-done end held written several given left first result made survives writes;
     no_commands = refl;
     none_acknowledged = refl;
     not_kept = λ not. not;
@@ -205,85 +206,86 @@ module _ {W D F P : Type 0} (world : WorldModel W D F P) (disk : DiskModel D) (r
       (disk_behind disk call) new) (some-one own_path path is) of in
       busy call (λ image was. begins path image (here.handed_out image was)) (λ image left. left) fits
 
-  abbrev DidCopy : List ℕ → W → W → Status → Option (Deed disk) → Type 0
+  abbrev DidCopy : List ℕ → W → W → Ended → Option (Deed disk) → Type 0
   DidCopy = Backed world disk remaining honest leaves keeps
 
-  new-returned : (own_path : List ℕ) (old new : W) (status : Status) (deed : Option (Deed disk)) → DidCopy own_path old new status deed
-      → own_path ≡ path → HandsOutNone world disk → At returned old new status deed
-  new-returned own_path old new status None (none_made steady) is empty = quiet (λ image left. steady path image left)
-  new-returned own_path old new status (Some (calls call)) did is empty = elim did [ ]
-  new-returned own_path old new status (Some (copies several given left first result made survives))
+  new-returned : (own_path : List ℕ) (old new : W) (end : Ended) (deed : Option (Deed disk)) → DidCopy own_path old new end deed
+      → own_path ≡ path → HandsOutNone world disk → At returned old new (status_of_ending end) deed
+  new-returned own_path old new end None (none_made steady) is empty = quiet (λ image left. steady path image left)
+  new-returned own_path old new end (Some (calls call)) did is empty = elim did [ ]
+  new-returned own_path old new end (Some (copies several given left first result made survives))
       (made_there found opened _ _ _ _ _ _ _ begins opens of ends) is empty =
       let here = subst (λ (p : List ℕ). IsDiskOf disk leaves p found first (copied_disk result) new) is of in
-      fresh (copies several given left first result made survives) (makes-copy status several given left first result made survives ends)
+      fresh (copies several given left first result made survives) (makes-copy end several given left first result made survives ends)
       (λ image was. begins path image (here.handed_out image was)) (λ image now. here.given_back image now)
       (empty own_path found opened first opens)
-  new-returned own_path old new status (Some (saves several given left first result made survives))
+  new-returned own_path old new end (Some (saves several given left first result made survives))
       (saved_there found opened _ _ _ _ _ _ _ held written begins opens of writes) is empty =
       let here = subst (λ (p : List ℕ). IsDiskOf disk leaves p found first (saved_disk result) new) is of in
       fresh (saves several given left first result made survives)
-      (makes-saved status held written several given left first result made survives writes)
+      (makes-saved end held written several given left first result made survives writes)
       (λ image was. begins path image (here.handed_out image was)) (λ image now. here.given_back image now)
       (empty own_path found opened first opens)
 
-  new-cut-off : (own_path : List ℕ) (old new : W) (status : Status) (deed : Option (Deed disk)) → DidCopy own_path old new status deed
-      → own_path ≡ path → HandsOutNone world disk → At cut_off old new status deed
-  new-cut-off own_path old new status None (none_made steady) is empty = quiet (λ image left. left)
-  new-cut-off own_path old new status (Some (calls call)) did is empty = elim did [ ]
-  new-cut-off own_path old new status (Some (copies several given left first result made survives))
+  new-cut-off : (own_path : List ℕ) (old new : W) (end : Ended) (deed : Option (Deed disk)) → DidCopy own_path old new end deed
+      → own_path ≡ path → HandsOutNone world disk → At cut_off old new (status_of_ending end) deed
+  new-cut-off own_path old new end None (none_made steady) is empty = quiet (λ image left. left)
+  new-cut-off own_path old new end (Some (calls call)) did is empty = elim did [ ]
+  new-cut-off own_path old new end (Some (copies several given left first result made survives))
       (made_there found opened _ _ _ _ _ _ _ begins opens of ends) is empty =
       let here = subst (λ (p : List ℕ). IsDiskOf disk leaves p found first (copied_disk result) new) is of in
-      fresh (copies several given left first result made survives) (makes-copy status several given left first result made survives ends)
+      fresh (copies several given left first result made survives) (makes-copy end several given left first result made survives ends)
       (λ image was. begins path image (here.handed_out image was)) (λ image left. left) (empty own_path found opened first opens)
-  new-cut-off own_path old new status (Some (saves several given left first result made survives))
+  new-cut-off own_path old new end (Some (saves several given left first result made survives))
       (saved_there found opened _ _ _ _ _ _ _ held written begins opens of writes) is empty =
       let here = subst (λ (p : List ℕ). IsDiskOf disk leaves p found first (saved_disk result) new) is of in
       fresh (saves several given left first result made survives)
-      (makes-saved status held written several given left first result made survives writes)
+      (makes-saved end held written several given left first result made survives writes)
       (λ image was. begins path image (here.handed_out image was)) (λ image left. left) (empty own_path found opened first opens)
 
   -- a run that makes a store of what another one says
   at-new : (invocation : Invocation) (is : folder_of invocation ≡ Some path) (is_new : makes_new invocation ≡ true)
       (empty : HandsOutNone world disk)
-      (ending : Ending) (old new : Around W) (status : Status) (does : Performs world disk remaining invocation old new status)
-      → At ending old.world new.world status (deed_at world disk remaining honest leaves path invocation
-      (anew is is_new empty) ending old new status does)
-  at-new invocation is is_new empty not_begun old new status does = quiet (λ image left. left)
-  at-new (Backup folder new_folder) is is_new empty returned old new status does =
-      new-returned new_folder.now old.world new.world status _
-      (backed world disk remaining honest leaves keeps folder.now new_folder.now old.world new.world status does.0)
+      (ending : Ending) (old new : Around W) (end : Ended) (does : Does world disk remaining invocation old new end)
+      → At ending old.world new.world (status_of_ending end) (deed_at world disk remaining honest leaves path invocation
+      (anew is is_new empty) ending old new end does)
+  at-new invocation is is_new empty not_begun old new end does = quiet (λ image left. left)
+  at-new (Backup folder new_folder) is is_new empty returned old new end does =
+      new-returned new_folder.now old.world new.world end _
+      (backed world disk remaining honest leaves keeps folder.now new_folder.now old.world new.world end does.0)
       (some-one new_folder.now path is) empty
-  at-new (Backup folder new_folder) is is_new empty cut_off old new status does =
-      new-cut-off new_folder.now old.world new.world status _
-      (backed world disk remaining honest leaves keeps folder.now new_folder.now old.world new.world status does.0)
+  at-new (Backup folder new_folder) is is_new empty cut_off old new end does =
+      new-cut-off new_folder.now old.world new.world end _
+      (backed world disk remaining honest leaves keeps folder.now new_folder.now old.world new.world end does.0)
       (some-one new_folder.now path is) empty
-  at-new (Salvage folder new_folder keep_dropped) is is_new empty returned old new status does =
-      new-returned new_folder.now old.world new.world status _
+  at-new (Salvage folder new_folder keep_dropped) is is_new empty returned old new end does =
+      new-returned new_folder.now old.world new.world end _
       (salvaged-to world disk remaining honest leaves keeps folder.now keep_dropped new_folder.now old.world new.world old.output
-      new.output status does.0)
+      new.output end does.0)
       (some-one new_folder.now path is) empty
-  at-new (Salvage folder new_folder keep_dropped) is is_new empty cut_off old new status does =
-      new-cut-off new_folder.now old.world new.world status _
+  at-new (Salvage folder new_folder keep_dropped) is is_new empty cut_off old new end does =
+      new-cut-off new_folder.now old.world new.world end _
       (salvaged-to world disk remaining honest leaves keeps folder.now keep_dropped new_folder.now old.world new.world old.output
-      new.output status does.0)
+      new.output end does.0)
       (some-one new_folder.now path is) empty
-  at-new invocation is is_new empty ending old new status does = cc
+  at-new invocation is is_new empty ending old new end does = cc
 
-  at : (invocation : Invocation) (place : Where world disk path invocation) (ending : Ending) (old new : Around W) (status : Status)
-      (does : Performs world disk remaining invocation old new status)
-      → At ending old.world new.world status (deed_at world disk remaining honest leaves path invocation place ending old new status does)
-  at invocation (elsewhere is_other) returned old new status does =
-      quiet (λ image left. spares world disk remaining honest leaves keeps path invocation old new status does is_other image left)
-  at invocation (elsewhere is_other) cut_off old new status does = quiet (λ image left. left)
-  at invocation (elsewhere is_other) not_begun old new status does = quiet (λ image left. left)
-  at invocation (here is not_new) not_begun old new status does = quiet (λ image left. left)
-  at invocation (here is not_new) returned old new status does =
-      at-returned old.world new.world status (folder_of invocation) _
-      (effect world disk remaining honest leaves keeps invocation old new status does not_new) is
-  at invocation (here is not_new) cut_off old new status does =
-      at-cut-off old.world new.world status (folder_of invocation) _
-      (effect world disk remaining honest leaves keeps invocation old new status does not_new) is
-  at invocation (anew is is_new empty) ending old new status does = at-new invocation is is_new empty ending old new status does
+  at : (invocation : Invocation) (place : Where world disk path invocation) (ending : Ending) (old new : Around W) (end : Ended)
+      (does : Does world disk remaining invocation old new end)
+      → At ending old.world new.world (status_of_ending end)
+      (deed_at world disk remaining honest leaves path invocation place ending old new end does)
+  at invocation (elsewhere is_other) returned old new end does =
+      quiet (λ image left. spares world disk remaining honest leaves keeps path invocation old new end does is_other image left)
+  at invocation (elsewhere is_other) cut_off old new end does = quiet (λ image left. left)
+  at invocation (elsewhere is_other) not_begun old new end does = quiet (λ image left. left)
+  at invocation (here is not_new) not_begun old new end does = quiet (λ image left. left)
+  at invocation (here is not_new) returned old new end does =
+      at-returned old.world new.world (status_of_ending end) (folder_of invocation) _
+      (effect world disk remaining honest leaves keeps invocation old new end does not_new) is
+  at invocation (here is not_new) cut_off old new end does =
+      at-cut-off old.world new.world (status_of_ending end) (folder_of invocation) _
+      (effect world disk remaining honest leaves keeps invocation old new end does not_new) is
+  at invocation (anew is is_new empty) ending old new end does = at-new invocation is is_new empty ending old new end does
 
   -- ---- what is kept of a run
 
@@ -462,7 +464,9 @@ module _ {W D F P : Type 0} (world : WorldModel W D F P) (disk : DiskModel D) (r
       → (image : Image) → MayLeave world disk remaining honest leaves path event image → KeptRun Held event image
   kept-run Held event stands image left =
       kept-at Held event (deed_in world disk remaining honest leaves path event) refl
-      (at event.invocation event.place event.ending event.old event.new event.status event.does) stands image left
+      (subst (λ (s : Status). At event.ending event.old.world event.new.world s
+      (deed_in world disk remaining honest leaves path event)) (sym event.does.is)
+      (at event.invocation event.place event.ending event.old event.new event.does.ending event.does.does)) stands image left
 
   -- ---- all runs
 

@@ -27,19 +27,19 @@ use Rattle.conf_tools.specs.Exports.{disk_handed_back}
 use Rattle.conf_tools.specs.Prelude.{IsRead}
 use Rattle.conf_tools.specs.ProgramCalls.{CallHolds}
 use Rattle.conf_tools.specs.Reads.{ShowsTree}
-use Rattle.conf_tools.specs.Statuses.{status_of}
-use Rattle.conf_tools.specs.StoreWords.{ChangesInFolder, Condition, MakesChange, conditions_of, status_at_end}
+use Rattle.conf_tools.specs.{Endings.ending_at_end, Outcomes.status_of_ending}
+use Rattle.conf_tools.specs.StoreWords.{ChangesInFolder, Condition, MakesChange, conditions_of}
 use Rattle.conf_tools.specs.TextWords.{IsImport, SetsAt}
 use Rattle.conf_tools.specs.Tools.{Taken}
 use Rattle.conf_tools.specs.Worlds.{Around, WorldModel}
 use Rattle.conf_tools.specs.declared.changes.Change.{Change}
 use Rattle.conf_tools.specs.declared.changes.Change.TheVariants as change
+use Rattle.conf_tools.specs.EndOfRun.{EndOfRun as Ended}
 use Rattle.conf_tools.specs.declared.program.Status.{Status}
 use Rattle.conf_tools.specs.declared.program.Status.TheVariants.{Done}
 use Rattle.conf_tools.specs.declared.stores.StoreToolFault.{StoreToolFault}
 use Rattle.conf_tools.specs.declared.stores.StoreToolFault.TheVariants.{Folder as InFolder}
 use Rattle.conf_tools.specs.declared.texts.ToolFault.{ToolFault}
-use Rattle.conf_tools.specs.declared.texts.ToolFault.TheVariants as tool_fault
 use Rattle.conf_tools.specs.declared.world.Access.{Access}
 use Rattle.conf_tools.specs.declared.world.Access.TheVariants.{Changing}
 use Rattle.conf_runs.specs.Folders.{KeepsFolders}
@@ -54,16 +54,9 @@ use Rattle.conf_runs.proofs.ReadLemmas.{StandsIn, There, asked, stands-as}
 use Rattle.conf_runs.proofs.RunLemmas.{LedBy, kept-run}
 use Rattle.conf_runs.proofs.StateLemmas.{empty-lacks, import-there, set-there}
 use Rattle.conf_runs.proofs.StatusLemmas.{not-done}
+use Rattle.conf_tools.proofs.EndingLemmas.{imported-status, not-with}
 use Rattle.yaml_config.specs.Limits.{config_limits}
 use Rattle.yaml_grammar.specs.Trees.{Tree}
-
-pub not-read : (fault : ToolFault) → Done ≡ status_of fault → ⊥
-not-read tool_fault.Input is = cc
-not-read tool_fault.Output is = cc
-not-read (tool_fault.Read fault) is = cc
-not-read (tool_fault.Comments place) is = cc
-not-read tool_fault.Unsettled is = cc
-not-read tool_fault.OneValue is = cc
 
 -- ---- a run of commands of other configurations
 
@@ -92,38 +85,38 @@ module _ {W D F P : Type 0} (world : WorldModel W D F P) (disk : DiskModel D) (r
   Leads change = (opened closed : StoreView D) → Makes opened change closed
       → value_at_path closed.state (chars name) (chars pointer) ≡ Ok value
 
-  changed-in : (access : Access) (folder : List ℕ) (conditions : List Condition) (change : Change) (old new : W) (status : Status)
-      → status ≡ Done → Leads change → ChangesInFolder world disk access folder conditions change old new status
+  changed-in : (access : Access) (folder : List ℕ) (conditions : List Condition) (change : Change) (old new : W) (end : Ended)
+      → status_of_ending end ≡ Done → Leads change → ChangesInFolder world disk access folder conditions change old new end
       → StandsIn leaves folder name pointer value new
-  changed-in access folder conditions change old new status done leads (inl cannot) =
-      absurd (not-done (InFolder cannot.fault) (sym done ∙ cannot.ends))
-  changed-in access folder conditions change old new status done leads (inr changes) =
+  changed-in access folder conditions change old new end done leads (inl cannot) =
+      absurd (not-done (InFolder cannot.fault) (sym done ∙ ap status_of_ending cannot.ends))
+  changed-in access folder conditions change old new end done leads (inr changes) =
       by changes.result changes.ends changes.gives_back changes.made
     where
-      by : (result : Result D (D × StoreToolFault)) → status ≡ status_at_end result
+      by : (result : Result D (D × StoreToolFault)) → end ≡ ending_at_end result
           → world.given_back (disk_handed_back result) changes.opened new
           → IfOk result (ChangesOn disk changes.first conditions change)
           → StandsIn leaves folder name pointer value new
-      by (Err refused) ends gives_back made = absurd (not-done refused.1 (sym done ∙ ends))
+      by (Err refused) ends gives_back made = absurd (not-done refused.1 (sym done ∙ ap status_of_ending ends))
       by (Ok last) ends gives_back made = λ image is.
           let of = keeps.disks access folder old changes.opened new changes.first last changes.opens gives_back in
           (made.closed.state, leads made.opened made.closed made.makes, made.images honest image (of.given_back image is))
 
-  changed-if : (access : Access) (folder : List ℕ) (asked : AskedConditions) (change : Change) (old new : W) (status : Status)
-      → status ≡ Done → Leads change → MakesChange world disk access folder asked change old new status
+  changed-if : (access : Access) (folder : List ℕ) (asked : AskedConditions) (change : Change) (old new : W) (end : Ended)
+      → status_of_ending end ≡ Done → Leads change → MakesChange world disk access folder asked change old new end
       → StandsIn leaves folder name pointer value new
-  changed-if access folder (Ok conditions) change old new status done leads makes =
-      changed-in access folder (conditions_of conditions.items) change old new status done leads makes
-  changed-if access folder (Err fault) change old new status done leads makes = absurd (not-read fault (sym done ∙ makes.1))
+  changed-if access folder (Ok conditions) change old new end done leads makes =
+      changed-in access folder (conditions_of conditions.items) change old new end done leads makes
+  changed-if access folder (Err fault) change old new end done leads makes = absurd (not-with fault end makes.1 done)
 
   changed-at : (wanted : Conditions) (access : Access) (folder place_name place : List ℕ) (change : Result Change ToolFault)
-      (old new : W) (status : Status) → status ≡ Done → IfOk change Leads
-      → ChangesAt world disk wanted access folder place_name place change old new status
+      (old new : W) (end : Ended) → status_of_ending end ≡ Done → IfOk change Leads
+      → ChangesAt world disk wanted access folder place_name place change old new end
       → StandsIn leaves folder name pointer value new
-  changed-at wanted access folder place_name place (Ok change) old new status done leads does =
-      changed-if access folder does.conditions change old new status done leads does.makes
-  changed-at wanted access folder place_name place (Err fault) old new status done leads does =
-      absurd (not-read fault (sym done ∙ does.1))
+  changed-at wanted access folder place_name place (Ok change) old new end done leads does =
+      changed-if access folder does.conditions change old new end done leads does.makes
+  changed-at wanted access folder place_name place (Err fault) old new end done leads does =
+      absurd (not-with fault end does.1 done)
 
   -- ---- `set`
 
@@ -173,14 +166,15 @@ module _ {W D F P : Type 0} (world : WorldModel W D F P) (disk : DiskModel D) (r
     import-leads-all root bytes reads (Ok change) is = import-leads root bytes reads change is
     import-leads-all root bytes reads (Err fault) is = tt
 
-    imported : (wanted : Conditions) (root : Root) (access : Access) (folder : List ℕ) (read : Taken) (old new : W) (status : Status)
-        → status ≡ Done → IfOk read (λ taken. IsRead taken.items config_limits value)
-        → ImportsRead world disk wanted root access folder name read old new status
+    imported : (wanted : Conditions) (root : Root) (access : Access) (folder : List ℕ) (read : Taken) (old new : W) (end : Ended)
+        → status_of_ending end ≡ Done → IfOk read (λ taken. IsRead taken.items config_limits value)
+        → ImportsRead world disk wanted root access folder name read old new end
         → StandsIn leaves folder name pointer value new
-    imported wanted root access folder (Ok bytes) old new status done reads does =
-        changed-at wanted access folder name [] does.change old new status done
+    imported wanted root access folder (Ok bytes) old new end done reads does =
+        changed-at wanted access folder name [] does.change old new does.made
+        (sym (ap status_of_ending does.ends ∙ imported-status does.made) ∙ done)
         (import-leads-all root bytes.items reads does.change does.is) does.changes
-    imported wanted root access folder (Err fault) old new status done reads does = absurd (not-read fault (sym done ∙ does.1))
+    imported wanted root access folder (Err fault) old new end done reads does = absurd (not-with fault end does.1 done)
 
 module _ {W D F P : Type 0} (world : WorldModel W D F P) (disk : DiskModel D) (remaining : F → Option (List ℕ))
     (honest : disk.honest) (leaves : W → List ℕ → Image → Type 0) (path name pointer : List ℕ)
@@ -194,17 +188,17 @@ module _ {W D F P : Type 0} (world : WorldModel W D F P) (disk : DiskModel D) (r
       (of_path, of_name, of_pointer, steady, sets) done =
       stands-as leaves folder.now named.now place.now path name pointer (sym of_path) (sym of_name) (sym of_pointer) value new.world
       (changed-at world disk remaining honest leaves keeps named.now place.now value conditions Changing folder.now named.now place.now
-      does.0.change does.0.seen new.world status done
+      does.does.0.change does.does.0.seen new.world does.ending (sym does.is ∙ done)
       (set-leads-all world disk remaining honest leaves keeps named.now place.now value
-      (subst (λ (q : List ℕ). IsSteady q) (sym of_pointer) steady) does.0.change
-      (subst (λ (q : List ℕ). IfOk does.0.change (SetsAt named.now q value)) (sym of_pointer)
-      (subst (λ (n : List ℕ). IfOk does.0.change (SetsAt n pointer value)) (sym of_name) sets)))
-      does.0.changes)
+      (subst (λ (q : List ℕ). IsSteady q) (sym of_pointer) steady) does.does.0.change
+      (subst (λ (q : List ℕ). IfOk does.does.0.change (SetsAt named.now q value)) (sym of_pointer)
+      (subst (λ (n : List ℕ). IfOk does.does.0.change (SetsAt n pointer value)) (sym of_name) sets)))
+      does.does.0.changes)
   put-there value (Import folder named file root absent conditions reporting) old new status does
       (of_path, of_name, whole, reads) done =
       stands-as leaves folder.now named.now pointer path name pointer (sym of_path) (sym of_name) refl value new.world
       (imported world disk remaining honest leaves keeps named.now pointer value gives_one whole conditions root (access_of absent)
-      folder.now does.read does.seen new.world status done reads does.imports)
+      folder.now does.does.read does.does.seen new.world does.ending (sym does.is ∙ done) reads does.does.imports)
   put-there value invocation old new status does puts done = absurd puts
 
   -- ---- what runs leave

@@ -1,3 +1,4 @@
+pub mod ByCalls
 pub mod Example
 pub mod Files
 pub mod Folders

@@ -25,6 +25,7 @@ use Rattle.conf_tools.specs.Reads.{ShowsTree, pointers_of}
 use Rattle.conf_tools.specs.StoreWords.{ExportsFromFolder, SaysOfFile, SaysValues}
 use Rattle.conf_tools.specs.TextWords.{SetsAt}
 use Rattle.conf_tools.specs.Worlds.{Around, WorldModel}
+use Rattle.conf_tools.specs.EndOfRun.{EndOfRun as Ended}
 use Rattle.conf_tools.specs.declared.program.Status.{Status}
 use Rattle.conf_tools.specs.declared.program.Status.TheVariants.{Device, Done, Refused}
 use Rattle.conf_tools.specs.declared.reading_fault.ReadingFault.{ReadingFault}
@@ -59,17 +60,17 @@ RanOutOn fault = ⊥
 module _ {F : Type 0} (several : F → Bool) (remaining : F → Option (List ℕ)) where
   -- it ran out for a run that reads values of a store's file
   abbrev pub GetRanOut : (at : Option ℕ) (name : List ℕ) (pointers : List (List ℕ)) (missing : MissingValue) (form : ValueForm)
-      (file : Result F ReadingFault) (held written : Option (List ℕ)) (status : Status)
-      → SaysOfFile several remaining (SaysValues at name pointers missing form) file held written status → Type 0
-  GetRanOut at name pointers missing form (Ok file) held written status says = IsErrAnd says.result RanOut
-  GetRanOut at name pointers missing form (Err fault) held written status says = RanOut fault
+      (file : Result F ReadingFault) (held written : Option (List ℕ)) (end : Ended)
+      → SaysOfFile several remaining (SaysValues at name pointers missing form) file held written end → Type 0
+  GetRanOut at name pointers missing form (Ok file) held written end says = IsErrAnd says.result RanOut
+  GetRanOut at name pointers missing form (Err fault) held written end says = RanOut fault
 
 module _ {W D F P : Type 0} (world : WorldModel W D F P) (disk : DiskModel D) where
   -- or for one that exports it
   abbrev pub ExportRanOut : (form : TreeForm) (folder name : List ℕ) (old new : W) (held written : Option (List ℕ))
-      (status : Status) → ExportsFromFolder world disk form folder name old new held written status → Type 0
-  ExportRanOut form folder name old new held written status (inl cannot) = RanOutOn (tool.Folder cannot.cannot.fault)
-  ExportRanOut form folder name old new held written status (inr exports) =
+      (end : Ended) → ExportsFromFolder world disk form folder name old new held written end → Type 0
+  ExportRanOut form folder name old new held written end (inl cannot) = RanOutOn (tool.Folder cannot.cannot.fault)
+  ExportRanOut form folder name old new held written end (inr exports) =
       IsErrAnd exports.result (λ refused. RanOutOn refused.1)
 
 -- ---- a place: a folder, the name of a configuration, and a JSON Pointer
@@ -94,10 +95,10 @@ module _ {W D F P : Type 0} (world : WorldModel W D F P) (disk : DiskModel D) (r
       → Performs world disk remaining invocation old new status → Type 0
   Puts value (Set folder named place given conditions reporting) old new status does =
       (folder.now ≡ path) × (named.now ≡ name) × (place.now ≡ pointer) × IsSteady pointer
-      × IfOk does.0.change (SetsAt name pointer value)
+      × IfOk does.does.0.change (SetsAt name pointer value)
   Puts value (Import folder named file root absent conditions reporting) old new status does =
       (folder.now ≡ path) × (named.now ≡ name) × (pointer ≡ [])
-      × IfOk does.read (λ text. IsRead text.items config_limits value)
+      × IfOk does.does.read (λ text. IsRead text.items config_limits value)
   Puts value invocation old new status does = ⊥
 
   -- a run that put the value there, and returned with the status Done
@@ -134,10 +135,11 @@ module _ {W D F P : Type 0} (world : WorldModel W D F P) (disk : DiskModel D) (r
   abbrev pub AskedRanOut : (invocation : Invocation) (old new : Around W) (status : Status)
       → Performs world disk remaining invocation old new status → Type 0
   AskedRanOut (Get folder named pointers at missing form) old new status does =
-      GetRanOut world.several remaining at named.now (pointers_of pointers.items) missing form does.0.file old.output new.output status
-      does.0.does
+      GetRanOut world.several remaining at named.now (pointers_of pointers.items) missing form does.does.0.file
+      old.output new.output does.ending does.does.0.does
   AskedRanOut (Export folder named form) old new status does =
-      ExportRanOut world disk form folder.now named.now old.world new.world old.output new.output status does.0
+      ExportRanOut world disk form folder.now named.now old.world new.world old.output new.output does.ending
+      does.does.0
   AskedRanOut invocation old new status does = ⊥
 
   -- The bytes were written, with the status Done. Or nothing was, since memory ran out; or the device, a stream or the

@@ -8,7 +8,8 @@ use Rattle.conf_words.specs.declared.invocation.Formatting.TheVariants.{InPlace}
 use Rattle.conf_words.specs.declared.invocation.Invocation.TheVariants.{Format}
 use Rattle.conf_words.specs.declared.invocation.Reporting.{Reporting}
 use Rattle.conf_tools.specs.FileTexts.{MayLose}
-use Rattle.conf_tools.specs.Performs.{Performs}
+use Rattle.conf_tools.specs.Endings.{told_of}
+use Rattle.conf_tools.specs.Performs.{Performs, Restyles}
 use Rattle.conf_tools.specs.Prelude.{Global}
 use Rattle.conf_tools.specs.Statuses.{worst}
 use Rattle.conf_tools.specs.Styles.{IsStyled, style_of}
@@ -79,6 +80,14 @@ module _ {W P : Type 0} (files : FilesModel W P) where
 
 module _ {W D F P : Type 0} (world : WorldModel W D F P) (disk : DiskModel D) (remaining : F → Option (List ℕ))
     (files : FilesModel W P) where
+  -- the status of the files that a run of `format -i` replaced, and what was done with them
+  abbrev pub restyled_by : {comments : Comments} {named : Vec (Bor (List ℕ)) Global} {reporting : Reporting}
+      {old new : Around W} {status : Status}
+      → Performs world disk remaining (Format (InPlace comments) named reporting) old new status
+      → (status : Status) × Restyles world remaining comments (map (λ file. file.now) named.items) old new status
+  restyled_by {comments} {named} {reporting} {old} {new} does =
+      told_of (Restyles world remaining comments (map (λ file. file.now) named.items) old new) does.ending does.does
+
   -- It holds of each run of `format -i`. One that was cut off is given by what it would have done, and an earlier moment
   -- of it is seen.
   abbrev pub RestyledFilesHold : Type 0
@@ -88,4 +97,5 @@ module _ {W D F P : Type 0} (world : WorldModel W D F P) (disk : DiskModel D) (r
       → (does : Performs world disk remaining (Format (InPlace comments) named reporting) old new status)
       → let words : List (List ℕ) = map (λ file. file.now) named.items in
       FilesHold files comments words old.world new.world status
-      (λ path. ReadBy world remaining files comments path words Done old.world new.world status does.does)
+      (λ path. ReadBy world remaining files comments path words Done old.world new.world (restyled_by does).0
+      (restyled_by does).1.does)

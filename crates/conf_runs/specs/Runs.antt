@@ -19,13 +19,14 @@ use Rattle.conf_words.specs.declared.invocation.Conditions.{Conditions}
 use Rattle.conf_words.specs.declared.invocation.{Invocation.Invocation, Root.Root}
 use Rattle.conf_words.specs.declared.invocation.TreeForm.{TreeForm}
 use Rattle.conf_words.specs.declared.invocation.Invocation.TheVariants.{Init, Import, Set, Delete, Copy, Rename}
-use Rattle.conf_words.specs.declared.invocation.Invocation.TheVariants.{Checkpoint, Run, Export, Salvage, Backup}
+use Rattle.conf_words.specs.declared.invocation.Invocation.TheVariants.{Batch, Checkpoint, Run, Export, Salvage, Backup}
 use Rattle.conf_tools.specs.Asking.{AskedConditions}
 use Rattle.conf_tools.specs.Backups.{BacksUpFound, BacksUpInFolder}
 use Rattle.conf_tools.specs.Changes.{Performs as ChangePerforms}
 use Rattle.conf_tools.specs.Exports.{disk_back, disk_handed_back}
 use Rattle.conf_tools.specs.Keeping.{SalvagesTo}
-use Rattle.conf_tools.specs.Performs.{ChangesAt, ImportsRead, Performs, access_of, grouping_of}
+use Rattle.conf_tools.specs.Batches.{counted_alone}
+use Rattle.conf_tools.specs.Performs.{BatchesRead, ChangesAt, Does, ImportsRead, Performs, access_of, grouping_of}
 use Rattle.conf_tools.specs.ProgramCalls.{Call, Ending as CallEnding, accepted, answered, changing, disk_before}
 use Rattle.conf_tools.specs.ProgramCalls.{disk_behind, exporting, running}
 use Rattle.conf_tools.specs.ProgramCalls as call
@@ -35,6 +36,7 @@ use Rattle.conf_tools.specs.Tools.{Taken}
 use Rattle.conf_tools.specs.Worlds.{Around, WorldModel}
 use Rattle.conf_tools.specs.declared.changes.Change.{Change}
 use Rattle.conf_tools.specs.declared.changes.Change.TheVariants as change
+use Rattle.conf_tools.specs.EndOfRun.{EndOfRun as Ended}
 use Rattle.conf_tools.specs.declared.program.Status.{Status}
 use Rattle.conf_tools.specs.declared.program.Status.TheVariants.{Done}
 use Rattle.conf_tools.specs.declared.reading_fault.ReadingFault.{ReadingFault}
@@ -55,6 +57,7 @@ folder_of (Set folder name pointer value conditions reporting) = Some folder.now
 folder_of (Delete folder name pointer conditions) = Some folder.now
 folder_of (Copy folder name to conditions) = Some folder.now
 folder_of (Rename folder name to conditions) = Some folder.now
+folder_of (Batch folder file count reporting) = Some folder.now
 folder_of (Checkpoint folder) = Some folder.now
 folder_of (Run folder grouping) = Some folder.now
 folder_of (Export folder name form) = Some folder.now
@@ -80,75 +83,83 @@ module _ {W D F P : Type 0} (world : WorldModel W D F P) (disk : DiskModel D) wh
 
 -- of an honest disk, as the relations of the words have it
 module _ {W D F P : Type 0} (world : WorldModel W D F P) (disk : DiskModel D) (honest : disk.honest) where
-  abbrev pub made_in : {folder : List ℕ} {old new : W} {status : Status}
-      → MakesInFolder world disk folder old new status → Option (Call disk)
+  abbrev pub made_in : {folder : List ℕ} {old new : W} {end : Ended}
+      → MakesInFolder world disk folder old new end → Option (Call disk)
   made_in (inl cannot) = None
   made_in (inr makes) = Some (exporting makes.first (disk_handed_back makes.result) (makes.survives honest))
 
-  abbrev pub initialised : {folder : List ℕ} {old new : W} {status : Status}
-      → Inits world disk folder old new status → Option (Call disk)
+  abbrev pub initialised : {folder : List ℕ} {old new : W} {end : Ended}
+      → Inits world disk folder old new end → Option (Call disk)
   initialised (inl cannot) = None
   initialised (inr makes) = made_in makes.then
 
   abbrev pub changed_in : {access : Access} {folder : List ℕ} {conditions : List Condition} (change : Change) {old new : W}
-      {status : Status} → ChangesInFolder world disk access folder conditions change old new status → Option (Call disk)
+      {end : Ended} → ChangesInFolder world disk access folder conditions change old new end → Option (Call disk)
   changed_in change (inl cannot) = None
   changed_in change (inr changes) = Some (changing change changes.first changes.result (changes.survives honest))
 
   abbrev pub changed_if : (access : Access) (folder : List ℕ) (asked : AskedConditions) (change : Change) (old new : W)
-      (status : Status) → MakesChange world disk access folder asked change old new status → Option (Call disk)
-  changed_if access folder (Ok conditions) change old new status makes = changed_in change makes
-  changed_if access folder (Err fault) change old new status makes = None
+      (end : Ended) → MakesChange world disk access folder asked change old new end → Option (Call disk)
+  changed_if access folder (Ok conditions) change old new end makes = changed_in change makes
+  changed_if access folder (Err fault) change old new end makes = None
 
   abbrev pub asked_for : (wanted : Conditions) (access : Access) (folder name path : List ℕ)
-      (change : Result Change ToolFault) (old new : W) (status : Status)
-      → ChangesAt world disk wanted access folder name path change old new status → Option (Call disk)
-  asked_for wanted access folder name path (Ok change) old new status does =
-      changed_if access folder does.conditions change old new status does.makes
-  asked_for wanted access folder name path (Err fault) old new status does = None
+      (change : Result Change ToolFault) (old new : W) (end : Ended)
+      → ChangesAt world disk wanted access folder name path change old new end → Option (Call disk)
+  asked_for wanted access folder name path (Ok change) old new end does =
+      changed_if access folder does.conditions change old new end does.makes
+  asked_for wanted access folder name path (Err fault) old new end does = None
 
   abbrev pub imported : (wanted : Conditions) (root : Root) (access : Access) (folder name : List ℕ) (read : Taken) (old new : W)
-      (status : Status) → ImportsRead world disk wanted root access folder name read old new status → Option (Call disk)
-  imported wanted root access folder name (Ok bytes) old new status does =
-      asked_for wanted access folder name [] does.change old new status does.changes
-  imported wanted root access folder name (Err fault) old new status does = None
+      (end : Ended) → ImportsRead world disk wanted root access folder name read old new end → Option (Call disk)
+  imported wanted root access folder name (Ok bytes) old new end does =
+      asked_for wanted access folder name [] does.change old new does.made does.changes
+  imported wanted root access folder name (Err fault) old new end does = None
 
-  abbrev pub ran_in : {folder : List ℕ} (grouping : Grouping) (old new : Around W) {status : Status}
-      → RunsOnFolder world disk folder grouping old new status → Option (Call disk)
+  abbrev pub batched : (folder : List ℕ) (count : Option ℕ) (read : Taken) (old new : W) (end : Ended)
+      → BatchesRead world disk folder count read old new end → Option (Call disk)
+  batched folder count (Ok bytes) old new end does =
+      asked_for (counted_alone count) Changing folder [] [] does.change old new end does.changes
+  batched folder count (Err fault) old new end does = None
+
+  abbrev pub ran_in : {folder : List ℕ} (grouping : Grouping) (old new : Around W) {end : Ended}
+      → RunsOnFolder world disk folder grouping old new end → Option (Call disk)
   ran_in grouping old new (inl cannot) = None
   ran_in grouping old new (inr runs) =
       Some (running (streams_of old.input new.input old.output new.output) grouping runs.first runs.result (runs.survives honest))
 
-  abbrev pub exported_from : {form : TreeForm} {folder name : List ℕ} {old new : W} {held written : Option (List ℕ)} {status : Status}
-      → ExportsFromFolder world disk form folder name old new held written status → Option (Call disk)
+  abbrev pub exported_from : {form : TreeForm} {folder name : List ℕ} {old new : W} {held written : Option (List ℕ)} {end : Ended}
+      → ExportsFromFolder world disk form folder name old new held written end → Option (Call disk)
   exported_from (inl cannot) = None
   exported_from (inr exports) = Some (exporting exports.first (disk_back exports.result) (exports.survives honest))
 
 module _ {W D F P : Type 0} (world : WorldModel W D F P) (disk : DiskModel D) (remaining : F → Option (List ℕ))
     (honest : disk.honest) where
   -- the call of a run, if the disk was handed out to it
-  abbrev pub call_of : (invocation : Invocation) (old new : Around W) (status : Status)
-      → Performs world disk remaining invocation old new status → Option (Call disk)
-  call_of (Init folder) old new status does = initialised world disk honest does.0
-  call_of (Import folder name file root absent conditions reporting) old new status does =
-      imported world disk honest conditions root (access_of absent) folder.now name.now does.read does.seen new.world status
+  abbrev pub call_of : (invocation : Invocation) (old new : Around W) (end : Ended)
+      → Does world disk remaining invocation old new end → Option (Call disk)
+  call_of (Init folder) old new end does = initialised world disk honest does.0
+  call_of (Import folder name file root absent conditions reporting) old new end does =
+      imported world disk honest conditions root (access_of absent) folder.now name.now does.read does.seen new.world end
       does.imports
-  call_of (Set folder name pointer value conditions reporting) old new status does =
+  call_of (Set folder name pointer value conditions reporting) old new end does =
       asked_for world disk honest conditions Changing folder.now name.now pointer.now does.0.change does.0.seen new.world
-      status does.0.changes
-  call_of (Delete folder name pointer conditions) old new status does =
+      end does.0.changes
+  call_of (Delete folder name pointer conditions) old new end does =
       asked_for world disk honest conditions Changing folder.now name.now pointer.now does.0.change old.world new.world
-      status does.0.changes
-  call_of (Copy folder name to conditions) old new status does =
-      asked_for world disk honest conditions Changing folder.now to.now [] does.0.change old.world new.world status
+      end does.0.changes
+  call_of (Copy folder name to conditions) old new end does =
+      asked_for world disk honest conditions Changing folder.now to.now [] does.0.change old.world new.world end
       does.0.changes
-  call_of (Rename folder name to conditions) old new status does =
-      asked_for world disk honest conditions Changing folder.now to.now [] does.0.change old.world new.world status
+  call_of (Rename folder name to conditions) old new end does =
+      asked_for world disk honest conditions Changing folder.now to.now [] does.0.change old.world new.world end
       does.0.changes
-  call_of (Checkpoint folder) old new status does = changed_in world disk honest change.Checkpoint does.0
-  call_of (Run folder grouping) old new status does = ran_in world disk honest (grouping_of grouping) old new does
-  call_of (Export folder name form) old new status does = exported_from world disk honest does.0
-  call_of invocation old new status does = None
+  call_of (Batch folder file count reporting) old new end does =
+      batched world disk honest folder.now count does.read does.seen new.world end does.makes
+  call_of (Checkpoint folder) old new end does = changed_in world disk honest change.Checkpoint does.0
+  call_of (Run folder grouping) old new end does = ran_in world disk honest (grouping_of grouping) old new does
+  call_of (Export folder name form) old new end does = exported_from world disk honest does.0
+  call_of invocation old new end does = None
 
 -- ---- a new store
 
@@ -183,47 +194,47 @@ module _ {D : Type 0} (disk : DiskModel D) where
 
 module _ {W D F P : Type 0} (world : WorldModel W D F P) (disk : DiskModel D) (remaining : F → Option (List ℕ))
     (honest : disk.honest) where
-  abbrev pub copied_in : (folder : List ℕ) (several : Bool) (given : Option (List ℕ)) (old new : W) (status : Status)
-      → BacksUpInFolder world disk folder several given old new status → Option (Deed disk)
-  copied_in folder several given old new status (inl cannot) = None
-  copied_in folder several given old new status (inr makes) =
+  abbrev pub copied_in : (folder : List ℕ) (several : Bool) (given : Option (List ℕ)) (old new : W) (end : Ended)
+      → BacksUpInFolder world disk folder several given old new end → Option (Deed disk)
+  copied_in folder several given old new end (inl cannot) = None
+  copied_in folder several given old new end (inr makes) =
       Some (copies several given makes.left makes.first makes.result (makes.made honest) (makes.survives honest))
 
-  abbrev pub copied_of : (folder : List ℕ) (file : Result F ReadingFault) (old new : W) (status : Status)
-      → BacksUpFound world disk remaining folder file old new status → Option (Deed disk)
-  copied_of folder (Ok file) old new status makes = copied_in folder (world.several file) (remaining file) old new status makes
-  copied_of folder (Err fault) old new status makes = None
+  abbrev pub copied_of : (folder : List ℕ) (file : Result F ReadingFault) (old new : W) (end : Ended)
+      → BacksUpFound world disk remaining folder file old new end → Option (Deed disk)
+  copied_of folder (Ok file) old new end makes = copied_in folder (world.several file) (remaining file) old new end makes
+  copied_of folder (Err fault) old new end makes = None
 
   abbrev pub saved_in : (folder : List ℕ) (several : Bool) (given : Option (List ℕ)) (old new : W) (held written : Option (List ℕ))
-      (status : Status) → SavesInFolder world disk folder several given old new held written status → Option (Deed disk)
-  saved_in folder several given old new held written status (inl cannot) = None
-  saved_in folder several given old new held written status (inr saving) =
+      (end : Ended) → SavesInFolder world disk folder several given old new held written end → Option (Deed disk)
+  saved_in folder several given old new held written end (inl cannot) = None
+  saved_in folder several given old new held written end (inr saving) =
       Some (saves several given saving.left saving.first saving.result (saving.saved honest) (saving.survives honest))
 
   abbrev pub saved_of : (folder : List ℕ) (file : Result F ReadingFault) (old new : W) (held written : Option (List ℕ))
-      (status : Status) → SavesFound world disk remaining folder file old new held written status → Option (Deed disk)
-  saved_of folder (Ok file) old new held written status saving =
-      saved_in folder (world.several file) (remaining file) old new held written status saving
-  saved_of folder (Err fault) old new held written status saving = None
+      (end : Ended) → SavesFound world disk remaining folder file old new held written end → Option (Deed disk)
+  saved_of folder (Ok file) old new held written end saving =
+      saved_in folder (world.several file) (remaining file) old new held written end saving
+  saved_of folder (Err fault) old new held written end saving = None
 
   -- the same of a salvage, with a path for what an opening drops, or with none
   abbrev pub saved_to : (folder : List ℕ) (keep_dropped : Option (Bor (List ℕ))) (new_folder : List ℕ) (old new : W)
-      (held written : Option (List ℕ)) (status : Status)
-      → SalvagesTo world disk remaining folder keep_dropped new_folder old new held written status → Option (Deed disk)
-  saved_to folder None new_folder old new held written status does =
-      saved_of new_folder does.file does.found new held written status does.saves
-  saved_to folder (Some path) new_folder old new held written status (inl unkept) = None
-  saved_to folder (Some path) new_folder old new held written status (inr does) =
-      saved_in new_folder does.several (Some does.bytes) does.found new held written status does.saves
+      (held written : Option (List ℕ)) (end : Ended)
+      → SalvagesTo world disk remaining folder keep_dropped new_folder old new held written end → Option (Deed disk)
+  saved_to folder None new_folder old new held written end does =
+      saved_of new_folder does.file does.found new held written end does.saves
+  saved_to folder (Some path) new_folder old new held written end (inl unkept) = None
+  saved_to folder (Some path) new_folder old new held written end (inr does) =
+      saved_in new_folder does.several (Some does.bytes) does.found new held written end does.saves
 
   -- how a run makes a new store, if the disk was handed out to it
-  abbrev pub made_new : (invocation : Invocation) (old new : Around W) (status : Status)
-      → Performs world disk remaining invocation old new status → Option (Deed disk)
-  made_new (Salvage folder new_folder keep_dropped) old new status does =
-      saved_to folder.now keep_dropped new_folder.now old.world new.world old.output new.output status does.0
-  made_new (Backup folder new_folder) old new status does =
-      copied_of new_folder.now does.0.file does.0.found new.world status does.0.makes
-  made_new invocation old new status does = None
+  abbrev pub made_new : (invocation : Invocation) (old new : Around W) (end : Ended)
+      → Does world disk remaining invocation old new end → Option (Deed disk)
+  made_new (Salvage folder new_folder keep_dropped) old new end does =
+      saved_to folder.now keep_dropped new_folder.now old.world new.world old.output new.output end does.0
+  made_new (Backup folder new_folder) old new end does =
+      copied_of new_folder.now does.0.file does.0.found new.world end does.0.makes
+  made_new invocation old new end does = None
 
 -- ---- a run
 
@@ -271,16 +282,17 @@ module _ {W D F P : Type 0} (world : WorldModel W D F P) (disk : DiskModel D) (r
 
   -- what it does on the disk of the folder
   abbrev pub deed_at : (invocation : Invocation) → Where world disk path invocation → Ending → (old new : Around W)
-      (status : Status) → Performs world disk remaining invocation old new status → Option (Deed disk)
-  deed_at invocation place not_begun old new status does = None
-  deed_at invocation (elsewhere is_other) ending old new status does = None
-  deed_at invocation (here is not_new) ending old new status does =
-      own disk (call_of world disk remaining honest invocation old new status does)
-  deed_at invocation (anew is is_new none) ending old new status does =
-      made_new world disk remaining honest invocation old new status does
+      (end : Ended) → Does world disk remaining invocation old new end → Option (Deed disk)
+  deed_at invocation place not_begun old new end does = None
+  deed_at invocation (elsewhere is_other) ending old new end does = None
+  deed_at invocation (here is not_new) ending old new end does =
+      own disk (call_of world disk remaining honest invocation old new end does)
+  deed_at invocation (anew is is_new none) ending old new end does =
+      made_new world disk remaining honest invocation old new end does
 
   abbrev pub deed_in : Event → Option (Deed disk)
-  deed_in event = deed_at event.invocation event.place event.ending event.old event.new event.status event.does
+  deed_in event =
+      deed_at event.invocation event.place event.ending event.old event.new event.does.ending event.does.does
 
   -- What a crash leaves of the folder after a run that returned; of one that was cut off, at any moment of its deed. A run
   -- that did nothing there leaves no more than was there.

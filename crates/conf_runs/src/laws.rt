@@ -1,6 +1,7 @@
 // What runs of the program keep of the store in a folder, and of files.
+ghost use Rattle.conf_runs.specs.ByCalls.{ReplacesByCalls};
 ghost use Rattle.conf_runs.specs.Example.{FirstExample};
-ghost use Rattle.conf_runs.specs.Files.{FilesModel};
+ghost use Rattle.conf_runs.specs.Files.{FilesModel, KeepsFiles};
 ghost use Rattle.conf_runs.specs.Reads.{OthersStay, ReadsSeeWrites};
 ghost use Rattle.conf_runs.specs.Restyled.{RestyledFilesHold};
 ghost use Rattle.conf_runs.specs.Runs.{RunsHold};
@@ -11,6 +12,7 @@ use conf_disk::reading_is_an_image;
 use conf_record::{documents_are_read, documents_close};
 use conf_store::bytes_mean_one_state;
 use conf_tools::{World, call_holds};
+use file_calls::FileCalls;
 use yaml_grammar::one_tree;
 use yaml_recognizers::texts::unambiguous;
 
@@ -118,4 +120,15 @@ pub fn first_example_holds<A: Folders>()
 /// also where the call fails. No other file changes by it, and none by being opened.
 pub fn restyled_files_hold<A: Files>()
     ensures { RestyledFilesHold A.model A.Disk.model A.File.remaining A.files }
+{}
+
+/// A world keeps its files if it replaces them by single calls of honest systems, as
+/// [`replace_with`](conf_files::replace_with) does.
+///
+/// So [`restyled_files_hold`] holds of such a world with no premise left but that of the calls. A system stands for the
+/// file at a place from the first call of a replacing to the last: what a crash leaves of the system at a moment, it
+/// leaves of each path that leads to the place. When another replacing begins, another system may stand for the file.
+pub fn calls_keep_files<A: Files, C: FileCalls>()
+    ensures { C.model.honest
+        → ReplacesByCalls A.model C.model A.files → KeepsFiles A.model A.files }
 {}

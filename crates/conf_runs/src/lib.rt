@@ -7,5 +7,6 @@
 mod laws;
 
 pub use laws::{
-    Files, Folders, first_example_holds, reads_see_writes, restyled_files_hold, runs_hold,
+    Files, Folders, calls_keep_files, first_example_holds, reads_see_writes, restyled_files_hold,
+    runs_hold,
 };

@@ -224,6 +224,7 @@ module _ {D : Type 0} (model : DiskModel D) where
     breaks-at r asks broken does = record {
       broken = broken;
       requests = s.requests ++ r ∷ [];
+      some = λ e. absurd (cc (joined-none s.requests (r ∷ []) e));
       single = alone r;
       further = rest;
       takes = takes-more bytes piece rest s.requests r s.takes closes short asks;
@@ -388,6 +389,7 @@ module _ {D : Type 0} (model : DiskModel D) where
           record {
             broken = stops.1.broken;
             requests = s.requests;
+            some = λ e. more (let count = s.keeps.documents in let no = ap length e in omega (arith, count, no));
             single = λ e. (let one = s.single e in let count = s.keeps.documents in omega (arith, one, count, more));
             further = further;
             takes = s.takes;

@@ -15,7 +15,7 @@ use Rattle.conf_session.specs.Answers.{refusals}
 use Rattle.conf_session.specs.Runs.{stored_of, AfterAtLeast, BeginsWith, EndsAnswered}
 use Rattle.conf_session.specs.Groups.{AreDue, Files, Turn, asked, all_asked, requests_of, files_of, stored_after_turns, files_after_turns}
 use Rattle.conf_session.specs.Groups.{turns_output, turns_accepted, turns_refused, acknowledged_turns, GroupedEnds, RunsGrouped}
-use Rattle.conf_session.specs.Groups.{checkpoints_of}
+use Rattle.conf_session.specs.Groups.{checkpoints_of, FailsAtRequests}
 use Rattle.conf_session.specs.Gathering.{PerformsTurns, BreaksOff, StopsShort, Starts, Tends, PassesGroup, CutsGroup, PerformsGroup}
 use Rattle.conf_session.proofs.{GatherLemmas.joined-none, PassedLemmas.take-beyond, RequestLemmas.leaves-same, RequestLemmas.synced-leaves}
 use Rattle.conf_session.proofs.ReadLemmas.{ReadSoFar, read-none, read-as, read-more, ends-before, ends-here, ends-unanswered, nothing-read}
@@ -244,6 +244,7 @@ pub record Session {D : Type 0} (model : DiskModel D) (grouping : Grouping) (giv
   pub ends : GroupedEnds (streams_of given left held written) (stored_of old) answered unanswered result
   pub single : grouping ≡ Each → AreSingle result unanswered
   pub only_asked : checkpoints_of grouping ≡ Asked → answered ≡ all_asked (requests_of answered)
+  pub fails : checkpoints_of grouping ≡ Asked → FailsAtRequests answered unanswered result
   pub due : model.honest → (bytes : ℕ) → checkpoints_of grouping ≡ After bytes
       → AreDue bytes (files_of model.folder old) (stored_of old) answered
   pub state : new.state ≡ (stored_after_turns (stored_of old) (answered ++ all_asked unanswered)).state
@@ -271,6 +272,7 @@ session-grouped model checkpoints given left held written old new result s =
       unanswered = s.unanswered;
       ends = s.ends;
       only_asked = s.only_asked;
+      fails = s.fails;
       due = s.due;
       state = s.state;
       stored = λ on. (performs on).stored;
@@ -292,9 +294,10 @@ module _ {D : Type 0} (model : DiskModel D) (grouping : Grouping) where
       → (model.honest → (bytes : ℕ) → checkpoints_of grouping ≡ After bytes
       → AreDue bytes (files_of model.folder old) (stored_of old) answered)
       → (grouping ≡ Each → AreSingle result unanswered)
+      → FailsAtRequests answered unanswered result
       → GroupedEnds (streams_of given left held written) (stored_of old) answered unanswered result
       → Session model grouping given left held written old new result
-  runs-flushed given left held written old new result answered unanswered performs only due single ends =
+  runs-flushed given left held written old new result answered unanswered performs only due single fails ends =
       let turns = answered ++ all_asked unanswered in
       record {
         answered = answered;
@@ -302,6 +305,7 @@ module _ {D : Type 0} (model : DiskModel D) (grouping : Grouping) where
         ends = ends;
         single = single;
         only_asked = only;
+        fails = λ e. fails;
         due = due;
         state = ap (λ (t : Stored). t.state) (performed-stored model grouping old new turns performs);
         performs = λ on. performs;
@@ -318,11 +322,12 @@ module _ {D : Type 0} (model : DiskModel D) (grouping : Grouping) where
       → (model.honest → (bytes : ℕ) → checkpoints_of grouping ≡ After bytes
       → AreDue bytes (files_of model.folder old) (stored_of old) answered)
       → (grouping ≡ Each → AreSingle result [])
+      → FailsAtRequests answered [] result
       → GroupedEnds (streams_of given left held written) (stored_of old) answered [] result
       → Session model grouping given left held written old new result
-  runs-answered given left held written old new result answered performs only due single ends =
+  runs-answered given left held written old new result answered performs only due single fails ends =
       runs-flushed given left held written old new result answered []
-      (subst (HasPerformed model grouping old new) (sym (append-nil answered)) performs) only due single ends
+      (subst (HasPerformed model grouping old new) (sym (append-nil answered)) performs) only due single fails ends
 
   -- the device failed at these requests
   runs-broken : (given left held written : Option (List ℕ)) (old mid new : StoreView D) (answered : List Turn) (unanswered : List Request)
@@ -337,9 +342,10 @@ module _ {D : Type 0} (model : DiskModel D) (grouping : Grouping) where
       → ((t : ℕ) (image : Image) → model.honest → t ≤ model.moment new.disk → IsImage (model.folder new.disk) image
       → model.left new.disk t image)
       → (grouping ≡ Each → IsOne unanswered)
+      → (checkpoints_of grouping ≡ Asked → FailsAtRequests answered unanswered (Err fault.Device))
       → GroupedEnds (streams_of given left held written) (stored_of old) answered unanswered (Err fault.Device)
       → Session model grouping given left held written old new (Err fault.Device)
-  runs-broken given left held written old mid new answered unanswered performs only due broken state run counts_now single ends =
+  runs-broken given left held written old mid new answered unanswered performs only due broken state run counts_now single fails ends =
       let start = stored_of old in
       let here = performed-stored model grouping old mid answered performs in
       let more = accepted_commands (stored_of mid) unanswered in
@@ -356,6 +362,7 @@ module _ {D : Type 0} (model : DiskModel D) (grouping : Grouping) where
         ends = ends;
         single = single;
         only_asked = only;
+        fails = fails;
         due = due;
         state = state ∙ ap (λ (t : Stored). t.state)
             (sym (asked-stored (stored_of mid) unanswered)
@@ -382,6 +389,7 @@ module _ {D : Type 0} (model : DiskModel D) (grouping : Grouping) where
     ends = (Keeps-refl given, Keeps-refl held, refl, refl);
     single = λ e. tt;
     only_asked = λ e. refl;
+    fails = λ e. tt;
     due = λ h bytes e. tt;
     state = refl;
     performs = λ on. absurd (broken on);
@@ -400,6 +408,7 @@ module _ {D : Type 0} (model : DiskModel D) (grouping : Grouping) where
     ends = nothing-read given held;
     single = λ e. absurd (read e);
     only_asked = λ e. refl;
+    fails = λ e. inl refl;
     due = λ h bytes e. tt;
     state = stops.state;
     performs = λ on. absurd (cc (on, stops.broken));
@@ -448,7 +457,7 @@ module _ {D : Type 0} (model : DiskModel D) (grouping : Grouping) where
   pub starts-without-memory : (given held : Option (List ℕ)) (old new : StoreView D) → HasPerformed model grouping old new []
       → Session model grouping given given held held old new (Err fault.OutOfMemory)
   starts-without-memory given held old new performs =
-      runs-answered given given held held old new (Err fault.OutOfMemory) [] performs (λ e. refl) (λ h bytes e. tt) (λ e. tt)
+      runs-answered given given held held old new (Err fault.OutOfMemory) [] performs (λ e. refl) (λ h bytes e. tt) (λ e. tt) tt
       (refl, nothing-read given held)
 
   pub groups-none : (given held : Option (List ℕ)) (old now : StoreView D) (further : List ℕ) (answers : Unwritten)
@@ -494,7 +503,7 @@ module _ {D : Type 0} (model : DiskModel D) (grouping : Grouping) where
         → tally.refused ≡ answers.tally.refused → tally.rest ≡ length (piece_of then)
         → Session model grouping given left held between old now (Ok tally)
     ends-well tally end d a r rest =
-        runs-answered given left held between old now (Ok tally) s.turns s.performs s.only_asked s.due (λ e. tt) (
+        runs-answered given left held between old now (Ok tally) s.turns s.performs s.only_asked s.due (λ e. tt) tt (
           refl,
           reading.ends-well given mid left held between (requests_of s.turns) sent accepted refused was
               then answers s.read tally end d a r rest,
@@ -504,7 +513,8 @@ module _ {D : Type 0} (model : DiskModel D) (grouping : Grouping) where
     pub ends-in_input : (f : SessionFault) → Advances mid left was then (Err f)
         → Session model grouping given left held between old now (Err f)
     ends-in_input f fails =
-        runs-answered given left held between old now (Err f) s.turns s.performs s.only_asked s.due (λ e. (by f fails).1) (by f fails).0
+        runs-answered given left held between old now (Err f) s.turns s.performs s.only_asked s.due (λ e. (by f fails).1)
+        (by f fails).2 (by f fails).0
       where
         ends : (f : SessionFault) → Advances mid left was then (Err f)
             → EndsAnswered (streams_of given left held between) (requests_of s.turns) sent accepted refused (Err f)
@@ -512,10 +522,11 @@ module _ {D : Type 0} (model : DiskModel D) (grouping : Grouping) where
 
         by : (f : SessionFault) → Advances mid left was then (Err f)
             → GroupedEnds (streams_of given left held between) start s.turns [] (Err f) × AreSingle (Err f) []
-        by fault.Read fails = ((refl, ends fault.Read fails), tt)
-        by fault.TooLong fails = ((refl, ends fault.TooLong fails), tt)
-        by fault.SessionLong fails = ((refl, ends fault.SessionLong fails), tt)
-        by fault.OutOfMemory fails = ((refl, ends fault.OutOfMemory fails), tt)
+            × FailsAtRequests s.turns [] (Err f)
+        by fault.Read fails = ((refl, ends fault.Read fails), tt, tt)
+        by fault.TooLong fails = ((refl, ends fault.TooLong fails), tt, tt)
+        by fault.SessionLong fails = ((refl, ends fault.SessionLong fails), tt, tt)
+        by fault.OutOfMemory fails = ((refl, ends fault.OutOfMemory fails), tt, tt)
         by fault.Device fails = absurd fails
         by fault.Reopen fails = absurd fails
         by (fault.Write written) fails = absurd fails
@@ -602,7 +613,7 @@ module _ {D : Type 0} (model : DiskModel D) (grouping : Grouping) where
           (length (turns_accepted start all.turns)) (turns_refused start all.turns) further after
           (bytes_read then) all.read in
           runs-answered given left held written old new (Err fault.OutOfMemory) all.turns all.performs all.only_asked all.due
-          (λ e. tt) (refl, early)
+          (λ e. tt) tt (refl, early)
 
       -- where nothing was done of the group
       ends-starved : (written : Option (List ℕ)) (new : StoreView D) → new ≡ now → Keeps between written
@@ -611,7 +622,7 @@ module _ {D : Type 0} (model : DiskModel D) (grouping : Grouping) where
           let early = ends-before given mid left held between (requests_of s.turns) sent accepted refused
           was then answers s.read advances in
           subst (λ (t : StoreView D). Session model grouping given left held written old t (Err fault.OutOfMemory)) (sym same)
-          (runs-answered given left held written old now (Err fault.OutOfMemory) s.turns s.performs s.only_asked s.due (λ e. tt) (
+          (runs-answered given left held written old now (Err fault.OutOfMemory) s.turns s.performs s.only_asked s.due (λ e. tt) tt (
             refl,
             record {
               bytes = early.bytes;
@@ -629,6 +640,7 @@ module _ {D : Type 0} (model : DiskModel D) (grouping : Grouping) where
       ends-device written new breaks none keeps counts_now =
           runs-broken given left held written old now new s.turns breaks.requests s.performs s.only_asked s.due
           breaks.broken breaks.state breaks.any_moment counts_now (λ e. is-one breaks.requests (breaks.single (none e)))
+          (λ e. inr breaks.some)
           (ends-unanswered given mid left held between (requests_of s.turns) sent accepted refused was
           then answers s.read advances breaks.further breaks.requests breaks.takes
           written (Appends-kept held between written sent s.read.out keeps))
@@ -668,6 +680,7 @@ module _ {D : Type 0} (model : DiskModel D) (grouping : Grouping) where
           (due-more at.whole)
           (λ e. is-one unanswered (let one = cuts.single (none e) in let count = ap length at.is in
           let sum = length-append at.whole unanswered in omega (arith, one, count, sum)))
+          tt
           (record {
             bytes = early.bytes;
             taken = early.taken;
@@ -760,6 +773,6 @@ module _ {D : Type 0} (model : DiskModel D) (grouping : Grouping) where
         (λ h flushed waiting has. subst (λ (l : List Command).
         LeavesOnly model now.disk new.disk (λ image. MeansPrefix flushed l image))
         (sym (append-nil waiting)) (stops.any_moment h flushed waiting has))
-        counts_now (λ e. absurd (cc ((tends.0 (ap checkpoints_of e)).0)))
+        counts_now (λ e. absurd (cc ((tends.0 (ap checkpoints_of e)).0))) (λ e. absurd (cc ((tends.0 e).0)))
         (ends-here given mid held between (requests_of s.turns) sent accepted refused (ahead was) answers
         (bytes_read was) s.read))

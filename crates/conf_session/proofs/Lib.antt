@@ -9,11 +9,13 @@ pub mod SaidConditionLemmas
 pub mod PassedLemmas
 pub mod ReadLemmas
 pub mod AnswerLemmas
+pub mod GoodAnswers
 pub mod ReplyLemmas
 pub mod SaidLemmas
 pub mod LinesPresented
 pub mod CommandLineLemmas
 pub mod PartLemmas
+pub mod EditLemmas
 pub mod TurnLemmas
 pub mod SinkLemmas
 pub mod TendLemmas

@@ -1,18 +1,21 @@
 -- Pieces of a round, one after the other.
-use Rattle.std.proofs.Common.{◌≡◌, inl, inr, refl, sym, ◌∙◌, ap, subst, arith, ◌≤◌, ◌<◌, get_or, length-append}
+use Rattle.std.proofs.Common.{◌≡◌, inl, inr, refl, sym, ◌∙◌, ap, subst, arith, ◌≤◌, ◌<◌, get_or, length-append, append_assoc}
 use Rattle.std.specs.Prelude.{ℕ, ◌+◌, false, List, [], ◌∷◌, ◌++◌, length, codes, take, Ok, Err}
-use Rattle.conf_session.proofs.Prelude.{Global, length-take-le, length-map, take_more, get_or-map, ClosesAt, ClosesOnce, Image, IsImage}
-use Rattle.conf_session.proofs.Prelude.{DiskModel, LeavesOnly, Command, MeansPrefix, StoreView}
+use Rattle.conf_session.proofs.Prelude.{append-nil, Global, length-take-le, length-map, take_more, get_or-map, ClosesAt, ClosesOnce}
+use Rattle.conf_session.proofs.Prelude.{Image, IsImage, Contents, HasFlushed, DiskModel, LeavesOnly, Command, MeansPrefix, StoreView}
 use Rattle.std.specs.declared.vec.Vec.{Vec}
 use Rattle.yaml_docs.specs.NextClosing.{IsNextClosing, NoClosingAfter}
 use Rattle.conf_session.specs.Answers.{answer_bytes as answer_to}
-use Rattle.conf_session.specs.{Requests.Request, Runs.stored_of, declared.reply.Reply.Reply}
+use Rattle.conf_session.specs.{Requests.Request, Runs.AfterAtLeast, Runs.stored_of, declared.reply.Reply.Reply}
 use Rattle.conf_session.specs.{declared.rounds.Piece.Piece, declared.rounds.RoundFault.RoundFault}
-use Rattle.conf_session.specs.Answers.{Stored, answers, stored_after, stored_after_all}
+use Rattle.conf_session.specs.Answers.{Stored, answers, stored_after, stored_after_all, accepted_command, accepted_commands}
+use Rattle.conf_session.specs.Answers.{flushed_after, waiting_after}
 use Rattle.conf_session.specs.Replies.{DidAsked, MeansPrefixes, Performs, PerformsAll, reply_bytes}
 use Rattle.conf_session.specs.Gathering.{PerformsTurns, StopsShort}
 use Rattle.conf_session.specs.Rounds.{RoundAsks, AllRoundAsk, Rounds, AnswersPiece, FailsPiece, answer_bytes, piece_bytes}
-use Rattle.conf_session.proofs.PassedLemmas.{performs-none, performs-more, state-more, moments-more}
+use Rattle.conf_session.specs.Rounds.{checkpointed}
+use Rattle.conf_session.proofs.PassedLemmas.{performs-none, performs-more, state-more, moments-more, at-least, continues}
+use Rattle.conf_session.proofs.PassedLemmas.{accepted_commands-last}
 use Rattle.conf_session.proofs.TurnLemmas.{asked-accepted, asked-stored}
 use Rattle.conf_session.proofs.GatherLemmas.{all-flushed, flush-moments, flush-state}
 use Rattle.conf_session.specs.declared.rounds.RoundFault.TheVariants as fault
@@ -125,6 +128,60 @@ module _ {D : Type 0} (model : DiskModel D) where
   }
 
   module _ (old now : StoreView D) (pieces written : List (List ℕ)) (s : RoundSoFar model old now pieces written) where
+    -- ---- what a crash leaves while the device fails
+
+    module _ (h : model.honest) (flushed : Contents) (waiting : List Command)
+        (has : HasFlushed (model.folder old.disk) flushed waiting old.state) where
+      abbrev taken : List Command
+      taken = waiting ++ accepted_commands (stored_of old) s.requests
+
+      abbrev synced : Contents
+      synced = flushed_after false (stored_of old) flushed s.requests
+
+      abbrev unsynced : List Command
+      unsynced = waiting_after false (stored_of old) waiting s.requests
+
+      -- what is flushed then, and what waits
+      still : HasFlushed (model.folder now.disk) synced unsynced now.state
+      still = s.performs.waits h flushed waiting has
+
+      -- all up to the last checkpoint, at least
+      kept-least : (new : StoreView D) (more : List Command)
+          → LeavesOnly model now.disk new.disk (λ image. MeansPrefix synced (unsynced ++ more) image)
+          → ((t : ℕ) (image : Image) → t ≤ model.moment new.disk → IsImage (model.folder new.disk) image → model.left new.disk t image)
+          → (image : Image) → IsImage (model.folder new.disk) image
+          → AfterAtLeast flushed (checkpointed (stored_of old) waiting s.requests) (taken ++ more) image
+      kept-least new more run counts_now image is =
+          at-least flushed synced taken unsynced more image
+          (continues (stored_of old) flushed waiting s.requests has.journal.leads)
+          (run.each image (counts_now (model.moment now.disk) image run.later is))
+
+      -- where it fails at a piece
+      kept-at : (new : StoreView D) (r : Request) → Performs model now new r
+          → ((t : ℕ) (image : Image) → t ≤ model.moment new.disk → IsImage (model.folder new.disk) image → model.left new.disk t image)
+          → (image : Image) → IsImage (model.folder new.disk) image
+          → AfterAtLeast flushed (checkpointed (stored_of old) waiting s.requests)
+          (waiting ++ accepted_commands (stored_of old) (s.requests ++ r ∷ [])) image
+      kept-at new r does counts_now image is =
+          let more = accepted_command (stored_of now) r in
+          let joined : taken ++ more ≡ waiting ++ accepted_commands (stored_of old) (s.requests ++ r ∷ []) =
+          append_assoc waiting (accepted_commands (stored_of old) s.requests) more
+          ∙ ap (λ l. waiting ++ l) (ap (λ t. accepted_commands (stored_of old) s.requests ++ accepted_command t r) s.performs.stored
+          ∙ sym (accepted_commands-last (stored_of old) s.requests r)) in
+          subst (λ (l : List Command). AfterAtLeast flushed (checkpointed (stored_of old) waiting s.requests) l image) joined
+          (kept-least new more (does.any_moment h synced unsynced still) counts_now image is)
+
+      -- where it fails at the flush
+      kept-unflushed : (new : StoreView D) → StopsShort model now new
+          → ((t : ℕ) (image : Image) → t ≤ model.moment new.disk → IsImage (model.folder new.disk) image → model.left new.disk t image)
+          → (image : Image) → IsImage (model.folder new.disk) image
+          → AfterAtLeast flushed (checkpointed (stored_of old) waiting s.requests) taken image
+      kept-unflushed new stops counts_now image is =
+          subst (λ (l : List Command). AfterAtLeast flushed (checkpointed (stored_of old) waiting s.requests) l image)
+          (append-nil taken)
+          (kept-least new [] (subst (λ (l : List Command). LeavesOnly model now.disk new.disk (λ image. MeansPrefix synced l image))
+          (sym (append-nil unsynced)) (stops.any_moment h synced unsynced still)) counts_now image is)
+
     -- ---- one piece more
 
     module _ (new : StoreView D) (piece : List ℕ) (r : Request) (asks : RoundAsks piece r) (does : Performs model now new r) where
@@ -163,11 +220,21 @@ module _ {D : Type 0} (model : DiskModel D) where
       }
 
       -- the last flush failed
-      pub ends-unflushed : (new : StoreView D) → StopsShort model now new → Rounds model old new all (Err fault.Device)
-      ends-unflushed new stops = record {
+      pub ends-unflushed : i ≡ length all → (new : StoreView D) → StopsShort model now new
+          → ((t : ℕ) (image : Image) → model.honest → t ≤ model.moment new.disk → IsImage (model.folder new.disk) image
+          → model.left new.disk t image)
+          → Rounds model old new all (Err fault.Device)
+      ends-unflushed whole new stops counts_now = record {
         requests = s.requests;
         ask = first-ask s.requests s.ask;
-        ends = flush-state model old now new s.requests s.performs stops;
+        ends = record {
+          before = s.requests;
+          last = [];
+          all = sym (append-nil s.requests);
+          fails = counted ∙ whole;
+          state = flush-state model old now new s.requests s.performs stops;
+          kept = λ h flushed waiting has. kept-unflushed h flushed waiting has new stops (λ t image. counts_now t image h);
+        };
         any_moment = λ h on. flush-moments model old now new s.requests s.performs stops.any_moment h;
       }
 
@@ -200,8 +267,10 @@ module _ {D : Type 0} (model : DiskModel D) where
       -- the device failed at the next piece
       pub ends-device : (new : StoreView D) (piece : List ℕ) (r : Request) → RoundAsks piece r
           → Performs model now new r → i + 1 ≤ length all → take (i + 1) all ≡ take i all ++ piece ∷ []
+          → ((t : ℕ) (image : Image) → model.honest → t ≤ model.moment new.disk → IsImage (model.folder new.disk) image
+          → model.left new.disk t image)
           → Rounds model old new all (Err fault.Device)
-      ends-device new piece r asks does more next =
+      ends-device new piece r asks does more next counts_now =
           let ask : AllRoundAsk (take (i + 1) all) (s.requests ++ r ∷ []) =
           subst (λ ps. AllRoundAsk ps (s.requests ++ r ∷ [])) (ap (λ ps. ps ++ piece ∷ []) first ∙ sym next)
           (ask-last pieces s.requests piece r s.ask asks) in
@@ -210,7 +279,14 @@ module _ {D : Type 0} (model : DiskModel D) where
           record {
             requests = s.requests ++ r ∷ [];
             ask = subst (λ n. AllRoundAsk (take n all) (s.requests ++ r ∷ [])) (sym count) ask;
-            ends = state-more model old now new s.requests r s.performs does;
+            ends = record {
+              before = s.requests;
+              last = r ∷ [];
+              all = refl;
+              fails = (let here = counted in omega (arith, here, more));
+              state = state-more model old now new s.requests r s.performs does;
+              kept = λ h flushed waiting has. kept-at h flushed waiting has new r does (λ t image. counts_now t image h);
+            };
             any_moment = λ h on. moments-more model old now new s.requests r s.performs does h;
           }
 
@@ -218,20 +294,22 @@ module _ {D : Type 0} (model : DiskModel D) where
   pub ends-failing : (old now new : StoreView D) (written : List (List ℕ)) (all : List (List ℕ)) (i : ℕ)
       (piece : List ℕ) (f : RoundFault) → RoundSoFar model old now (take i all) written
       → i + 1 ≤ length all → take (i + 1) all ≡ take i all ++ piece ∷ [] → (count : ℕ) → count ≡ i → FailsPiece model now new piece count f
+      → ((t : ℕ) (image : Image) → model.honest → t ≤ model.moment new.disk → IsImage (model.folder new.disk) image
+      → model.left new.disk t image)
       → Rounds model old new all (Err f)
-  ends-failing old now new written all i piece (fault.OutOfMemory performed) s more next count is (inl fails) =
+  ends-failing old now new written all i piece (fault.OutOfMemory performed) s more next count is (inl fails) counts_now =
       let here : i ≡ performed = sym (fails.0 ∙ is) in
       subst (λ (t : StoreView D). Rounds model old t all (Err (fault.OutOfMemory performed))) (sym fails.1)
       (subst (λ n. Rounds model old now all (Err (fault.OutOfMemory n))) here
       (ends-memory old now (take i all) written s all i (omega (arith, more)) refl))
-  ends-failing old now new written all i piece (fault.OutOfMemory performed) s more next count is (inr fails) =
+  ends-failing old now new written all i piece (fault.OutOfMemory performed) s more next count is (inr fails) counts_now =
       let here : i + 1 ≡ performed = omega (arith, fails.0, is) in
       let takes = fails.2 in
       subst (λ n. Rounds model old new all (Err (fault.OutOfMemory n))) here
       (ends-memory old new (take i all ++ piece ∷ []) _
       (round-more old now (take i all) written s new piece takes.request takes.asks takes.performs fails.1) all
       (i + 1) more (sym next))
-  ends-failing old now new written all i piece fault.Device s more next count is fails =
+  ends-failing old now new written all i piece fault.Device s more next count is fails counts_now =
       ends-device old now (take i all) written s all i
-      (omega (arith, more)) refl new piece fails.1.request fails.1.asks fails.1.performs more next
-  ends-failing old now new written all i piece fault.Reopen s more next count is fails = absurd fails
+      (omega (arith, more)) refl new piece fails.1.request fails.1.asks fails.1.performs more next counts_now
+  ends-failing old now new written all i piece fault.Reopen s more next count is fails counts_now = absurd fails

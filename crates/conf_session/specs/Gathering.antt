@@ -1,5 +1,5 @@
 -- One group of a grouped session: the pieces that one read brought are performed, flushed and then answered.
-use Rattle.std.specs.Prelude.{◌≡◌, ◌⊎◌, ℕ, ◌+◌, ◌*◌, ◌<◌, ◌≤◌, true, false, List, [], ◌++◌, length, take, Option}
+use Rattle.std.specs.Prelude.{◌≡◌, ◌≢◌, ◌⊎◌, ℕ, ◌+◌, ◌*◌, ◌<◌, ◌≤◌, true, false, List, [], ◌++◌, length, take, Option}
 use Rattle.std.specs.Prelude.{Some, None, Result, Ok, Err}
 use Rattle.conf_session.specs.Prelude.{Appends, Keeps, ClosesOnce, DiskModel, LeavesOnly, Command, Contents}
 use Rattle.conf_session.specs.Prelude.{MeansPrefix, AllImagesMean, HasFlushed, HasGrown, StoreView}
@@ -187,12 +187,13 @@ pub record GathersPieces {D : Type 0} (model : DiskModel D) (bytes further : Lis
   pub none : requests ≡ [] → new ≡ old
   pub single : before.limit ≡ 0 → length requests ≤ 1
 
--- The device failed. The pieces are performed, maybe but for the last, and none is answered. Where a text of answers has
--- no room, there is one piece.
+-- The device failed. The pieces are performed, maybe but for the last, and none is answered. There is one at least, and
+-- where a text of answers has no room, there is no other.
 pub record BreaksOff {D : Type 0} (model : DiskModel D) (bytes : List ℕ) (limit : ℕ) (old new : StoreView D)
     : Type 0 where
   pub broken : new.reopen ≡ true
   pub requests : List Request
+  pub some : requests ≢ []
   pub single : limit ≡ 0 → length requests ≡ 1
   pub further : List ℕ
   pub takes : TakesUp bytes further requests

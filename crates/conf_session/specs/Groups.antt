@@ -1,5 +1,5 @@
 -- What a grouped session has read, answered and stored, for each of its results.
-use Rattle.std.specs.Prelude.{◌≡◌, ℕ, ◌+◌, ◌*◌, ◌<◌, ◌≤◌, false, List, [], ◌∷◌, ◌++◌, length, take, map, Option, Some}
+use Rattle.std.specs.Prelude.{◌≡◌, ◌≢◌, ◌⊎◌, ℕ, ◌+◌, ◌*◌, ◌<◌, ◌≤◌, false, List, [], ◌∷◌, ◌++◌, length, take, map, Option, Some}
 use Rattle.std.specs.Prelude.{None, unwrap_or, Result, Err}
 use Rattle.conf_session.specs.Prelude.{Consumes, Keeps, Appends, Folder, bytes_under, Image, IsImage, DiskModel}
 use Rattle.conf_session.specs.Prelude.{LeavesOnly, Store, base_bytes, Command, Contents, MeansPrefix, AllImagesMean}
@@ -139,6 +139,11 @@ GroupedEnds io start answered unanswered result =
     (unanswered ≡ []) × EndsAnswered io (requests_of answered) (turns_output start answered)
     (length (turns_accepted start answered)) (turns_refused start answered) result
 
+-- where the device fails, requests are performed that have no answer, or it fails in the flush before the first turn
+abbrev pub FailsAtRequests : List Turn → List Request → Result Tally SessionFault → Type 0
+FailsAtRequests answered unanswered (Err fault.Device) = (answered ≡ []) ⊎ (unanswered ≢ [])
+FailsAtRequests answered unanswered result = Unit {0}
+
 -- ---- a grouped session
 
 -- How many commands no crash takes away once a grouped session has answered the turns: all that waited at its start, and
@@ -148,7 +153,9 @@ acknowledged_turns now waiting [] = 0
 acknowledged_turns now waiting (turn ∷ turns) = length (waiting ++ turns_accepted now (turn ∷ turns))
 
 -- A grouped session from one value of a store to the next. `flushed` is the state that is flushed at its start, and
--- `waiting` are the commands that were submitted since.
+-- `waiting` are the commands that were submitted since. At Device the store has to be opened again: `ends` says which
+-- answers were handed out, `unanswered` are the requests that are performed without one, and `kept` says what no crash
+-- takes back.
 pub record RunsGrouped {D : Type 0} (model : DiskModel D) (io : Streams)
     (checkpoints : Checkpoints)
     (old new : StoreView D) (result : Result Tally SessionFault) : Type 0 where
@@ -157,6 +164,9 @@ pub record RunsGrouped {D : Type 0} (model : DiskModel D) (io : Streams)
   pub ends : GroupedEnds io (stored_of old) answered unanswered result
   -- a checkpoint that no request asks for is begun only if that is wanted, and only when it is due
   pub only_asked : checkpoints ≡ Asked → answered ≡ all_asked (requests_of answered)
+  -- So only in such a checkpoint, or in the first flush, does the device fail while all that was performed is answered.
+  -- Whether that turn was begun or finished is open then, and of no account: `kept` has all that was accepted.
+  pub fails : checkpoints ≡ Asked → FailsAtRequests answered unanswered result
   pub due : model.honest → (bytes : ℕ) → checkpoints ≡ After bytes
       → AreDue bytes (files_of model.folder old) (stored_of old) answered
   pub state : new.state ≡ (stored_after_turns (stored_of old) (answered ++ all_asked unanswered)).state

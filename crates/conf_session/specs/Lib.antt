@@ -1,9 +1,11 @@
 pub mod Prelude
 pub mod Requests
 pub mod Answers
+pub mod AnswersRead
 pub mod Runs
 pub mod Replies
 pub mod ReadChanges
+pub mod Edits
 pub mod Conditional
 pub mod SaidConditions
 pub mod Said

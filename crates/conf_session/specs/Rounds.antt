@@ -1,14 +1,14 @@
 -- What a round has answered and stored, for each of its results.
-use Rattle.std.specs.Prelude.{◌≡◌, ◌⊎◌, ℕ, ◌+◌, false, true, List, [], ◌∷◌, ◌++◌, length, take, map, Result, Ok, Err}
-use Rattle.conf_session.specs.Prelude.{ClosesOnce, bytes_under, DiskModel, LeavesOnly, Store, Command, Contents}
+use Rattle.std.specs.Prelude.{◌≡◌, ◌⊎◌, ℕ, ◌+◌, ◌-◌, ◌<◌, false, true, List, [], ◌∷◌, ◌++◌, length, take, map, Result, Ok, Err}
+use Rattle.conf_session.specs.Prelude.{ClosesOnce, bytes_under, Image, IsImage, DiskModel, LeavesOnly, Store, Command, Contents}
 use Rattle.conf_session.specs.Prelude.{MeansPrefix, AllImagesMean, HasFlushed, staged_text, StoreView}
 use Rattle.std.specs.declared.vec.Vec.{Vec}
 use Rattle.std.specs.declared.alloc.Global.{Global}
 use Rattle.conf_session.specs.Answers.{answer_bytes as answer_to}
-use Rattle.conf_session.specs.{Runs.stored_of, Replies.Performs, declared.fault.SessionFault.SessionFault}
+use Rattle.conf_session.specs.{Runs.AfterAtLeast, Runs.stored_of, Replies.Performs, declared.fault.SessionFault.SessionFault}
 use Rattle.conf_session.specs.{declared.rounds.Piece.Piece, declared.rounds.RoundFault.RoundFault}
 use Rattle.conf_session.specs.Requests.{Request, bad, Asks}
-use Rattle.conf_session.specs.Answers.{answers, stored_after_all, file_after_all, staged_after_all, accepted_commands}
+use Rattle.conf_session.specs.Answers.{Stored, answers, stored_after_all, file_after_all, staged_after_all, accepted_commands}
 use Rattle.conf_session.specs.Answers.{flushed_after, waiting_after}
 use Rattle.conf_session.specs.declared.fault.SessionFault.TheVariants as session
 use Rattle.conf_session.specs.declared.rounds.RoundFault.TheVariants as fault
@@ -60,16 +60,42 @@ pub record EndsWaiting {D : Type 0} (model : DiskModel D) (old new : StoreView D
       → HasFlushed (model.folder new.disk) (flushed_after false (stored_of old) flushed requests)
       (waiting_after false (stored_of old) waiting requests) new.state
 
+-- What the device failed at, after these requests: the next one, or, after all, the flush of what they submitted.
+abbrev pub FailsAfter : ℕ → List Request → List Request → Type 0
+FailsAfter count before [] = length before ≡ count
+FailsAfter count before (last ∷ []) = length before < count
+FailsAfter count before (last ∷ other ∷ more) = ⊥
+
+-- How many commands no crash takes away once these requests are performed, of those that waited and those that are
+-- accepted: all up to the last checkpoint.
+abbrev pub checkpointed : Stored → List Command → List Request → ℕ
+checkpointed now waiting requests =
+    length (waiting ++ accepted_commands now requests) - length (waiting_after false now waiting requests)
+
+-- The device failed. No piece is answered. The state has the piece in hand, if there is one. A crash leaves the state
+-- after a prefix of the commands, which has at least those up to the last checkpoint among the pieces before that one.
+pub record EndsBroken {D : Type 0} (model : DiskModel D) (old new : StoreView D) (count : ℕ)
+    (requests : List Request) : Type 0 where
+  pub before : List Request
+  pub last : List Request
+  pub all : requests ≡ before ++ last
+  pub fails : FailsAfter count before last
+  pub state : new.state ≡ (stored_after_all (stored_of old) requests).state
+  pub kept : model.honest → (flushed : Contents) (waiting : List Command)
+      → HasFlushed (model.folder old.disk) flushed waiting old.state
+      → (image : Image) → IsImage (model.folder new.disk) image
+      → AfterAtLeast flushed (checkpointed (stored_of old) waiting before)
+      (waiting ++ accepted_commands (stored_of old) requests) image
+
 -- How a round of `count` pieces ends, by its result. `requests` are those of the pieces that were taken up, from the
--- first. At Device the last of them may be the one in hand.
+-- first.
 abbrev pub RoundEnds : {D : Type 0} → DiskModel D → StoreView D → StoreView D → ℕ → List Request
     → Result (Vec (Vec ℕ Global) Global) RoundFault → Type 0
 RoundEnds model old new count requests (Ok written) =
     EndsFlushed model old new count requests (answer_bytes written.items)
 RoundEnds model old new count requests (Err (fault.OutOfMemory performed)) =
     EndsWaiting model old new performed requests
-RoundEnds model old new count requests (Err fault.Device) =
-    new.state ≡ (stored_after_all (stored_of old) requests).state
+RoundEnds model old new count requests (Err fault.Device) = EndsBroken model old new count requests
 RoundEnds model old new count requests (Err fault.Reopen) = requests ≡ []
 
 -- A round from one value of a store to the next. `flushed` is the state that is flushed at its start, and `waiting` are

@@ -148,7 +148,8 @@ pub record AfterAtLeast (s : Contents) (least : ℕ) (commands : List Command) (
   pub means : ImageMeans image state
 
 -- A run from one value of a store to the next. `flushed` is the state that is flushed at its start, and `waiting` are
--- the commands that were submitted since.
+-- the commands that were submitted since. At Device the store has to be opened again: `ends` says which answers were
+-- handed out and which request has none, `state` has that request too, and `kept` says what no crash takes back.
 pub record Runs {D : Type 0} (model : DiskModel D)
     (io : Streams) (old new : StoreView D)
     (result : Result Tally SessionFault) : Type 0 where

@@ -18,7 +18,7 @@ pub(crate) struct Input {
 }
 
 impl Input {
-    /// Returns an input of which nothing is read yet. It takes the memory for one chunk, 65,536 bytes.
+    /// Returns an input of which nothing is read yet. It takes the memory for 4,096 bytes.
     ///
     /// # Errors
     /// `AllocError` if there is no memory for the chunk.

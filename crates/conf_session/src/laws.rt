@@ -1,9 +1,13 @@
 // Laws of the definitions.
 ghost use Rattle.conf_session.specs.Answers.{AllAreAcknowledged, AnswersAreShort, EachIsAnswered};
+ghost use Rattle.conf_session.specs.AnswersRead.{AnswersAreRead};
 ghost use Rattle.conf_session.specs.Conditional.{ConditionsGuard};
 ghost use Rattle.conf_session.specs.Sinks.{NoneIsTakenBack};
 
 use conf_disk::Disk;
+use yaml_recognizers::closings::closed_once;
+use yaml_recognizers::one_style::style_reads;
+use yaml_tree::bytes_give_one;
 
 /// No answer is longer than the longest base: 67,108,864 bytes, with its first line and its closing line.
 ///
@@ -12,6 +16,19 @@ use conf_disk::Disk;
 pub fn answers_are_short()
     ensures { AnswersAreShort }
 {}
+
+/// The bytes of an answer are one document, which reads as the answer's tree, and as nothing else.
+///
+/// That tree is good: all is text, in each mapping the keys differ, and it is within the limits that `read_one` of
+/// `yaml_tree` keeps for every tree. The bytes are closed once, at their end. So a reader that cuts the output of a
+/// session after each closing line has the answers, one by one.
+pub fn answers_are_read()
+    ensures { AnswersAreRead }
+{
+    style_reads();
+    closed_once();
+    bytes_give_one();
+}
 
 /// Each request that a piece asks for has an answer, whatever is stored.
 ///

@@ -11,12 +11,15 @@
 //! Both hand the answers to an [`AnswerSink`], which gets an answer only once no crash takes back what it tells. Each
 //! writer is one.
 //!
+//! [`read_edits`] reads the edits that a text by itself lists.
+//!
 //! [`round`] performs the commands that a server has in hand from many clients, and syncs once for all of them.
 #![tactic(auto)]
 
 mod answer;
 mod command_lines;
 mod conditions;
+mod edits;
 mod fault;
 mod field_lines;
 mod groups;
@@ -34,10 +37,12 @@ mod sink;
 mod unwritten;
 mod words;
 
+pub use edits::{EditsFault, read_edits};
 pub use fault::SessionFault;
 pub use groups::{Checkpoints, run_grouped};
 pub use laws::{
-    answers_acknowledge, answers_are_short, answers_stand, conditions_guard, requests_are_answered,
+    answers_acknowledge, answers_are_read, answers_are_short, answers_stand, conditions_guard,
+    requests_are_answered,
 };
 pub use rounds::{Piece, RoundFault, round};
 pub use session::{Tally, run};

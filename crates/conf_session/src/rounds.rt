@@ -149,8 +149,8 @@ fn take_piece<D: Disk>(
 /// # Errors
 /// - `OutOfMemory`: that many pieces, from the first, are performed. Those up to the last `checkpoint` among them are
 ///   flushed; those after it wait for a flush.
-/// - `Device`: the pieces before the current one are performed, and that one is or isn't. The store has to be opened
-///   again.
+/// - `Device`: the pieces before the current one are performed, and that one is or isn't. No crash takes back those up
+///   to the last `checkpoint` among the pieces before it. The store has to be opened again.
 /// - `Reopen` comes only at the start, if the store has to be opened again. Nothing is done.
 pub fn round<D: Disk>(
     alloc: Global,

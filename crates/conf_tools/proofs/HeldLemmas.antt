@@ -5,6 +5,7 @@ use Rattle.conf_tools.proofs.Prelude.{Appends, Keeps, tree_of, Tree, Contents, S
 use Rattle.std.specs.Borrow.{Bor}
 use Rattle.conf_history.specs.Histories.{ReadsState}
 use Rattle.conf_history.specs.declared.fault.HistoryFault.{HistoryFault}
+use Rattle.conf_tools.specs.Parts.{WritesPart}
 use Rattle.conf_tools.specs.Reads.{LacksOne, RefusesValues, ShowsAll, WritesValues, tree_found, value_or_in}
 use Rattle.conf_tools.specs.declared.reading_fault.ReadingFault.{ReadingFault}
 use Rattle.yaml_data.specs.declared.tree.Tree as code
@@ -55,14 +56,14 @@ module _ (several : Bool) (given left : Option (List ℕ)) (at : Option ℕ) whe
       writes = writes;
     }
 
-    -- less than all of it was written
+    -- only the first of it was written
     pub values_cut : (missing : MissingValue) (form : ValueForm) (bytes : List ℕ) (held written : Option (List ℕ))
-        → ShowsAll (value_or_in missing tree name) form pointers bytes
+        → ShowsAll (value_or_in missing tree name) form pointers bytes → WritesPart bytes held written
         → RefusesValues several given at name pointers missing form held written reading.Output
-    values_cut missing form bytes held written shows = (
+    values_cut missing form bytes held written shows part = (
       found.0,
       found.1.holds,
-      (bytes, subst (λ t. ShowsAll (value_or_in missing t name) form pointers bytes) found.2 shows),
+      (bytes, subst (λ t. ShowsAll (value_or_in missing t name) form pointers bytes) found.2 shows, part),
     )
 
     -- the same of a value that can't be shown

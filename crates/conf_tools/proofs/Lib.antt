@@ -12,6 +12,8 @@ pub mod FoundLemmas
 pub mod DroppedLemmas
 pub mod HeldLemmas
 pub mod ShowLemmas
+pub mod PartLemmas
+pub mod EndingLemmas
 pub mod FileLemmas
 pub mod StyleLemmas
 pub mod OutcomeLemmas

@@ -1,16 +1,21 @@
 -- Where the status is 0, nothing was told.
 use Rattle.std.proofs.Common.{◌≡◌, ◌<◌, ◌⊎◌, ℕ, Bool, true, false, List, refl, sym, ◌∙◌, ap, subst, arith, rules, inl, inr, codes}
-use Rattle.std.specs.Prelude.{nat_lt, if◌then◌else◌, None, Result, Ok, Err, OnOk}
+use Rattle.std.specs.Prelude.{nat_lt, if◌then◌else◌, None, Option, Result, Ok, Err, IfErr, OnOk}
 use Rattle.conf_tools.proofs.Prelude.{common_steps, Tally}
 use Rattle.conf_tools.specs.{Dropped.TellsDropped, FaultLines.text_fault_name, Listening.fault_line, Statuses.code_of, Statuses.status_of}
-use Rattle.conf_tools.specs.{Statuses.worst, Tails.end_of_rest, TextWords.status_after, TextWords.status_after_check}
+use Rattle.conf_tools.specs.{Refused.TellsFault, Statuses.worst, Tails.end_of_rest, TextWords.ending_after_check}
+use Rattle.conf_tools.specs.TextWords.{ending_after_format, status_after}
 use Rattle.conf_tools.specs.{TextWords.status_of_report, declared.outcome.Ending.Ending, declared.outcome.Ending.TheVariants.Of}
-use Rattle.conf_tools.specs.{declared.outcome.Ending.TheVariants.Told, declared.outcome.Outcome.Outcome, declared.program.Status.Status}
+use Rattle.conf_tools.specs.declared.outcome.Ending.TheVariants.{Told, ToldFault}
+use Rattle.conf_tools.specs.{declared.outcome.Outcome.Outcome, declared.program.Status.Status}
+use Rattle.conf_tools.specs.{Statuses.ShowsText, StoreWords.WritesWhole}
 use Rattle.conf_tools.specs.{declared.program.Status.TheVariants.Done, declared.program.Status.TheVariants.Device, declared.tail.Tail.Tail}
 use Rattle.conf_tools.specs.{declared.texts.ToolFault.ToolFault}
-use Rattle.conf_tools.specs.Losses.{SetTells, TellsLoss, TellsLossIfAsked, TellsLossIfDone}
-use Rattle.conf_tools.specs.Outcomes.{EndsWriting, LeavesImport, SilentIfDone, SilentReport, TellsIfDone, TellsOnlyTold, TellsOutcome}
-use Rattle.conf_tools.specs.Outcomes.{TellsSession, TellsUnperformed, status_of_outcome}
+use Rattle.conf_tools.specs.Endings.{StaysUnlessFault}
+use Rattle.conf_tools.specs.Losses.{SetTells, TellsLoss, TellsLossIfAsked, TellsLossOr, TellsWritten}
+use Rattle.conf_tools.specs.Outcomes.{EndsWriting, LeavesImport, LeavesTold, SilentIfDone, SilentReport}
+use Rattle.conf_tools.specs.Outcomes.{TellsIfDone, TellsOnlyTold, TellsOutcome}
+use Rattle.conf_tools.specs.Outcomes.{TellsSession, TellsUnperformed, status_of_ending, status_of_outcome}
 use Rattle.conf_tools.specs.Styles.{TellsLeftOut, TellsLeftOutOf}
 use Rattle.conf_tools.specs.{Tools.Taken, declared.change_words.Meaning.Meaning, declared.changes.Change.Change}
 use Rattle.conf_tools.specs.{declared.reporter.Origin.Origin, declared.reporter.Origin.TheVariants.Named}
@@ -20,7 +25,7 @@ use Rattle.conf_words.specs.declared.invocation.Reporting.{Reporting}
 use Rattle.conf_words.specs.declared.invocation.Reporting.TheVariants.{Brief, Explained}
 use Rattle.conf_words.specs.declared.invocation.Style.{Style}
 use Rattle.conf_words.specs.declared.invocation.Style.TheVariants.{Bare, WithComments}
-use Rattle.conf_tools.specs.declared.texts.ToolFault.TheVariants.{Output, Read, Comments, Unsettled, OneValue}
+use Rattle.conf_tools.specs.declared.texts.ToolFault.TheVariants.{Comments, ImportText, NoEdits, OneValue, Output, Read, Unsettled}
 use Rattle.conf_tools.specs.declared.texts.ToolFault.TheVariants.{Input as NoInput}
 use Rattle.conf_tools.specs.declared.outcome.Outcome.TheVariants as ends
 
@@ -31,6 +36,8 @@ counts (Read fault) = omega arith
 counts (Comments place) = omega arith
 counts Unsettled = omega arith
 counts OneValue = omega arith
+counts NoEdits = omega arith
+counts (ImportText fault) = omega arith
 
 -- no fault has the status 0
 pub never_done : (fault : ToolFault) (status : Status) → status ≡ status_of fault → code_of status ≡ 0 → ⊥
@@ -55,18 +62,18 @@ both_done : (one other : Status) → code_of (worst one other) ≡ 0 → (code_o
 both_done one other zero =
     both_zero (code_of one) (code_of other) (sym (chosen (nat_lt (code_of one) (code_of other)) one other) ∙ zero)
 
+-- a text that was written whole, or the first of it
+pub written_shown : (bytes : List ℕ) (held written : Option (List ℕ)) (outcome : Outcome) (status : Status)
+    → WritesWhole bytes held written (Of outcome) → status ≡ status_of_outcome outcome → ShowsText bytes held written status
+written_shown bytes held written outcome status (inl (appends, done)) is = inl (is ∙ ap status_of_ending done, appends)
+written_shown bytes held written outcome status (inr (part, cut)) is = inr (is ∙ ap status_of_ending cut, part)
+
 module _ {E : Type 0} where
   -- a text that was written, or not
   pub written_silently : (ended : Result (Unit {0}) ToolFault) (status : Status) (old new : E)
       → status ≡ status_after ended → OnOk ended (new ≡ old) → SilentIfDone status old new
   written_silently (Ok done) status old new is same zero = same
   written_silently (Err fault) status old new is same zero = absurd (never_done fault status is zero)
-
-  -- a text that was checked, or not
-  pub checked_silently : (ended : Result ℕ ToolFault) (status : Status) (old new : E)
-      → status ≡ status_after_check ended → OnOk ended (new ≡ old) → SilentIfDone status old new
-  checked_silently (Ok count) status old new is same zero = same
-  checked_silently (Err fault) status old new is same zero = absurd (never_done fault status is zero)
 
   -- a report, whose status is this
   pub reported_silently : (ended : Result Status ToolFault) (old new : E)
@@ -102,7 +109,8 @@ module _ {E : Type 0} where
     pub import_left : (ending : Ending) (old mid new : E)
         → TellsDropped hears old mid → TellsOnlyTold hears ending mid new → LeavesImport hears old ending new
     import_left (Of outcome) old mid new told only = (mid, told, only)
-    import_left (Told status) old mid new told failed = λ zero. absurd (failed zero)
+    import_left (ToldFault fault) old mid new told only = (mid, told, only)
+    import_left (Told status) old mid new told never = absurd never
 
     -- what was asked for was told
     pub asked_left_out : (reporting : Reporting) (bytes : List ℕ) (old new : E)
@@ -130,21 +138,34 @@ module _ {E : Type 0} where
     left_out_then (Ok done) old mid new told same = subst (TellsLeftOut hears old) (sym same) told
     left_out_then (Err fault) old mid new told same = tt
 
-    -- what `format` tells of a text that it wrote
-    pub loss_if_done : (ended : Result (Unit {0}) ToolFault) (origin : Origin) (style : Style) (bytes : List ℕ)
-        (status : Status) (old mid new : E) → status ≡ status_after ended → OnOk ended (mid ≡ old)
-        → OnOk ended (TellsLoss hears origin style bytes mid new)
-        → code_of status ≡ 0 → TellsLoss hears origin style bytes old new
-    loss_if_done (Ok done) origin style bytes status old mid new is same told zero =
-        subst (λ before. TellsLoss hears origin style bytes before new) same told
-    loss_if_done (Err fault) origin style bytes status old mid new is same told zero =
-        absurd (never_done fault status is zero)
+    -- what `format` tells of a text that it wrote, or of its fault
+    pub format_told : (ended : Result (Unit {0}) ToolFault) (origin : Origin) (style : Style) (bytes : List ℕ)
+        (ending : Ending) (old mid new : E) → ending ≡ ending_after_format ended → OnOk ended (mid ≡ old)
+        → IfErr ended (TellsFault hears old) → OnOk ended (TellsLoss hears origin style bytes mid new)
+        → TellsLossOr hears origin style bytes ending old new
+    format_told (Ok done) origin style bytes ending old mid new is same told loss =
+        subst (λ (e : Ending). TellsLossOr hears origin style bytes e old new) (sym is)
+        (subst (λ before. TellsLoss hears origin style bytes before new) same loss)
+    format_told (Err fault) origin style bytes ending old mid new is same told loss =
+        subst (λ (e : Ending). TellsLossOr hears origin style bytes e old new) (sym is) told
 
-    -- of the input nothing is told
-    pub input_silently : (style : Style) (read : Taken) (status : Status) (old new : E)
-        → TellsLossIfDone hears Input style read status old new → SilentIfDone status old new
-    input_silently style (Ok bytes) status old new told = told
-    input_silently style (Err fault) status old new told = λ zero. absurd (told zero)
+    -- what `check` tells of a text
+    pub check_told : (ended : Result ℕ ToolFault) (ending : Ending) (old new : E) → ending ≡ ending_after_check ended
+        → OnOk ended (new ≡ old) → IfErr ended (TellsFault hears old) → LeavesTold hears SilentIfDone old ending new
+    check_told (Ok count) ending old new is same told =
+        subst (λ (e : Ending). LeavesTold hears SilentIfDone old e new) (sym is) (λ zero. same)
+    check_told (Err fault) ending old new is same told =
+        subst (λ (e : Ending). LeavesTold hears SilentIfDone old e new) (sym is) told
+
+    -- of the input nothing is told but its fault
+    pub input_told : (style : Style) (read : Taken) (ending : Ending) (old new : E)
+        → TellsWritten hears Input style read ending old new → LeavesTold hears (TellsIfDone hears) old ending new
+    input_told style (Ok bytes) (Told status) old new told = λ zero. inl told
+    input_told style (Ok bytes) (ToldFault fault) old new told = told
+    input_told style (Ok bytes) (Of outcome) old new told = absurd told
+    input_told style (Err fault) (Told status) old new told = absurd told
+    input_told style (Err fault) (ToldFault other) old new told = told
+    input_told style (Err fault) (Of outcome) old new told = absurd told
 
     -- of a text, and nothing more
     loss_told : (origin : Origin) (style : Style) (bytes : List ℕ) (old new : E)
@@ -153,12 +174,16 @@ module _ {E : Type 0} where
     loss_told (Named file) Bare bytes old new told = any_left_out bytes old new told
     loss_told (Named file) WithComments bytes old new told = inl told
 
-    pub loss_then : (origin : Origin) (style : Style) (read : Taken) (status : Status) (old mid new : E)
-        → TellsLossIfDone hears origin style read status old mid → SilentIfDone status mid new
-        → TellsIfDone hears status old new
-    loss_then origin style (Ok bytes) status old mid new told same = λ zero.
-        subst (TellsLeftOut hears old) (sym (same zero)) (loss_told origin style bytes.items old mid (told zero))
-    loss_then origin style (Err fault) status old mid new told same = λ zero. absurd (told zero)
+    pub loss_then : (origin : Origin) (style : Style) (read : Taken) (ending : Ending) (old mid new : E)
+        → TellsWritten hears origin style read ending old mid → StaysUnlessFault ending mid new
+        → LeavesTold hears (TellsIfDone hears) old ending new
+    loss_then origin style (Ok bytes) (Told status) old mid new told same = λ zero.
+        subst (TellsLeftOut hears old) (sym same) (loss_told origin style bytes.items old mid told)
+    loss_then origin style (Ok bytes) (ToldFault fault) old mid new told same = told
+    loss_then origin style (Ok bytes) (Of outcome) old mid new told same = absurd told
+    loss_then origin style (Err fault) (Told status) old mid new told same = absurd told
+    loss_then origin style (Err fault) (ToldFault other) old mid new told same = told
+    loss_then origin style (Err fault) (Of outcome) old mid new told same = absurd told
 
     -- what opening dropped was told, and then what a session did not perform
     pub session_told : {A F : Type 0} (tail : Tail) (ended : Result (A × Tally) F) (old mid new : E) → TellsDropped hears old mid
@@ -168,7 +193,7 @@ module _ {E : Type 0} where
     session_told tail (Err fault) old mid new dropped same =
         record { opened = mid; dropped = dropped; end = None; rest = 0; tells = same }
 
-    -- a text that was written whole, or not
+    -- a text that was written whole, or not, and what is told of it
     pub written_told : (outcome : Outcome) (status : Status) (old new : E)
         → EndsWriting outcome → status ≡ status_of_outcome outcome → TellsOutcome hears outcome old new
         → ((status ≡ Done) × (new ≡ old)) ⊎ ((status ≡ Device) × hears old (fault_line (codes "Output")) new)

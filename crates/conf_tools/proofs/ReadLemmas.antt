@@ -7,7 +7,7 @@ use Rattle.tree_path.specs.Paths.{at, at_from, at_step, child, refusal}
 use Rattle.tree_path.specs.declared.place.Miss.{Miss}
 use Rattle.yaml_config.proofs.Located.{child-within}
 use Rattle.conf_history.specs.declared.survey.Findings.{Findings}
-use Rattle.conf_tools.specs.Surveys.{CannotWrite, FileIsAs, RefusesWriting}
+use Rattle.conf_tools.specs.Surveys.{CannotWrite, FileIsAs, RefusesWriting, findings_text}
 use Rattle.conf_tools.specs.declared.reading_fault.ReadingFault.{ReadingFault}
 use Rattle.conf_history.specs.declared.fault.HistoryFault.TheVariants as history
 use Rattle.conf_tools.specs.declared.reading_fault.ReadingFault.TheVariants as reading
@@ -46,10 +46,11 @@ value-shallow t v tokens kept e =
 -- why the findings of a file were not written whole
 pub cannot_write : (several : Bool) (given held written : Option (List ℕ)) (state : Contents) (findings : Findings)
     → FileIsAs several given state findings
-    → (fault : ReadingFault) → CannotWrite held written fault → RefusesWriting several given held written fault
+    → (fault : ReadingFault) → CannotWrite (findings_text findings) held written fault
+    → RefusesWriting several given held written fault
 cannot_write several None held written state findings is (reading.History history.OutOfMemory) kept = (tt, kept)
 cannot_write several (Some bytes) held written state findings is (reading.History history.OutOfMemory) kept = (tt, kept)
-cannot_write several given held written state findings is reading.Output cannot = (state, findings, is)
+cannot_write several given held written state findings is reading.Output cannot = (state, findings, is, cannot)
 cannot_write several given held written state findings is (reading.History history.Input) cannot = absurd cannot
 cannot_write several given held written state findings is (reading.History history.Output) cannot = absurd cannot
 cannot_write several given held written state findings is (reading.History history.NotAStore) cannot = absurd cannot

@@ -69,6 +69,8 @@ text_fault_name (text.Read fault) = read_name fault
 text_fault_name (text.Comments place) = codes "Comments"
 text_fault_name text.Unsettled = codes "Unsettled"
 text_fault_name text.OneValue = codes "OneValue"
+text_fault_name text.NoEdits = codes "BadCommand"
+text_fault_name (text.ImportText fault) = read_name fault
 
 -- of a word that opens a store
 abbrev pub store_fault_name : StoreToolFault → List ℕ

@@ -1,5 +1,5 @@
 -- What a tool has written for the text of a file that was named.
-use Rattle.std.specs.Prelude.{◌≡◌, ◌≢◌, ℕ, Bool, true, false, List, [], ◌∷◌, ◌++◌, Option, length, codes, decimal}
+use Rattle.std.specs.Prelude.{◌≡◌, ◌≢◌, ◌⊎◌, ℕ, Bool, true, false, List, [], ◌∷◌, ◌++◌, Option, length, codes, decimal}
 use Rattle.std.specs.Prelude.{string_bytes}
 use Rattle.conf_tools.specs.Prelude.{Appends, Keeps, Refuses, config_limits, HasComment, HasNoComment, name_of, Finding}
 use Rattle.conf_tools.specs.Prelude.{Comments, Style}
@@ -10,7 +10,8 @@ use Rattle.conf_words.specs.declared.invocation.Comments.TheVariants.{Refused, D
 use Rattle.comments_kept.specs.Keeping.{GivesUnsettled}
 use Rattle.conf_tools.specs.Styles.{IsCheckedIn, IsStyled, style_of}
 use Rattle.conf_tools.specs.declared.texts.ToolFault.TheVariants.{Comments as HasComments}
-use Rattle.conf_tools.specs.{Tools.GivesTree, declared.file_texts.Restyled.Restyled, declared.texts.ToolFault.ToolFault}
+use Rattle.conf_tools.specs.{Parts.WritesPart, Tools.Stops, declared.file_texts.Restyled.Restyled}
+use Rattle.conf_tools.specs.declared.texts.ToolFault.{ToolFault}
 use Rattle.conf_tools.specs.declared.file_texts.Restyled.TheVariants.{Same, Changed}
 use Rattle.conf_tools.specs.declared.texts.ToolFault.TheVariants.{Input, Output, Read, Unsettled, OneValue}
 
@@ -47,7 +48,7 @@ StopsRestyling comments bytes Output = ⊥
 StopsRestyling comments bytes (Read fault) = Refuses bytes config_limits fault
 StopsRestyling comments bytes (HasComments place) = (comments ≡ Refused) × HasComment bytes
 StopsRestyling comments bytes Unsettled = GivesUnsettled bytes config_limits
-StopsRestyling comments bytes OneValue = ⊥
+StopsRestyling comments bytes fault = ⊥
 
 -- what is written of a file: a line of its name, if its text would change
 abbrev pub name_line : List ℕ → Bool → List ℕ
@@ -58,6 +59,11 @@ name_line file true = file ++ codes "\n"
 abbrev pub Differs : List ℕ → List ℕ → Bool → Type 0
 Differs bytes styled false = bytes ≡ styled
 Differs bytes styled true = bytes ≢ styled
+
+-- this is the line of the name of a file whose bytes are other ones in a style
+abbrev pub IsNameLine : Style → List ℕ → List ℕ → List ℕ → Type 0
+IsNameLine style file bytes line =
+    (text : List ℕ) × IsStyled style bytes text × (bytes ≢ text) × (line ≡ name_line file true)
 
 -- the file's name was written if its bytes are other ones in a style
 pub record Lists (style : Style) (file bytes : List ℕ) (held written : Option (List ℕ)) (changes : Bool) : Type 0 where
@@ -86,6 +92,11 @@ abbrev pub file_report : List ℕ → List Finding → List ℕ
 file_report file [] = []
 file_report file (f ∷ fs) = file_line file f ++ file_report file fs
 
+-- these are the lines for the findings of the bytes of a file
+abbrev pub IsFileReport : Style → List ℕ → List ℕ → List ℕ → Type 0
+IsFileReport style file bytes lines =
+    (found : List Finding) × IsCheckedIn style bytes found × (lines ≡ file_report file found)
+
 -- the lines of the findings of bytes were written; count is their number
 pub record ChecksFile (style : Style) (file bytes : List ℕ) (held written : Option (List ℕ)) (count : ℕ) : Type 0 where
   pub found : List Finding
@@ -93,16 +104,9 @@ pub record ChecksFile (style : Style) (file bytes : List ℕ) (held written : Op
   pub counts : count ≡ length found
   pub writes : Appends held written (file_report file found)
 
--- something may have been written after what was there
-abbrev pub Adds : Option (List ℕ) → Option (List ℕ) → Type 0
-Adds held written = (text : List ℕ) × Appends held written text
-
--- what holds if the lines of a file end early; memory may run out before all of them are written
-abbrev pub StopsInFile : List ℕ → Option (List ℕ) → Option (List ℕ) → ToolFault → Type 0
-StopsInFile bytes held written Input = ⊥
-StopsInFile bytes held written Output = GivesTree bytes
-StopsInFile bytes held written (Read ReadFault.OutOfMemory) = Adds held written
-StopsInFile bytes held written (Read fault) = Refuses bytes config_limits fault × Keeps held written
-StopsInFile bytes held written (HasComments place) = ⊥
-StopsInFile bytes held written Unsettled = GivesUnsettled bytes config_limits × Keeps held written
-StopsInFile bytes held written OneValue = ⊥
+-- What holds if the lines of a file end early, as of a tool that stops. But memory may run out before all of them are
+-- written, too.
+abbrev pub StopsInFile : (List ℕ → Type 0) → List ℕ → Option (List ℕ) → Option (List ℕ) → ToolFault → Type 0
+StopsInFile Is bytes held written (Read ReadFault.OutOfMemory) =
+    Keeps held written ⊎ ((lines : List ℕ) × Is lines × WritesPart lines held written)
+StopsInFile Is bytes held written fault = Stops Is bytes held written fault

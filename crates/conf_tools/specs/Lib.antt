@@ -15,8 +15,12 @@ pub mod Styles
 pub mod Surveys
 pub mod ReadingStatuses
 pub mod Worlds
+pub mod Parts
+pub mod Endings
+pub mod EndOfRun
 pub mod StoreWords
 pub mod TextWords
+pub mod Batches
 pub mod LogWords
 pub mod Losses
 pub mod Performs
@@ -24,4 +28,5 @@ pub mod FaultLines
 pub mod Listening
 pub mod NewFiles
 pub mod Keeping
+pub mod Refused
 pub mod Outcomes

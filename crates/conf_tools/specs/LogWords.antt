@@ -11,8 +11,9 @@ use Rattle.conf_words.specs.declared.invocation.LogForm.TheVariants.{Lines, Valu
 use Rattle.tree_hidden.specs.{Pointers.paths_or, Tokens.paths_of}
 use Rattle.yaml_data.specs.declared.text.Text.{Text}
 use Rattle.conf_tools.specs.Prelude.{LogForm, LogRequest, Path, StoreFault}
-use Rattle.conf_tools.specs.{ReadingStatuses.status_of_reading, declared.logs.Commands.Commands}
-use Rattle.conf_tools.specs.{declared.program.Status.Status}
+use Rattle.conf_tools.specs.{declared.logs.Commands.Commands, declared.outcome.Ending.Ending}
+use Rattle.conf_tools.specs.declared.outcome.Ending.TheVariants.{Of}
+use Rattle.conf_tools.specs.declared.outcome.Outcome.TheVariants.{Reading}
 use Rattle.conf_tools.specs.{StoreWords.Reads, StoreWords.SaysLog, Worlds.WorldModel}
 use Rattle.conf_tools.specs.declared.reading_fault.ReadingFault.TheVariants.{Value}
 
@@ -37,38 +38,38 @@ request_of form commands = record { form = form; name = commands.name; from = co
 module _ {W D F P : Type 0} (world : WorldModel W D F P) (remaining : F → Option (List ℕ)) (folder : List ℕ)
     (commands : Commands) where
   -- the commands of the store in the folder were written in a form
-  abbrev pub LogsAs : LogForm → W → W → Option (List ℕ) → Option (List ℕ) → Status → Type 0
-  LogsAs form old new held written status =
-      Reads world remaining folder (SaysLog commands.at (request_of form commands)) old new held written status
+  abbrev pub LogsAs : LogForm → W → W → Option (List ℕ) → Option (List ℕ) → Ending → Type 0
+  LogsAs form old new held written ending =
+      Reads world remaining folder (SaysLog commands.at (request_of form commands)) old new held written ending
 
   -- They were written with their values, but for what is at these pointers of a configuration, or below them.
-  pub record LogsHiding (pointers : List (List ℕ)) (old new : W) (held written : Option (List ℕ)) (status : Status)
+  pub record LogsHiding (pointers : List (List ℕ)) (old new : W) (held written : Option (List ℕ)) (ending : Ending)
       : Type 0 where
     pub paths : Bor (List (Bor (List Text)))
     pub are : paths_or pointers ≡ Ok (paths_of paths.now)
-    pub logs : LogsAs (history.Lines (lines.Hiding paths)) old new held written status
+    pub logs : LogsAs (history.Lines (lines.Hiding paths)) old new held written ending
 
   -- That can't be hidden: no folder was looked at, and nothing was written.
-  pub record RefusesHiding (pointers : List (List ℕ)) (old new : W) (held written : Option (List ℕ)) (status : Status)
+  pub record RefusesHiding (pointers : List (List ℕ)) (old new : W) (held written : Option (List ℕ)) (ending : Ending)
       : Type 0 where
     pub fault : StoreFault
     pub why : CannotHide pointers fault
-    pub ends : status ≡ status_of_reading (Value fault)
+    pub ends : ending ≡ Of (Reading (Value fault))
     pub world_stays : new ≡ old
     pub keeps : written ≡ held
 
-  abbrev pub Hides : List (List ℕ) → W → W → Option (List ℕ) → Option (List ℕ) → Status → Type 0
-  Hides pointers old new held written status =
-      LogsHiding pointers old new held written status ⊎ RefusesHiding pointers old new held written status
+  abbrev pub Hides : List (List ℕ) → W → W → Option (List ℕ) → Option (List ℕ) → Ending → Type 0
+  Hides pointers old new held written ending =
+      LogsHiding pointers old new held written ending ⊎ RefusesHiding pointers old new held written ending
 
   -- the same; all values, if nothing is hidden
-  abbrev pub LogsValues : List (List ℕ) → W → W → Option (List ℕ) → Option (List ℕ) → Status → Type 0
-  LogsValues [] old new held written status = LogsAs (history.Lines lines.Values) old new held written status
-  LogsValues (pointer ∷ pointers) old new held written status = Hides (pointer ∷ pointers) old new held written status
+  abbrev pub LogsValues : List (List ℕ) → W → W → Option (List ℕ) → Option (List ℕ) → Ending → Type 0
+  LogsValues [] old new held written ending = LogsAs (history.Lines lines.Values) old new held written ending
+  LogsValues (pointer ∷ pointers) old new held written ending = Hides (pointer ∷ pointers) old new held written ending
 
   -- `log`
-  abbrev pub Logs : AskedLog → W → W → Option (List ℕ) → Option (List ℕ) → Status → Type 0
-  Logs Lines old new held written status = LogsAs (history.Lines lines.Names) old new held written status
-  Logs (Values hidden) old new held written status =
-      LogsValues (map (λ pointer. pointer.now) hidden.items) old new held written status
-  Logs Records old new held written status = LogsAs history.Records old new held written status
+  abbrev pub Logs : AskedLog → W → W → Option (List ℕ) → Option (List ℕ) → Ending → Type 0
+  Logs Lines old new held written ending = LogsAs (history.Lines lines.Names) old new held written ending
+  Logs (Values hidden) old new held written ending =
+      LogsValues (map (λ pointer. pointer.now) hidden.items) old new held written ending
+  Logs Records old new held written ending = LogsAs history.Records old new held written ending

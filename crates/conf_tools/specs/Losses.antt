@@ -3,9 +3,11 @@ use Rattle.std.specs.Prelude.{◌≡◌, ℕ, List, Result, Ok, Err}
 use Rattle.conf_tools.specs.Prelude.{Reporting, Style}
 use Rattle.conf_words.specs.declared.invocation.Reporting.TheVariants.{Brief, Explained}
 use Rattle.conf_words.specs.declared.invocation.Style.TheVariants.{Bare, WithComments}
-use Rattle.conf_tools.specs.{Statuses.code_of, Styles.TellsLeftOutOf, Tools.Taken, declared.changes.Change.Change}
+use Rattle.conf_tools.specs.{Refused.TellsFault, Styles.TellsLeftOutOf, Tools.Taken, declared.changes.Change.Change}
 use Rattle.conf_tools.specs.{declared.change_words.Meaning.Meaning, declared.outcome.Outcome.Outcome}
-use Rattle.conf_tools.specs.{declared.program.Status.Status, declared.reporter.Origin.Origin}
+use Rattle.conf_tools.specs.declared.outcome.Ending.{Ending}
+use Rattle.conf_tools.specs.declared.outcome.Ending.TheVariants.{Of, Told, ToldFault}
+use Rattle.conf_tools.specs.declared.reporter.Origin.{Origin}
 use Rattle.conf_tools.specs.{declared.reporter.Origin.TheVariants.Input, declared.reporter.Origin.TheVariants.Named}
 use Rattle.conf_tools.specs.declared.texts.ToolFault.{ToolFault}
 use Rattle.conf_tools.specs.declared.change_words.Meaning.TheVariants as means
@@ -20,10 +22,17 @@ module _ {E : Type 0} (hears : E → List ℕ → E → Type 0) where
   TellsLoss (Named file) Bare bytes old new = TellsLeftOutOf hears bytes old new
   TellsLoss (Named file) WithComments bytes old new = new ≡ old
 
-  -- the same where the status is 0, of a text that was read
-  abbrev pub TellsLossIfDone : Origin → Style → Taken → Status → E → E → Type 0
-  TellsLossIfDone origin style (Ok bytes) status old new = code_of status ≡ 0 → TellsLoss origin style bytes.items old new
-  TellsLossIfDone origin style (Err fault) status old new = code_of status ≡ 0 → ⊥
+  -- the same of a text that was read, or its fault was told
+  abbrev pub TellsLossOr : Origin → Style → List ℕ → Ending → E → E → Type 0
+  TellsLossOr origin style bytes (Told status) old new = TellsLoss origin style bytes old new
+  TellsLossOr origin style bytes (ToldFault fault) old new = TellsFault hears old fault
+  TellsLossOr origin style bytes (Of outcome) old new = ⊥
+
+  -- where none was read, its fault was told
+  abbrev pub TellsWritten : Origin → Style → Taken → Ending → E → E → Type 0
+  TellsWritten origin style (Ok bytes) ending old new = TellsLossOr origin style bytes.items ending old new
+  TellsWritten origin style (Err fault) (ToldFault other) old new = TellsFault hears old other
+  TellsWritten origin style (Err fault) ending old new = ⊥
 
   -- ---- `import` and `set`
 

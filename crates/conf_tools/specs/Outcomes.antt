@@ -1,13 +1,13 @@
 -- How a run of the program ends, and what is told of it.
 use Rattle.std.specs.Prelude.{◌≡◌, ◌⊎◌, ℕ, List, Option, Result, Ok, Err, codes, string_bytes}
-use Rattle.conf_tools.specs.Prelude.{Tally, Invocation, Init, Import, Set, Delete, Copy, Rename, Checkpoint, Run}
+use Rattle.conf_tools.specs.Prelude.{Tally, Invocation, Init, Import, Set, Delete, Copy, Rename, Batch, Checkpoint, Run}
 use Rattle.conf_tools.specs.Prelude.{Export, Names, Get, Exists, Log, Verify, Salvage, Backup, Format, Check, Unparsed}
 use Rattle.conf_tools.specs.Prelude.{Shown, Wrong}
 use Rattle.conf_words.specs.declared.unparsed.Unparsed.TheVariants.{OutOfMemory as NoMemory}
 use Rattle.conf_tools.specs.{Dropped.TellsDropped, Exports.TellsExport, Listening.fault_line}
-use Rattle.conf_tools.specs.{ReadingStatuses.status_of_reading, Styles.TellsLeftOut}
+use Rattle.conf_tools.specs.{ReadingStatuses.status_of_reading, Refused.TellsFault, Styles.TellsLeftOut}
 use Rattle.conf_tools.specs.{Tails.TellsRest, Tails.end_of_rest, declared.outcome.Ending.Ending}
-use Rattle.conf_tools.specs.{declared.outcome.Ending.TheVariants.Of, declared.outcome.Ending.TheVariants.Told}
+use Rattle.conf_tools.specs.declared.outcome.Ending.TheVariants.{Of, Told, ToldFault}
 use Rattle.conf_tools.specs.{declared.outcome.Outcome.Outcome, declared.program.Status.Status, declared.tail.Tail.Tail}
 use Rattle.conf_tools.specs.{declared.texts.ToolFault.ToolFault, declared.texts.ToolFault.TheVariants.Output}
 use Rattle.conf_tools.specs.FaultLines.{reading_fault_name, store_fault_name, text_fault_name}
@@ -32,6 +32,7 @@ status_of_outcome (ends.Keeping fault) = status_of_new_file fault
 abbrev pub status_of_ending : Ending → Status
 status_of_ending (Of outcome) = status_of_outcome outcome
 status_of_ending (Told status) = status
+status_of_ending (ToldFault fault) = status_of fault
 
 -- how the writing of a text ends
 abbrev pub EndsWriting : Outcome → Type 0
@@ -62,6 +63,7 @@ module _ {E : Type 0} (hears : E → List ℕ → E → Type 0) where
   abbrev pub TellsEnding : Ending → E → E → Type 0
   TellsEnding (Of outcome) old new = TellsOutcome outcome old new
   TellsEnding (Told status) old new = new ≡ old
+  TellsEnding (ToldFault fault) old new = new ≡ old
 
 -- what a session did not perform of an input with this tail was told, where it came to the end of the input
 abbrev pub TellsUnperformed : {E A F : Type 0} → (E → List ℕ → E → Type 0) → Tail → Result (A × Tally) F → E → E → Type 0
@@ -88,18 +90,19 @@ SilentReport (Err fault) old new = Unit {0}
 -- what went wrong is still to be told
 abbrev pub IsUntold : Ending → Type 0
 IsUntold (Of outcome) = Unit {0}
-IsUntold (Told status) = ⊥
+IsUntold ending = ⊥
 
 module _ {E : Type 0} (hears : E → List ℕ → E → Type 0) where
   -- where the status is 0, at most how many comments were left out was told
   abbrev pub TellsIfDone : Status → E → E → Type 0
   TellsIfDone status old new = code_of status ≡ 0 → TellsLeftOut hears old new
 
-  -- At most how many comments were left out was told, and what is still to be told was not; or what went wrong was told,
-  -- and the status is not 0.
+  -- At most how many comments were left out was told, and what is still to be told was not; or what is wrong with a text
+  -- was told.
   abbrev pub TellsOnlyTold : Ending → E → E → Type 0
   TellsOnlyTold (Of outcome) old new = TellsLeftOut hears old new
-  TellsOnlyTold (Told status) old new = code_of status ≡ 0 → ⊥
+  TellsOnlyTold (ToldFault fault) old new = TellsFault hears old fault
+  TellsOnlyTold (Told status) old new = ⊥
 
   -- nothing was told so far, not even what went wrong
   abbrev pub LeavesAll : E → Ending → E → Type 0
@@ -109,20 +112,29 @@ module _ {E : Type 0} (hears : E → List ℕ → E → Type 0) where
   abbrev pub LeavesOpened : E → Ending → E → Type 0
   LeavesOpened old ending new = IsUntold ending × TellsDropped hears old new
 
-  -- the same, and then at most how many comments were left out; or what is wrong with a text was told
+  -- the same, and then at most how many comments were left out, or what is wrong with the text
   abbrev pub LeavesImport : E → Ending → E → Type 0
   LeavesImport old (Of outcome) new = (opened : E) × TellsDropped hears old opened × TellsLeftOut hears opened new
-  LeavesImport old (Told status) new = SilentIfDone status old new
+  LeavesImport old (ToldFault fault) new = (opened : E) × TellsDropped hears old opened × TellsFault hears opened fault
+  LeavesImport old (Told status) new = ⊥
 
-  -- the same, first of the comments
+  -- the same, first of the comments; or what is wrong with the text was told
   abbrev pub LeavesSet : E → Ending → E → Type 0
   LeavesSet old (Of outcome) new = (read : E) × TellsLeftOut hears old read × TellsDropped hears read new
-  LeavesSet old (Told status) new = SilentIfDone status old new
+  LeavesSet old (ToldFault fault) new = TellsFault hears old fault
+  LeavesSet old (Told status) new = ⊥
 
-  -- what is wrong with a text was told
+  -- at most what opening dropped was told so far; or what is wrong with the text was told
+  abbrev pub LeavesBatch : E → Ending → E → Type 0
+  LeavesBatch old (Of outcome) new = TellsDropped hears old new
+  LeavesBatch old (ToldFault fault) new = TellsFault hears old fault
+  LeavesBatch old (Told status) new = ⊥
+
+  -- What is wrong with texts was told: of one text its fault, and of several files what `tells` says of the status.
   abbrev pub LeavesTold : (Status → E → E → Type 0) → E → Ending → E → Type 0
-  LeavesTold tells old (Of outcome) new = ⊥
   LeavesTold tells old (Told status) new = tells status old new
+  LeavesTold tells old (ToldFault fault) new = TellsFault hears old fault
+  LeavesTold tells old (Of outcome) new = ⊥
 
   -- What a word leaves to be told at its end. One that reads the file of a store has told nothing so far. One that opens a
   -- store may have told what opening dropped, an export that it read the file as it stands, and a session what it did not
@@ -135,6 +147,7 @@ module _ {E : Type 0} (hears : E → List ℕ → E → Type 0) where
   Leaves (Delete folder name pointer conditions) old ending new = LeavesOpened old ending new
   Leaves (Copy folder name to conditions) old ending new = LeavesOpened old ending new
   Leaves (Rename folder name to conditions) old ending new = LeavesOpened old ending new
+  Leaves (Batch folder file count reporting) old ending new = LeavesBatch old ending new
   Leaves (Checkpoint folder) old ending new = LeavesOpened old ending new
   Leaves (Run folder grouping) old ending new = IsUntold ending × TellsSession hears old new
   Leaves (Export folder name form) old ending new = IsUntold ending × TellsExport hears old new
@@ -148,12 +161,10 @@ module _ {E : Type 0} (hears : E → List ℕ → E → Type 0) where
   Leaves (Format formatting files reporting) old ending new = LeavesTold TellsIfDone old ending new
   Leaves (Check style files reporting) old ending new = LeavesTold SilentIfDone old ending new
 
--- What a run tells: first what its word does (`leaves`), and then its ending, of which the status is that of the run. Only
--- where a device failed does more follow, which says why.
-pub record Tells {E : Type 0} (hears : E → List ℕ → E → Type 0) (word : Invocation) (old new : E) (ended : Status)
-    : Type 0 where
-  pub ending : Ending
-  pub is : ended ≡ status_of_ending ending
+-- What a run tells that ends so, with this status: first what its word does (`leaves`), and then its ending. Only where a
+-- device failed does more follow, which says why.
+pub record Tells {E : Type 0} (hears : E → List ℕ → E → Type 0) (word : Invocation) (old new : E) (ending : Ending)
+    (ended : Status) : Type 0 where
   pub before : E
   pub leaves : Leaves hears word old ending before
   pub told : E
@@ -167,10 +178,14 @@ module _ {E : Type 0} (hears : E → List ℕ → E → Type 0) where
   abbrev pub TellsNoMemory : E → E → Type 0
   TellsNoMemory old new = hears old (fault_line (codes "OutOfMemory")) new
 
-  -- What is told where there is no invocation. Of help that was written nothing is told, and of help that was not, a line.
-  abbrev pub TellsUnparsed : Unparsed → E → E → Status → Type 0
-  TellsUnparsed (Shown text) old new ended =
+  -- of a text that was written nothing is told, and of one that was not, a line
+  abbrev pub TellsShown : E → E → Status → Type 0
+  TellsShown old new ended =
       ((ended ≡ Done) × (new ≡ old)) ⊎ ((ended ≡ Device) × hears old (fault_line (codes "Output")) new)
+
+  -- What is told where there is no invocation. Help is such a text.
+  abbrev pub TellsUnparsed : Unparsed → E → E → Status → Type 0
+  TellsUnparsed (Shown text) old new ended = TellsShown old new ended
   TellsUnparsed (Wrong lines) old new ended = hears old (string_bytes lines) new
   TellsUnparsed NoMemory old new ended = TellsNoMemory old new
 

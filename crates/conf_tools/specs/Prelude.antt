@@ -43,7 +43,7 @@ pub use Rattle.conf_words.specs.declared.invocation.Comments.{Comments}
 pub use Rattle.conf_words.specs.declared.invocation.Conditions.{Conditions}
 pub use Rattle.conf_words.specs.declared.invocation.Invocation.{Invocation}
 pub use Rattle.conf_words.specs.declared.invocation.Invocation.TheVariants.{Init, Import, Set, Delete, Copy, Rename}
-pub use Rattle.conf_words.specs.declared.invocation.Invocation.TheVariants.{Checkpoint, Run, Export, Names, Get, Exists}
+pub use Rattle.conf_words.specs.declared.invocation.Invocation.TheVariants.{Batch, Checkpoint, Run, Export, Names, Get, Exists}
 pub use Rattle.conf_words.specs.declared.invocation.Invocation.TheVariants.{Log, Verify, Salvage, Backup, Format, Check}
 pub use Rattle.conf_words.specs.declared.invocation.MissingValue.{MissingValue}
 pub use Rattle.conf_words.specs.declared.invocation.NamesForm.{NamesForm}

@@ -17,7 +17,8 @@ use Rattle.conf_words.specs.declared.invocation.MissingValue.TheVariants.{Defaul
 use Rattle.conf_words.specs.declared.invocation.RawEnd.TheVariants.{LineFeed, Nothing}
 use Rattle.conf_words.specs.declared.invocation.TreeForm.TheVariants.{Styled, Json, Plain}
 use Rattle.conf_words.specs.declared.invocation.ValueForm.TheVariants.{Whole, Raw, Keys}
-use Rattle.conf_tools.specs.{declared.reading_fault.ReadingFault.ReadingFault, declared.reads.Presence.Presence}
+use Rattle.conf_tools.specs.{Parts.WritesPart, declared.reading_fault.ReadingFault.ReadingFault}
+use Rattle.conf_tools.specs.declared.reads.Presence.{Presence}
 use Rattle.conf_tools.specs.declared.reading_fault.ReadingFault.TheVariants.{History, Value, NotText, NotCollection}
 use Rattle.conf_tools.specs.declared.reading_fault.ReadingFault.TheVariants.{Output}
 use Rattle.conf_tools.specs.declared.reads.Presence.TheVariants.{Present, Absent}
@@ -174,9 +175,11 @@ RefusesFile several given at held written (History fault) =
 RefusesFile several given at held written fault = ⊥
 
 -- why not all names were written: the file doesn't answer, or the writer failed
-abbrev pub RefusesNames : Bool → Option (List ℕ) → Option ℕ → Option (List ℕ) → Option (List ℕ) → ReadingFault → Type 0
-RefusesNames several given at held written Output = (state : Contents) × FileHolds several given at state
-RefusesNames several given at held written fault = RefusesFile several given at held written fault
+abbrev pub RefusesNames : Bool → Option (List ℕ) → Option ℕ → NamesForm → Option (List ℕ) → Option (List ℕ)
+    → ReadingFault → Type 0
+RefusesNames several given at form held written Output =
+    (state : Contents) × FileHolds several given at state × WritesPart (names_text form (names_of state.configs)) held written
+RefusesNames several given at form held written fault = RefusesFile several given at held written fault
 
 -- Why not all of the values were written: the file doesn't answer, its state has no such values, or the writer failed.
 abbrev pub RefusesValues : Bool → Option (List ℕ) → Option ℕ → List ℕ → List (List ℕ) → MissingValue → ValueForm
@@ -185,7 +188,7 @@ RefusesValues several given at name pointers missing form held written (History 
     RefusesFile several given at held written (History fault)
 RefusesValues several given at name pointers missing form held written Output =
     (state : Contents) × FileHolds several given at state
-    × ((bytes : List ℕ) × ShowsAll (value_or missing state name) form pointers bytes)
+    × ((bytes : List ℕ) × ShowsAll (value_or missing state name) form pointers bytes × WritesPart bytes held written)
 RefusesValues several given at name pointers missing form held written fault =
     (state : Contents) × FileHolds several given at state
     × LacksOne (value_or missing state name) form pointers fault × Keeps held written

@@ -6,10 +6,10 @@ use Rattle.conf_tools.specs.declared.stores.StoreToolFault.TheVariants.{Folder a
 use Rattle.conf_tools.specs.declared.stores.StoreToolFault.TheVariants.{Condition as OnCondition}
 use Rattle.conf_tools.specs.declared.stores.StoreToolFault.TheVariants.{Refused as RefusedChange}
 use Rattle.conf_tools.specs.{declared.stores.StoreToolFault.StoreToolFault, declared.program.Status.Status}
-use Rattle.conf_tools.specs.{declared.texts.ToolFault.ToolFault}
+use Rattle.conf_tools.specs.{Parts.WritesPart, declared.texts.ToolFault.ToolFault}
 use Rattle.conf_tools.specs.declared.stores.StoreToolFault.TheVariants.{Open, Session, Export, StoreExists}
 use Rattle.conf_tools.specs.declared.program.Status.TheVariants.{Done, Found, Absent, Refused, WrongWords, Device}
-use Rattle.conf_tools.specs.declared.texts.ToolFault.TheVariants.{Input, Output, Read, Comments, Unsettled, OneValue}
+use Rattle.conf_tools.specs.declared.texts.ToolFault.TheVariants.{Input, Output}
 use Rattle.conf_folder.specs.declared.fault.FolderFault.TheVariants as FolderFault
 use Rattle.conf_state.specs.declared.fault.StoreFault.TheVariants as StoreFault
 use Rattle.conf_store.specs.declared.fault.OpenFault.TheVariants as OpenFault
@@ -32,10 +32,7 @@ worst one other = if nat_lt (code_of one) (code_of other) then other else one
 abbrev pub status_of : ToolFault → Status
 status_of Input = Device
 status_of Output = Device
-status_of (Read fault) = Refused
-status_of (Comments place) = Refused
-status_of Unsettled = Refused
-status_of OneValue = Refused
+status_of fault = Refused
 
 -- the status after a fault of a word on a store
 abbrev pub status_of_store : StoreToolFault → Status
@@ -58,9 +55,13 @@ status_of_store (RefusedChange StoreFault.Reopen) = Device
 status_of_store (RefusedChange fault) = Refused
 status_of_store StoreExists = Refused
 
--- Help or the version was written whole, and nothing was written for wrong words, or where memory ran out.
+-- a text was written whole, or the first of it, and the writer failed
+abbrev pub ShowsText : List ℕ → Option (List ℕ) → Option (List ℕ) → Status → Type 0
+ShowsText bytes held written status =
+    ((status ≡ Done) × Appends held written bytes) ⊎ ((status ≡ Device) × WritesPart bytes held written)
+
+-- Help or the version was written so, and nothing was written for wrong words, or where memory ran out.
 abbrev pub ShowsUnparsed : Unparsed → Option (List ℕ) → Option (List ℕ) → Status → Type 0
-ShowsUnparsed (Shown text) held written status =
-    ((status ≡ Done) × Appends held written (string_bytes text)) ⊎ (status ≡ Device)
+ShowsUnparsed (Shown text) held written status = ShowsText (string_bytes text) held written status
 ShowsUnparsed (Wrong lines) held written status = (status ≡ WrongWords) × Keeps held written
 ShowsUnparsed UnparsedOutOfMemory held written status = (status ≡ Refused) × Keeps held written

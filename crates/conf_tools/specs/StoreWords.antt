@@ -9,190 +9,165 @@ use Rattle.conf_history.specs.Salvages.{LeavesOldOrSaved, RefusesSalvage, Saves,
 use Rattle.conf_history.specs.declared.fault.SalvageFault.TheVariants.{StoreExists as NewStoreExists}
 use Rattle.conf_folder.specs.declared.fault.FolderFault.TheVariants.{NotAStore as TooLongForStore}
 use Rattle.conf_tools.specs.declared.reading_fault.ReadingFault.TheVariants.{Folder as ReadingFolder}
-use Rattle.conf_tools.specs.declared.reads.Presence.TheVariants.{Absent as NothingThere}
 use Rattle.conf_tools.specs.declared.stores.StoreToolFault.TheVariants.{Folder as InFolder}
-use Rattle.conf_tools.specs.{Asking.AskedConditions, ReadingStatuses.status_of_reading, declared.changes.Change.Change}
-use Rattle.conf_tools.specs.{declared.program.Status.Status, declared.reading_fault.ReadingFault.ReadingFault}
-use Rattle.conf_tools.specs.{declared.reads.Presence.Presence, declared.reads.Presence.TheVariants.Present}
+use Rattle.conf_tools.specs.{Asking.AskedConditions, declared.changes.Change.Change, declared.outcome.Ending.Ending}
+use Rattle.conf_tools.specs.{declared.outcome.Ending.TheVariants.Of, declared.reading_fault.ReadingFault.ReadingFault}
+use Rattle.conf_tools.specs.declared.outcome.Outcome.TheVariants as outcome
+use Rattle.conf_tools.specs.declared.reads.Presence.{Presence}
 use Rattle.conf_tools.specs.{declared.stores.Grouping.Grouping, declared.stores.StoreToolFault.StoreToolFault}
 use Rattle.conf_tools.specs.{declared.surveys.Soundness.Soundness, declared.world.Access.Access}
 use Rattle.conf_tools.specs.declared.read_words.Question.{Question}
 use Rattle.conf_tools.specs.declared.read_words.Question.TheVariants as asks
 use Rattle.conf_tools.specs.Changes.{CannotChange, CannotMake, ChangeSurvives, ChangesOn, MakesStore}
+use Rattle.conf_tools.specs.Endings.{EndsSurvey, EndsWith, ending_after_log, ending_after_presence, ending_after_reading}
+use Rattle.conf_tools.specs.Endings.{ending_at_end}
 use Rattle.conf_tools.specs.Exports.{HasText, LacksText, disk_back, disk_handed_back}
+use Rattle.conf_tools.specs.Parts.{WritesPart}
 use Rattle.conf_tools.specs.Reads.{FindsPresence, RefusesNames, RefusesPresence, RefusesValues, WritesNames, WritesValues, pointers_of}
-use Rattle.conf_tools.specs.Statuses.{status_of, status_of_store}
 use Rattle.conf_tools.specs.Stores.{RunsOn, SurvivesCrashes}
 use Rattle.conf_tools.specs.Surveys.{CannotWrite, RefusesWriting, WritesSurvey, findings_text}
 use Rattle.conf_tools.specs.Worlds.{Around, LeavesStreams, WorldModel}
-use Rattle.conf_tools.specs.declared.program.Status.TheVariants.{Done, Absent, Refused, Device}
 use Rattle.conf_tools.specs.declared.reading_fault.ReadingFault.TheVariants.{History, Salvage}
-use Rattle.conf_tools.specs.declared.surveys.Soundness.TheVariants.{Whole, Damaged}
+use Rattle.conf_tools.specs.declared.texts.ToolFault.TheVariants.{Output}
 use Rattle.conf_tools.specs.declared.world.Access.TheVariants.{Making, New, Reading}
 pub use Rattle.conf_conditions.specs.Conditions.{Condition, conditions_of}
 
--- ---- statuses
-
--- the status of what was done on a disk
-abbrev pub status_at_end : {A D : Type 0} → Result A (D × StoreToolFault) → Status
-status_at_end (Ok done) = Done
-status_at_end (Err refused) = status_of_store refused.1
-
--- the status of what was read of a store's file
-abbrev pub status_after_reading : {A : Type 0} → Result A ReadingFault → Status
-status_after_reading (Ok done) = Done
-status_after_reading (Err fault) = status_of_reading fault
-
--- the status of a log
-abbrev pub status_after_log : Result (Unit {0}) HistoryFault → Status
-status_after_log (Ok done) = Done
-status_after_log (Err fault) = status_of_reading (History fault)
-
--- the status of `exists`
-abbrev pub status_after_presence : Result Presence ReadingFault → Status
-status_after_presence (Ok Present) = Done
-status_after_presence (Ok NothingThere) = Absent
-status_after_presence (Err fault) = status_of_reading fault
-
--- the status of `verify`
-abbrev pub status_after_survey : Result Soundness ReadingFault → Status
-status_after_survey (Ok Whole) = Done
-status_after_survey (Ok Damaged) = Refused
-status_after_survey (Err fault) = status_of_reading fault
-
--- the bytes were written whole, or the writer failed
-abbrev pub WritesWhole : List ℕ → Option (List ℕ) → Option (List ℕ) → Status → Type 0
-WritesWhole bytes held written status = (Appends held written bytes × (status ≡ Done)) ⊎ (status ≡ Device)
+-- the bytes were written whole, or the first of them, and the writer failed
+abbrev pub WritesWhole : List ℕ → Option (List ℕ) → Option (List ℕ) → Ending → Type 0
+WritesWhole bytes held written ending =
+    (Appends held written bytes × (ending ≡ Of outcome.Done))
+    ⊎ (WritesPart bytes held written × (ending ≡ Of (outcome.Text Output)))
 
 -- the text was written that an export found, or nothing where it found none
 abbrev pub WritesFound : {D : Type 0} → Result (D × String Global) (D × StoreToolFault) → Option (List ℕ) → Option (List ℕ)
-    → Status → Type 0
-WritesFound (Ok found) held written status = WritesWhole (string_bytes found.1) held written status
-WritesFound (Err refused) held written status = (written ≡ held) × (status ≡ status_of_store refused.1)
+    → Ending → Type 0
+WritesFound (Ok found) held written ending = WritesWhole (string_bytes found.1) held written ending
+WritesFound (Err refused) held written ending = (written ≡ held) × (ending ≡ Of (outcome.Store refused.1))
 
 -- ---- words that take the disk of a folder
 
 module _ {W D F P : Type 0} (world : WorldModel W D F P) (disk : DiskModel D) where
   -- the disk of the folder was not handed out, and that is the fault
-  pub record CannotUse (access : Access) (folder : List ℕ) (old new : W) (status : Status) : Type 0 where
+  pub record CannotUse (access : Access) (folder : List ℕ) (old new : W) (ending : Ending) : Type 0 where
     pub fault : FolderFault
     pub opens : world.opened access folder old (Err fault) new
-    pub ends : status ≡ status_of_store (InFolder fault)
+    pub ends : ending ≡ Of (outcome.Store (InFolder fault))
 
   -- An empty store was made on the disk of the folder, or why not; and the disk was given back.
-  pub record MakesIn (folder : List ℕ) (old new : W) (status : Status) : Type 0 where
+  pub record MakesIn (folder : List ℕ) (old new : W) (ending : Ending) : Type 0 where
     pub first : D
     pub opened : W
     pub opens : world.opened New folder old (Ok first) opened
     pub result : Result D (D × StoreToolFault)
     pub gives_back : world.given_back (disk_handed_back result) opened new
-    pub ends : status ≡ status_at_end result
+    pub ends : ending ≡ ending_at_end result
     pub made : IfOk result (λ last. disk.honest → MakesStore disk.folder first last)
     pub refused : IfErr result (λ refused. CannotMake disk first refused.0 refused.1)
     pub survives : disk.honest → LeavesOnly disk first (disk_handed_back result)
         (MeantAtEntry (disk.folder first))
 
   -- the folder was not made, and that is the fault
-  pub record CannotMakeFolder (folder : List ℕ) (old new : W) (status : Status) : Type 0 where
+  pub record CannotMakeFolder (folder : List ℕ) (old new : W) (ending : Ending) : Type 0 where
     pub fault : FolderFault
     pub makes : world.made_folder folder old (Err fault) new
-    pub ends : status ≡ status_of_store (InFolder fault)
+    pub ends : ending ≡ Of (outcome.Store (InFolder fault))
 
   -- an empty store in a folder
-  abbrev pub MakesInFolder : List ℕ → W → W → Status → Type 0
-  MakesInFolder folder old new status = CannotUse New folder old new status ⊎ MakesIn folder old new status
+  abbrev pub MakesInFolder : List ℕ → W → W → Ending → Type 0
+  MakesInFolder folder old new ending = CannotUse New folder old new ending ⊎ MakesIn folder old new ending
 
   -- the folder was made, or was there
-  pub record MakesFolder (folder : List ℕ) (old new : W) (status : Status) : Type 0 where
+  pub record MakesFolder (folder : List ℕ) (old new : W) (ending : Ending) : Type 0 where
     pub made : W
     pub makes : world.made_folder folder old (Ok tt) made
-    pub then : MakesInFolder folder made new status
+    pub then : MakesInFolder folder made new ending
 
   -- `init`
-  abbrev pub Inits : List ℕ → W → W → Status → Type 0
-  Inits folder old new status = CannotMakeFolder folder old new status ⊎ MakesFolder folder old new status
+  abbrev pub Inits : List ℕ → W → W → Ending → Type 0
+  Inits folder old new ending = CannotMakeFolder folder old new ending ⊎ MakesFolder folder old new ending
 
   -- Where the conditions held, the change was made of the store on the disk of the folder, or why not; and the disk was
   -- given back.
   pub record ChangesIn (access : Access) (folder : List ℕ) (conditions : List Condition) (change : Change) (old new : W)
-      (status : Status) : Type 0 where
+      (ending : Ending) : Type 0 where
     pub first : D
     pub opened : W
     pub opens : world.opened access folder old (Ok first) opened
     pub result : Result D (D × StoreToolFault)
     pub gives_back : world.given_back (disk_handed_back result) opened new
-    pub ends : status ≡ status_at_end result
+    pub ends : ending ≡ ending_at_end result
     pub made : IfOk result (ChangesOn disk first conditions change)
     pub refused : IfErr result (λ refused. CannotChange disk first conditions change refused.0 refused.1)
     pub survives : disk.honest → ChangeSurvives disk first change result
 
   -- a change of the store in a folder
-  abbrev pub ChangesInFolder : Access → List ℕ → List Condition → Change → W → W → Status → Type 0
-  ChangesInFolder access folder conditions change old new status =
-      CannotUse access folder old new status ⊎ ChangesIn access folder conditions change old new status
+  abbrev pub ChangesInFolder : Access → List ℕ → List Condition → Change → W → W → Ending → Type 0
+  ChangesInFolder access folder conditions change old new ending =
+      CannotUse access folder old new ending ⊎ ChangesIn access folder conditions change old new ending
 
   -- The same. Where the conditions can't be asked for, no folder is looked at.
-  abbrev pub MakesChange : Access → List ℕ → AskedConditions → Change → W → W → Status → Type 0
-  MakesChange access folder (Ok conditions) change old new status =
-      ChangesInFolder access folder (conditions_of conditions.items) change old new status
-  MakesChange access folder (Err fault) change old new status = (new ≡ old) × (status ≡ status_of fault)
+  abbrev pub MakesChange : Access → List ℕ → AskedConditions → Change → W → W → Ending → Type 0
+  MakesChange access folder (Ok conditions) change old new ending =
+      ChangesInFolder access folder (conditions_of conditions.items) change old new ending
+  MakesChange access folder (Err fault) change old new ending = (new ≡ old) × EndsWith fault ending
 
   -- A session ran on the disk of the folder, and the disk was given back.
-  pub record RunsIn (folder : List ℕ) (grouping : Grouping) (old new : Around W) (status : Status) : Type 0 where
+  pub record RunsIn (folder : List ℕ) (grouping : Grouping) (old new : Around W) (ending : Ending) : Type 0 where
     pub first : D
     pub opened : W
     pub opens : world.opened Making folder old.world (Ok first) opened
     pub result : Result (D × Tally) (D × StoreToolFault)
     pub gives_back : world.given_back (disk_back result) opened new.world
-    pub ends : status ≡ status_at_end result
+    pub ends : ending ≡ ending_at_end result
     pub runs : RunsOn disk (streams_of old.input new.input old.output new.output) grouping first result
     pub survives : disk.honest
         → SurvivesCrashes disk (streams_of old.input new.input old.output new.output) grouping first result
 
   -- the disk was not handed out, and nothing was read or written
-  pub record CannotRun (folder : List ℕ) (old new : Around W) (status : Status) : Type 0 where
-    pub cannot : CannotUse Making folder old.world new.world status
+  pub record CannotRun (folder : List ℕ) (old new : Around W) (ending : Ending) : Type 0 where
+    pub cannot : CannotUse Making folder old.world new.world ending
     pub streams : LeavesStreams old new
 
   -- `run`
-  abbrev pub RunsOnFolder : List ℕ → Grouping → Around W → Around W → Status → Type 0
-  RunsOnFolder folder grouping old new status =
-      CannotRun folder old new status ⊎ RunsIn folder grouping old new status
+  abbrev pub RunsOnFolder : List ℕ → Grouping → Around W → Around W → Ending → Type 0
+  RunsOnFolder folder grouping old new ending =
+      CannotRun folder old new ending ⊎ RunsIn folder grouping old new ending
 
   -- The text of the configuration was found on the disk of the folder, or why not; the disk was given back, and the text
   -- was written.
-  pub record ExportsFrom (form : TreeForm) (folder name : List ℕ) (old new : W) (held written : Option (List ℕ)) (status : Status)
+  pub record ExportsFrom (form : TreeForm) (folder name : List ℕ) (old new : W) (held written : Option (List ℕ)) (ending : Ending)
       : Type 0 where
     pub first : D
     pub opened : W
     pub opens : world.opened Reading folder old (Ok first) opened
     pub result : Result (D × String Global) (D × StoreToolFault)
     pub gives_back : world.given_back (disk_back result) opened new
-    pub writes : WritesFound result held written status
+    pub writes : WritesFound result held written ending
     pub found : IfOk result (λ found. HasText disk form first found.0 (chars name) (string_bytes found.1))
     pub refused : IfErr result (λ refused. LacksText disk first refused.0 (chars name) refused.1)
     pub survives : disk.honest → LeavesOnly disk first (disk_back result)
         (MeantAtEntry (disk.folder first))
 
   -- the disk was not handed out, and nothing was written
-  pub record CannotExport (folder : List ℕ) (old new : W) (held written : Option (List ℕ)) (status : Status)
+  pub record CannotExport (folder : List ℕ) (old new : W) (held written : Option (List ℕ)) (ending : Ending)
       : Type 0 where
-    pub cannot : CannotUse Reading folder old new status
+    pub cannot : CannotUse Reading folder old new ending
     pub keeps : written ≡ held
 
   -- `export`
-  abbrev pub ExportsFromFolder : TreeForm → List ℕ → List ℕ → W → W → Option (List ℕ) → Option (List ℕ) → Status → Type 0
-  ExportsFromFolder form folder name old new held written status =
-      CannotExport folder old new held written status ⊎ ExportsFrom form folder name old new held written status
+  abbrev pub ExportsFromFolder : TreeForm → List ℕ → List ℕ → W → W → Option (List ℕ) → Option (List ℕ) → Ending → Type 0
+  ExportsFromFolder form folder name old new held written ending =
+      CannotExport folder old new held written ending ⊎ ExportsFrom form folder name old new held written ending
 
 -- what stands in the file was written, where a store was made of it
 abbrev pub WritesFindings : {D : Type 0} → Result (D × Findings) (D × SalvageFault) → Option (List ℕ) → Option (List ℕ)
-    → Status → Type 0
-WritesFindings (Ok saved) held written status =
-    (ended : Result (Unit {0}) ReadingFault) × (status ≡ status_after_reading ended)
-    × OnOk ended (Appends held written (findings_text saved.1)) × IfErr ended (CannotWrite held written)
-WritesFindings (Err refused) held written status =
-    (written ≡ held) × (status ≡ status_of_reading (Salvage refused.1))
+    → Ending → Type 0
+WritesFindings (Ok saved) held written ending =
+    (ended : Result (Unit {0}) ReadingFault) × (ending ≡ ending_after_reading ended)
+    × OnOk ended (Appends held written (findings_text saved.1))
+    × IfErr ended (CannotWrite (findings_text saved.1) held written)
+WritesFindings (Err refused) held written ending =
+    (written ≡ held) × (ending ≡ Of (outcome.Reading (Salvage refused.1)))
 
 -- ---- words that read the file of a store
 
@@ -207,63 +182,63 @@ module _ {W D F P : Type 0} (world : WorldModel W D F P) where
 module _ {F : Type 0} (several : F → Bool) (remaining : F → Option (List ℕ)) where
   -- What a word on the file writes is as `says` of its note and of what it gives, where it was opened; else nothing is
   -- written.
-  abbrev pub SaysOfFile : (Bool → Option (List ℕ) → Option (List ℕ) → Option (List ℕ) → Status → Type 0)
-      → Result F ReadingFault → Option (List ℕ) → Option (List ℕ) → Status → Type 0
-  SaysOfFile says (Ok file) held written status = says (several file) (remaining file) held written status
-  SaysOfFile says (Err fault) held written status = (written ≡ held) × (status ≡ status_of_reading fault)
+  abbrev pub SaysOfFile : (Bool → Option (List ℕ) → Option (List ℕ) → Option (List ℕ) → Ending → Type 0)
+      → Result F ReadingFault → Option (List ℕ) → Option (List ℕ) → Ending → Type 0
+  SaysOfFile says (Ok file) held written ending = says (several file) (remaining file) held written ending
+  SaysOfFile says (Err fault) held written ending = (written ≡ held) × (ending ≡ Of (outcome.Reading fault))
 
 module _ {W D F P : Type 0} (world : WorldModel W D F P) (remaining : F → Option (List ℕ)) where
   -- A word on the file of the store in a folder.
   pub record Reads (folder : List ℕ)
-      (says : Bool → Option (List ℕ) → Option (List ℕ) → Option (List ℕ) → Status → Type 0)
-      (old new : W) (held written : Option (List ℕ)) (status : Status) : Type 0 where
+      (says : Bool → Option (List ℕ) → Option (List ℕ) → Option (List ℕ) → Ending → Type 0)
+      (old new : W) (held written : Option (List ℕ)) (ending : Ending) : Type 0 where
     pub file : Result F ReadingFault
     pub opens : OpensFile world folder old file new
-    pub does : SaysOfFile world.several remaining says file held written status
+    pub does : SaysOfFile world.several remaining says file held written ending
 
 -- the names that the file holds
 pub record SaysNames (at : Option ℕ) (form : NamesForm) (several : Bool) (given held written : Option (List ℕ))
-    (status : Status) : Type 0 where
+    (ending : Ending) : Type 0 where
   pub result : Result (Unit {0}) ReadingFault
-  pub ends : status ≡ status_after_reading result
+  pub ends : ending ≡ ending_after_reading result
   pub done : OnOk result (WritesNames several given at form held written)
-  pub refused : IfErr result (RefusesNames several given at held written)
+  pub refused : IfErr result (RefusesNames several given at form held written)
 
 -- values that it holds
 pub record SaysValues (at : Option ℕ) (name : List ℕ) (pointers : List (List ℕ)) (missing : MissingValue)
-    (form : ValueForm) (several : Bool) (given held written : Option (List ℕ)) (status : Status) : Type 0 where
+    (form : ValueForm) (several : Bool) (given held written : Option (List ℕ)) (ending : Ending) : Type 0 where
   pub result : Result (Unit {0}) ReadingFault
-  pub ends : status ≡ status_after_reading result
+  pub ends : ending ≡ ending_after_reading result
   pub done : OnOk result (WritesValues several given at (chars name) pointers missing form held written)
   pub refused : IfErr result (RefusesValues several given at (chars name) pointers missing form held written)
 
 -- whether something is at a place; nothing is written
 pub record SaysPresence (at : Option ℕ) (name pointer : List ℕ) (several : Bool)
-    (given held written : Option (List ℕ)) (status : Status) : Type 0 where
+    (given held written : Option (List ℕ)) (ending : Ending) : Type 0 where
   pub result : Result Presence ReadingFault
-  pub ends : status ≡ status_after_presence result
+  pub ends : ending ≡ ending_after_presence result
   pub done : IfOk result (FindsPresence several given at (chars name) (chars pointer))
   pub refused : IfErr result (RefusesPresence several given at (chars name) (chars pointer))
   pub keeps : written ≡ held
 
 -- its commands
 pub record SaysLog (at : Option ℕ) (request : LogRequest) (several : Bool) (given held written : Option (List ℕ))
-    (status : Status) : Type 0 where
+    (ending : Ending) : Type 0 where
   pub result : Result (Unit {0}) HistoryFault
-  pub ends : status ≡ status_after_log result
+  pub ends : ending ≡ ending_after_log result
   pub left : Option (List ℕ)
   pub done : OnOk result (LogsAll several at request given left held written)
   pub refused : IfErr result (FailsToLog several at request given held written)
 
 -- what an opening would find in it
-pub record SaysSurvey (several : Bool) (given held written : Option (List ℕ)) (status : Status) : Type 0 where
+pub record SaysSurvey (several : Bool) (given held written : Option (List ℕ)) (ending : Ending) : Type 0 where
   pub result : Result Soundness ReadingFault
-  pub ends : status ≡ status_after_survey result
+  pub ends : EndsSurvey result ending
   pub done : IfOk result (WritesSurvey several given held written)
   pub refused : IfErr result (RefusesWriting several given held written)
 
 -- what is written of a file to answer a question
-abbrev pub Says : Question → Bool → Option (List ℕ) → Option (List ℕ) → Option (List ℕ) → Status → Type 0
+abbrev pub Says : Question → Bool → Option (List ℕ) → Option (List ℕ) → Option (List ℕ) → Ending → Type 0
 Says (asks.Names at form) = SaysNames at form
 Says (asks.Values places missing form) =
     SaysValues places.at places.name.now (pointers_of places.pointers.now) missing form
@@ -301,13 +276,13 @@ module _ {W D F P : Type 0} (world : WorldModel W D F P) where
 module _ {W D F P : Type 0} (world : WorldModel W D F P) (disk : DiskModel D) where
   -- A store was made on the disk of the new folder of what the file gives, or why not; and the disk was given back.
   pub record SavesTo (folder : List ℕ) (several : Bool) (given : Option (List ℕ)) (old new : W)
-      (held written : Option (List ℕ)) (status : Status) : Type 0 where
+      (held written : Option (List ℕ)) (ending : Ending) : Type 0 where
     pub first : D
     pub opened : W
     pub opens : OpensNew world folder old (Ok first) opened
     pub result : Result (D × Findings) (D × SalvageFault)
     pub gives_back : world.given_back (disk_back result) opened new
-    pub writes : WritesFindings result held written status
+    pub writes : WritesFindings result held written ending
     pub left : Option (List ℕ)
     pub saved : disk.honest → IfOk result
         (λ saved. Saves several given left (disk.folder first) (disk.folder saved.0) saved.1)
@@ -316,31 +291,31 @@ module _ {W D F P : Type 0} (world : WorldModel W D F P) (disk : DiskModel D) wh
     pub survives : disk.honest → LeavesOldOrSaved several disk given left first (disk_of result)
 
   -- the new folder can't hold a store
-  pub record CannotSaveTo (folder : List ℕ) (old new : W) (held written : Option (List ℕ)) (status : Status)
+  pub record CannotSaveTo (folder : List ℕ) (old new : W) (held written : Option (List ℕ)) (ending : Ending)
       : Type 0 where
     pub fault : ReadingFault
     pub opens : OpensNew world folder old (Err fault) new
     pub keeps : written ≡ held
-    pub ends : status ≡ status_of_reading fault
+    pub ends : ending ≡ Of (outcome.Reading fault)
 
   -- a store in a new folder, of what a store's file gives
-  abbrev pub SavesInFolder : List ℕ → Bool → Option (List ℕ) → W → W → Option (List ℕ) → Option (List ℕ) → Status
+  abbrev pub SavesInFolder : List ℕ → Bool → Option (List ℕ) → W → W → Option (List ℕ) → Option (List ℕ) → Ending
       → Type 0
-  SavesInFolder folder several given old new held written status =
-      CannotSaveTo folder old new held written status ⊎ SavesTo folder several given old new held written status
+  SavesInFolder folder several given old new held written ending =
+      CannotSaveTo folder old new held written ending ⊎ SavesTo folder several given old new held written ending
 
 module _ {W D F P : Type 0} (world : WorldModel W D F P) (disk : DiskModel D) (remaining : F → Option (List ℕ)) where
   -- what is made of the file of a store, where it was opened
-  abbrev pub SavesFound : List ℕ → Result F ReadingFault → W → W → Option (List ℕ) → Option (List ℕ) → Status → Type 0
-  SavesFound folder (Ok file) old new held written status =
-      SavesInFolder world disk folder (world.several file) (remaining file) old new held written status
-  SavesFound folder (Err fault) old new held written status =
-      (new ≡ old) × (written ≡ held) × (status ≡ status_of_reading fault)
+  abbrev pub SavesFound : List ℕ → Result F ReadingFault → W → W → Option (List ℕ) → Option (List ℕ) → Ending → Type 0
+  SavesFound folder (Ok file) old new held written ending =
+      SavesInFolder world disk folder (world.several file) (remaining file) old new held written ending
+  SavesFound folder (Err fault) old new held written ending =
+      (new ≡ old) × (written ≡ held) × (ending ≡ Of (outcome.Reading fault))
 
   -- `salvage`
-  pub record Salvages (folder new_folder : List ℕ) (old new : W) (held written : Option (List ℕ)) (status : Status)
+  pub record Salvages (folder new_folder : List ℕ) (old new : W) (held written : Option (List ℕ)) (ending : Ending)
       : Type 0 where
     pub file : Result F ReadingFault
     pub found : W
     pub opens : OpensFile world folder old file found
-    pub saves : SavesFound new_folder file found new held written status
+    pub saves : SavesFound new_folder file found new held written ending

@@ -6,7 +6,8 @@ use Rattle.conf_store.specs.declared.records.NoRecord.{NoRecord}
 use Rattle.conf_store.specs.declared.records.NoRecord.TheVariants.{NotARecord, WrongNumber, Refused}
 use Rattle.conf_history.specs.{declared.place.Zeros.Zeros, declared.survey.Bad.Bad}
 use Rattle.conf_history.specs.declared.following.{BadKind.BadKind, BadKind.TheVariants.Torn, BadKind.TheVariants.Unexpected}
-use Rattle.conf_tools.specs.{declared.reading_fault.ReadingFault.ReadingFault, declared.surveys.Soundness.Soundness}
+use Rattle.conf_tools.specs.{Parts.WritesPart, declared.reading_fault.ReadingFault.ReadingFault}
+use Rattle.conf_tools.specs.declared.surveys.Soundness.{Soundness}
 use Rattle.conf_tools.specs.declared.reading_fault.ReadingFault.TheVariants.{History, Output}
 use Rattle.conf_tools.specs.declared.surveys.Soundness.TheVariants.{Whole, Damaged}
 
@@ -70,11 +71,11 @@ findings_text found =
 abbrev pub FileIsAs : Bool → Option (List ℕ) → Contents → Findings → Type 0
 FileIsAs several given state findings = IfSome given (λ bytes. IsSurvey several bytes state findings)
 
--- the findings were not written whole: memory ran out before, or the writer failed
-abbrev pub CannotWrite : Option (List ℕ) → Option (List ℕ) → ReadingFault → Type 0
-CannotWrite held written (History OutOfMemory) = Keeps held written
-CannotWrite held written Output = Unit {0}
-CannotWrite held written fault = ⊥
+-- the bytes were not written whole: memory ran out before, or the writer failed
+abbrev pub CannotWrite : List ℕ → Option (List ℕ) → Option (List ℕ) → ReadingFault → Type 0
+CannotWrite bytes held written (History OutOfMemory) = Keeps held written
+CannotWrite bytes held written Output = WritesPart bytes held written
+CannotWrite bytes held written fault = ⊥
 
 -- what an opening would find in the file was written
 pub record WritesSurvey (several : Bool) (given held written : Option (List ℕ)) (sound : Soundness) : Type 0 where
@@ -90,4 +91,5 @@ RefusesWriting several given held written (History fault) =
     IfSome given (λ bytes. RefusesSurvey bytes fault) × Keeps held written
 RefusesWriting several given held written Output =
     (state : Contents) × (findings : Findings) × FileIsAs several given state findings
+    × WritesPart (findings_text findings) held written
 RefusesWriting several given held written fault = ⊥

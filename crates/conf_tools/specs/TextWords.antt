@@ -14,10 +14,14 @@ use Rattle.conf_tools.specs.{declared.change_words.Alteration.Alteration, declar
 use Rattle.conf_tools.specs.declared.change_words.Meaning.{Meaning}
 use Rattle.conf_tools.specs.declared.change_words.Meaning.TheVariants as means
 use Rattle.conf_tools.specs.{declared.file_texts.Restyled.Restyled, declared.file_words.Report.Report}
+use Rattle.conf_tools.specs.declared.outcome.Ending.{Ending}
+use Rattle.conf_tools.specs.declared.outcome.Ending.TheVariants.{Told, ToldFault}
 use Rattle.conf_tools.specs.{declared.program.Status.Status, declared.texts.ToolFault.ToolFault}
-use Rattle.conf_tools.specs.FileTexts.{ChecksFile, Lists, Restyles, StopsInFile, StopsRestyling}
+use Rattle.conf_tools.specs.FileTexts.{ChecksFile, IsFileReport, IsNameLine, Lists, Restyles, StopsInFile}
+use Rattle.conf_tools.specs.FileTexts.{StopsRestyling}
+use Rattle.conf_tools.specs.Styles.{IsStyled}
 use Rattle.conf_tools.specs.Statuses.{status_of, worst}
-use Rattle.conf_tools.specs.Tools.{Checks, Formats, IsTaken, Stops, Taken}
+use Rattle.conf_tools.specs.Tools.{Checks, Formats, IsReport, IsTaken, Stops, Taken}
 use Rattle.conf_tools.specs.Worlds.{Around, WorldModel}
 use Rattle.conf_tools.specs.declared.changes.Change.TheVariants.{Import, Perform, Copy, Rename}
 use Rattle.conf_tools.specs.declared.file_texts.Restyled.TheVariants.{Same, Changed}
@@ -43,10 +47,15 @@ abbrev pub status_of_change : Bool → Status
 status_of_change false = Done
 status_of_change true = Found
 
--- the status of `check`
-abbrev pub status_after_check : Result ℕ ToolFault → Status
-status_after_check (Ok count) = status_of_count count
-status_after_check (Err fault) = status_of fault
+-- how `format` of one text ends
+abbrev pub ending_after_format : Result (Unit {0}) ToolFault → Ending
+ending_after_format (Ok done) = Told Done
+ending_after_format (Err fault) = ToldFault fault
+
+-- how `check` of one text ends
+abbrev pub ending_after_check : Result ℕ ToolFault → Ending
+ending_after_check (Ok count) = Told (status_of_count count)
+ending_after_check (Err fault) = ToldFault fault
 
 -- ---- the text of a file, or of the input
 
@@ -212,36 +221,38 @@ IsAlteration (alteration.Rename from) name pointer = IsRename from.now name
 pub record SaysStyled (style : Style) (result : Result (Unit {0}) ToolFault) (bytes : List ℕ) (held written : Option (List ℕ))
     : Type 0 where
   pub done : OnOk result (Formats style bytes held written)
-  pub stops : IfErr result (Stops bytes held written)
+  pub stops : IfErr result (Stops (IsStyled style bytes) bytes held written)
 
 -- the same of a text that was read; where none was, nothing was written
-abbrev pub FormatsRead : Style → Taken → Option (List ℕ) → Option (List ℕ) → Status → Type 0
-FormatsRead style (Ok bytes) held written status =
+abbrev pub FormatsRead : Style → Taken → Option (List ℕ) → Option (List ℕ) → Ending → Type 0
+FormatsRead style (Ok bytes) held written ending =
     (result : Result (Unit {0}) ToolFault) × SaysStyled style result bytes.items held written
-    × (status ≡ status_after result)
-FormatsRead style (Err fault) held written status = (written ≡ held) × (status ≡ status_of fault)
+    × (ending ≡ ending_after_format result)
+FormatsRead style (Err fault) held written ending = (written ≡ held) × (ending ≡ ToldFault fault)
 
 -- the findings of the text were written, or why not
 pub record SaysChecked (style : Style) (result : Result ℕ ToolFault) (bytes : List ℕ) (held written : Option (List ℕ))
     : Type 0 where
   pub done : IfOk result (Checks style bytes held written)
-  pub stops : IfErr result (Stops bytes held written)
+  pub stops : IfErr result (Stops (IsReport style bytes) bytes held written)
 
 -- the same of a text that was read
-abbrev pub ChecksRead : Style → Taken → Option (List ℕ) → Option (List ℕ) → Status → Type 0
-ChecksRead style (Ok bytes) held written status =
+abbrev pub ChecksRead : Style → Taken → Option (List ℕ) → Option (List ℕ) → Ending → Type 0
+ChecksRead style (Ok bytes) held written ending =
     (result : Result ℕ ToolFault) × SaysChecked style result bytes.items held written
-    × (status ≡ status_after_check result)
-ChecksRead style (Err fault) held written status = (written ≡ held) × (status ≡ status_of fault)
+    × (ending ≡ ending_after_check result)
+ChecksRead style (Err fault) held written ending = (written ≡ held) × (ending ≡ ToldFault fault)
 
 -- what a report on a file says, whose name is shown so
 abbrev pub SaysReport : Report → List ℕ → Result Status ToolFault → List ℕ → Option (List ℕ) → Option (List ℕ) → Type 0
 SaysReport (Findings style) name (Ok status) bytes held written =
     (count : ℕ) × ChecksFile style name bytes held written count × (status ≡ status_of_count count)
-SaysReport (Findings style) name (Err fault) bytes held written = StopsInFile bytes held written fault
+SaysReport (Findings style) name (Err fault) bytes held written =
+    StopsInFile (IsFileReport style name bytes) bytes held written fault
 SaysReport (Name style) name (Ok status) bytes held written =
     (changes : Bool) × Lists style name bytes held written changes × (status ≡ status_of_change changes)
-SaysReport (Name style) name (Err fault) bytes held written = Stops bytes held written fault
+SaysReport (Name style) name (Err fault) bytes held written =
+    Stops (IsNameLine style name bytes) bytes held written fault
 
 -- the same of a text that was read
 abbrev pub ReportsOnRead : Report → List ℕ → Taken → Result Status ToolFault → Option (List ℕ) → Option (List ℕ) → Type 0
@@ -269,10 +280,10 @@ IfSo false first second = second
 
 module _ {W D F P : Type 0} (world : WorldModel W D F P) (remaining : F → Option (List ℕ)) where
   -- the text of the file, or the input for `-`, was written in a style
-  pub record FormatsFile (style : Style) (path : List ℕ) (old new : Around W) (status : Status) : Type 0 where
+  pub record FormatsFile (style : Style) (path : List ℕ) (old new : Around W) (ending : Ending) : Type 0 where
     pub read : Taken
     pub takes : TakesText world remaining path read old.world new.world old.input new.input
-    pub writes : FormatsRead style read old.output new.output status
+    pub writes : FormatsRead style read old.output new.output ending
 
   -- a report on one file, or on the input for `-`
   pub record ReportsOn (report : Report) (path : List ℕ) (old new : Around W) (result : Result Status ToolFault)

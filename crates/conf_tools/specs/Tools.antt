@@ -5,7 +5,7 @@ use Rattle.std.specs.Prelude.{codes, decimal}
 use Rattle.conf_tools.specs.Prelude.{Global, Consumes, IsAtEnd, Keeps, Appends, Tree, IsRead, Refuses, OutOfMemory}
 use Rattle.conf_tools.specs.Prelude.{config_limits, name_of, Finding, Style}
 use Rattle.comments_kept.specs.Keeping.{GivesUnsettled}
-use Rattle.conf_tools.specs.Styles.{IsCheckedIn, IsStyled}
+use Rattle.conf_tools.specs.{Parts.WritesPart, Styles.IsCheckedIn, Styles.IsStyled}
 use Rattle.conf_tools.specs.declared.texts.ToolFault.{ToolFault}
 use Rattle.conf_tools.specs.declared.texts.ToolFault.TheVariants.{Input, Output, Read, Comments, Unsettled, OneValue}
 
@@ -59,6 +59,10 @@ abbrev pub report : List Finding → List ℕ
 report [] = []
 report (f ∷ fs) = report_line f ++ report fs
 
+-- these are the lines for the findings of the bytes
+abbrev pub IsReport : Style → List ℕ → List ℕ → Type 0
+IsReport style bytes lines = (found : List Finding) × IsCheckedIn style bytes found × (lines ≡ report found)
+
 -- the lines of the findings of bytes were written; count is their number
 pub record Checks (style : Style) (bytes : List ℕ) (held written : Option (List ℕ)) (count : ℕ) : Type 0 where
   pub found : List Finding
@@ -66,11 +70,12 @@ pub record Checks (style : Style) (bytes : List ℕ) (held written : Option (Lis
   pub counts : count ≡ length found
   pub writes : Appends held written (report found)
 
--- what holds if a tool ends with a fault: the bytes are refused and nothing was written, or the writer failed
-abbrev pub Stops : List ℕ → Option (List ℕ) → Option (List ℕ) → ToolFault → Type 0
-Stops bytes held written Input = ⊥
-Stops bytes held written Output = GivesTree bytes
-Stops bytes held written (Read fault) = Refuses bytes config_limits fault × Keeps held written
-Stops bytes held written (Comments place) = ⊥
-Stops bytes held written Unsettled = GivesUnsettled bytes config_limits × Keeps held written
-Stops bytes held written OneValue = ⊥
+-- What holds if a tool ends with a fault: the bytes are refused, and nothing was written; or the writer failed, and took
+-- the first bytes of a text of which `Is` holds.
+abbrev pub Stops : (List ℕ → Type 0) → List ℕ → Option (List ℕ) → Option (List ℕ) → ToolFault → Type 0
+Stops Is bytes held written Input = ⊥
+Stops Is bytes held written Output = (text : List ℕ) × Is text × WritesPart text held written
+Stops Is bytes held written (Read fault) = Refuses bytes config_limits fault × Keeps held written
+Stops Is bytes held written (Comments place) = ⊥
+Stops Is bytes held written Unsettled = GivesUnsettled bytes config_limits × Keeps held written
+Stops Is bytes held written fault = ⊥

@@ -2,8 +2,9 @@
 ghost use Rattle.std.specs.Prelude.{◌≡◌};
 ghost use Rattle.conf_store.specs.Holes.{is_several};
 ghost use Rattle.conf_tools.specs.Prelude.{disk_handed_back};
-ghost use Rattle.conf_tools.specs.Backups.{BacksUpInFolder, BacksUpStore, status_after_backup};
-ghost use Rattle.conf_tools.specs.Outcomes.{status_of_outcome};
+ghost use Rattle.conf_tools.specs.Backups.{BacksUpInFolder, BacksUpStore};
+ghost use Rattle.conf_tools.specs.Endings.{ending_after_backup};
+ghost use Rattle.conf_tools.specs.declared.outcome.Ending.TheVariants.{Of};
 
 use crate::outcome::Outcome;
 use crate::read_words::{open_file, open_new};
@@ -21,7 +22,7 @@ pub(crate) fn back_up_folder<A: World>(
     new: &str,
 ) -> Outcome<'static>
     ensures { BacksUpStore A.model A.Disk.model A.File.remaining folder.now new.now
-        world.old world.new (status_of_outcome result) }
+        world.old world.new (Of result) }
 {
     match open_file(world, alloc, folder) {
         Ok(mut file) => {
@@ -42,7 +43,7 @@ fn back_up_in_folder<A: World>(
 ) -> Outcome<'static>
     ensures { BacksUpInFolder A.model A.Disk.model new.now (is_several waiting)
         (A.File.remaining file.old)
-        world.old world.new (status_of_outcome result) }
+        world.old world.new (Of result) }
 {
     match open_new(world, alloc, file, new) {
         Ok(disk) => {
@@ -59,7 +60,7 @@ fn end_backup<A: World>(
     ended: Result<A::Disk, (A::Disk, SalvageFault)>,
 ) -> Outcome<'static>
     ensures back { A.model.given_back (disk_handed_back ended) world.old world.new }
-    ensures ends { status_of_outcome result ≡ status_after_backup ended }
+    ensures ends { Of result ≡ ending_after_backup ended }
 {
     match ended {
         Ok(disk) => {

@@ -3,20 +3,22 @@ ghost use Rattle.std.specs.Prelude.{◌≡◌, ◌≤◌, [], true, false, IfOk,
 ghost use Rattle.conf_tools.specs.Prelude.{IsUtf8, chars, config_limits, tree_of, conditions_of};
 ghost use Rattle.yaml_grammar.specs.Trees.{text as one_text};
 ghost use Rattle.conf_tools.specs.Dropped.{TellsDropped};
+ghost use Rattle.conf_tools.specs.Endings.{ending_at_end, ending_of_import};
 ghost use Rattle.conf_tools.specs.Exports.{disk_handed_back};
 ghost use Rattle.conf_tools.specs.Losses.{ImportTells, SetTells, TellsLossIfAsked};
-ghost use Rattle.conf_tools.specs.Outcomes.{LeavesImport, LeavesSet, TellsOnlyTold, status_of_ending, status_of_outcome};
+ghost use Rattle.conf_tools.specs.Outcomes.{LeavesImport, LeavesSet, TellsOnlyTold};
 ghost use Rattle.conf_tools.specs.Performs.{ChangesByWords, ChangesIf, ImportsBytes, ImportsRead, Sets, access_of};
-ghost use Rattle.conf_tools.specs.StoreWords.{ChangesInFolder, Inits, MakesInFolder, status_at_end};
+ghost use Rattle.conf_tools.specs.StoreWords.{ChangesInFolder, Inits, MakesInFolder};
+ghost use Rattle.conf_tools.specs.Refused.{TellsFault};
 ghost use Rattle.conf_tools.specs.Styles.{TellsLeftOut};
 ghost use Rattle.conf_tools.specs.TextWords.{IsAlteration, IsCollection, IsImport, IsNoText, IsOneValue, IsSet, RefusesText, SetsAt, SetsBytes, SetsMeant, SetsPlain, SetsRead, SetsText, SetsWord};
+ghost use Rattle.conf_tools.specs.declared.outcome.Ending.TheVariants.{Of};
 
 use crate::asking::conditions_at;
 use crate::changes::{Change, change_store, make_store};
 use crate::file_words::{read_named, tell_cause, tell_cause_of};
 use crate::listener::Listener;
 use crate::outcome::{Ending, Outcome};
-use crate::program::{Status, status_of};
 use crate::reporter::{Origin, Reporter};
 use crate::stores::StoreToolFault;
 use crate::styles::tell_left_out;
@@ -103,7 +105,7 @@ pub(crate) fn init_folder<A: World, E: Listener>(
     folder: &str,
     errors: &mut E,
 ) -> Outcome<'static>
-    ensures makes { Inits A.model A.Disk.model folder.now world.old world.new (status_of_outcome result) }
+    ensures makes { Inits A.model A.Disk.model folder.now world.old world.new (Of result) }
     ensures told { TellsDropped E.hears errors.old errors.new }
 {
     match world.make_folder(alloc, folder) {
@@ -120,7 +122,7 @@ fn make_in_folder<A: World, E: Listener>(
     errors: &mut E,
 ) -> Outcome<'static>
     ensures makes { MakesInFolder A.model A.Disk.model folder.now world.old world.new
-        (status_of_outcome result) }
+        (Of result) }
     ensures told { TellsDropped E.hears errors.old errors.new }
 {
     match world.open(alloc, Access::New, folder) {
@@ -142,7 +144,7 @@ pub(crate) fn import_text<A: World, E: Listener>(
 ) -> Ending<'static>
     ensures imports { ImportsRead A.model A.Disk.model asked.entry.conditions asked.entry.root
         (access_of asked.entry.missing) asked.entry.folder.now asked.entry.name.now read world.old world.new
-        (status_of_ending result) }
+        result }
     ensures leaves { LeavesImport E.hears errors.old result errors.new }
 {
     match read {
@@ -150,7 +152,7 @@ pub(crate) fn import_text<A: World, E: Listener>(
         Err(fault) => {
             reporter.tell_fault(errors, Origin::Named(asked.file), b"", fault);
             tell_cause(world, reporter.alloc, asked.file, errors);
-            Ending::Told(status_of(fault))
+            Ending::ToldFault(fault)
         }
     }
 }
@@ -165,7 +167,7 @@ fn import_bytes<A: World, E: Listener>(
 ) -> Ending<'static>
     ensures imports { ImportsBytes A.model A.Disk.model asked.entry.conditions asked.entry.root
         (access_of asked.entry.missing) asked.entry.folder.now asked.entry.name.now text.now world.old world.new
-        (status_of_ending result) }
+        result }
     ensures leaves { LeavesImport E.hears errors.old result errors.new }
 {
     let place = Target {
@@ -182,7 +184,7 @@ fn import_bytes<A: World, E: Listener>(
         }
         Err(fault) => {
             reporter.tell_fault(errors, Origin::Named(asked.file), text, fault);
-            Ending::Told(status_of(fault))
+            Ending::ToldFault(fault)
         }
     }
 }
@@ -265,7 +267,7 @@ fn tell_import<E: Listener>(
     text: &[u8],
     ended: Outcome<'static>,
 ) -> Ending<'static>
-    ensures status { status_of_ending result ≡ status_of_outcome ended.entry }
+    ensures ends { result ≡ ending_of_import (Of ended.entry) }
     ensures tells { TellsOnlyTold E.hears result errors.old errors.new }
     ensures loss { ImportTells E.hears reporter.reporting ended.entry text.now errors.old errors.new }
 {
@@ -276,7 +278,7 @@ fn tell_import<E: Listener>(
         }
         Outcome::Store(StoreToolFault::Refused(StoreFault::Read(fault))) => {
             reporter.tell_fault(errors, Origin::Named(file), text, ToolFault::Read(fault));
-            Ending::Told(Status::Refused)
+            Ending::ToldFault(ToolFault::Read(fault))
         }
         ended => Ending::Of(ended),
     }
@@ -304,7 +306,7 @@ pub(crate) fn set_at<A: World, R: Read, E: Listener>(
 ) -> Ending<'static>
     ensures sets { Sets A.model A.Disk.model A.File.remaining place.entry.folder.now place.entry.name.now
         place.entry.pointer.now value.entry place.entry.conditions world.old world.new
-        (R.remaining input.old) (R.remaining input.new) (status_of_ending result) }
+        (R.remaining input.old) (R.remaining input.new) result }
     ensures leaves { LeavesSet E.hears errors.old result errors.new }
 {
     match set_of(world, reporter, place, value, input, errors) {
@@ -312,7 +314,7 @@ pub(crate) fn set_at<A: World, R: Read, E: Listener>(
             let access = Access::Changing;
             Ending::Of(change_if(world, reporter.alloc, access, place, change, errors))
         }
-        Err(fault) => Ending::Told(status_of(fault)),
+        Err(fault) => Ending::ToldFault(fault),
     }
 }
 
@@ -332,6 +334,7 @@ fn set_of<A: World, R: Read, E: Listener>(
     ensures sets { IsSet A.model A.File.remaining place.entry.name.now place.entry.pointer.now value.entry result
         world.old world.new (R.remaining input.old) (R.remaining input.new) }
     ensures told { OnOk result (TellsLeftOut E.hears errors.old errors.new) }
+    ensures refused { IfErr result (TellsFault E.hears errors.old) }
 {
     match value {
         Value::Text(text) => {
@@ -364,6 +367,7 @@ fn set_read<E: Listener>(
 ) -> Result<Change<'static>, ToolFault>
     ensures sets { SetsRead source.entry.meaning place.entry.name.now place.entry.pointer.now read result }
     ensures told { OnOk result (TellsLeftOut E.hears errors.old errors.new) }
+    ensures refused { IfErr result (TellsFault E.hears errors.old) }
 {
     match read {
         Ok(bytes) => {
@@ -466,6 +470,7 @@ fn set_word<R: Read, E: Listener>(
     ensures sets { SetsWord place.entry.name.now place.entry.pointer.now word.now result
         (R.remaining input.old) (R.remaining input.new) }
     ensures told { OnOk result (TellsLeftOut E.hears errors.old errors.new) }
+    ensures refused { IfErr result (TellsFault E.hears errors.old) }
 {
     if word == STANDARD_INPUT {
         let read = read_text(reporter.alloc, input);
@@ -538,7 +543,7 @@ pub(crate) fn alter<A: World, E: Listener>(
     ensures makes { ChangesByWords A.model A.Disk.model
         (IsAlteration asked.entry place.entry.name.now place.entry.pointer.now)
         place.entry.conditions place.entry.folder.now place.entry.name.now place.entry.pointer.now
-        world.old world.new (status_of_outcome result) }
+        world.old world.new (Of result) }
     ensures told { TellsDropped E.hears errors.old errors.new }
 {
     match alter_change(alloc, place.name, place.pointer, asked) {
@@ -573,7 +578,7 @@ fn alter_change(
 }
 
 /// Makes a change at a place of the store in a folder that is opened so, if what is wanted of the place holds.
-fn change_if<A: World, E: Listener>(
+pub(crate) fn change_if<A: World, E: Listener>(
     world: &mut A,
     alloc: Global,
     access: Access,
@@ -583,7 +588,7 @@ fn change_if<A: World, E: Listener>(
 ) -> Outcome<'static>
     ensures makes { ChangesIf A.model A.Disk.model place.entry.conditions access
         place.entry.folder.now place.entry.name.now place.entry.pointer.now change.entry
-        world.old world.new (status_of_outcome result) }
+        world.old world.new (Of result) }
     ensures told { TellsDropped E.hears errors.old errors.new }
 {
     match conditions_at(alloc, place.name, place.pointer, place.conditions) {
@@ -606,7 +611,7 @@ pub(crate) fn change_in_folder<A: World, E: Listener>(
     errors: &mut E,
 ) -> Outcome<'static>
     ensures makes { ChangesInFolder A.model A.Disk.model access folder.now (conditions_of conditions.now)
-        change.entry world.old world.new (status_of_outcome result) }
+        change.entry world.old world.new (Of result) }
     ensures told { TellsDropped E.hears errors.old errors.new }
 {
     match world.open(alloc, access, folder) {
@@ -624,7 +629,7 @@ fn end_change<A: World>(
     ended: Result<A::Disk, (A::Disk, StoreToolFault)>,
 ) -> Outcome<'static>
     ensures back { A.model.given_back (disk_handed_back ended) world.old world.new }
-    ensures ends { status_of_outcome result ≡ status_at_end ended }
+    ensures ends { Of result ≡ ending_at_end ended }
 {
     match ended {
         Ok(disk) => {

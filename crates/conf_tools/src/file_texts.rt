@@ -1,7 +1,8 @@
 // The tools for the text of a file that was named, over any writer.
-ghost use Rattle.std.specs.Prelude.{◌≡◌, ◌⊎◌, ◌++◌, IfErr, IfOk, OnOk, codes, true};
+ghost use Rattle.std.specs.Prelude.{◌≡◌, ◌⊎◌, ◌++◌, IfErr, IfOk, OnErr, OnOk, codes, true};
 ghost use Rattle.conf_tools.specs.Prelude.{Appends, Keeps, HasNoComment};
-ghost use Rattle.conf_tools.specs.FileTexts.{Adds, ChecksFile, Lists, MayLose, Restyles, StopsInFile, StopsRestyling, file_line, file_report, name_line, words_of};
+ghost use Rattle.conf_tools.specs.Parts.{WritesPart};
+ghost use Rattle.conf_tools.specs.FileTexts.{ChecksFile, IsFileReport, IsNameLine, Lists, MayLose, Restyles, StopsInFile, StopsRestyling, file_line, file_report, name_line, words_of};
 ghost use Rattle.conf_tools.specs.Tools.{Stops};
 
 use crate::styles::{findings_in, style_of, styled_text};
@@ -10,6 +11,7 @@ use conf_words::{Comments, Style};
 use itoa::Buffer;
 use std::alloc::{AllocError, Global};
 use std::io::Write;
+use yaml_docs::write_or_count;
 use yaml_refusals::first_comment;
 use yaml_style::{Finding, Rule};
 use yaml_tree::ReadFault;
@@ -75,7 +77,7 @@ fn refuse_comments(alloc: Global, text: &[u8]) -> Result<(), ToolFault>
 /// # Errors
 ///
 /// - [`ToolFault::Read`] if the text is refused, or memory runs out. Nothing is written.
-/// - [`ToolFault::Output`] if the writer fails. Some of the name may be written.
+/// - [`ToolFault::Output`] if the writer fails. Only the first of the line is written, as far as the writer took it.
 pub fn list_changed<W: Write>(
     alloc: Global,
     file: &str,
@@ -85,7 +87,8 @@ pub fn list_changed<W: Write>(
 ) -> Result<bool, ToolFault>
     ensures ok { IfOk result (Lists style file.now text.now
         (W.contents writer.old) (W.contents writer.new)) }
-    ensures stops { IfErr result (Stops text.now (W.contents writer.old) (W.contents writer.new)) }
+    ensures stops { IfErr result (Stops (IsNameLine style file.now text.now) text.now
+        (W.contents writer.old) (W.contents writer.new)) }
 {
     let styled = match styled_text(alloc, text, style) {
         Ok(styled) => styled,
@@ -104,14 +107,29 @@ pub fn list_changed<W: Write>(
 fn write_name<W: Write>(alloc: Global, writer: &mut W, file: &str) -> Result<(), ToolFault>
     ensures ok { OnOk result (Appends (W.contents writer.old) (W.contents writer.new)
         (name_line file.now true)) }
-    ensures faults { IfErr result (λ fault. (fault ≡ ToolFault.Output)
+    ensures faults { IfErr result (λ fault. ((fault ≡ ToolFault.Output)
+        × WritesPart (name_line file.now true) (W.contents writer.old) (W.contents writer.new))
         ⊎ ((fault ≡ ToolFault.Read ReadFault.OutOfMemory)
         × Keeps (W.contents writer.old) (W.contents writer.new))) }
+{
+    let line = match name_line(alloc, file) {
+        Ok(line) => line,
+        Err(_) => return Err(ToolFault::Read(ReadFault::OutOfMemory)),
+    };
+    match write_whole(writer, &line) {
+        Ok(()) => Ok(()),
+        Err(_) => Err(ToolFault::Output),
+    }
+}
+
+/// A file's name and a line feed. It fails only if memory runs out.
+fn name_line(alloc: Global, file: &str) -> Result<Vec<u8>, AllocError>
+    ensures { IfOk result (λ line. line.items ≡ name_line file.now true) }
 {
     let mut line = Vec::new(alloc);
     line.extend_from_slice(file.as_bytes())?;
     line.extend_from_slice(b"\n")?;
-    write_whole(writer, &line)
+    Ok(line)
 }
 
 /// Writes a line to `writer` for each finding of a text that is compared with what it is in a style, in the order of
@@ -121,9 +139,9 @@ fn write_name<W: Write>(alloc: Global, writer: &mut W, file: &str) -> Result<(),
 ///
 /// # Errors
 ///
-/// - [`ToolFault::Read`] if the text is refused, when nothing is written, or memory runs out, when some of the lines
-///   may be written.
-/// - [`ToolFault::Output`] if the writer fails. Some of the lines may be written.
+/// - [`ToolFault::Read`] if the text is refused, when nothing is written, or memory runs out, when the first of the
+///   lines may be written.
+/// - [`ToolFault::Output`] if the writer fails. Only the first of the lines are written, as the writer took them.
 pub fn check_file<W: Write>(
     alloc: Global,
     file: &str,
@@ -133,7 +151,7 @@ pub fn check_file<W: Write>(
 ) -> Result<u64, ToolFault>
     ensures ok { IfOk result (ChecksFile style file.now text.now
         (W.contents writer.old) (W.contents writer.new)) }
-    ensures stops { IfErr result (StopsInFile text.now
+    ensures stops { IfErr result (StopsInFile (IsFileReport style file.now text.now) text.now
         (W.contents writer.old) (W.contents writer.new)) }
 {
     let findings = match findings_in(alloc, text, style) {
@@ -155,15 +173,20 @@ fn write_file_report<W: Write>(
 ) -> Result<(), ToolFault>
     ensures ok { OnOk result (Appends (W.contents writer.old) (W.contents writer.new)
         (file_report file.now findings.now)) }
+    ensures part { OnErr result (WritesPart (file_report file.now findings.now)
+        (W.contents writer.old) (W.contents writer.new)) }
     ensures faults { IfErr result (λ fault. (fault ≡ ToolFault.Output)
-        ⊎ ((fault ≡ ToolFault.Read ReadFault.OutOfMemory)
-        × Adds (W.contents writer.old) (W.contents writer.new))) }
+        ⊎ (fault ≡ ToolFault.Read ReadFault.OutOfMemory)) }
 {
     for finding in findings {
-        let line = file_line(alloc, file, finding)?;
-        let Ok(()) = writer.write_all(&line) else {
-            return Err(ToolFault::Output);
+        let line = match file_line(alloc, file, finding) {
+            Ok(line) => line,
+            Err(_) => return Err(ToolFault::Read(ReadFault::OutOfMemory)),
         };
+        match write_or_count(writer, &line) {
+            Ok(()) => {}
+            Err(_) => return Err(ToolFault::Output),
+        }
     }
     match writer.flush() {
         Ok(()) => Ok(()),

@@ -1,14 +1,17 @@
 // What `format` and `check` do with files and standard input.
-ghost use Rattle.std.specs.Prelude.{◌≡◌, Err, OnOk, map};
-ghost use Rattle.conf_tools.specs.Outcomes.{SilentIfDone, SilentReport, TellsIfDone};
+ghost use Rattle.std.specs.Prelude.{◌≡◌, Err, IfErr, OnOk, map};
+ghost use Rattle.conf_tools.specs.Outcomes.{LeavesTold, SilentIfDone, SilentReport, TellsIfDone};
 ghost use Rattle.conf_tools.specs.Performs.{ChecksAll, ChecksText, FormatsAll, FormatsText};
 ghost use Rattle.conf_tools.specs.Statuses.{status_of, worst};
-ghost use Rattle.conf_tools.specs.Losses.{TellsLoss, TellsLossIfDone};
-ghost use Rattle.conf_tools.specs.TextWords.{ChecksRead, FormatsFile, FormatsRead, ReplacesAt, ReplacesRead, ReportsOn, ReportsOnAll, ReportsOnRead, RestylesAll, RestylesFile, SaysReport, TakesText, replaced_or_not, shown_name, status_after, status_after_check, status_of_change, status_of_count, status_of_report, stops_all, unopened};
+ghost use Rattle.conf_tools.specs.Endings.{StaysUnlessFault};
+ghost use Rattle.conf_tools.specs.Losses.{TellsLoss, TellsWritten};
+ghost use Rattle.conf_tools.specs.Refused.{TellsFault};
+ghost use Rattle.conf_tools.specs.TextWords.{ChecksRead, FormatsFile, FormatsRead, ReplacesAt, ReplacesRead, ReportsOn, ReportsOnAll, ReportsOnRead, RestylesAll, RestylesFile, SaysReport, TakesText, replaced_or_not, shown_name, ending_after_check, ending_after_format, status_after, status_of_change, status_of_count, status_of_report, stops_all, unopened};
 ghost use Rattle.conf_tools.specs.Worlds.{around};
 
 use crate::file_texts::{Restyled, check_file, list_changed, restyle};
 use crate::listener::Listener;
+use crate::outcome::Ending;
 use crate::program::{Status, status_of};
 use crate::reporter::{Origin, Reporter, write_cause};
 use crate::styles::tell_left_out;
@@ -40,11 +43,11 @@ pub(crate) fn format_files<A: World, R: Read, W: Write, E: Listener>(
     input: &mut R,
     output: &mut W,
     errors: &mut E,
-) -> Status
+) -> Ending<'static>
     ensures formats { FormatsAll A.model A.File.remaining formatting (map (λ file. file.now) files.now)
         (around world.old (R.remaining input.old) (W.contents output.old))
         (around world.new (R.remaining input.new) (W.contents output.new)) result }
-    ensures told { TellsIfDone E.hears result errors.old errors.new }
+    ensures told { LeavesTold E.hears (TellsIfDone E.hears) errors.old result errors.new }
 {
     match (formatting, files) {
         (Formatting::Write { style }, []) => format_input(reporter, style, input, output, errors),
@@ -52,21 +55,21 @@ pub(crate) fn format_files<A: World, R: Read, W: Write, E: Listener>(
             format_file(world, reporter, style, file, input, output, errors)
         }
         (Formatting::InPlace { comments }, files) => {
-            replace_files(world, reporter, comments, files, errors)
+            Ending::Told(replace_files(world, reporter, comments, files, errors))
         }
         (Formatting::Check { style }, []) => {
             let (report, files) = (Report::Name { style }, [STANDARD_INPUT]);
-            try_files(world, reporter, report, &files, input, output, errors)
+            Ending::Told(try_files(world, reporter, report, &files, input, output, errors))
         }
         (Formatting::Check { style }, files) => {
             let report = Report::Name { style };
-            try_files(world, reporter, report, files, input, output, errors)
+            Ending::Told(try_files(world, reporter, report, files, input, output, errors))
         }
     }
 }
 
 /// Writes where the texts of files depart from a style, or that of `input` if there are none.
-pub(crate) fn check_files<A: World, R: Read, W: Write, E: Write>(
+pub(crate) fn check_files<A: World, R: Read, W: Write, E: Listener>(
     world: &mut A,
     reporter: Reporter,
     style: Style,
@@ -74,17 +77,17 @@ pub(crate) fn check_files<A: World, R: Read, W: Write, E: Write>(
     input: &mut R,
     output: &mut W,
     errors: &mut E,
-) -> Status
+) -> Ending<'static>
     ensures checks { ChecksAll A.model A.File.remaining style (map (λ file. file.now) files.now)
         (around world.old (R.remaining input.old) (W.contents output.old))
         (around world.new (R.remaining input.new) (W.contents output.new)) result }
-    ensures silent { SilentIfDone result errors.old errors.new }
+    ensures told { LeavesTold E.hears SilentIfDone errors.old result errors.new }
 {
     match files {
         [] => check_input(reporter, style, input, output, errors),
         files => {
             let report = Report::Findings { style };
-            try_files(world, reporter, report, files, input, output, errors)
+            Ending::Told(try_files(world, reporter, report, files, input, output, errors))
         }
     }
 }
@@ -156,6 +159,22 @@ fn tell_cause_at<A: World, E: Write>(
     tell_cause(world, alloc, file, errors);
 }
 
+/// Writes why a file could not be opened, if its text came to nothing and that is known.
+fn tell_cause_after<A: World, E: Write>(
+    world: &A,
+    alloc: Global,
+    file: &str,
+    ending: Ending<'_>,
+    errors: &mut E,
+)
+    ensures { StaysUnlessFault ending.entry errors.old errors.new }
+{
+    match ending {
+        Ending::ToldFault(_) => tell_cause(world, alloc, file, errors),
+        _ => {}
+    }
+}
+
 /// Writes the text of `input` in a style.
 fn format_input<R: Read, W: Write, E: Listener>(
     reporter: Reporter,
@@ -163,10 +182,10 @@ fn format_input<R: Read, W: Write, E: Listener>(
     input: &mut R,
     output: &mut W,
     errors: &mut E,
-) -> Status
+) -> Ending<'static>
     ensures formats { FormatsText style (R.remaining input.old) (R.remaining input.new)
         (W.contents output.old) (W.contents output.new) result }
-    ensures silent { SilentIfDone result errors.old errors.new }
+    ensures told { LeavesTold E.hears (TellsIfDone E.hears) errors.old result errors.new }
 {
     let read = read_text(reporter.alloc, input);
     format_read(reporter, Origin::Input, style, read, output, errors)
@@ -181,16 +200,16 @@ fn format_file<A: World, R: Read, W: Write, E: Listener>(
     input: &mut R,
     output: &mut W,
     errors: &mut E,
-) -> Status
+) -> Ending<'static>
     ensures formats { FormatsFile A.model A.File.remaining style file.now
         (around world.old (R.remaining input.old) (W.contents output.old))
         (around world.new (R.remaining input.new) (W.contents output.new)) result }
-    ensures told { TellsIfDone E.hears result errors.old errors.new }
+    ensures told { LeavesTold E.hears (TellsIfDone E.hears) errors.old result errors.new }
 {
     let read = read_named(world, reporter.alloc, file, input);
-    let status = format_read(reporter, Origin::Named(file), style, read, output, errors);
-    tell_cause_at(world, reporter.alloc, file, status, errors);
-    status
+    let ending = format_read(reporter, Origin::Named(file), style, read, output, errors);
+    tell_cause_after(world, reporter.alloc, file, ending, errors);
+    ending
 }
 
 /// Writes a text that was read in a style, or why it was not read. Of a text that is named, and is written without its
@@ -202,33 +221,34 @@ fn format_read<W: Write, E: Listener>(
     read: Result<Vec<u8>, ToolFault>,
     output: &mut W,
     errors: &mut E,
-) -> Status
+) -> Ending<'static>
     ensures formats { FormatsRead style read (W.contents output.old) (W.contents output.new) result }
-    ensures told { TellsLossIfDone E.hears origin.entry style read result errors.old errors.new }
+    ensures told { TellsWritten E.hears origin.entry style read result errors.old errors.new }
 {
     match read {
         Ok(text) => {
             let ended = format_text(reporter.alloc, &text, style, output);
             tell_written(reporter, errors, origin, &text, &ended);
             tell_loss(reporter.alloc, errors, origin, style, &text, &ended);
-            status_after(ended)
+            ending_after_format(ended)
         }
         Err(fault) => {
             reporter.tell_fault(errors, origin, b"", fault);
-            status_of(fault)
+            Ending::ToldFault(fault)
         }
     }
 }
 
 /// Writes why nothing was written of a text, or not all, if that is so. A failure of the output is not one of the file.
-fn tell_written<T, E: Write>(
+fn tell_written<T, E: Listener>(
     reporter: Reporter,
     errors: &mut E,
     origin: Origin<'_>,
     text: &[u8],
     ended: &Result<T, ToolFault>,
 )
-    ensures { OnOk ended.now (errors.new ≡ errors.old) }
+    ensures same { OnOk ended.now (errors.new ≡ errors.old) }
+    ensures told { IfErr ended.now (TellsFault E.hears errors.old) }
 {
     match ended {
         Err(ToolFault::Output) => {
@@ -272,6 +292,16 @@ fn tell_loss_of<E: Listener>(
     }
 }
 
+/// How the writing of one text in a style ends.
+fn ending_after_format(ended: Result<(), ToolFault>) -> Ending<'static>
+    ensures { result ≡ ending_after_format ended }
+{
+    match ended {
+        Ok(()) => Ending::Told(Status::Done),
+        Err(fault) => Ending::ToldFault(fault),
+    }
+}
+
 /// The status of what was done with a text.
 fn status_after(ended: Result<(), ToolFault>) -> Status
     ensures { result ≡ status_after ended }
@@ -283,52 +313,52 @@ fn status_after(ended: Result<(), ToolFault>) -> Status
 }
 
 /// Writes where the text of `input` departs from a style.
-fn check_input<R: Read, W: Write, E: Write>(
+fn check_input<R: Read, W: Write, E: Listener>(
     reporter: Reporter,
     style: Style,
     input: &mut R,
     output: &mut W,
     errors: &mut E,
-) -> Status
+) -> Ending<'static>
     ensures checks { ChecksText style (R.remaining input.old) (R.remaining input.new)
         (W.contents output.old) (W.contents output.new) result }
-    ensures silent { SilentIfDone result errors.old errors.new }
+    ensures told { LeavesTold E.hears SilentIfDone errors.old result errors.new }
 {
     let read = read_text(reporter.alloc, input);
     check_read(reporter, style, read, output, errors)
 }
 
 /// Writes where a text that was read of standard input departs from a style, or why it was not read.
-fn check_read<W: Write, E: Write>(
+fn check_read<W: Write, E: Listener>(
     reporter: Reporter,
     style: Style,
     read: Result<Vec<u8>, ToolFault>,
     output: &mut W,
     errors: &mut E,
-) -> Status
+) -> Ending<'static>
     ensures checks { ChecksRead style read (W.contents output.old) (W.contents output.new) result }
-    ensures silent { SilentIfDone result errors.old errors.new }
+    ensures told { LeavesTold E.hears SilentIfDone errors.old result errors.new }
 {
     match read {
         Ok(text) => {
             let ended = check_text(reporter.alloc, &text, style, output);
             reporter.tell(errors, Origin::Input, &text, &ended);
-            status_after_check(ended)
+            ending_after_check(ended)
         }
         Err(fault) => {
             reporter.tell_fault(errors, Origin::Input, b"", fault);
-            status_of(fault)
+            Ending::ToldFault(fault)
         }
     }
 }
 
-/// The status of a report on standard input.
-fn status_after_check(ended: Result<u64, ToolFault>) -> Status
-    ensures { result ≡ status_after_check ended }
+/// How a report on standard input ends.
+fn ending_after_check(ended: Result<u64, ToolFault>) -> Ending<'static>
+    ensures { result ≡ ending_after_check ended }
 {
     match ended {
-        Ok(count) => status_of_count(count),
-        Err(fault) => status_of(fault),
+        Ok(count) => Ending::Told(status_of_count(count)),
+        Err(fault) => Ending::ToldFault(fault),
     }
 }
 
@@ -355,7 +385,7 @@ fn status_of_change(is_other: bool) -> Status
 }
 
 /// Replaces each file whose text is another one in the style.
-fn replace_files<A: World, E: Write>(
+fn replace_files<A: World, E: Listener>(
     world: &mut A,
     reporter: Reporter,
     comments: Comments,
@@ -377,7 +407,7 @@ fn replace_files<A: World, E: Write>(
 }
 
 /// Replaces a file by its text in the style, if that is another one. Writes why it is not read or replaced.
-fn restyle_file<A: World, E: Write>(
+fn restyle_file<A: World, E: Listener>(
     world: &mut A,
     reporter: Reporter,
     comments: Comments,
@@ -393,7 +423,7 @@ fn restyle_file<A: World, E: Write>(
 }
 
 /// Replaces a file by its text in the style, if that is another one.
-fn restyle_opened<A: World, E: Write>(
+fn restyle_opened<A: World, E: Listener>(
     world: &mut A,
     reporter: Reporter,
     comments: Comments,
@@ -417,7 +447,7 @@ fn restyle_opened<A: World, E: Write>(
 }
 
 /// Puts a text that was read, in the style, in the place of its file, or writes why it was not read.
-fn replace_read<A: World, E: Write>(
+fn replace_read<A: World, E: Listener>(
     world: &mut A,
     reporter: Reporter,
     comments: Comments,
@@ -483,7 +513,7 @@ fn replaced_or_not(ended: Result<(), ReplaceFault>) -> Result<(), ToolFault>
 }
 
 /// Reports on each file. Every file is tried, unless the writer fails.
-fn try_files<A: World, R: Read, W: Write, E: Write>(
+fn try_files<A: World, R: Read, W: Write, E: Listener>(
     world: &mut A,
     reporter: Reporter,
     report: Report,
@@ -529,7 +559,7 @@ fn status_of_report(ended: Result<Status, ToolFault>) -> Status
 }
 
 /// Reports on a file, or on `input` for `-`, or writes why there is no report.
-fn try_file<A: World, R: Read, W: Write, E: Write>(
+fn try_file<A: World, R: Read, W: Write, E: Listener>(
     world: &mut A,
     reporter: Reporter,
     report: Report,
@@ -550,7 +580,7 @@ fn try_file<A: World, R: Read, W: Write, E: Write>(
 }
 
 /// Reports on a text that was read of a file, or writes why there is no report.
-fn report_on_read<W: Write, E: Write>(
+fn report_on_read<W: Write, E: Listener>(
     reporter: Reporter,
     report: Report,
     file: &str,
@@ -578,7 +608,7 @@ fn report_on_read<W: Write, E: Write>(
 
 /// Writes where a text that was named has comments, if it has and they are not kept: it is not replaced without being
 /// asked to.
-fn tell_comments<E: Write>(
+fn tell_comments<E: Listener>(
     reporter: Reporter,
     errors: &mut E,
     report: Report,
@@ -597,7 +627,7 @@ fn tell_comments<E: Write>(
 }
 
 /// Writes where a text has its first comment, if it has one.
-fn tell_first_comment<E: Write>(reporter: Reporter, errors: &mut E, file: &str, text: &[u8]) {
+fn tell_first_comment<E: Listener>(reporter: Reporter, errors: &mut E, file: &str, text: &[u8]) {
     if let Ok(Some(place)) = first_comment(reporter.alloc, text) {
         let fault = ToolFault::Comments(place);
         reporter.tell_fault(errors, Origin::Named(file), text, fault);

@@ -2,9 +2,9 @@
 ghost use Rattle.std.specs.Prelude.{◌≡◌, ◌≤◌, Ok, Some, IfOk, IfErr, IfSome, length};
 ghost use Rattle.conf_store.specs.Holes.{is_several};
 ghost use Rattle.conf_tools.specs.Keeping.{CannotKeep, KeepsDropped, KeepsOf, PutsFile, SalvagesTo, Verifies};
-ghost use Rattle.conf_tools.specs.Outcomes.{status_of_outcome};
 ghost use Rattle.conf_tools.specs.Prelude.{RefusesSurvey};
 ghost use Rattle.conf_tools.specs.StoreWords.{SavesInFolder};
+ghost use Rattle.conf_tools.specs.declared.outcome.Ending.TheVariants.{Of};
 
 use crate::input::read_up_to;
 use crate::outcome::Outcome;
@@ -35,7 +35,7 @@ pub(crate) fn verify_folder<'w, A: World, W: Write>(
     output: &mut W,
 ) -> Outcome<'w>
     ensures { Verifies A.model A.File.remaining folder.now keep_dropped.entry world.old world.new
-        (W.contents output.old) (W.contents output.new) (status_of_outcome result) }
+        (W.contents output.old) (W.contents output.new) (Of result) }
 {
     let Some(path) = keep_dropped else {
         return answer_on_folder(world, alloc, folder, Question::Survey, output);
@@ -61,7 +61,7 @@ pub(crate) fn salvage_to<A: World, W: Write>(
     output: &mut W,
 ) -> Outcome<'static>
     ensures { SalvagesTo A.model A.Disk.model A.File.remaining folder.now keep_dropped.entry new.now
-        world.old world.new (W.contents output.old) (W.contents output.new) (status_of_outcome result) }
+        world.old world.new (W.contents output.old) (W.contents output.new) (Of result) }
 {
     let Some(path) = keep_dropped else {
         return salvage_folder(world, alloc, folder, new, output);
@@ -87,7 +87,7 @@ fn save_bytes<A: World, W: Write>(
 ) -> Outcome<'static>
     ensures { SavesInFolder A.model A.Disk.model new.now (is_several waiting) (Some bytes.now)
         world.old world.new (W.contents output.old) (W.contents output.new)
-        (status_of_outcome result) }
+        (Of result) }
 {
     match open_new(world, alloc, like, new) {
         Ok(disk) => {
@@ -114,7 +114,7 @@ fn keep_dropped_of<A: World>(
     ensures kept { IfOk result (λ read. KeepsDropped A.model A.File.remaining folder.now path.now
         (is_several read.1) read.2.items world.old (Ok tt) world.new) }
     ensures refused { IfErr result (λ outcome. CannotKeep A.model A.File.remaining folder.now path.now
-        world.old world.new (status_of_outcome outcome)) }
+        world.old world.new (Of outcome)) }
 {
     let mut file = match open_file(world, alloc, folder) {
         Ok(file) => file,

@@ -1,5 +1,6 @@
 //! What the program `confstore` does, over any streams and any [`World`] of folders and files: [`perform`] does what an
-//! invocation asks for, and returns the status. [`Host`] is the world of the system.
+//! invocation asks for, and returns the status, and [`run_program`] ends the process with it. [`Host`] is the world of
+//! the system.
 //!
 //! The tools are there without the words, too. [`read_text`] reads a text. [`format_text`] writes it in a style: its
 //! tree in the one style, with or without its comments. [`check_text`] reports where it departs from that. For the text
@@ -12,6 +13,7 @@
 
 mod asking;
 mod backups;
+mod batch_words;
 mod change_words;
 mod changes;
 mod dropped;
@@ -50,7 +52,7 @@ pub use file_words::Report;
 pub use host::{Host, InputFile, ReadFailure};
 pub use laws::{call_holds, calls_hold};
 pub use listener::{Listener, Told};
-pub use program::{Status, perform, refuse_words, show_unparsed};
+pub use program::{Status, perform, refuse_words, run_program, show_unparsed};
 pub use reading_fault::ReadingFault;
 pub use reads::{Place, Places, Presence, find_presence, write_names, write_values};
 pub use stores::{Grouping, StoreToolFault, run_store};

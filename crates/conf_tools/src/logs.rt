@@ -2,7 +2,7 @@
 ghost use Rattle.std.specs.Prelude.{◌≡◌, ℕ, List, Ok, map};
 ghost use Rattle.tree_hidden.specs.Pointers.{owned_paths, paths_or};
 ghost use Rattle.conf_tools.specs.LogWords.{Hides, Logs, LogsAs, LogsValues, fault_of_pointer};
-ghost use Rattle.conf_tools.specs.Outcomes.{status_of_outcome};
+ghost use Rattle.conf_tools.specs.declared.outcome.Ending.TheVariants.{Of};
 
 use crate::outcome::Outcome;
 use crate::read_words::{Question, answer_on_folder};
@@ -38,7 +38,7 @@ pub(crate) fn log_folder<'w, A: World, W: Write>(
     output: &mut W,
 ) -> Outcome<'w>
     ensures { Logs A.model A.File.remaining folder.now commands.entry asked.entry world.old world.new
-        (W.contents output.old) (W.contents output.new) (status_of_outcome result) }
+        (W.contents output.old) (W.contents output.new) (Of result) }
 {
     match asked {
         conf_words::LogForm::Lines => {
@@ -64,7 +64,7 @@ fn log_as<'w, A: World, W: Write>(
     output: &mut W,
 ) -> Outcome<'w>
     ensures { LogsAs A.model A.File.remaining folder.now commands.entry form.entry world.old world.new
-        (W.contents output.old) (W.contents output.new) (status_of_outcome result) }
+        (W.contents output.old) (W.contents output.new) (Of result) }
 {
     let request = LogRequest {
         form,
@@ -88,7 +88,7 @@ fn log_values<'w, A: World, W: Write>(
     output: &mut W,
 ) -> Outcome<'w>
     ensures { LogsValues A.model A.File.remaining folder.now commands.entry (map (λ pointer. pointer.now) hidden.now)
-        world.old world.new (W.contents output.old) (W.contents output.new) (status_of_outcome result) }
+        world.old world.new (W.contents output.old) (W.contents output.new) (Of result) }
 {
     match hidden {
         [] => {
@@ -113,7 +113,7 @@ fn log_hiding<'w, A: World, W: Write>(
 ) -> Outcome<'w>
     ensures { (pointers : List (List ℕ)) → paths_or pointers ≡ Ok (owned_paths paths.now)
         → Hides A.model A.File.remaining folder.now commands.entry pointers world.old world.new
-        (W.contents output.old) (W.contents output.new) (status_of_outcome result) }
+        (W.contents output.old) (W.contents output.new) (Of result) }
 {
     match tokens_of_paths(alloc, paths) {
         Ok(tokens) => {

@@ -41,7 +41,9 @@ pub(crate) enum Outcome<'w> {
 pub(crate) enum Ending<'w> {
     /// As a word on a store does.
     Of(Outcome<'w>),
-    /// With this status. If something went wrong, it is told already.
+    /// With this fault of a text, which is told already.
+    ToldFault(ToolFault),
+    /// With this status. What is wrong with texts is told already.
     Told(Status),
 }
 
@@ -52,6 +54,7 @@ pub(crate) fn tell_ending<E: Listener>(errors: &mut E, ending: Ending<'_>) -> St
 {
     match ending {
         Ending::Of(outcome) => tell_outcome(errors, outcome),
+        Ending::ToldFault(fault) => status_of(fault),
         Ending::Told(status) => status,
     }
 }

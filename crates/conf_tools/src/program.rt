@@ -1,13 +1,17 @@
 // What the program does for an invocation.
 ghost use Rattle.std.specs.Prelude.{◌≡◌, ◌⊎◌};
+ghost use Rattle.std.specs.Process.{exit_status};
+ghost use Rattle.conf_tools.specs.Endings.{ending_at_end};
 ghost use Rattle.conf_tools.specs.Exports.{TellsExport, disk_back};
-ghost use Rattle.conf_tools.specs.Outcomes.{EndsWriting, Leaves, RefusesWords, Tells, TellsNoMemory, TellsSession, TellsUnparsed, TellsUnperformed, status_of_ending, status_of_outcome};
-ghost use Rattle.conf_tools.specs.Performs.{Performs, grouping_of};
-ghost use Rattle.conf_tools.specs.Statuses.{ShowsUnparsed, code_of, status_of, status_of_store};
-ghost use Rattle.conf_tools.specs.StoreWords.{ExportsFromFolder, RunsOnFolder, WritesFound, WritesWhole, status_at_end};
+ghost use Rattle.conf_tools.specs.Outcomes.{EndsWriting, Leaves, RefusesWords, TellsNoMemory, TellsSession, TellsShown, TellsUnparsed, TellsUnperformed};
+ghost use Rattle.conf_tools.specs.Performs.{Does, DoesWords, EndsProcess, RunsTo, grouping_of, output_of, output_of_words};
+ghost use Rattle.conf_tools.specs.Statuses.{ShowsText, ShowsUnparsed, code_of, status_of, status_of_store};
+ghost use Rattle.conf_tools.specs.StoreWords.{ExportsFromFolder, RunsOnFolder, WritesFound, WritesWhole};
 ghost use Rattle.conf_tools.specs.Worlds.{around};
+ghost use Rattle.conf_tools.specs.declared.outcome.Ending.TheVariants.{Of};
 
 use crate::backups::back_up_folder;
+use crate::batch_words::{Batch, batch_text};
 use crate::change_words::{
     Alteration, Import, Target, WHOLE, alter, change_in_folder, import_text, init_folder, set_at,
 };
@@ -27,13 +31,14 @@ use crate::tail::{Tail, TailReader};
 use crate::texts::{ToolFault, write_whole};
 use crate::world::{Access, World};
 use conf_folder::FolderFault;
-use conf_session::{Checkpoints, SessionFault, Tally};
+use conf_session::{AnswerSink, Checkpoints, SessionFault, Tally};
 use conf_state::StoreFault;
 use conf_store::OpenFault;
 use conf_words::{Invocation, Reporting, TreeForm, Unparsed};
 use std::alloc::{AllocError, Global};
 use std::io;
 use std::io::{ErrorKind, Read, Write};
+use std::process::ExitCode;
 
 /// What the program ends with.
 #[derive(Clone, Copy, Debug, PartialEq, Eq)]
@@ -81,9 +86,12 @@ impl Status {
 /// is only read. Where a folder or a file could not be used, a line after the fault says why, as
 /// `store.yaml: No space left on device`.
 ///
+/// Where writing to `output` fails, only the first of what it is to hold is written.
+///
 /// Each disk that the world hands out is given back to it before this returns, and before anything is written to
-/// `output` but the answers of a session.
-pub fn perform<A: World, R: Read, W: Write, E: Listener>(
+/// `output` but the answers of a session. `output` gets those by [`put`](AnswerSink::put) alone, which requires that no
+/// crash takes back what they tell: also in a run that is cut off, no answer is out before its sync.
+pub fn perform<A: World, R: Read, W: Write + AnswerSink<A::Disk>, E: Listener>(
     world: &mut A,
     alloc: Global,
     invocation: Invocation<'_>,
@@ -91,15 +99,60 @@ pub fn perform<A: World, R: Read, W: Write, E: Listener>(
     output: &mut W,
     errors: &mut E,
 ) -> Status
-    ensures performs { Performs A.model A.Disk.model A.File.remaining invocation.entry
-        (around world.old (R.remaining input.old.inner) (W.contents output.old))
-        (around world.new (R.remaining input.new.inner) (W.contents output.new)) result }
-    ensures tells { Tells E.hears invocation.entry errors.old errors.new result }
+    ensures { RunsTo A.model A.Disk.model A.File.remaining E.hears invocation.entry
+        (around world.old (R.remaining input.old.inner)
+        (output_of invocation.entry (W.contents output.old) (W.taken output.old)))
+        (around world.new (R.remaining input.new.inner)
+        (output_of invocation.entry (W.contents output.new) (W.taken output.new)))
+        errors.old errors.new result }
 {
     let ending = perform_word(world, alloc, invocation, input, output, errors);
     let status = tell_ending(errors, ending);
     tell_cause_at(world, alloc, status, errors);
     status
+}
+
+/// Runs the program for words: does what they ask for, as [`perform`] does, or writes help or what is wrong with them,
+/// as [`show_unparsed`] does, and returns the number of the status, with which the process is to end.
+pub fn run_program<A: World, R: Read, W: Write + AnswerSink<A::Disk>, E: Listener>(
+    world: &mut A,
+    alloc: Global,
+    asked: Result<Invocation<'_>, Unparsed>,
+    input: &mut TailReader<R>,
+    output: &mut W,
+    errors: &mut E,
+) -> ExitCode
+    ensures { EndsProcess A.model A.Disk.model A.File.remaining E.hears asked.entry
+        (around world.old (R.remaining input.old.inner)
+        (output_of_words asked.entry (W.contents output.old) (W.taken output.old)))
+        (around world.new (R.remaining input.new.inner)
+        (output_of_words asked.entry (W.contents output.new) (W.taken output.new)))
+        errors.old errors.new (exit_status result) }
+{
+    let status = do_words(world, alloc, asked, input, output, errors);
+    ExitCode::from(status.code())
+}
+
+/// Does what words ask for, or writes why they ask for nothing, and returns the status.
+fn do_words<A: World, R: Read, W: Write + AnswerSink<A::Disk>, E: Listener>(
+    world: &mut A,
+    alloc: Global,
+    asked: Result<Invocation<'_>, Unparsed>,
+    input: &mut TailReader<R>,
+    output: &mut W,
+    errors: &mut E,
+) -> Status
+    ensures { DoesWords A.model A.Disk.model A.File.remaining E.hears asked.entry
+        (around world.old (R.remaining input.old.inner)
+        (output_of_words asked.entry (W.contents output.old) (W.taken output.old)))
+        (around world.new (R.remaining input.new.inner)
+        (output_of_words asked.entry (W.contents output.new) (W.taken output.new)))
+        errors.old errors.new result }
+{
+    match asked {
+        Ok(invocation) => perform(world, alloc, invocation, input, output, errors),
+        Err(unparsed) => show_unparsed(&unparsed, output, errors),
+    }
 }
 
 /// Writes why a folder could not be used, if this is the status of a device and that is known.
@@ -115,7 +168,7 @@ fn tell_cause_at<A: World, E: Write>(world: &A, alloc: Global, status: Status, e
 }
 
 /// Does what an invocation asks for, as [`perform`] does, and returns how it ended: that is still to be told.
-fn perform_word<'w, A: World, R: Read, W: Write, E: Listener>(
+fn perform_word<'w, A: World, R: Read, W: Write + AnswerSink<A::Disk>, E: Listener>(
     world: &mut A,
     alloc: Global,
     invocation: Invocation<'w>,
@@ -123,10 +176,11 @@ fn perform_word<'w, A: World, R: Read, W: Write, E: Listener>(
     output: &mut W,
     errors: &mut E,
 ) -> Ending<'w>
-    ensures performs { Performs A.model A.Disk.model A.File.remaining invocation.entry
-        (around world.old (R.remaining input.old.inner) (W.contents output.old))
-        (around world.new (R.remaining input.new.inner) (W.contents output.new))
-        (status_of_ending result) }
+    ensures does { Does A.model A.Disk.model A.File.remaining invocation.entry
+        (around world.old (R.remaining input.old.inner)
+        (output_of invocation.entry (W.contents output.old) (W.taken output.old)))
+        (around world.new (R.remaining input.new.inner)
+        (output_of invocation.entry (W.contents output.new) (W.taken output.new))) result }
     ensures leaves { Leaves E.hears invocation.entry errors.old result errors.new }
 {
     match invocation {
@@ -214,6 +268,21 @@ fn perform_word<'w, A: World, R: Read, W: Write, E: Listener>(
             let asked = Alteration::Rename { from: name };
             Ending::Of(alter(world, alloc, place, asked, errors))
         }
+        Invocation::Batch {
+            folder,
+            file,
+            count,
+            reporting,
+        } => {
+            let reporter = reporter_of(world, alloc, reporting);
+            let read = read_named(world, alloc, file, input);
+            let asked = Batch {
+                folder,
+                file,
+                count,
+            };
+            batch_text(world, reporter, asked, read, errors)
+        }
         Invocation::Checkpoint { folder } => {
             let (access, change) = (Access::Changing, Change::Checkpoint);
             Ending::Of(change_in_folder(world, alloc, access, folder, &[], change, errors))
@@ -286,8 +355,7 @@ fn perform_word<'w, A: World, R: Read, W: Write, E: Listener>(
             reporting,
         } => {
             let reporter = reporter_of(world, alloc, reporting);
-            let status = format_files(world, reporter, formatting, &files, input, output, errors);
-            Ending::Told(status)
+            format_files(world, reporter, formatting, &files, input, output, errors)
         }
         Invocation::Check {
             style,
@@ -295,8 +363,7 @@ fn perform_word<'w, A: World, R: Read, W: Write, E: Listener>(
             reporting,
         } => {
             let reporter = reporter_of(world, alloc, reporting);
-            let status = check_files(world, reporter, style, &files, input, output, errors);
-            Ending::Told(status)
+            check_files(world, reporter, style, &files, input, output, errors)
         }
     }
 }
@@ -312,19 +379,19 @@ fn reporter_of<A: World>(world: &A, alloc: Global, asked: Reporting) -> Reporter
 
 /// Performs the commands of `input` on the store in a folder. One line to `errors` says how many bytes opening dropped,
 /// and one if bytes at the end of the input were not performed.
-fn run_folder<A: World, R: Read, W: Write, E: Listener>(
+fn run_folder<A: World, R: Read, S: AnswerSink<A::Disk>, E: Listener>(
     world: &mut A,
     alloc: Global,
     folder: &str,
     grouping: Grouping,
     input: &mut TailReader<R>,
-    output: &mut W,
+    output: &mut S,
     errors: &mut E,
 ) -> Outcome<'static>
     ensures runs { RunsOnFolder A.model A.Disk.model folder.now grouping
-        (around world.old (R.remaining input.old.inner) (W.contents output.old))
-        (around world.new (R.remaining input.new.inner) (W.contents output.new))
-        (status_of_outcome result) }
+        (around world.old (R.remaining input.old.inner) (S.taken output.old))
+        (around world.new (R.remaining input.new.inner) (S.taken output.new))
+        (Of result) }
     ensures told { TellsSession E.hears errors.old errors.new }
 {
     match world.open(alloc, Access::Making, folder) {
@@ -344,7 +411,7 @@ fn end_session<A: World, E: Listener>(
     errors: &mut E,
 ) -> Outcome<'static>
     ensures back { A.model.given_back (disk_back ended) world.old world.new }
-    ensures ends { status_of_outcome result ≡ status_at_end ended }
+    ensures ends { Of result ≡ ending_at_end ended }
     ensures told { TellsUnperformed E.hears tail.now ended errors.old errors.new }
 {
     match ended {
@@ -387,7 +454,7 @@ fn export_folder<A: World, W: Write, E: Listener>(
     errors: &mut E,
 ) -> Outcome<'static>
     ensures exports { ExportsFromFolder A.model A.Disk.model form folder.now name.now world.old world.new
-        (W.contents output.old) (W.contents output.new) (status_of_outcome result) }
+        (W.contents output.old) (W.contents output.new) (Of result) }
     ensures told { TellsExport E.hears errors.old errors.new }
 {
     match world.open(alloc, Access::Reading, folder) {
@@ -406,8 +473,7 @@ fn write_found<A: World, W: Write>(
     output: &mut W,
 ) -> Outcome<'static>
     ensures back { A.model.given_back (disk_back found) world.old world.new }
-    ensures writes { WritesFound found (W.contents output.old) (W.contents output.new)
-        (status_of_outcome result) }
+    ensures writes { WritesFound found (W.contents output.old) (W.contents output.new) (Of result) }
 {
     match found {
         Ok((disk, text)) => {
@@ -423,13 +489,12 @@ fn write_found<A: World, W: Write>(
 
 /// Writes a text whole.
 fn write_text<W: Write>(text: &str, output: &mut W) -> Outcome<'static>
-    ensures writes { WritesWhole text.now (W.contents output.old) (W.contents output.new)
-        (status_of_outcome result) }
+    ensures writes { WritesWhole text.now (W.contents output.old) (W.contents output.new) (Of result) }
     ensures ends { EndsWriting result }
 {
     match write_whole(output, text.as_bytes()) {
         Ok(()) => Outcome::Done,
-        Err(fault) => Outcome::Text(fault),
+        Err(_) => Outcome::Text(ToolFault::Output),
     }
 }
 
@@ -439,8 +504,12 @@ pub(crate) fn status_of(fault: ToolFault) -> Status
 {
     match fault {
         ToolFault::Input | ToolFault::Output => Status::Device,
-        ToolFault::Read(_) | ToolFault::Comments(_) | ToolFault::Unsettled | ToolFault::OneValue =>
-            { Status::Refused }
+        ToolFault::Read(_)
+        | ToolFault::Comments(_)
+        | ToolFault::Unsettled
+        | ToolFault::OneValue
+        | ToolFault::NoEdits
+        | ToolFault::ImportText(_) => Status::Refused,
     }
 }
 
@@ -464,7 +533,8 @@ pub(crate) fn status_of_store(fault: StoreToolFault) -> Status
 }
 
 /// Writes why there is no invocation, and returns the status. Help and the version are written to `writer`: 0, or 3 if
-/// that fails. Wrong words are reported on `errors`: 2. So is memory that ran out: 1.
+/// that fails, where only the first of them is written. Wrong words are reported on `errors`: 2. So is memory that ran
+/// out: 1.
 pub fn show_unparsed<W: Write, E: Listener>(
     unparsed: &Unparsed,
     writer: &mut W,
@@ -474,13 +544,21 @@ pub fn show_unparsed<W: Write, E: Listener>(
     ensures tells { TellsUnparsed E.hears unparsed.now errors.old errors.new result }
 {
     match unparsed {
-        Unparsed::Shown(text) => tell_outcome(errors, write_text(text, writer)),
+        Unparsed::Shown(text) => show_text(text, writer, errors),
         Unparsed::Wrong(lines) => {
             errors.tell(lines);
             Status::WrongWords
         }
         Unparsed::OutOfMemory => refuse_memory(errors),
     }
+}
+
+/// Writes help or the version, tells if that fails, and returns the status.
+fn show_text<W: Write, E: Listener>(text: &str, writer: &mut W, errors: &mut E) -> Status
+    ensures shows { ShowsText text.now (W.contents writer.old) (W.contents writer.new) result }
+    ensures tells { TellsShown E.hears errors.old errors.new result }
+{
+    tell_outcome(errors, write_text(text, writer))
 }
 
 /// Writes why the program's arguments could not be read, and returns the status. Words that are not UTF-8 are wrong

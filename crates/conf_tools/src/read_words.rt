@@ -1,10 +1,11 @@
 // The words of the program that only read a store, and the one that makes a store of what a damaged one still says.
 ghost use Rattle.std.specs.Prelude.{◌≡◌};
-ghost use Rattle.conf_tools.specs.Outcomes.{status_of_outcome};
+ghost use Rattle.conf_tools.specs.Endings.{EndsSurvey, ending_after_log, ending_after_presence, ending_after_reading};
 ghost use Rattle.conf_tools.specs.ReadingStatuses.{status_of_history, status_of_reading};
 ghost use Rattle.conf_store.specs.Holes.{is_several};
 ghost use Rattle.conf_tools.specs.Exports.{disk_back};
-ghost use Rattle.conf_tools.specs.StoreWords.{OpensFile, OpensNew, Reads, Salvages, SavesInFolder, Says, WritesFindings, status_after_log, status_after_presence, status_after_reading, status_after_survey};
+ghost use Rattle.conf_tools.specs.StoreWords.{OpensFile, OpensNew, Reads, Salvages, SavesInFolder, Says, WritesFindings};
+ghost use Rattle.conf_tools.specs.declared.outcome.Ending.TheVariants.{Of};
 
 use crate::outcome::Outcome;
 use crate::program::Status;
@@ -53,7 +54,7 @@ pub(crate) fn answer_on_folder<'w, A: World, W: Write>(
     output: &mut W,
 ) -> Outcome<'w>
     ensures { Reads A.model A.File.remaining folder.now (Says question.entry) world.old world.new
-        (W.contents output.old) (W.contents output.new) (status_of_outcome result) }
+        (W.contents output.old) (W.contents output.new) (Of result) }
 {
     match open_file(world, alloc, folder) {
         Ok(mut file) => {
@@ -74,7 +75,7 @@ pub(crate) fn answer<'w, R: Read, W: Write>(
     output: &mut W,
 ) -> Outcome<'w>
     ensures { Says question.entry (is_several waiting) (R.remaining file.old) (W.contents output.old)
-        (W.contents output.new) (status_of_outcome result) }
+        (W.contents output.new) (Of result) }
 {
     match question {
         Question::Names { at, form } => {
@@ -106,7 +107,7 @@ pub(crate) fn answer<'w, R: Read, W: Write>(
 
 /// How a look for something at a place ended.
 fn outcome_of_presence(found: Result<Presence, ReadingFault>) -> Outcome<'static>
-    ensures { status_of_outcome result ≡ status_after_presence found }
+    ensures { Of result ≡ ending_after_presence found }
 {
     match found {
         Ok(Presence::Present) => Outcome::Done,
@@ -117,7 +118,7 @@ fn outcome_of_presence(found: Result<Presence, ReadingFault>) -> Outcome<'static
 
 /// How a log ended.
 fn outcome_of_log(ended: Result<(), HistoryFault>) -> Outcome<'static>
-    ensures { status_of_outcome result ≡ status_after_log ended }
+    ensures { Of result ≡ ending_after_log ended }
 {
     match ended {
         Ok(()) => Outcome::Done,
@@ -127,7 +128,7 @@ fn outcome_of_log(ended: Result<(), HistoryFault>) -> Outcome<'static>
 
 /// How a look into a store's file ended.
 fn outcome_of_reading(ended: Result<(), ReadingFault>) -> Outcome<'static>
-    ensures { status_of_outcome result ≡ status_after_reading ended }
+    ensures { Of result ≡ ending_after_reading ended }
 {
     match ended {
         Ok(()) => Outcome::Done,
@@ -137,7 +138,7 @@ fn outcome_of_reading(ended: Result<(), ReadingFault>) -> Outcome<'static>
 
 /// How a survey of the store in a folder ended.
 fn outcome_of_survey<'w>(folder: &'w str, ended: Result<Soundness, ReadingFault>) -> Outcome<'w>
-    ensures { status_of_outcome result ≡ status_after_survey ended }
+    ensures { EndsSurvey ended (Of result) }
 {
     match ended {
         Ok(Soundness::Whole) => Outcome::Done,
@@ -155,7 +156,7 @@ pub(crate) fn salvage_folder<A: World, W: Write>(
     output: &mut W,
 ) -> Outcome<'static>
     ensures { Salvages A.model A.Disk.model A.File.remaining folder.now new.now world.old world.new
-        (W.contents output.old) (W.contents output.new) (status_of_outcome result) }
+        (W.contents output.old) (W.contents output.new) (Of result) }
 {
     match open_file(world, alloc, folder) {
         Ok(mut file) => {
@@ -177,7 +178,7 @@ fn save_in_folder<A: World, W: Write>(
 ) -> Outcome<'static>
     ensures { SavesInFolder A.model A.Disk.model new.now (is_several waiting) (A.File.remaining file.old)
         world.old world.new (W.contents output.old) (W.contents output.new)
-        (status_of_outcome result) }
+        (Of result) }
 {
     match open_new(world, alloc, file, new) {
         Ok(disk) => {
@@ -198,7 +199,7 @@ pub(crate) fn write_saved<A: World, W: Write>(
 ) -> Outcome<'static>
     ensures back { A.model.given_back (disk_back saved) world.old world.new }
     ensures writes { WritesFindings saved (W.contents output.old) (W.contents output.new)
-        (status_of_outcome result) }
+        (Of result) }
 {
     match saved {
         Ok((disk, findings)) => {

@@ -23,7 +23,7 @@ use yaml_tree::{Config, Sink, Text, Tree, write_style};
 ///
 /// # Errors
 /// - `History` if [`names_at`] fails. Nothing is written.
-/// - `Output` if the writer fails. Some of the names may be written.
+/// - `Output` if the writer fails. Only the first of the names are written, as far as the writer took them.
 pub fn write_names<R: Read, W: Write>(
     alloc: Global,
     reader: &mut R,
@@ -34,7 +34,7 @@ pub fn write_names<R: Read, W: Write>(
 ) -> Result<(), ReadingFault>
     ensures ok { OnOk result (WritesNames (is_several waiting) (R.remaining reader.old) at form
         (W.contents writer.old) (W.contents writer.new)) }
-    ensures refused { IfErr result (RefusesNames (is_several waiting) (R.remaining reader.old) at
+    ensures refused { IfErr result (RefusesNames (is_several waiting) (R.remaining reader.old) at form
         (W.contents writer.old) (W.contents writer.new)) }
 {
     let names = match names_at(alloc, reader, waiting, at) {
@@ -135,7 +135,7 @@ pub struct Places<'w> {
 ///   `NoSuchPlace` and `NotIndex` are no faults: that text is written. Or with `OutOfMemory`.
 /// - `NotText` if that value is no text, and the form is that of a text as it is; `NotCollection` if it is a text, and
 ///   the form is that of its keys.
-/// - `Output` if the writer fails. Some of the values may be written.
+/// - `Output` if the writer fails. Only the first of the values are written, as far as the writer took them.
 ///
 /// But for `Output`, nothing is written.
 pub fn write_values<R: Read, W: Write>(

@@ -1,13 +1,20 @@
 // What standard error has of a text that is refused.
-ghost use Rattle.std.specs.Prelude.{◌≡◌, OnOk};
+ghost use Rattle.std.specs.Prelude.{◌≡◌, ◌++◌, IfErr, OnOk};
+ghost use Rattle.conf_tools.specs.Refused.{HasPlace, IsPlaceOf, TellsFault, fault_and_more, place_text, refusal_line};
 
+use crate::listener::Listener;
 use crate::texts::ToolFault;
 use conf_files::Cause;
 use conf_words::{Reporting, escaped};
+use itoa::Buffer;
 use std::alloc::Global;
 use std::io::Write;
 use yaml_refusals::{Detail, Excerpt, Place, Refusal, remedy};
 use yaml_tree::{Limits, ReadFault};
+
+/// What to do about a text that is no list of edits.
+const KEYS_OF_EDITS: &str =
+    "compare the keys of each edit, and their order, with `confstore help batch`";
 
 /// Where a text comes from, as a line on standard error names it.
 #[derive(Clone, Copy)]
@@ -18,7 +25,18 @@ pub(crate) enum Origin<'f> {
     Named(&'f str),
 }
 
-/// Writes why texts are refused. A failure of the writer is ignored.
+/// What is known of the refusal of a text.
+#[derive(Drop)]
+struct Report {
+    /// Where the text is at fault, if it is known.
+    place: Option<Place>,
+    /// The fault by its name, and what is known of it; nothing if there was no memory for it.
+    shown: Option<String>,
+    /// What to do.
+    remedy: &'static str,
+}
+
+/// Tells why texts are refused.
 #[derive(Clone, Copy)]
 pub(crate) struct Reporter {
     pub(crate) alloc: Global,
@@ -26,15 +44,16 @@ pub(crate) struct Reporter {
 }
 
 impl Reporter {
-    /// Writes why a text, of which these bytes were read, came to nothing, if it did.
-    pub(crate) fn tell<T, E: Write>(
+    /// Tells why a text, of which these bytes were read, came to nothing, if it did.
+    pub(crate) fn tell<T, E: Listener>(
         &self,
         errors: &mut E,
         origin: Origin<'_>,
         text: &[u8],
         ended: &Result<T, ToolFault>,
     )
-        ensures { OnOk ended.now (errors.new ≡ errors.old) }
+        ensures same { OnOk ended.now (errors.new ≡ errors.old) }
+        ensures told { IfErr ended.now (TellsFault E.hears errors.old) }
     {
         match ended {
             Ok(_) => {}
@@ -42,42 +61,55 @@ impl Reporter {
         }
     }
 
-    /// Writes a fault of a text of which these bytes were read: in one line for standard input, and else under the name
+    /// Tells a fault of a text of which these bytes were read: in one line for standard input, and else under the name
     /// of the file, with the place if there is one.
-    pub(crate) fn tell_fault<E: Write>(
+    pub(crate) fn tell_fault<E: Listener>(
         &self,
         errors: &mut E,
         origin: Origin<'_>,
         text: &[u8],
         fault: ToolFault,
-    ) {
-        let Origin::Named(file) = origin else {
-            let _ = writeln!(errors, "confstore: {fault}");
-            return;
-        };
-        let name = escaped(self.alloc, file).ok();
-        let name = name.as_deref().unwrap_or("FILE");
-        match fault {
-            ToolFault::Read(ReadFault::TooLong) => self.tell_length(errors, name),
-            ToolFault::Read(fault) => self.tell_refusal(errors, name, text, fault),
-            ToolFault::Comments(place) => self.tell_comments(errors, name, text, place),
-            ToolFault::OneValue => self.tell_one_value(errors, name),
-            ToolFault::Input | ToolFault::Output | ToolFault::Unsettled => {
-                let _ = writeln!(errors, "{name}: {fault}");
-            }
+    )
+        ensures { TellsFault E.hears errors.old fault }
+    {
+        match origin {
+            Origin::Input => self.tell_unnamed(errors, fault),
+            Origin::Named(file) => self.tell_named(errors, file, text, fault),
         }
     }
 
-    /// Writes that a text is too long. No more of it was read than shows that.
-    fn tell_length<E: Write>(&self, errors: &mut E, name: &str) {
-        let most = Limits::CONFIGURATION.bytes;
-        let _ = writeln!(errors, "{name}: TooLong (more than {most} bytes)");
-        self.explain(errors, b"", None, remedy(ReadFault::TooLong));
+    /// Tells a fault of standard input, where the words name no file.
+    fn tell_unnamed<E: Listener>(&self, errors: &mut E, fault: ToolFault)
+        ensures { TellsFault E.hears errors.old fault }
+    {
+        let shown = format!(in self.alloc; "{fault}").ok();
+        let more = more_of(&shown, fault.name());
+        tell_line(errors, "confstore", None, fault.name(), more);
     }
 
-    /// Writes that a text has comments, of which the first is at this place.
-    fn tell_comments<E: Write>(&self, errors: &mut E, name: &str, text: &[u8], place: Place) {
-        let _ = writeln!(errors, "{name}:{place}: Comments");
+    /// Tells a fault of a text of which these bytes were read, under the name of its file.
+    fn tell_named<E: Listener>(&self, errors: &mut E, file: &str, text: &[u8], fault: ToolFault)
+        ensures { TellsFault E.hears errors.old fault }
+    {
+        let name = escaped(self.alloc, file).ok();
+        let name = name.as_deref().unwrap_or("FILE");
+        match fault {
+            ToolFault::Read(fault) => self.tell_refusal(errors, name, text, fault),
+            ToolFault::Comments(place) => self.tell_comments(errors, name, text, place),
+            ToolFault::OneValue => self.tell_one_value(errors, name),
+            ToolFault::NoEdits => self.tell_no_edits(errors, name),
+            ToolFault::ImportText(fault) => self.tell_import_text(errors, name, fault),
+            ToolFault::Input => tell_fault_line(errors, name, None, ToolFault::Input, ""),
+            ToolFault::Output => tell_fault_line(errors, name, None, ToolFault::Output, ""),
+            ToolFault::Unsettled => tell_fault_line(errors, name, None, ToolFault::Unsettled, ""),
+        }
+    }
+
+    /// Tells that a text has comments, of which the first is at this place.
+    fn tell_comments<E: Listener>(&self, errors: &mut E, name: &str, text: &[u8], place: Place)
+        ensures { TellsFault E.hears errors.old (ToolFault.Comments place) }
+    {
+        tell_fault_line(errors, name, Some(place), ToolFault::Comments(place), "");
         self.explain(
             errors,
             text,
@@ -86,9 +118,12 @@ impl Reporter {
         );
     }
 
-    /// Writes that a text is one value alone.
-    fn tell_one_value<E: Write>(&self, errors: &mut E, name: &str) {
-        let _ = writeln!(errors, "{name}: OneValue (neither a mapping nor a list)");
+    /// Tells that a text is one value alone.
+    fn tell_one_value<E: Listener>(&self, errors: &mut E, name: &str)
+        ensures { TellsFault E.hears errors.old ToolFault.OneValue }
+    {
+        let more = " (neither a mapping nor a list)";
+        tell_fault_line(errors, name, None, ToolFault::OneValue, more);
         self.explain(
             errors,
             b"",
@@ -97,14 +132,77 @@ impl Reporter {
         );
     }
 
-    /// Writes where and why a text is refused.
-    fn tell_refusal<E: Write>(&self, errors: &mut E, name: &str, text: &[u8], fault: ReadFault) {
+    /// Tells that a text lists no edits.
+    fn tell_no_edits<E: Listener>(&self, errors: &mut E, name: &str)
+        ensures { TellsFault E.hears errors.old ToolFault.NoEdits }
+    {
+        tell_fault_line(
+            errors,
+            name,
+            None,
+            ToolFault::NoEdits,
+            " (no list of edits)",
+        );
+        self.explain(errors, b"", None, KEYS_OF_EDITS);
+    }
+
+    /// Tells why the text of an import in a list is refused.
+    fn tell_import_text<E: Listener>(&self, errors: &mut E, name: &str, fault: ReadFault)
+        ensures { TellsFault E.hears errors.old (ToolFault.ImportText fault) }
+    {
+        let brief = fault.brief();
+        let shown = format!(in self.alloc; "{brief} (the text of an import)").ok();
+        let more = more_of(&shown, ToolFault::ImportText(fault).name());
+        tell_fault_line(errors, name, None, ToolFault::ImportText(fault), more);
+        self.explain(errors, b"", None, remedy(fault));
+    }
+
+    /// Tells where and why a text is refused.
+    fn tell_refusal<E: Listener>(&self, errors: &mut E, name: &str, text: &[u8], fault: ReadFault)
+        ensures { TellsFault E.hears errors.old (ToolFault.Read fault) }
+    {
+        let report = self.report_on(text, fault);
+        let more = more_of(&report.shown, ToolFault::Read(fault).name());
+        let place = place_of(fault, report.place);
+        tell_fault_line(errors, name, place, ToolFault::Read(fault), more);
+        self.explain(errors, text, place, report.remedy);
+    }
+
+    /// What is known of the refusal of a text of which these bytes were read. Of one that is too long no more was read
+    /// than shows that.
+    fn report_on(&self, text: &[u8], fault: ReadFault) -> Report {
+        match fault {
+            ReadFault::TooLong => self.report_length(),
+            _ => self.report_refusal(text, fault),
+        }
+    }
+
+    /// What is known of the refusal of a text that is too long.
+    fn report_length(&self) -> Report {
+        let most = Limits::CONFIGURATION.bytes;
+        Report {
+            place: None,
+            shown: format!(in self.alloc; "TooLong (more than {most} bytes)").ok(),
+            remedy: remedy(ReadFault::TooLong),
+        }
+    }
+
+    /// What is known of the refusal of a text that was read whole.
+    fn report_refusal(&self, text: &[u8], fault: ReadFault) -> Report {
         match Refusal::of(self.alloc, text, &Limits::CONFIGURATION, fault) {
             Ok(refusal) => {
-                write_refusal(errors, name, &refusal);
-                self.explain(errors, text, refusal.place, remedy_of(&refusal));
+                let brief = refusal.brief();
+                Report {
+                    place: refusal.place,
+                    shown: format!(in self.alloc; "{brief}").ok(),
+                    remedy: remedy_of(&refusal),
+                }
             }
-            Err(_) => write_name(errors, name, fault),
+            Err(_) => Report {
+                place: None,
+                shown: None,
+                remedy: "",
+            },
         }
     }
 
@@ -139,19 +237,85 @@ pub(crate) fn write_cause<E: Write>(
     let _ = writeln!(errors, "{cause}");
 }
 
-/// Writes a refusal in one line, under the name of the file and with the place if it has one.
-fn write_refusal<E: Write>(errors: &mut E, name: &str, refusal: &Refusal) {
-    let brief = refusal.brief();
-    let _ = match refusal.place {
-        Some(place) => writeln!(errors, "{name}:{place}: {brief}"),
-        None => writeln!(errors, "{name}: {brief}"),
-    };
+/// Tells a fault of a text in a line, with a place if it has one, and what more is known.
+fn tell_fault_line<E: Listener>(
+    errors: &mut E,
+    text: &str,
+    place: Option<Place>,
+    fault: ToolFault,
+    more: &str,
+)
+    ensures { IsPlaceOf fault place → TellsFault E.hears errors.old fault }
+{
+    tell_line(errors, text, place, fault.name(), more);
 }
 
-/// Writes the name of a fault, of which no more is known.
-fn write_name<E: Write>(errors: &mut E, name: &str, fault: ReadFault) {
-    let brief = fault.brief();
-    let _ = writeln!(errors, "{name}: {brief}");
+/// Tells the line for a fault of a text.
+fn tell_line<E: Listener>(errors: &mut E, text: &str, place: Option<Place>, name: &str, more: &str)
+    ensures { E.hears errors.old (refusal_line text.now place name.now more.now) errors.new }
+{
+    match place {
+        None => tell_unplaced(errors, text, name, more),
+        Some(place) => tell_placed(errors, text, place, name, more),
+    }
+}
+
+/// Tells the line for a fault that has no place.
+fn tell_unplaced<E: Listener>(errors: &mut E, text: &str, name: &str, more: &str)
+    ensures { E.hears errors.old (text.now ++ fault_and_more name.now more.now) errors.new }
+{
+    errors.tell(text);
+    tell_fault_and_more(errors, name, more);
+}
+
+/// Tells the line for a fault at a place.
+fn tell_placed<E: Listener>(errors: &mut E, text: &str, place: Place, name: &str, more: &str)
+    ensures { E.hears errors.old
+        (text.now ++ place_text place.line place.column ++ fault_and_more name.now more.now) errors.new }
+{
+    errors.tell(text);
+    tell_place(errors, place);
+    tell_fault_and_more(errors, name, more);
+}
+
+/// Tells a line and a column.
+fn tell_place<E: Listener>(errors: &mut E, place: Place)
+    ensures { E.hears errors.old (place_text place.line place.column) errors.new }
+{
+    let mut line = Buffer::new();
+    let mut column = Buffer::new();
+    errors.tell(":");
+    errors.tell(line.format(place.line));
+    errors.tell(":");
+    errors.tell(column.format(place.column));
+}
+
+/// Tells the name of a fault, what more is known, and the end of the line.
+fn tell_fault_and_more<E: Listener>(errors: &mut E, name: &str, more: &str)
+    ensures { E.hears errors.old (fault_and_more name.now more.now) errors.new }
+{
+    errors.tell(": ");
+    errors.tell(name);
+    errors.tell(more);
+    errors.tell("\n");
+}
+
+/// The place of a fault: its own, if it has one, and else the one that was found.
+fn place_of(fault: ReadFault, found: Option<Place>) -> Option<Place>
+    ensures { HasPlace fault result }
+{
+    match fault {
+        ReadFault::Syntax { line, column, .. } => Some(Place { line, column }),
+        _ => found,
+    }
+}
+
+/// What is shown behind the name of a fault; nothing if there was no memory for it.
+fn more_of<'s>(shown: &'s Option<String>, name: &str) -> &'s str {
+    match shown {
+        Some(shown) => shown.strip_prefix(name).unwrap_or(""),
+        None => "",
+    }
 }
 
 /// What to do about a refusal, if it doesn't say so itself.

@@ -26,7 +26,7 @@ pub enum Soundness {
 ///
 /// # Errors
 /// - `History` if [`find_in_store`] fails, or memory runs out. Nothing is written.
-/// - `Output` if the writer fails. Some of the text may be written.
+/// - `Output` if the writer fails. Only the first of the text is written, as far as the writer took it.
 pub fn write_survey<R: Read, W: Write>(
     alloc: Global,
     reader: &mut R,
@@ -72,7 +72,7 @@ fn soundness_of_kind(kind: BadKind) -> Soundness
 ///
 /// # Errors
 /// - `History` with `OutOfMemory` if memory runs out. Nothing is written.
-/// - `Output` if the writer fails. Some of the text may be written.
+/// - `Output` if the writer fails. Only the first of the text is written, as far as the writer took it.
 pub fn write_findings<W: Write>(
     alloc: Global,
     findings: &Findings,
@@ -80,7 +80,8 @@ pub fn write_findings<W: Write>(
 ) -> Result<(), ReadingFault>
     ensures ok { OnOk result (Appends (W.contents writer.old) (W.contents writer.new)
         (findings_text findings.now)) }
-    ensures refused { IfErr result (CannotWrite (W.contents writer.old) (W.contents writer.new)) }
+    ensures refused { IfErr result (CannotWrite (findings_text findings.now)
+        (W.contents writer.old) (W.contents writer.new)) }
 {
     let text = match findings_text(alloc, findings) {
         Ok(text) => text,

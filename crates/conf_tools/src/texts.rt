@@ -1,7 +1,9 @@
 // The tools for texts, over any reader and writer.
-ghost use Rattle.std.specs.Prelude.{◌≡◌, IfErr, IfOk, OnOk};
+ghost use Rattle.std.specs.Prelude.{◌≡◌, IfErr, IfOk, OnErr, OnOk};
 ghost use Rattle.conf_tools.specs.Prelude.{Appends};
-ghost use Rattle.conf_tools.specs.Tools.{Checks, Formats, IsTaken, Stops};
+ghost use Rattle.conf_tools.specs.Parts.{WritesPart};
+ghost use Rattle.conf_tools.specs.Styles.{IsStyled};
+ghost use Rattle.conf_tools.specs.Tools.{Checks, Formats, IsReport, IsTaken, Stops};
 
 use crate::input::read_up_to;
 use crate::report::report;
@@ -13,6 +15,7 @@ use std::error::Error;
 use std::fmt;
 use std::fmt::{Display, Formatter};
 use std::io::{Read, Write};
+use yaml_docs::write_or_count;
 use yaml_refusals::Place;
 use yaml_tree::{Limits, ReadFault};
 
@@ -25,7 +28,7 @@ pub(crate) const MOST_INPUT: usize = Limits::CONFIGURATION.bytes as usize + 1;
 pub enum ToolFault {
     /// The reader failed. Nothing was written.
     Input,
-    /// The writer failed. Some of the text may have been written.
+    /// The writer failed. The first of the text may have been written.
     Output,
     /// The text was refused, or memory ran out. Nothing was written.
     Read(ReadFault),
@@ -35,6 +38,10 @@ pub enum ToolFault {
     Unsettled,
     /// The text is one value alone, and a mapping or a list was wanted. Nothing was written.
     OneValue,
+    /// The text lists no edits. Nothing was changed.
+    NoEdits,
+    /// The text of an import in a list of edits was refused, or memory ran out. Nothing was changed.
+    ImportText(ReadFault),
 }
 
 impl ToolFault {
@@ -51,6 +58,8 @@ impl ToolFault {
             ToolFault::Comments(_) => "Comments",
             ToolFault::Unsettled => "Unsettled",
             ToolFault::OneValue => "OneValue",
+            ToolFault::NoEdits => "BadCommand",
+            ToolFault::ImportText(fault) => StoreFault::Read(fault).name(),
         }
     }
 }
@@ -58,7 +67,9 @@ impl ToolFault {
 impl Display for ToolFault {
     fn fmt<W: fmt::Write>(&self, f: &mut Formatter<W>) -> fmt::Result {
         match *self {
-            ToolFault::Read(fault) => Display::fmt(&fault.brief(), f),
+            ToolFault::Read(fault) | ToolFault::ImportText(fault) => {
+                Display::fmt(&fault.brief(), f)
+            }
             fault => f.write_str(fault.name()),
         }
     }
@@ -96,7 +107,7 @@ pub fn read_text<R: Read>(alloc: Global, reader: &mut R) -> Result<Vec<u8>, Tool
 ///
 /// - [`ToolFault::Read`] if the text is refused, or memory runs out. Nothing is written.
 /// - [`ToolFault::Unsettled`] as [`format_keeping`](comments_kept::format_keeping) says. Nothing is written.
-/// - [`ToolFault::Output`] if the writer fails. Some of the text may be written.
+/// - [`ToolFault::Output`] if the writer fails. Only the first of the text is written, as far as the writer took it.
 pub fn format_text<W: Write>(
     alloc: Global,
     text: &[u8],
@@ -104,14 +115,17 @@ pub fn format_text<W: Write>(
     writer: &mut W,
 ) -> Result<(), ToolFault>
     ensures ok { OnOk result (Formats style text.now (W.contents writer.old) (W.contents writer.new)) }
-    ensures stops { IfErr result (Stops text.now (W.contents writer.old) (W.contents writer.new)) }
+    ensures stops { IfErr result (Stops (IsStyled style text.now) text.now
+        (W.contents writer.old) (W.contents writer.new)) }
 {
     let styled = match styled_text(alloc, text, style) {
         Ok(styled) => styled,
         Err(fault) => return Err(fault),
     };
-    write_whole(writer, styled.as_bytes())?;
-    Ok(())
+    match write_whole(writer, styled.as_bytes()) {
+        Ok(()) => Ok(()),
+        Err(_) => Err(ToolFault::Output),
+    }
 }
 
 /// Writes a line to `writer` for each finding of a text that is compared with what it is in a style, in the order of
@@ -123,7 +137,7 @@ pub fn format_text<W: Write>(
 ///
 /// - [`ToolFault::Read`] if the text is refused, or memory runs out. Nothing is written.
 /// - [`ToolFault::Unsettled`] as [`format_keeping`](comments_kept::format_keeping) says. Nothing is written.
-/// - [`ToolFault::Output`] if the writer fails. Some of the lines may be written.
+/// - [`ToolFault::Output`] if the writer fails. Only the first of the lines are written, as the writer took them.
 pub fn check_text<W: Write>(
     alloc: Global,
     text: &[u8],
@@ -131,28 +145,36 @@ pub fn check_text<W: Write>(
     writer: &mut W,
 ) -> Result<u64, ToolFault>
     ensures ok { IfOk result (Checks style text.now (W.contents writer.old) (W.contents writer.new)) }
-    ensures stops { IfErr result (Stops text.now (W.contents writer.old) (W.contents writer.new)) }
+    ensures stops { IfErr result (Stops (IsReport style text.now) text.now
+        (W.contents writer.old) (W.contents writer.new)) }
 {
     let findings = match findings_in(alloc, text, style) {
         Ok(findings) => findings,
         Err(fault) => return Err(fault),
     };
-    let lines = report(alloc, &findings)?;
-    write_whole(writer, &lines)?;
-    Ok(findings.len() as u64)
+    let lines = match report(alloc, &findings) {
+        Ok(lines) => lines,
+        Err(_) => return Err(ToolFault::Read(ReadFault::OutOfMemory)),
+    };
+    match write_whole(writer, &lines) {
+        Ok(()) => Ok(findings.len() as u64),
+        Err(_) => Err(ToolFault::Output),
+    }
 }
 
-/// Writes all bytes, and flushes the writer. Returns [`ToolFault::Output`] if the writer fails; some of the bytes may
-/// then be written.
+/// Writes all bytes, and flushes the writer. Returns [`ToolFault::Output`] if the writer fails: then the first of the
+/// bytes are written, as far as the writer took them.
 pub(crate) fn write_whole<W: Write>(writer: &mut W, bytes: &[u8]) -> Result<(), ToolFault>
     ensures ok { OnOk result (Appends (W.contents writer.old) (W.contents writer.new) bytes.now) }
+    ensures part { OnErr result (WritesPart bytes.now (W.contents writer.old) (W.contents writer.new)) }
     ensures fault { IfErr result (λ fault. fault ≡ ToolFault.Output) }
 {
-    let Ok(()) = writer.write_all(bytes) else {
-        return Err(ToolFault::Output);
-    };
-    let Ok(()) = writer.flush() else {
-        return Err(ToolFault::Output);
-    };
-    Ok(())
+    match write_or_count(writer, bytes) {
+        Ok(()) => {}
+        Err(_) => return Err(ToolFault::Output),
+    }
+    match writer.flush() {
+        Ok(()) => Ok(()),
+        Err(_) => Err(ToolFault::Output),
+    }
 }

@@ -16,7 +16,7 @@ use Rattle.conf_words.specs.declared.invocation.Grouping.{Grouping}
 use Rattle.conf_words.specs.declared.invocation.Grouping.TheVariants as grouping
 use Rattle.conf_words.specs.declared.invocation.Invocation.{Invocation}
 use Rattle.conf_words.specs.declared.invocation.Invocation.TheVariants.{Init, Import, Set, Delete, Copy, Rename}
-use Rattle.conf_words.specs.declared.invocation.Invocation.TheVariants.{Checkpoint, Run, Export, Names, Get, Exists}
+use Rattle.conf_words.specs.declared.invocation.Invocation.TheVariants.{Batch, Checkpoint, Run, Export, Names, Get, Exists}
 use Rattle.conf_words.specs.declared.invocation.Invocation.TheVariants.{Log, Verify, Salvage, Backup, Format, Check}
 use Rattle.conf_words.specs.declared.invocation.LogForm.{LogForm}
 use Rattle.conf_words.specs.declared.invocation.LogForm.TheVariants as log_form
@@ -238,6 +238,15 @@ IsRename given (Rename folder name to conditions) =
     × AreConditions given conditions
 IsRename given _ = ⊥
 
+abbrev pub batch_is_wrong : Given → Bool
+batch_is_wrong given = lacks given (codes "FOLDER" ∷ [])
+
+abbrev pub IsBatch : Given → Invocation → Type 0
+IsBatch given (Batch folder file count reporting) =
+    Is given (codes "FOLDER") folder × IsOr (codes "-") given (codes "FILE") file
+    × (count ≡ number_in given (codes "if-count")) × (reporting ≡ reporting_in given)
+IsBatch given _ = ⊥
+
 abbrev pub checkpoint_is_wrong : Given → Bool
 checkpoint_is_wrong given = lacks given (codes "FOLDER" ∷ [])
 
@@ -360,6 +369,7 @@ is_wrong word.Set given = set_is_wrong given
 is_wrong word.Delete given = delete_is_wrong given
 is_wrong word.Copy given = copy_is_wrong given
 is_wrong word.Rename given = rename_is_wrong given
+is_wrong word.Batch given = batch_is_wrong given
 is_wrong word.Checkpoint given = checkpoint_is_wrong given
 is_wrong word.Run given = run_is_wrong given
 is_wrong word.Export given = export_is_wrong given
@@ -381,6 +391,7 @@ IsAsked word.Set given invocation = IsSet given invocation
 IsAsked word.Delete given invocation = IsDelete given invocation
 IsAsked word.Copy given invocation = IsCopy given invocation
 IsAsked word.Rename given invocation = IsRename given invocation
+IsAsked word.Batch given invocation = IsBatch given invocation
 IsAsked word.Checkpoint given invocation = IsCheckpoint given invocation
 IsAsked word.Run given invocation = IsRun given invocation
 IsAsked word.Export given invocation = IsExport given invocation

@@ -6,7 +6,7 @@ use Rattle.command_line.specs.Rows.{Kind, Row, Tie, Required, Optional, Optional
 use Rattle.command_line.specs.Rows.{Text, Number, Free, Needs, Excludes, Replaces}
 use Rattle.conf_words.specs.declared.subcommand.Subcommand.{Subcommand}
 use Rattle.conf_words.specs.declared.subcommand.Subcommand.TheVariants.{Init, Import, Set, Delete, Copy, Rename}
-use Rattle.conf_words.specs.declared.subcommand.Subcommand.TheVariants.{Checkpoint, Run, Export, Names, Get, Keys}
+use Rattle.conf_words.specs.declared.subcommand.Subcommand.TheVariants.{Batch, Checkpoint, Run, Export, Names, Get, Keys}
 use Rattle.conf_words.specs.declared.subcommand.Subcommand.TheVariants.{Exists, Log, Verify, Salvage, Backup, Format}
 use Rattle.conf_words.specs.declared.subcommand.Subcommand.TheVariants.{Check}
 
@@ -18,6 +18,7 @@ name_of Set = codes "set"
 name_of Delete = codes "delete"
 name_of Copy = codes "copy"
 name_of Rename = codes "rename"
+name_of Batch = codes "batch"
 name_of Checkpoint = codes "checkpoint"
 name_of Run = codes "run"
 name_of Export = codes "export"
@@ -58,6 +59,9 @@ new = place (codes "NEW")
 abbrev pub other : Row
 other = place (codes "TO")
 
+abbrev pub file : Row
+file = row (codes "FILE") Optional Free
+
 abbrev pub files : Row
 files = row (codes "FILE") Several Free
 
@@ -95,7 +99,7 @@ abbrev pub rows_of : Subcommand → List Row
 rows_of Init = wait ∷ folder ∷ []
 rows_of Import =
     flag (codes "init") ∷ flag (codes "any-root") ∷ explain ∷ if_value ∷ if_absent ∷ if_count ∷ wait ∷ folder ∷ name
-    ∷ row (codes "FILE") Optional Free ∷ []
+    ∷ file ∷ []
 rows_of Set =
     flag (codes "yaml") ∷ row (codes "file") Word (Excludes (codes "yaml" ∷ [])) ∷ whole ∷ explain ∷ if_value
     ∷ if_absent ∷ if_count ∷ wait ∷ folder ∷ name ∷ place (codes "POINTER")
@@ -105,6 +109,7 @@ rows_of Copy =
     row (codes "replace") Flag (Excludes (codes "if-absent" ∷ [])) ∷ if_value ∷ if_absent ∷ if_count ∷ wait ∷ folder
     ∷ name ∷ other ∷ []
 rows_of Rename = if_value ∷ if_absent ∷ if_count ∷ wait ∷ folder ∷ name ∷ other ∷ []
+rows_of Batch = explain ∷ if_count ∷ wait ∷ folder ∷ file ∷ []
 rows_of Checkpoint = wait ∷ folder ∷ []
 rows_of Run =
     flag (codes "group") ∷ row (codes "checkpoint-after") (Number 1) (Needs (codes "group")) ∷ wait ∷ folder ∷ []
@@ -132,8 +137,8 @@ rows_of Check = flag (codes "keep-comments") ∷ explain ∷ files ∷ []
 -- all of them
 abbrev pub all : List Subcommand
 all =
-    Init ∷ Import ∷ Set ∷ Delete ∷ Copy ∷ Rename ∷ Checkpoint ∷ Run ∷ Export ∷ Names ∷ Get ∷ Keys ∷ Exists ∷ Log
-    ∷ Verify ∷ Salvage ∷ Backup ∷ Format ∷ Check ∷ []
+    Init ∷ Import ∷ Set ∷ Delete ∷ Copy ∷ Rename ∷ Batch ∷ Checkpoint ∷ Run ∷ Export ∷ Names ∷ Get ∷ Keys ∷ Exists
+    ∷ Log ∷ Verify ∷ Salvage ∷ Backup ∷ Format ∷ Check ∷ []
 
 -- the subcommand of this word
 abbrev pub named_among : List ℕ → List Subcommand → Option Subcommand

@@ -58,12 +58,7 @@ pub(crate) const IMPORT: Listing = Listing {
         WAIT_ARGUMENT,
         FOLDER_ARGUMENT,
         NAME_ARGUMENT,
-        Argument {
-            name: FILE,
-            help: "The file of the text; standard input if it is left out or `-`",
-            form: Form::Optional,
-            relation: Relation::Free,
-        },
+        FILE_ARGUMENT,
     ],
     help: "\
 A configuration that has the name is replaced. Nothing is printed where it is done. Comments and
@@ -81,6 +76,14 @@ Examples:
   confstore import --init store web web.yaml
   confstore import store web web.yaml --if-absent
   printf 'port: 80\\n' | confstore import store web",
+};
+
+/// The argument of `import` and `batch` that is the file of a text.
+const FILE_ARGUMENT: Argument = Argument {
+    name: FILE,
+    help: "The file of the text; standard input if it is left out or `-`",
+    form: Form::Optional,
+    relation: Relation::Free,
 };
 
 /// The word of `import` that has a store made where there is none.
@@ -410,6 +413,49 @@ pub(crate) fn rename_invocation<'w>(words: &Matches<'w>) -> Result<Invocation<'w
         name,
         to,
         conditions: conditions_of(words),
+    })
+}
+
+pub(crate) const BATCH: Listing = Listing {
+    about: "Makes all edits that a YAML text lists, or none of them",
+    arguments: &[
+        EXPLAIN_ARGUMENT,
+        IF_COUNT_ARGUMENT,
+        WAIT_ARGUMENT,
+        FOLDER_ARGUMENT,
+        FILE_ARGUMENT,
+    ],
+    help: "\
+The text is a list. Each edit in it is a mapping with these keys, in this order:
+
+  import: NAME   text: TEXT                    reads a YAML text, and puts its tree under a name
+  import: NAME   tree: TREE                    puts this tree under a name
+  set: NAME      path: POINTER   value: TREE   sets the value at a JSON Pointer
+  delete: NAME   path: POINTER                 removes what is there; the pointer \"\" removes the name
+
+They are made in the order of the list, as one command: all of them, or none. Nothing is printed where
+it is done, and then the status is 0. A list of none is refused (EmptyBatch), and so is a text that is
+no list of edits (BadCommand). With --if-count nothing changes if the store has accepted another number
+of commands (Unmet).
+
+Examples:
+  confstore batch store edits.yaml
+  confstore batch store edits.yaml --if-count 12
+  echo '[{set: web, path: /port, value: 81}, {delete: old, path: \"\"}]' | confstore batch store",
+};
+
+pub(crate) fn batch_invocation<'w>(words: &Matches<'w>) -> Result<Invocation<'w>, Unasked>
+    ensures { spec.Makes (spec.batch_is_wrong words.now) (spec.IsBatch words.now) result }
+{
+    let Some(folder) = words.text(FOLDER) else {
+        return Err(Unasked::OTHER);
+    };
+    let count = words.number(IF_COUNT);
+    Ok(Invocation::Batch {
+        folder,
+        file: words.text(FILE).unwrap_or(STANDARD_INPUT),
+        count,
+        reporting: reporting_of(words),
     })
 }
 

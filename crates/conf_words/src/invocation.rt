@@ -55,6 +55,15 @@ pub enum Invocation<'w> {
         to: &'w str,
         conditions: Conditions<'w>,
     },
+    /// Reads the YAML text of the file, a list of edits, and makes all of them or none. The file is
+    /// [`STANDARD_INPUT`] if the words leave it out. The store has to have accepted `count` commands, or any number if
+    /// there is none.
+    Batch {
+        folder: &'w str,
+        file: &'w str,
+        count: Option<u64>,
+        reporting: Reporting,
+    },
     /// Makes the store file as short as its state.
     Checkpoint {
         folder: &'w str,

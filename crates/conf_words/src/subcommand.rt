@@ -18,6 +18,8 @@ pub enum Subcommand {
     Copy,
     /// Gives a configuration another name.
     Rename,
+    /// Makes all edits that a YAML text lists, or none of them.
+    Batch,
     /// Makes the store file as short as its state.
     Checkpoint,
     /// Performs the commands on standard input on the store in a folder.
@@ -48,13 +50,14 @@ pub enum Subcommand {
 
 impl Subcommand {
     /// All of them, in the order of the help.
-    pub(crate) const ALL: [Subcommand; 19] = [
+    pub(crate) const ALL: [Subcommand; 20] = [
         Subcommand::Init,
         Subcommand::Import,
         Subcommand::Set,
         Subcommand::Delete,
         Subcommand::Copy,
         Subcommand::Rename,
+        Subcommand::Batch,
         Subcommand::Checkpoint,
         Subcommand::Run,
         Subcommand::Export,
@@ -111,6 +114,7 @@ impl Subcommand {
             Subcommand::Delete => "delete",
             Subcommand::Copy => "copy",
             Subcommand::Rename => "rename",
+            Subcommand::Batch => "batch",
             Subcommand::Checkpoint => "checkpoint",
             Subcommand::Run => "run",
             Subcommand::Export => "export",

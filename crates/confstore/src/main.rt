@@ -11,9 +11,7 @@
 mod pipe;
 
 use crate::pipe::{Errors, Output};
-use conf_tools::{
-    Host, ReadFailure, TailReader, Told, ToolFault, perform, refuse_words, show_unparsed,
-};
+use conf_tools::{Host, ReadFailure, TailReader, Told, ToolFault, refuse_words, run_program};
 use conf_words::{Asked, Reporting, Subcommand, Unparsed, WAIT_VARIABLE, parse_with_wait};
 use std::cell::Cell;
 use std::env::VarError;
@@ -21,6 +19,7 @@ use std::fs::{File, OpenOptions};
 use std::io::{IsTerminal, Write};
 use std::os::fd::AsFd;
 use std::process::ExitCode;
+use std::time::Duration;
 use std::{env, io};
 
 /// The status where a closed stream can't be held.
@@ -127,17 +126,19 @@ fn main(rt: HostRuntime) -> ExitCode {
         Reporting::Brief
     };
     let read_failure = ReadFailure::new(None);
-    let status = match asked_of(&rt, &words) {
-        Ok(Asked { invocation, wait }) => perform(
-            &mut Host::new(&rt, reporting, wait, &read_failure),
-            alloc,
-            invocation,
-            &mut reader,
-            &mut writer,
-            &mut errors,
-        ),
-        Err(unparsed) => show_unparsed(&unparsed, &mut writer, &mut errors),
+    let (asked, wait) = match asked_of(&rt, &words) {
+        Ok(Asked { invocation, wait }) => (Ok(invocation), wait),
+        Err(unparsed) => (Err(unparsed), Duration::ZERO),
     };
+    let mut host = Host::new(&rt, reporting, wait, &read_failure);
+    let exit = run_program(
+        &mut host,
+        alloc,
+        asked,
+        &mut reader,
+        &mut writer,
+        &mut errors,
+    );
     let _ = errors.flush();
-    ExitCode::from(status.code())
+    exit
 }

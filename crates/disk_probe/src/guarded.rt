@@ -1,182 +1,197 @@
-// A disk in memory that checks the conditions of its calls.
-ghost use Rattle.std.specs.Prelude.{◌≡◌, ◌≢◌, ◌<◌, Err};
-ghost use Rattle.conf_disk.specs.Moments.{CountsFailures};
+// A system in memory that claims nothing, and tells whether a call was made that may not be made.
+ghost use Rattle.std.specs.Prelude.{◌≡◌, true, IfOk, IsSome};
+ghost use Rattle.conf_system.specs.Machine.{bytes_under};
+ghost use Rattle.test_system.specs.Memory.{memory_machine};
 
-use conf_disk::{Content, Cuts, Disk, DiskFault, Holes, Name};
-use std::alloc::{AllocError, Global};
-use test_disks::MemoryDisk;
+use conf_system::{FileName, Linking, Note, System};
+use std::alloc::AllocError;
+use std::io;
+use std::io::ErrorKind;
+use test_system::MemorySystem;
 
-/// A disk in memory that returns `Device` if a condition on its callers does not hold, as the disk of a real folder
-/// does. So it claims nothing, and its callers need not know which files are there.
+/// A system in memory that claims nothing. A call that may not be made fails, and is told by
+/// [`is_misused`](GuardedSystem::is_misused).
 #[derive(Drop)]
-pub(crate) struct GuardedDisk {
-    alloc: Global,
-    disk: MemoryDisk,
-    /// A read of `store.yaml` with a smaller limit than this returns `TooLong`.
-    claimed: u64,
-    failures: u64,
+pub(crate) struct GuardedSystem {
+    inner: MemorySystem,
+    is_misused: bool,
 }
 
-impl GuardedDisk {
-    /// A disk over another one.
-    fn over(alloc: Global, disk: MemoryDisk) -> Self {
-        GuardedDisk {
-            alloc,
-            disk,
-            claimed: 0,
-            failures: 0,
+impl GuardedSystem {
+    pub(crate) fn over(inner: MemorySystem) -> Self {
+        GuardedSystem {
+            inner,
+            is_misused: false,
         }
     }
 
-    /// An empty folder.
-    pub(crate) fn new(alloc: Global) -> Self {
-        GuardedDisk::over(alloc, MemoryDisk::new(alloc))
+    /// Whether a call was made that may not be made.
+    pub(crate) fn is_misused(&self) -> bool {
+        self.is_misused
     }
 
-    /// A folder of these files, all synced.
-    pub(crate) fn with_files(
-        alloc: Global,
-        store: Option<Vec<u8>>,
-        next: Option<Vec<u8>>,
-    ) -> Result<Self, AllocError> {
-        let disk = MemoryDisk::with_files(alloc, store, next)?;
-        Ok(GuardedDisk::over(alloc, disk))
+    /// How many calls were made that change something.
+    pub(crate) fn calls(&self) -> usize {
+        self.inner.calls()
     }
 
-    /// From now on a read of `store.yaml` with a limit below `bytes` returns `TooLong`.
-    pub(crate) fn claim(&mut self, bytes: u64) {
-        self.claimed = bytes;
+    /// What the file under a name has, also where no call may read.
+    pub(crate) fn file(&self, name: FileName) -> Result<Option<Vec<u8>>, AllocError> {
+        self.inner.file(name)
     }
 
-    /// What a crash leaves, as [`MemoryDisk::image`].
-    pub(crate) fn image(&self, stage: usize, cuts: Cuts) -> Result<Option<Self>, AllocError> {
-        match self.disk.image(stage, cuts)? {
-            Some(image) => Ok(Some(GuardedDisk::over(self.alloc, image))),
-            None => Ok(None),
-        }
+    pub(crate) fn into_inner(self) -> MemorySystem {
+        let GuardedSystem { inner, .. } = self;
+        inner
     }
 
-    /// What a crash leaves, as [`MemoryDisk::image_with_holes`].
-    pub(crate) fn image_with_holes(
-        &self,
-        stage: usize,
-        cuts: Cuts,
-        holes: &Holes,
-    ) -> Result<Option<Self>, AllocError> {
-        match self.disk.image_with_holes(stage, cuts, holes)? {
-            Some(image) => Ok(Some(GuardedDisk::over(self.alloc, image))),
-            None => Ok(None),
-        }
-    }
-
-    /// Counts a failure if a call failed, and returns it as `Device`.
-    fn count(&mut self, done: Result<(), DiskFault>) -> Result<(), DiskFault>
-        requires { self.old.failures < u64.MAX }
-        ensures failures { CountsFailures self.old.failures self.new.failures result }
-        ensures fault { result ≢ Err DiskFault.OutOfMemory }
+    /// Whether there is a copy that reads as `store.yaml` does.
+    fn has_whole_copy(&self) -> Result<bool, AllocError>
+        ensures { IfOk result (λ has. has ≡ true → let m = memory_machine self.now.inner in
+            IsSome m.copy × (bytes_under m FileName.Copy ≡ bytes_under m FileName.Store)) }
     {
-        match done {
-            Ok(()) => Ok(()),
-            Err(_) => {
-                self.failures = self.failures.saturating_add(1);
-                Err(DiskFault::Device)
-            }
+        let copy = self.inner.file(FileName::Copy)?;
+        let store = self.inner.file(FileName::Store)?;
+        match (&copy, &store) {
+            (Some(copy), Some(store)) => Ok(copy.as_slice() == store.as_slice()),
+            _ => Ok(false),
         }
+    }
+
+    /// Notes a call that may not be made.
+    fn misuse(&mut self) -> io::Error {
+        self.is_misused = true;
+        io::Error::new(ErrorKind::Other, "the call may not be made")
     }
 }
 
-impl Disk for GuardedDisk {
-    ghost use Rattle.conf_disk.specs.Folder.{empty_folder};
+impl System for GuardedSystem {
+    ghost use Rattle.test_system.specs.Replay.{new_machine};
 
     ghost model = { record {
       honest = ⊥;
-      folder = λ disk. empty_folder;
-      moment = λ disk. 0;
-      left = λ disk t image. ⊥;
-      failure_count = λ disk. disk.failures;
+      machine = λ system. new_machine;
+      moment = λ system. 0;
+      held = λ system t m. ⊥;
     } };
 
-    ghost counts_now = { λ disk t image honest le is. honest };
+    ghost holds_now = { λ system t honest le. absurd honest };
 
-    ghost only_now = { λ disk image honest is. absurd honest };
+    ghost only_now = { λ system m honest held. absurd honest };
 
-    ghost whole = { λ disk honest. absurd honest };
+    ghost sound = { λ system honest. absurd honest };
 
-    fn failures(&self) -> u64 {
-        self.failures
+    fn look(&self, name: FileName) -> io::Result<Option<u64>> {
+        self.inner.look(name)
     }
 
-    fn several_waited(&self) -> bool {
-        self.disk.several_waited()
+    fn are_linked(&self) -> io::Result<bool> {
+        self.inner.are_linked()
     }
 
-    fn read(&mut self, alloc: Global, name: Name, max: u64) -> Result<Content, DiskFault> {
-        if self.failures == u64::MAX {
-            return Err(DiskFault::Device);
-        }
-        if name == Name::Store && max < self.claimed {
-            return Ok(Content::TooLong);
-        }
-        match self.disk.read(alloc, name, max) {
-            Ok(content) => Ok(content),
-            Err(_) => Err(DiskFault::OutOfMemory),
+    fn open(&mut self, name: FileName) -> io::Result<Option<u64>> {
+        self.inner.open(name)
+    }
+
+    fn read_at(&self, name: FileName, buffer: &mut [u8], offset: u64) -> io::Result<usize> {
+        match self.inner.file(name)? {
+            Some(_) => self.inner.read_at(name, buffer, offset),
+            None => Err(io::Error::new(ErrorKind::NotFound, "there is no such file")),
         }
     }
 
-    fn create_next(&mut self) -> Result<(), DiskFault> {
-        if self.failures == u64::MAX {
-            return Err(DiskFault::Device);
+    fn create_next(&mut self) -> io::Result<()> {
+        match self.inner.file(FileName::Next)? {
+            None => self.inner.create_next(),
+            Some(_) => Err(self.misuse()),
         }
-        let done = match self.disk.read(self.alloc, Name::Next, 0) {
-            Ok(Content::Missing) => self.disk.create_next(),
-            _ => Err(DiskFault::Device),
-        };
-        self.count(done)
     }
 
-    fn append(&mut self, name: Name, bytes: &[u8]) -> Result<(), DiskFault> {
-        if self.failures == u64::MAX {
-            return Err(DiskFault::Device);
+    fn create_copy(&mut self) -> io::Result<()> {
+        match self.inner.file(FileName::Copy)? {
+            None => self.inner.create_copy(),
+            Some(_) => Err(self.misuse()),
         }
-        let done = match self.disk.read(self.alloc, name, 0) {
-            Ok(Content::Bytes(_) | Content::TooLong) => self.disk.append(name, bytes),
-            _ => Err(DiskFault::Device),
-        };
-        self.count(done)
     }
 
-    fn sync(&mut self, name: Name) -> Result<(), DiskFault> {
-        if self.failures == u64::MAX {
-            return Err(DiskFault::Device);
+    fn write(&mut self, name: FileName, bytes: &[u8]) -> io::Result<usize> {
+        match self.inner.file(name)? {
+            Some(_) => self.inner.write(name, bytes),
+            None => Err(self.misuse()),
         }
-        let done = self.disk.sync(name);
-        self.count(done)
     }
 
-    fn rename_next(&mut self) -> Result<(), DiskFault> {
-        if self.failures == u64::MAX {
-            return Err(DiskFault::Device);
+    fn write_rest(&mut self, name: FileName, bytes: &[u8]) -> io::Result<usize> {
+        match self.inner.file(name)? {
+            Some(_) => self.inner.write_rest(name, bytes),
+            None => Err(self.misuse()),
         }
-        let done = match self.disk.read(self.alloc, Name::Next, 0) {
-            Ok(Content::Bytes(_) | Content::TooLong) => self.disk.rename_next(),
-            _ => Err(DiskFault::Device),
-        };
-        self.count(done)
     }
 
-    fn remove_next(&mut self) -> Result<(), DiskFault> {
-        if self.failures == u64::MAX {
-            return Err(DiskFault::Device);
+    fn sync(&mut self, name: FileName) -> io::Result<()> {
+        match self.inner.file(name)? {
+            Some(_) => self.inner.sync(name),
+            None => Err(self.misuse()),
         }
-        let done = self.disk.remove_next();
-        self.count(done)
     }
 
-    fn sync_folder(&mut self) -> Result<(), DiskFault> {
-        if self.failures == u64::MAX {
-            return Err(DiskFault::Device);
+    fn rename_next(&mut self) -> io::Result<()> {
+        if self.inner.has_links()? {
+            return Err(self.misuse());
         }
-        let done = self.disk.sync_folder();
-        self.count(done)
+        match self.inner.file(FileName::Next)? {
+            Some(_) => self.inner.rename_next(),
+            None => Err(self.misuse()),
+        }
+    }
+
+    fn link_next(&mut self) -> io::Result<Linking> {
+        if self.inner.file(FileName::Store)?.is_some() {
+            return Err(self.misuse());
+        }
+        match self.inner.file(FileName::Next)? {
+            Some(_) => self.inner.link_next(),
+            None => Err(self.misuse()),
+        }
+    }
+
+    fn unlink_next(&mut self) -> io::Result<()> {
+        match self.inner.file(FileName::Next)? {
+            Some(_) => self.inner.unlink_next(),
+            None => Err(self.misuse()),
+        }
+    }
+
+    fn place_copy(&mut self) -> io::Result<()> {
+        if self.inner.has_links()? {
+            return Err(self.misuse());
+        }
+        if !self.has_whole_copy()? {
+            return Err(self.misuse());
+        }
+        self.inner.place_copy()
+    }
+
+    fn unlink_copy(&mut self) -> io::Result<()> {
+        match self.inner.file(FileName::Copy)? {
+            Some(_) => self.inner.unlink_copy(),
+            None => Err(self.misuse()),
+        }
+    }
+
+    fn sync_folder(&mut self) -> io::Result<()> {
+        self.inner.sync_folder()
+    }
+
+    fn write_note(&mut self, note: Note) -> io::Result<()> {
+        self.inner.write_note(note)
+    }
+
+    fn sync_note(&mut self) -> io::Result<()> {
+        self.inner.sync_note()
+    }
+
+    fn read_note(&mut self) -> io::Result<Note> {
+        self.inner.read_note()
     }
 }

@@ -1,5 +1,5 @@
 -- No call reads the note by which a run goes.
-use Rattle.std.proofs.Common.{◌≡◌, refl, sym, ◌∙◌, ap, ℕ, zero, suc, take, Option, Some, None}
+use Rattle.std.proofs.Common.{◌≡◌, refl, ap, ℕ, zero, suc, take, Option, Some, None}
 use Rattle.conf_system.specs.declared.system.FileName.{FileName}
 use Rattle.conf_system.specs.declared.system.FileName.TheVariants.{Store, Next, Copy}
 use Rattle.conf_system.specs.Machine.{Version, Held, Machine, Call, CreateNext, CreateCopy, Write, WriteRest, Sync, RenameNext, LinkNext}

@@ -1,5 +1,5 @@
 -- A write that the fault lets fail is kept with all its bytes.
-use Rattle.std.proofs.Common.{◌≡◌, refl, sym, ◌∙◌, ap, arith, ℕ, List, length, take, Option, Some, None}
+use Rattle.std.proofs.Common.{◌≡◌, refl, ◌∙◌, ap, arith, ℕ, List, length, take, Some}
 use Rattle.std.proofs.lemmas.List.{take_all}
 use Rattle.conf_system.specs.Machine.{Call}
 use Rattle.test_system.specs.Faults.{failed_of, offered_count}

@@ -1,7 +1,7 @@
 -- What is kept where there is no memory: syncs that fail, and writes that add nothing. Each changes nothing more once it
 -- was made.
 use Rattle.std.proofs.Common.{◌≡◌, refl, sym, ◌∙◌, ap, arith, ℕ, zero, suc, ◌+◌, List, [], ◌∷◌, ◌++◌}
-use Rattle.std.proofs.Common.{get_or, set, map, take, Option, Some, None}
+use Rattle.std.proofs.Common.{get_or, set, map, Option, Some, None}
 use Rattle.std.proofs.Common.{Bool, true, false, ◌||◌, ◌⊎◌, inl, inr, subst}
 use Rattle.std.specs.Prelude.{option_map, if◌then◌else◌}
 use Rattle.std.proofs.lemmas.List.{set-get_or, append-nil}

@@ -1,12 +1,12 @@
 -- What a test chooses of a crash, a crash may leave.
-use Rattle.std.proofs.Common.{◌≡◌, ◌<◌, ◌≤◌, ◌+◌, zero, suc, arith, add-one, take, refl, sym, ◌∙◌, ap, subst, inl, inr, ℕ}
+use Rattle.std.proofs.Common.{◌≡◌, ◌<◌, ◌≤◌, ◌+◌, zero, suc, arith, add-one, take, refl, sym, ap, inl, inr, ℕ}
 use Rattle.std.proofs.Common.{List, [], ◌∷◌, ◌++◌, length, get_or, Option, Some, None}
 use Rattle.std.proofs.Common.{Bool, true, false, ◌&&◌}
-use Rattle.std.specs.Prelude.{slice_get, if◌then◌else◌, nat_le}
+use Rattle.std.specs.Prelude.{slice_get, if◌then◌else◌}
 use Rattle.std.specs.List.{Contains}
 use Rattle.std.proofs.lemmas.Option.{slice_get_within, get_or_from_slice_get}
 use Rattle.conf_disk.specs.Folder.{Stage}
-use Rattle.conf_disk.specs.Image.{Image, IsWorn}
+use Rattle.conf_disk.specs.Image.{IsWorn}
 use Rattle.conf_system.specs.declared.system.Note.{Note}
 use Rattle.conf_system.specs.Machine.{Version, Held, Machine, empty_version, empty_held, versions, stages, apart, notes_of}
 use Rattle.conf_system.specs.Crash.{IsTorn, IsLeftOf, IsLeftAt, CrashLeaves, machine_of}

@@ -1,9 +1,9 @@
 -- One call more.
-use Rattle.std.proofs.Common.{◌≡◌, refl, sym, ◌∙◌, ap, subst, arith, ◌⊎◌, inl, inr, ⊎_elim, ℕ, ◌+◌, ◌≤◌, min, List, [], ◌∷◌, ◌++◌}
+use Rattle.std.proofs.Common.{◌≡◌, refl, sym, ◌∙◌, ap, subst, arith, ◌⊎◌, inl, inr, ⊎_elim, ℕ, ◌+◌, ◌≤◌, List, [], ◌∷◌, ◌++◌}
 use Rattle.std.proofs.Common.{length, take, Some, None, Ok, Err, length-append}
 use Rattle.std.proofs.lemmas.List.{take_all, take-append-le}
 use Rattle.std.proofs.lemmas.Bool.{cases_lt}
-use Rattle.conf_system.specs.declared.system.FileName.TheVariants.{Store, Next, Copy}
+use Rattle.conf_system.specs.declared.system.FileName.TheVariants.{Store}
 use Rattle.conf_system.specs.declared.system.Note.{Note}
 use Rattle.conf_system.specs.Machine.{Machine, Call, Write, Sync, after, after_reading, failing}
 use Rattle.conf_system.specs.Crash.{IsSound}

@@ -1,10 +1,9 @@
 -- What is known of kept calls, when one is added, or only memory changes.
 use Rattle.std.proofs.Common.{◌≡◌, ℕ, List, [], ◌∷◌, ◌++◌, map, take, min, sym, ◌∙◌, ap, subst, arith}
-use Rattle.std.proofs.Common.{Some, inl, inr, ⊎_elim, Bool, true, false, cond}
+use Rattle.std.proofs.Common.{inl, inr, ⊎_elim, Bool, true, false, cond}
 use Rattle.std.proofs.lemmas.List.{map-append, take-map, take-take, take_all, length-take}
 use Rattle.std.proofs.lemmas.Bool.{cases_lt}
 use Rattle.conf_system.specs.Crash.{IsSound}
-use Rattle.conf_system.specs.Machine.{Machine}
 use Rattle.test_system.specs.Replay.{Entry, entry_of, machine_after, machine_made, new_machine, MayBeMade}
 use Rattle.test_system.specs.Runs.{IsAlwaysSound}
 use Rattle.test_system.specs.Spares.{ChangesNothing, spend, spare_entry}

@@ -1,6 +1,6 @@
 -- What a crash leaves, as a test chooses it.
 use Rattle.std.specs.Prelude.{◌≡◌, ℕ, List, [], ◌∷◌, ◌++◌, length, get_or, Option, Some, None}
-use Rattle.std.specs.Prelude.{option_map, Contains, slice_get, Bool, true, false}
+use Rattle.std.specs.Prelude.{option_map, slice_get, Bool, true, false}
 use Rattle.std.specs.Prelude.{if◌then◌else◌, ◌&&◌, nat_le}
 use Rattle.std.specs.Borrow.{Bor}
 use Rattle.conf_disk.specs.Folder.{Stage}

@@ -1,5 +1,5 @@
 -- Which calls fail.
-use Rattle.std.specs.Prelude.{ℕ, min, Option, Some, None, Bool, true, false, if◌then◌else◌, ◌==◌, nat_lt}
+use Rattle.std.specs.Prelude.{ℕ, min, Option, Some, None, Bool, false, if◌then◌else◌, ◌==◌, nat_lt}
 use Rattle.test_system.specs.declared.fault.Fault.{Fault}
 use Rattle.test_system.specs.declared.fault.Fault.TheVariants as fault
 use Rattle.test_system.specs.declared.fault.Outcome.{Outcome}

@@ -4,7 +4,6 @@ use Rattle.std.specs.Prelude.{MatchResult, IfErr, IsErr, IsTrue, ⊤}
 use Rattle.std.specs.declared.io.Error.{Error}
 use Rattle.std.specs.declared.io.ErrorKind.TheVariants.{OutOfMemory}
 use Rattle.std.specs.IoError.{error_kind}
-use Rattle.conf_system.specs.declared.system.FileName.{FileName}
 use Rattle.conf_system.specs.declared.system.Linking.{Linking}
 use Rattle.conf_system.specs.declared.system.Linking.TheVariants.{Unsupported}
 use Rattle.conf_system.specs.declared.system.Note.{Note}

@@ -1,5 +1,5 @@
 -- The data of the code as the calls and the machine of the model.
-use Rattle.std.specs.Prelude.{ℕ, List, [], ◌∷◌, map, set, get_or, Option, Some, None, option_map, Vec, Bool, false}
+use Rattle.std.specs.Prelude.{ℕ, List, [], ◌∷◌, map, set, get_or, Option, Some, None, option_map, Vec, false}
 use Rattle.std.specs.declared.alloc.Global.{Global}
 use Rattle.conf_disk.specs.Folder.{Stage}
 use Rattle.conf_system.specs.Machine.{Version, Held, Machine, empty_held, Call, CreateNext, CreateCopy, Write, WriteRest, Sync}

@@ -1,8 +1,8 @@
 -- What is kept where there is no memory for a call. A sync that fails makes a file unsure, and a write that adds nothing
 -- may count as one that waits, so each of these is to be kept also then.
-use Rattle.std.specs.Prelude.{ℕ, ◌+◌, ◌≡◌, List, [], Some, Bool, true, false, if◌then◌else◌, ◌||◌}
+use Rattle.std.specs.Prelude.{ℕ, ◌+◌, ◌≡◌, List, [], Some, Bool, true, if◌then◌else◌, ◌||◌}
 use Rattle.conf_system.specs.declared.system.FileName.TheVariants.{Store, Next, Copy}
-use Rattle.conf_system.specs.Machine.{Machine, Sync, Write, failing}
+use Rattle.conf_system.specs.Machine.{Machine, Sync, Write}
 use Rattle.std.specs.Coded.{Π_prop, →_prop}
 use Rattle.std.proofs.Props.{props}
 use Rattle.test_system.specs.declared.spares.Spare.{Spare}

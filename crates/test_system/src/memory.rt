@@ -159,6 +159,17 @@ impl MemorySystem {
         machine.bytes(self.alloc, name)
     }
 
+    /// What `store.lock` says, whatever the fault. This is no reading by which the run goes.
+    ///
+    /// # Errors
+    /// If there is no memory for looking.
+    pub fn note(&self) -> Result<Note, AllocError>
+        ensures { IfOk result (λ note. note ≡ (memory_machine self.now).note) }
+    {
+        let machine = self.log.replay(self.alloc)?;
+        Ok(machine.note)
+    }
+
     /// Whether both names lead to one file, whatever the fault.
     ///
     /// # Errors

@@ -8,8 +8,10 @@ ghost use Rattle.test_worlds.specs.Reading.{MemoryReadsSeeWrites};
 ghost use Rattle.test_worlds.specs.Worlds.{memory_world, memory_leaves};
 
 use crate::{MemoryWorld, NewDisk};
-use conf_disk::reading_is_an_image;
+use conf_disk::{Disk, reading_is_an_image};
+use conf_protocol::SystemDisk;
 use conf_runs::{Folders, reads_see_writes, runs_hold};
+use test_system::MemorySystem;
 
 impl<D: NewDisk> Folders for MemoryWorld<D> {
     ghost leaves = { memory_leaves D.model };
@@ -46,4 +48,21 @@ pub fn memory_reads_see_writes<D: NewDisk>()
 {
     reads_see_writes::<MemoryWorld<D>>();
     memory_worlds_keep_folders::<D>();
+}
+
+/// A law: [`memory_runs_hold`] at the disk of the protocol over a system in memory. Such a disk is honest, so nothing
+/// is premised of the world, nor of any disk or system in it.
+pub fn system_runs_hold()
+    ensures { (path : List ℕ)
+        → MemoryRunsHold ⟦<SystemDisk<MemorySystem> as Disk>⟧.model tt path }
+{
+    memory_runs_hold::<SystemDisk<MemorySystem>>();
+}
+
+/// A law: [`memory_reads_see_writes`] at the same disk, where nothing is premised either.
+pub fn system_reads_see_writes()
+    ensures { (path name pointer : List ℕ)
+        → MemoryReadsSeeWrites ⟦<SystemDisk<MemorySystem> as Disk>⟧.model tt path name pointer }
+{
+    memory_reads_see_writes::<SystemDisk<MemorySystem>>();
 }

@@ -65,23 +65,21 @@ module _ (longest most : ℕ) (old : Pieces) (cutter : Held) (taken : ℕ) (soun
   abbrev fed : Pieces
   fed = record old { cutter = cutter; start = old.start + taken }
 
-  within : old.end ≤ length old.chunk.items
-  within = omega (arith, sound.within, sound.room)
-
   fed-sound : taken ≤ length (ahead old) → IsSound longest most fed
   fed-sound few = record {
     max = max ∙ sound.max;
     whole = sound.whole;
     chunk = sound.chunk;
+    some = sound.some;
     room = sound.room;
-    ordered = (let size = range-length old.chunk.items old.start old.end sound.ordered within in omega (arith, size, few));
+    ordered = (let size = range-length old.chunk.items old.start old.end sound.ordered sound.within in omega (arith, size, few));
     within = sound.within;
     total = sound.total;
   }
 
   fed-joined : taken ≤ length (ahead old) → piece_or_rest old ++ ahead old ≡ cutter.bytes ++ ahead fed
   fed-joined few =
-      ap (λ l. piece_or_rest old ++ l) (range-split old.chunk.items old.start old.end taken sound.ordered within few)
+      ap (λ l. piece_or_rest old ++ l) (range-split old.chunk.items old.start old.end taken sound.ordered sound.within few)
       ∙ sym (append_assoc (piece_or_rest old) (take taken (ahead old)) (ahead fed)) ∙ ap (λ l. l ++ ahead fed) (sym grown)
 
   feeds-by : (closed : Bool) → Takes (piece_or_rest old) (ahead old) taken closed → length cutter.bytes ≤ cutter.max
@@ -95,7 +93,7 @@ module _ (longest most : ℕ) (old : Pieces) (cutter : Held) (taken : ℕ) (soun
   }
   feeds-by false takes short =
       let few : taken ≤ length (ahead old) = omega (arith, takes.0) in
-      let size = range-length old.chunk.items old.start old.end sound.ordered within in
+      let size = range-length old.chunk.items old.start old.end sound.ordered sound.within in
       let all : take taken (ahead old) ≡ ahead old = take_all taken (ahead old) (omega (arith, takes.0)) in
       record {
         sound = fed-sound few;
@@ -237,6 +235,7 @@ cleared-sound longest most old cutter sound max = record {
   max = max ∙ sound.max;
   whole = sound.whole;
   chunk = sound.chunk;
+  some = sound.some;
   room = sound.room;
   ordered = sound.ordered;
   within = sound.within;
@@ -264,9 +263,9 @@ module _ (longest most : ℕ) (old cleared new : Pieces) (none : piece_or_rest c
   pub fails-ahead : IsSound longest most old → (f : PiecesFault) → Feeds longest most cleared new (Err f)
       → AdvancesAhead longest most old new (Err f)
   fails-ahead sound fault.TooLong fed =
-      let size = range-length old.chunk.items old.start old.end sound.ordered (omega (arith, sound.within, sound.room)) in
+      let size = range-length old.chunk.items old.start old.end sound.ordered sound.within in
       let long : longest < length (ahead old) = subst (λ l. longest < length l) joined-ahead fed.long in
-      absurd (omega (arith, size, long, sound.within, sound.chunk))
+      absurd (omega (arith, size, long, sound.within, sound.room, sound.chunk))
   fails-ahead sound fault.OutOfMemory fed = tt
   fails-ahead sound fault.Read fed = absurd fed
   fails-ahead sound fault.InputLong fed = absurd fed

@@ -25,15 +25,16 @@ input_limit pieces = pieces.limit
 abbrev pub piece_or_rest : Pieces → List ℕ
 piece_or_rest pieces = pieces.cutter.bytes
 
--- What holds between two calls: the limits are these, and a piece may be as long as the chunk, which has its size; the
--- bytes ahead lie in it, and no limit is passed.
+-- What holds between two calls: the limits are these, and a piece may be as long as the longest chunk; the chunk has room
+-- for a byte, the bytes ahead lie in it, and no limit is passed.
 pub record IsSound (longest most : ℕ) (pieces : Pieces) : Type 0 where
   pub max : piece_limit pieces ≡ longest
   pub whole : input_limit pieces ≡ most
   pub chunk : 65536 ≤ longest
-  pub room : length pieces.chunk.items ≡ 65536
+  pub some : 0 < length pieces.chunk.items
+  pub room : length pieces.chunk.items ≤ 65536
   pub ordered : pieces.start ≤ pieces.end
-  pub within : pieces.end ≤ 65536
+  pub within : pieces.end ≤ length pieces.chunk.items
   pub total : pieces.total ≤ most
 
 -- no closing line ends within as many bytes as a piece may have, and there are more bytes
@@ -68,6 +69,14 @@ Feeds longest most old new (Err fault.OutOfMemory) = Unit {0}
 Feeds longest most old new (Err fault) = ⊥
 
 -- ---- reading once
+
+-- where no bytes are ahead, none are afterwards, and only the chunk may have changed
+pub record Widens (longest most : ℕ) (old new : Pieces) : Type 0 where
+  pub sound : IsSound longest most new
+  pub used : ahead new ≡ []
+  pub held : new.cutter ≡ old.cutter
+  pub limit : new.limit ≡ old.limit
+  pub total : new.total ≡ old.total
 
 -- Some bytes were read, and are ahead. `given` and `left` are what the reader has before and after, where it is known.
 pub record FillsSome (longest most : ℕ) (given left : Option (List ℕ)) (old new : Pieces) : Type 0 where

@@ -2,7 +2,7 @@
 ghost use Rattle.std.specs.Prelude.{◌≡◌, ◌≤◌, ◌↔◌, ℕ, true, [], IfOk, length, take};
 ghost use Rattle.yaml_docs.specs.Prelude.{ReadConsumes};
 ghost use Rattle.yaml_docs.specs.Cutting.{Unclosed};
-ghost use Rattle.yaml_docs.specs.PieceReading.{Advances, AdvancesAhead, Feeds, Fills, HasPieceAhead, IsSound, ahead, bytes_read, input_limit, piece_limit, piece_or_rest};
+ghost use Rattle.yaml_docs.specs.PieceReading.{Advances, AdvancesAhead, Feeds, Fills, HasPieceAhead, Widens, IsSound, ahead, bytes_read, input_limit, piece_limit, piece_or_rest};
 
 use crate::closing::next_close;
 use crate::cutter::{CutFault, Cutter};
@@ -11,8 +11,10 @@ use std::io;
 use std::io::Read;
 use thiserror::Error;
 
-/// The most bytes that are read at once.
+/// The most bytes that are read at once, and as many as are read at first.
 const CHUNK: usize = 65_536;
+
+const FIRST_CHUNK: usize = 4_096;
 
 /// Why there is no next piece. `Display` shows it as a sentence.
 #[derive(Clone, Copy, Debug, PartialEq, Eq, Error)]
@@ -50,10 +52,11 @@ pub struct Pieces {
 
 impl Pieces {
     /// Returns the pieces of a reader of which nothing is read yet. A piece may have `longest_piece` bytes, at least
-    /// 65,536, and the whole input `longest_input` bytes. It takes the memory for one chunk, 65,536 bytes.
+    /// 65,536, and the whole input `longest_input` bytes. It takes the memory for 4,096 bytes. A read that fills them
+    /// makes room for 65,536.
     ///
     /// # Errors
-    /// `AllocError` if there is no memory for the chunk.
+    /// `AllocError` if there is no memory for 4,096 bytes.
     pub fn new(
         alloc: Global,
         longest_piece: u64,
@@ -65,7 +68,7 @@ impl Pieces {
     {
         Ok(Pieces {
             cutter: Cutter::new(alloc, longest_piece),
-            chunk: vec![in alloc; 0; CHUNK]?,
+            chunk: vec![in alloc; 0; FIRST_CHUNK]?,
             start: 0,
             end: 0,
             total: 0,
@@ -161,6 +164,21 @@ impl Pieces {
         }
     }
 
+    /// Makes room for longer reads if the last one filled the chunk, and if there is memory for it.
+    fn widen(&mut self)
+        requires sound { IsSound (piece_limit self.old) (input_limit self.old) self.old }
+        requires used { ahead self.old ≡ [] }
+        ensures { Widens (piece_limit self.old) (input_limit self.old) self.old self.new }
+    {
+        if self.end < self.chunk.len() || CHUNK <= self.chunk.len() {
+            return;
+        }
+        if self.chunk.resize(CHUNK, 0).is_ok() {
+            self.start = 0;
+            self.end = 0;
+        }
+    }
+
     /// Reads once. Returns whether there was anything to read. At the limit of the input it looks whether there is one
     /// byte more.
     fn fill<R: Read>(&mut self, reader: &mut R) -> Result<bool, PiecesFault>
@@ -169,7 +187,8 @@ impl Pieces {
         ensures { Fills (piece_limit self.old) (input_limit self.old)
             (R.remaining reader.old) (R.remaining reader.new) self.old self.new result }
     {
-        let room = CHUNK.min(self.limit - self.total).max(1);
+        self.widen();
+        let room = self.chunk.len().min(self.limit - self.total).max(1);
         match read_prefix(reader, &mut self.chunk, room) {
             Ok(0) => Ok(false),
             Ok(_) if self.total == self.limit => Err(PiecesFault::InputLong),

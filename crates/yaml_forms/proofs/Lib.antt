@@ -8,6 +8,7 @@ pub mod JsonPresented
 pub mod JsonRead
 pub mod JsonSpelled
 pub mod JsonTexts
+pub mod KeysRead
 pub mod LineLemmas
 pub mod PlainFits
 pub mod PlainMeant
@@ -16,6 +17,7 @@ pub mod PlainRead
 pub mod PlainSpelled
 pub mod PlainTexts
 pub mod PlainWalk
+pub mod QuotedRead
 pub mod StringLemmas
 pub mod TypedLemmas
 pub mod WalkLemmas

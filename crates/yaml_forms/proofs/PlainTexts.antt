@@ -28,7 +28,7 @@ hex_text d h = cond_both (nat_lt d 10) (48 + d) (55 + d) (λ x. code_point x ≡
     (λ e. low_code_point (48 + d) (omega arith)) (λ e. low_code_point (55 + d) (omega arith))
 
 -- a text between double quotes is a text
-quoted_text : (value : List ℕ) → IsText value → IsText (in_double_quotes value)
+pub quoted_text : (value : List ℕ) → IsText value → IsText (in_double_quotes value)
 quoted_text value t = joined (quoted_chars value) (34 ∷ []) (quoted_chars_all code_point code_point value writes t) refl
   where
     writes : (c : ℕ) → code_point c ≡ true → Writes code_point c

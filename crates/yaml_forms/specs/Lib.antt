@@ -4,6 +4,7 @@ pub mod Json
 pub mod JsonGrammar
 pub mod JsonLaws
 pub mod KeyLines
+pub mod KeyLaws
 pub mod PlainForm
 pub mod PlainLaws
 pub mod TextArrays

@@ -12,5 +12,6 @@ pub use Rattle.yaml_grammar.specs.Reads.{Limits, Good, Gives}
 pub use Rattle.yaml_grammar.specs.Style.{is_among, shown, hex, letter_escape, in_double_quotes, scalar_lines, key_lines}
 pub use Rattle.yaml_grammar.specs.Texts.{first, byte_len, spaces, same_text}
 pub use Rattle.yaml_grammar.specs.Trees.{Tree, text, sequence, mapping, Elements, no_element, element, Members}
-pub use Rattle.yaml_grammar.specs.Trees.{no_member, member, IsTextTree, depth, elements_depth, members_depth}
+pub use Rattle.yaml_grammar.specs.Trees.{no_member, member, IsTextTree, AreTextMembers, depth, elements_depth}
+pub use Rattle.yaml_grammar.specs.Trees.{members_depth}
 pub use Rattle.yaml_recognizers.specs.StyleLaws.{CanReadAs}

@@ -13,8 +13,8 @@ use yaml_writer::Sink;
 /// order, a sequence an array, and each text a string, also one that looks like a number. It takes time linear in the
 /// text's length, and fails only if memory runs out.
 ///
-/// The call stack grows with the depth, which therefore is at most 131; [`is_deeper_than`](Tree::is_deeper_than) tests
-/// that.
+/// The call stack grows with the depth, which therefore is at most 131. No tree that `yaml_tree` reads is deeper;
+/// [`is_deeper_than`](Tree::is_deeper_than) tests any other one.
 pub fn json(alloc: Global, tree: &Tree) -> Result<String, AllocError>
     requires { depth (tree_of tree.now) ≤ own_limits.depth }
     ensures { IfOk result (λ text.
@@ -26,7 +26,7 @@ pub fn json(alloc: Global, tree: &Tree) -> Result<String, AllocError>
 }
 
 /// The JSON text of a tree as [`json`] gives it, with a line feed after it. It fails only if memory runs out. The depth
-/// is at most 131.
+/// is at most 131, as for [`json`].
 pub fn json_line(alloc: Global, tree: &Tree) -> Result<String, AllocError>
     requires { depth (tree_of tree.now) ≤ own_limits.depth }
     ensures { IfOk result (λ line.
@@ -38,8 +38,8 @@ pub fn json_line(alloc: Global, tree: &Tree) -> Result<String, AllocError>
     Ok(line)
 }
 
-/// Writes the JSON text of a tree, as [`json`] gives it. It fails only if the sink does. The call stack grows with the
-/// depth, which therefore is at most 131; [`is_deeper_than`](Tree::is_deeper_than) tests that.
+/// Writes the JSON text of a tree, as [`json`] gives it. It fails only if the sink does. The depth is at most 131, as
+/// for [`json`].
 pub fn write_json<S: Sink>(tree: &Tree, sink: &mut S) -> Result<(), S::Fault>
     requires { depth (tree_of tree.now) ≤ own_limits.depth }
     ensures { OnOk result (S.Takes sink.old (json_text (tree_of tree.now)) sink.new) }

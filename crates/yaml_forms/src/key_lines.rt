@@ -16,8 +16,9 @@ use yaml_writer::{Sink, write_quoted};
 /// in decimal digits from 0 on. An empty collection has no lines.
 ///
 /// A key that begins with something else than `"`, and each of whose characters the one style shows as itself, is the
-/// line. Any other key, and the empty one, is in double quotes as the one style writes it, so each line is one key, and
-/// a line that begins with `"` is a quoted one. The time is linear in the length of the lines.
+/// line. Any other key, and the empty one, is in double quotes as the one style writes it. So each line is one key, a
+/// line that begins with `"` is a quoted one, and the keys are read back from the lines
+/// ([`keys_are_read_back`](crate::keys_are_read_back)). The time is linear in the length of the lines.
 ///
 /// # Errors
 /// - [`KeysFault::NotCollection`] if the value is a text.

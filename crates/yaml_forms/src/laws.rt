@@ -1,8 +1,10 @@
 // Laws of JSON texts and of the plain form: each is YAML, and gives the tree that it was made of. JSON texts are JSON.
+// From lines of keys the keys are read back.
 //
 // A law is a function that does nothing, takes nothing and always returns. What it ensures holds of all values, and
 // is cited where a proof needs it.
 ghost use Rattle.yaml_forms.specs.JsonLaws.{JsonIsJson, JsonLineIsJson, JsonLinePresents, JsonLineReads, JsonPresents, JsonReads};
+ghost use Rattle.yaml_forms.specs.KeyLaws.{KeysAreReadBack};
 ghost use Rattle.yaml_forms.specs.PlainLaws.{PlainPresents, PlainReads};
 
 use yaml_recognizers::texts::unambiguous;
@@ -39,6 +41,15 @@ pub fn plain_presents()
 /// The plain form of each good tree gives that tree, within every limit of length that the text keeps.
 pub fn plain_reads()
     ensures { PlainReads }
+{
+    unambiguous();
+}
+
+/// The lines of keys that [`keys`](crate::keys) gives are read back as those keys: a line that begins with `"` is the
+/// text that it gives as YAML, and any other line is itself. No line is read as two keys. Texts without line feeds are
+/// read back from lines too.
+pub fn keys_are_read_back()
+    ensures { KeysAreReadBack }
 {
     unambiguous();
 }

@@ -14,8 +14,8 @@ use yaml_writer::{Sink, write_key, write_scalar};
 /// null, a truth value, an integer or a float stands plain (YAML 1.2.2, 10.3.2). So `8080` is a number there, and so is
 /// a version `1.10`. The empty text is `""`, and keys are as in the one style. It fails only if memory runs out.
 ///
-/// The call stack grows with the depth, which therefore is at most 131; [`is_deeper_than`](Tree::is_deeper_than) tests
-/// that.
+/// The call stack grows with the depth, which therefore is at most 131. No tree that `yaml_tree` reads is deeper;
+/// [`is_deeper_than`](Tree::is_deeper_than) tests any other one.
 pub fn plain(alloc: Global, tree: &Tree) -> Result<String, AllocError>
     requires { depth (tree_of tree.now) ≤ own_limits.depth }
     ensures { IfOk result (λ text.
@@ -26,7 +26,7 @@ pub fn plain(alloc: Global, tree: &Tree) -> Result<String, AllocError>
     Ok(text)
 }
 
-/// Writes a tree as [`plain`] gives it. It fails only if the sink does. The depth is at most 131.
+/// Writes a tree as [`plain`] gives it. It fails only if the sink does. The depth is at most 131, as for [`plain`].
 pub fn write_plain<S: Sink>(tree: &Tree, sink: &mut S) -> Result<(), S::Fault>
     requires { depth (tree_of tree.now) ≤ own_limits.depth }
     ensures { OnOk result (S.Takes sink.old (plain_text (tree_of tree.now)) sink.new) }

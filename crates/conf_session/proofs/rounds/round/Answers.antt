@@ -33,7 +33,8 @@ returns-in_err-take_piece-clause-rounds g c =
     let ends = ends-failing d.model c.args.store.now c.turns.store c.take_piece.new.store
     (answer_bytes c.turns.answers.items) (piece_bytes c.args.pieces.now) i
     piece.bytes.items c.in_err-take_piece.field-0.0 inv.so_far next.0 next.1 (length c.turns.answers.items) inv.few
-    (c.in_err-take_piece.ensures.fails inv.sound) in
+    (c.in_err-take_piece.ensures.fails inv.sound)
+    (λ t image h le is. g.met.D.Disk.counts_now c.take_piece.new.store.disk t image h le is) in
     let p = err_from_is_err_and c.from_residual.result c.from_residual.ensures.1 in
     rw (p.1, p.2) ends
 
@@ -83,6 +84,8 @@ returns-in-Err-clause-rounds g c =
     let all = piece_bytes c.args.pieces.now in
     let long = all-pieces c.args.pieces.now in
     let upto : i ≤ length c.args.pieces.now = c.turns.auto.piece-index-end in
+    let past : length c.args.pieces.now ≤ i = c.turns-test.false in
+    let new = c.flush_all.new.store in
     ends-unflushed d.model c.args.store.now c.turns.store (take i all)
-    (answer_bytes c.turns.answers.items) inv.so_far all i (omega (arith, long, upto)) refl
-    c.flush_all.new.store c.in-Err.ensures.flushes.1
+    (answer_bytes c.turns.answers.items) inv.so_far all i (omega (arith, long, upto)) refl (omega (arith, long, upto, past))
+    new c.in-Err.ensures.flushes.1 (λ t image h le is. g.met.D.Disk.counts_now new.disk t image h le is)

@@ -1,7 +1,6 @@
 -- The change was made ready, and made.
 use Rattle.std.proofs.Common.{refl}
 use Rattle.std.specs.Prelude.{Ok, Err}
-use Rattle.conf_tools.proofs.OutcomeLemmas.{never_done}
 use Rattle.conf_tools.proofs.change_words.set_at.Goals as goal
 
 pub returns-in-Ok-clause-sets : goal.returns-in-Ok-clause-sets
@@ -20,8 +19,8 @@ returns-in-Err-clause-sets g c = record {
   change = Err c.in-Err.fault;
   seen = c.set_of.new.world;
   is = c.in-Err.ensures.sets;
-  changes = (refl, c.status_of.ensures);
+  changes = (refl, refl);
 }
 
 pub returns-in-Err-clause-leaves : goal.returns-in-Err-clause-leaves
-returns-in-Err-clause-leaves g c = λ zero. absurd (never_done c.in-Err.fault c.status_of.result c.status_of.ensures zero)
+returns-in-Err-clause-leaves g c = c.in-Err.ensures.refused

@@ -4,7 +4,7 @@ use Rattle.conf_tools.proofs.change_words.set_of.Goals as goal
 
 pub returns-in-Text-clause-told : goal.returns-in-Text-clause-told
 returns-in-Text-clause-told g c =
-    silent_left_out g.E.Listener.hears c.set_text-change.result c.args.errors.now c.tell.new.errors c.tell.ensures
+    silent_left_out g.E.Listener.hears c.set_text-change.result c.args.errors.now c.tell.new.errors c.tell.ensures.same
 
 pub returns-in-File-clause-told : goal.returns-in-File-clause-told
 returns-in-File-clause-told g c =

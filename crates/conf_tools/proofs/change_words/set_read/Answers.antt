@@ -12,4 +12,5 @@ returns-in-Ok-clause-sets g c = rw (c.in-Ok.is)
 pub returns-in-Ok-clause-told : goal.returns-in-Ok-clause-told
 returns-in-Ok-clause-told g c =
     set_left_out g.E.Listener.hears c.args.reporter.reporting c.args.source.meaning c.set_bytes-change.result
-    c.deref-in-Ok-2.result.now c.args.errors.now c.tell.new.errors c.tell_loss_of.new.errors c.tell.ensures c.tell_loss_of.ensures
+    c.deref-in-Ok-2.result.now c.args.errors.now c.tell.new.errors c.tell_loss_of.new.errors c.tell.ensures.same
+    c.tell_loss_of.ensures

@@ -16,7 +16,7 @@ returns-in-Ok-clause-replaces g c = rw (c.in-Ok.is) (
 
 pub returns-in-Ok-clause-silent : goal.returns-in-Ok-clause-silent
 returns-in-Ok-clause-silent g c = written_silently c.replace_by-ended.result c.status_after.result c.args.errors.now
-    c.tell.new.errors c.status_after.ensures c.tell.ensures
+    c.tell.new.errors c.status_after.ensures c.tell.ensures.same
 
 pub returns-in-Err-clause-silent : goal.returns-in-Err-clause-silent
 returns-in-Err-clause-silent g c = λ zero. absurd (never_done c.in-Err.fault c.status_of.result c.status_of.ensures zero)

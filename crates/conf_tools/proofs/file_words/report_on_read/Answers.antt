@@ -13,4 +13,4 @@ returns-in-Ok-clause-reports g c = rw (c.in-Ok.is)
 pub returns-in-Ok-clause-silent : goal.returns-in-Ok-clause-silent
 returns-in-Ok-clause-silent g c =
     report_on c.report_on-ended.result c.args.errors.now c.tell_written.new.errors c.tell_comments.new.errors
-    c.tell_written.ensures c.tell_comments.ensures
+    c.tell_written.ensures.same c.tell_comments.ensures

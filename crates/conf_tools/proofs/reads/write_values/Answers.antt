@@ -45,3 +45,4 @@ returns-clause-refused g c =
     values_cut (is_several c.args.waiting) given left c.args.places.at (chars c.args.places.name.now)
     (pointers_of c.args.places.pointers.now) (tree_found c.as_ref.result) found c.args.missing c.args.form
     c.in-Ok-values_text.text.items held (g.W.Write.contents c.write_whole.new.writer) c.in-Ok-values_text.ensures.ok
+    (rw c.deref.ensures.value at c.in-Err-write_whole.ensures.part)

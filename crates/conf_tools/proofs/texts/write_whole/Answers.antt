@@ -1,6 +1,16 @@
 -- What was written is kept by the flush.
 use Rattle.conf_tools.proofs.Formatting.{then_kept}
+use Rattle.conf_tools.proofs.PartLemmas.{part_whole}
 use Rattle.conf_tools.proofs.texts.write_whole.Goals as goal
 
-pub returns-clause-ok : goal.returns-clause-ok
-returns-clause-ok g c = then_kept _ (g.W.Write.contents c.write_all.new.self) _ c.args.bytes.now c.in-Ok.ensures.bytes c.flush.ensures.bytes
+pub returns-in-Ok-flush-clause-ok : goal.returns-in-Ok-flush-clause-ok
+returns-in-Ok-flush-clause-ok g c =
+    then_kept _ (g.W.Write.contents c.write_or_count.new.writer) _ c.args.bytes.now c.in-Ok.ensures.whole c.flush.ensures.bytes
+
+pub returns-in-Err-clause-part : goal.returns-in-Err-clause-part
+returns-in-Err-clause-part g c = (_, c.in-Err.ensures.prefix)
+
+pub returns-in-Err-flush-clause-part : goal.returns-in-Err-flush-clause-part
+returns-in-Err-flush-clause-part g c =
+    part_whole _ _ c.args.bytes.now
+    (then_kept _ (g.W.Write.contents c.write_or_count.new.writer) _ c.args.bytes.now c.in-Ok.ensures.whole c.flush.ensures.bytes)

@@ -1,4 +1,4 @@
-use Rattle.std.proofs.Common.{◌≡◌, ◌++◌, map, take, drop, length, vec_len}
+use Rattle.std.proofs.Common.{◌≡◌, ◌++◌, map, take, drop, vec_len}
 use Rattle.conf_system.specs.Machine.{settled}
 use Rattle.test_system.specs.Replay.{files_of}
 use Rattle.test_system.proofs.machine.settle.Given as goal

@@ -1,4 +1,4 @@
-use Rattle.std.proofs.Common.{◌≡◌, ◌∙◌, ◌+◌, ◌≤◌, false, sym, ap, map, refl, arith, vec_len, vec_capacity}
+use Rattle.std.proofs.Common.{◌∙◌, ◌+◌, ◌≤◌, false, sym, ap, map, refl, vec_len, vec_capacity}
 use Rattle.std.proofs.lemmas.List.{take-map}
 use Rattle.test_system.specs.Replay.{entry_of, entries_of, machine_after, new_machine}
 use Rattle.test_system.specs.declared.spares.Spent.{Spent}

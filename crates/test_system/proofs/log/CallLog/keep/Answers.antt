@@ -1,4 +1,4 @@
-use Rattle.std.proofs.Common.{◌≡◌, ◌+◌, ◌≤◌, false, sym, ap, arith, vec_len, vec_capacity}
+use Rattle.std.proofs.Common.{◌≡◌, ◌+◌, ◌≤◌, false, sym, arith, vec_len, vec_capacity}
 use Rattle.std.specs.Result.{is_ok}
 use Rattle.test_system.specs.Replay.{entries_of, machine_after, new_machine}
 use Rattle.test_system.specs.Spares.{rooms, is_any_spent}

@@ -1,4 +1,4 @@
-use Rattle.std.proofs.Common.{◌≡◌, ◌+◌, ◌≤◌, sym, subst, ap, arith, vec_len, vec_capacity}
+use Rattle.std.proofs.Common.{◌+◌, ◌≤◌, sym, subst, ap, arith, vec_len, vec_capacity}
 use Rattle.test_system.specs.Replay.{entries_of, machine_after, new_machine, MayBeMade}
 use Rattle.test_system.specs.Spares.{rooms, ChangesNothing}
 use Rattle.test_system.specs.declared.spares.Spent.{Spent}

@@ -1,7 +1,7 @@
 use Rattle.std.proofs.Common.{◌≡◌, ◌+◌, ◌<◌, length, get_or, take, map, ◌++◌, [], ◌∷◌, List, sym, ◌∙◌, ap, arith}
 use Rattle.std.proofs.lemmas.List.{take_more, map-append}
 use Rattle.conf_system.specs.Machine.{Machine}
-use Rattle.test_system.specs.Replay.{Entry, entry_of, machine_made, machine_after, new_machine, bare}
+use Rattle.test_system.specs.Replay.{entry_of, machine_made, machine_after, new_machine, bare}
 use Rattle.test_system.specs.declared.change.Made.{Made}
 use Rattle.test_system.proofs.OneMore.{made_last}
 use Rattle.test_system.proofs.Bares.{made-bare}

@@ -1,4 +1,4 @@
-use Rattle.std.proofs.Common.{◌≡◌, ◌∙◌, sym, ap, ◌++◌, ◌∷◌, [], None, Some, Option, ℕ}
+use Rattle.std.proofs.Common.{◌∙◌, ap, Option, ℕ}
 use Rattle.test_system.specs.Replay.{call_of}
 use Rattle.test_system.specs.Log.{then, entries}
 use Rattle.test_system.specs.declared.memory.MemorySystem.{MemorySystem}

@@ -1,4 +1,3 @@
-use Rattle.std.proofs.Common.{sym}
 use Rattle.test_system.specs.declared.memory.MemorySystem.{MemorySystem}
 use Rattle.test_system.specs.declared.spares.Spare.TheVariants.{FailedSync}
 use Rattle.test_system.proofs.OneMore.{goes-no-memory}

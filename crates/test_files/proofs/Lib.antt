@@ -1,0 +1,4 @@
+pub mod Failures
+pub mod Pushes
+pub mod OneMore
+pub mod Left
