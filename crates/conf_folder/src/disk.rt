@@ -1,13 +1,14 @@
 // The disk of a real folder: how it is opened, and what its failures are.
-ghost use Rattle.std.specs.Prelude.{◌≡◌, ◌≢◌, IfErr, IfSome};
+ghost use Rattle.std.specs.Prelude.{◌≡◌, ◌≢◌, Err, IfErr, IfSome};
+ghost use Rattle.conf_disk.specs.Moments.{CountsFailures};
 
-use crate::files::{Paths, STORE, look_at_files, open_folder, subject_of};
+use crate::files::{Paths, STORE, open_and_look, open_folder, subject_of};
 use crate::host::{HostSystem, Presence};
-use crate::lock::{find_unlocked, lock_store};
+use crate::lock::{find_readable, lock_store};
 use crate::{FolderError, FolderFault};
 use conf_disk::{Content, Disk, DiskFault, Name};
 use conf_files::{Cause, OpenFolder, Subject};
-use conf_protocol::{DiskState, Refusal, SystemDisk};
+use conf_protocol::{DiskState, Refusal, SystemDisk, Unopened};
 use std::alloc::Global;
 use std::fs::{File, Metadata};
 use std::rt::Files;
@@ -34,6 +35,37 @@ pub struct FolderDisk<'r, R: Files<File = File>> {
     state: DiskState,
 }
 
+/// A call that changes the folder, as data.
+#[derive(Clone, Copy)]
+enum Change<'b> {
+    CreateNext,
+    Append(Name, &'b [u8]),
+    Sync(Name),
+    RenameNext,
+    RemoveNext,
+    SyncFolder,
+}
+
+impl Change<'_> {
+    /// Makes the call on a disk.
+    fn make_on<R: Files<File = File>>(
+        self,
+        disk: &mut SystemDisk<HostSystem<'_, R>>,
+    ) -> Result<(), DiskFault>
+        ensures failures { CountsFailures disk.old.failures disk.new.failures result }
+        ensures fault { result ≢ Err DiskFault.OutOfMemory }
+    {
+        match self {
+            Change::CreateNext => disk.create_next(),
+            Change::Append(name, bytes) => disk.append(name, bytes),
+            Change::Sync(name) => disk.sync(name),
+            Change::RenameNext => disk.rename_next(),
+            Change::RemoveNext => disk.remove_next(),
+            Change::SyncFolder => disk.sync_folder(),
+        }
+    }
+}
+
 /// Why a call failed, by the file or folder that it was.
 fn cause_of(refusal: Refusal) -> Cause {
     subject_of(refusal.place).cause(refusal.error)
@@ -52,11 +84,12 @@ impl<'r, R: Files<File = File>> FolderDisk<'r, R> {
         ensures { IfErr result (λ error.
             (error.fault ≢ FolderFault.NotAStore) × (error.fault ≢ FolderFault.StoreExists)) }
     {
-        let (folder, paths) = open_folder(rt, alloc, folder)?;
-        match look_at_files(rt, &paths)? {
-            Some(store) => FolderDisk::locked(rt, folder, paths, Presence::There, Some(store)),
-            None => FolderDisk::locked(rt, folder, paths, Presence::Unknown, None),
-        }
+        let (folder, paths, store) = open_and_look(rt, alloc, folder)?;
+        let presence = match store {
+            Some(_) => Presence::There,
+            None => Presence::Unknown,
+        };
+        FolderDisk::locked(rt, folder, paths, presence, store)
     }
 
     /// The disk of the folder at a path, which has a store. It is opened as by [`new`](FolderDisk::new), but no store
@@ -71,9 +104,9 @@ impl<'r, R: Files<File = File>> FolderDisk<'r, R> {
     pub fn of_store(rt: &'r R, alloc: Global, folder: &str) -> Result<Self, FolderError>
         ensures { IfErr result (λ error. error.fault ≢ FolderFault.StoreExists) }
     {
-        let (folder, paths) = open_folder(rt, alloc, folder)?;
-        match look_at_files(rt, &paths)? {
-            Some(store) => FolderDisk::locked(rt, folder, paths, Presence::There, Some(store)),
+        let (folder, paths, store) = open_and_look(rt, alloc, folder)?;
+        match store {
+            Some(_) => FolderDisk::locked(rt, folder, paths, Presence::There, store),
             None => Err(FolderError::from(FolderFault::NotAStore)),
         }
     }
@@ -95,8 +128,8 @@ impl<'r, R: Files<File = File>> FolderDisk<'r, R> {
     ) -> Result<Self, FolderError>
         ensures { IfErr result (λ error. error.fault ≢ FolderFault.NotAStore) }
     {
-        let (folder, paths) = open_folder(rt, alloc, folder)?;
-        if look_at_files(rt, &paths)?.is_some() {
+        let (folder, paths, store) = open_and_look(rt, alloc, folder)?;
+        if store.is_some() {
             return Err(FolderError::from(FolderFault::StoreExists));
         }
         let like = match like {
@@ -118,8 +151,7 @@ impl<'r, R: Files<File = File>> FolderDisk<'r, R> {
             (error.fault ≢ FolderFault.NotAStore) × (error.fault ≢ FolderFault.StoreExists)) }
     {
         let (folder, paths) = open_folder(rt, alloc, folder)?;
-        find_unlocked(&folder)?;
-        look_at_files(rt, &paths)?;
+        find_readable(rt, &folder, &paths)?;
         let system = HostSystem::new(rt, folder, paths, None, Presence::Unknown, None);
         Ok(FolderDisk::put_away(SystemDisk::for_reading(system)))
     }
@@ -139,7 +171,10 @@ impl<'r, R: Files<File = File>> FolderDisk<'r, R> {
         let system = HostSystem::new(rt, folder, paths, Some(lock), presence, like);
         match SystemDisk::open(system) {
             Ok(disk) => Ok(FolderDisk::put_away(disk)),
-            Err(unopened) => Err(FolderError::from(cause_of(unopened.refusal))),
+            Err(Unopened { refusal, system }) => {
+                drop(system);
+                Err(FolderError::from(cause_of(refusal)))
+            }
         }
     }
 
@@ -168,8 +203,22 @@ impl<'r, R: Files<File = File>> FolderDisk<'r, R> {
         ensures { self.new.state.failures ≡ disk.entry.failures }
     {
         let (system, state) = disk.put_away();
-        self.system = Some(system);
+        // None is there, so this has nothing to drop, as an assignment would.
+        self.system.insert(system);
         self.state = state;
+    }
+
+    /// Makes a call that changes the folder.
+    fn make(&mut self, change: Change<'_>) -> Result<(), DiskFault>
+        ensures failures { CountsFailures self.old.state.failures self.new.state.failures result }
+        ensures fault { result ≢ Err DiskFault.OutOfMemory }
+    {
+        let Some(mut disk) = self.take_up() else {
+            return Err(self.state.fail());
+        };
+        let done = change.make_on(&mut disk);
+        self.keep(disk);
+        done
     }
 
     /// Why the call that failed last did, if any did.
@@ -192,6 +241,7 @@ impl<'r, R: Files<File = File>> FolderDisk<'r, R> {
         if let Some(system) = system {
             let system = SystemDisk::take_up(system, state).release();
             system.finish();
+            drop(system);
         }
     }
 }
@@ -232,56 +282,26 @@ impl<'r, R: Files<File = File>> Disk for FolderDisk<'r, R> {
     }
 
     fn create_next(&mut self) -> Result<(), DiskFault> {
-        let Some(mut disk) = self.take_up() else {
-            return Err(self.state.fail());
-        };
-        let done = disk.create_next();
-        self.keep(disk);
-        done
+        self.make(Change::CreateNext)
     }
 
     fn append(&mut self, name: Name, bytes: &[u8]) -> Result<(), DiskFault> {
-        let Some(mut disk) = self.take_up() else {
-            return Err(self.state.fail());
-        };
-        let done = disk.append(name, bytes);
-        self.keep(disk);
-        done
+        self.make(Change::Append(name, bytes))
     }
 
     fn sync(&mut self, name: Name) -> Result<(), DiskFault> {
-        let Some(mut disk) = self.take_up() else {
-            return Err(self.state.fail());
-        };
-        let done = disk.sync(name);
-        self.keep(disk);
-        done
+        self.make(Change::Sync(name))
     }
 
     fn rename_next(&mut self) -> Result<(), DiskFault> {
-        let Some(mut disk) = self.take_up() else {
-            return Err(self.state.fail());
-        };
-        let done = disk.rename_next();
-        self.keep(disk);
-        done
+        self.make(Change::RenameNext)
     }
 
     fn remove_next(&mut self) -> Result<(), DiskFault> {
-        let Some(mut disk) = self.take_up() else {
-            return Err(self.state.fail());
-        };
-        let done = disk.remove_next();
-        self.keep(disk);
-        done
+        self.make(Change::RemoveNext)
     }
 
     fn sync_folder(&mut self) -> Result<(), DiskFault> {
-        let Some(mut disk) = self.take_up() else {
-            return Err(self.state.fail());
-        };
-        let done = disk.sync_folder();
-        self.keep(disk);
-        done
+        self.make(Change::SyncFolder)
     }
 }

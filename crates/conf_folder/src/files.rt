@@ -104,6 +104,24 @@ pub(crate) fn open_folder<R: Files<File = File>>(
     Ok((folder, paths))
 }
 
+/// Opens the folder at a path as [`open_folder`] does, and looks at its files as [`look_at_files`] does. Returns the
+/// folder, the paths of its files, and what is known of `store.yaml`, if it is there.
+///
+/// # Errors
+/// Those of the two.
+pub(crate) fn open_and_look<R: Files<File = File>>(
+    rt: &R,
+    alloc: Global,
+    path: &str,
+) -> Result<(OpenFolder, Paths, Option<Metadata>), FolderError>
+    ensures { IfErr result (λ error.
+        (error.fault ≡ FolderFault.Device) ⊎ (error.fault ≡ FolderFault.OutOfMemory)) }
+{
+    let (folder, paths) = open_folder(rt, alloc, path)?;
+    let store = look_at_files(rt, &paths)?;
+    Ok((folder, paths, store))
+}
+
 /// Looks at `store.yaml` and `next.yaml`. Returns what is known of the first, if it is there.
 ///
 /// # Errors

@@ -148,20 +148,14 @@ impl<'r, R: Files<File = File>> HostSystem<'r, R> {
     /// Removes a `next.yaml` that this run made and didn't rename. Where others have changed it, or the system refuses,
     /// it stays.
     fn remove_unfinished(&self) {
-        if !self.is_staged || self.find_known(FileName::Next).is_err() {
-            return;
-        }
-        if let Ok(path) = self.path(FileName::Next) {
-            let _ = fs::remove_file(self.rt, path);
+        if self.is_staged && self.find_known(FileName::Next).is_ok() {
+            let _ = self.remove(FileName::Next);
         }
     }
 
     /// Whether there is no `store.yaml`.
     fn has_no_store(&self) -> bool {
-        match self.path(FileName::Store) {
-            Ok(path) => matches!(look(self.rt, path), Ok(None)),
-            Err(_) => false,
-        }
+        matches!(self.look_at(FileName::Store), Ok(None))
     }
 
     /// Finds that the path still leads to the folder.
@@ -179,6 +173,16 @@ impl<'r, R: Files<File = File>> HostSystem<'r, R> {
     fn path(&self, name: FileName) -> io::Result<&str> {
         self.find_in_place()?;
         Ok(self.paths.of(name))
+    }
+
+    /// What is known of a file in the folder, if it is there.
+    fn look_at(&self, name: FileName) -> io::Result<Option<Metadata>> {
+        look(self.rt, self.path(name)?)
+    }
+
+    /// Removes a file in the folder.
+    fn remove(&self, name: FileName) -> io::Result<()> {
+        fs::remove_file(self.rt, self.path(name)?)
     }
 
     fn used(&mut self, name: FileName) -> &mut Used {
@@ -245,16 +249,12 @@ impl<'r, R: Files<File = File>> HostSystem<'r, R> {
     /// Makes an empty file. It takes after the `store.yaml` that it is to replace, or else after the file that a new
     /// store takes after, if there is one.
     fn create(&self, name: FileName) -> io::Result<Used> {
-        let replaced = look(self.rt, self.path(FileName::Store)?)?;
-        let path = self.paths.of(name);
-        let file = match &replaced {
-            Some(replaced) => {
-                self.find_presence(true)?;
-                create_staged(self.rt, path, Some(replaced))?
-            }
-            None => create_staged(self.rt, path, self.like.as_ref())?,
-        };
-        Used::made(file)
+        let replaced = self.look_at(FileName::Store)?;
+        if replaced.is_some() {
+            self.find_presence(true)?;
+        }
+        let like = replaced.as_ref().or(self.like.as_ref());
+        Used::made(create_staged(self.rt, self.paths.of(name), like)?)
     }
 
     /// The path to `store.yaml` and that of the file which is to take its name. Both are as this run left them.
@@ -284,7 +284,7 @@ impl<'r, R: Files<File = File>> System for HostSystem<'r, R> {
     ghost sound = { λ system honest. absurd honest };
 
     fn look(&self, name: FileName) -> io::Result<Option<u64>> {
-        let found = look(self.rt, self.path(name)?)?;
+        let found = self.look_at(name)?;
         if name == FileName::Store {
             self.find_presence(found.is_some())?;
         }
@@ -295,7 +295,7 @@ impl<'r, R: Files<File = File>> System for HostSystem<'r, R> {
     }
 
     fn are_linked(&self) -> io::Result<bool> {
-        let Some(next) = look(self.rt, self.path(FileName::Next)?)? else {
+        let Some(next) = self.look_at(FileName::Next)? else {
             return Ok(false);
         };
         let Some(store) = look(self.rt, self.paths.of(FileName::Store))? else {
@@ -392,7 +392,7 @@ impl<'r, R: Files<File = File>> System for HostSystem<'r, R> {
     fn unlink_next(&mut self) -> io::Result<()> {
         self.next = Used::closed();
         self.is_staged = false;
-        fs::remove_file(self.rt, self.path(FileName::Next)?)
+        self.remove(FileName::Next)
     }
 
     fn place_copy(&mut self) -> io::Result<()> {
@@ -405,7 +405,7 @@ impl<'r, R: Files<File = File>> System for HostSystem<'r, R> {
 
     fn unlink_copy(&mut self) -> io::Result<()> {
         self.copy = Used::closed();
-        fs::remove_file(self.rt, self.path(FileName::Copy)?)
+        self.remove(FileName::Copy)
     }
 
     fn sync_folder(&mut self) -> io::Result<()> {

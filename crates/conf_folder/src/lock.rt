@@ -3,7 +3,7 @@ ghost use Rattle.std.specs.Prelude.{◌≡◌, ◌≢◌, Ok, Err, IsOk, IfErr};
 ghost use Rattle.conf_folder.specs.Modes.{mode_of_lock};
 ghost use Rattle.conf_folder.specs.Refusals.{IsLocked};
 
-use crate::files::LOCK;
+use crate::files::{LOCK, Paths, look_at_files};
 use crate::{FolderError, FolderFault};
 use conf_files::{
     Identity, OpenFolder, Subject, find_same, give_owner_and_group, is_of_same_owner_and_group,
@@ -59,11 +59,15 @@ impl HeldLock {
     }
 }
 
-/// Finds that no run holds the lock on a folder.
+/// Finds that no run holds the lock on a folder, and that its files are plain.
 ///
 /// # Errors
-/// `Locked` if another run holds it, and `Device` if a call of the system fails.
-pub(crate) fn find_unlocked(folder: &OpenFolder) -> Result<(), FolderError>
+/// `Locked` if another run holds it, and `Device` if a file is no plain one, or a call of the system fails.
+pub(crate) fn find_readable<R: Files<File = File>>(
+    rt: &R,
+    folder: &OpenFolder,
+    paths: &Paths,
+) -> Result<(), FolderError>
     ensures { IfErr result (λ error.
         (error.fault ≢ FolderFault.NotAStore) × (error.fault ≢ FolderFault.StoreExists)) }
 {
@@ -71,6 +75,7 @@ pub(crate) fn find_unlocked(folder: &OpenFolder) -> Result<(), FolderError>
         return Err(FolderError::locked(Subject::Given));
     }
     Subject::Given.blame(folder.file().unlock())?;
+    look_at_files(rt, paths)?;
     Ok(())
 }
 
@@ -166,24 +171,6 @@ struct HostLocks<'h, R: Files<File = File>> {
     like: Option<&'h Metadata>,
 }
 
-impl<'h, R: Files<File = File>> HostLocks<'h, R> {
-    /// The open `store.lock`.
-    fn file(&self) -> io::Result<&File> {
-        match &self.file {
-            Some(file) => Ok(file),
-            None => Err(not_open()),
-        }
-    }
-
-    /// The folder.
-    fn folder(&self) -> io::Result<&OpenFolder> {
-        match &self.folder {
-            Some(folder) => Ok(folder),
-            None => Err(not_open()),
-        }
-    }
-}
-
 impl<'h, R: Files<File = File>> LockSystem for HostLocks<'h, R> {
     ghost use Rattle.std.specs.Prelude.{None, false};
 
@@ -219,7 +206,10 @@ impl<'h, R: Files<File = File>> LockSystem for HostLocks<'h, R> {
     }
 
     fn is_marked(&mut self) -> io::Result<bool> {
-        let found = self.file()?.metadata()?;
+        let Some(file) = &self.file else {
+            return Err(not_open());
+        };
+        let found = file.metadata()?;
         Ok(is_marked(&found))
     }
 
@@ -231,19 +221,31 @@ impl<'h, R: Files<File = File>> LockSystem for HostLocks<'h, R> {
     }
 
     fn try_lock_file(&mut self) -> io::Result<Locking> {
-        asked(self.file()?.try_lock())
+        match &self.file {
+            Some(file) => asked(file.try_lock()),
+            None => Err(not_open()),
+        }
     }
 
     fn try_lock_folder(&mut self) -> io::Result<Locking> {
-        asked(self.folder()?.file().try_lock())
+        match &self.folder {
+            Some(folder) => asked(folder.file().try_lock()),
+            None => Err(not_open()),
+        }
     }
 
     fn try_share_folder(&mut self) -> io::Result<Locking> {
-        asked(self.folder()?.file().try_lock_shared())
+        match &self.folder {
+            Some(folder) => asked(folder.file().try_lock_shared()),
+            None => Err(not_open()),
+        }
     }
 
     fn find_in_place(&mut self) -> io::Result<()> {
-        let found = self.file()?.metadata()?;
+        let Some(file) = &self.file else {
+            return Err(not_open());
+        };
+        let found = file.metadata()?;
         find_same(self.rt, self.path, Identity::of(&found))
     }
 
@@ -266,7 +268,10 @@ impl<'h, R: Files<File = File>> LockSystem for HostLocks<'h, R> {
     }
 
     fn mark(&mut self) -> io::Result<()> {
-        admit(self.folder()?, self.file()?, self.like)
+        match (&self.folder, &self.file) {
+            (Some(folder), Some(file)) => admit(folder, file, self.like),
+            _ => Err(not_open()),
+        }
     }
 
     fn let_go(&mut self) {

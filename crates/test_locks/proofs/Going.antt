@@ -1,5 +1,5 @@
 -- What a run goes by after a call of it, before which others made theirs.
-use Rattle.std.proofs.Common.{◌≡◌, ◌≢◌, ℕ, List, [], ◌∷◌, ◌++◌, Option, Some, Bool, true, false, ◌⊎◌, inl, inr, refl, sym, ◌∙◌, ap, subst}
+use Rattle.std.proofs.Common.{◌≡◌, ◌≢◌, ℕ, List, [], ◌∷◌, ◌++◌, Some, Bool, true, false, ◌⊎◌, inr, refl, sym, ◌∙◌, ap, subst}
 use Rattle.conf_locks.specs.Locks.{Locks, Call, Event, after, after_all, IsFree, MayBeCalled, AreMade, AreOfOthers, Others, Reaches}
 use Rattle.conf_locks.specs.Locks.{Make, Mark}
 use Rattle.conf_locks.specs.declared.system.Making.TheVariants as making

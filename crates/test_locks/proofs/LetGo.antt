@@ -1,6 +1,6 @@
 -- A run lets its locks go.
 use Rattle.std.proofs.Common.{◌≡◌, ◌≢◌, ◌⊎◌, ◌<◌, ◌+◌, ◌≤◌, ℕ, List, [], ◌∷◌, get_or, length, Option, Some, None, inl, inr, ⊎_elim}
-use Rattle.std.proofs.Common.{refl, sym, ◌∙◌, ap, subst, arith, Bool, false}
+use Rattle.std.proofs.Common.{sym, ◌∙◌, ap, subst, arith, false}
 use Rattle.std.proofs.lemmas.Bool.{cases_eq, cases_lt}
 use Rattle.std.proofs.lemmas.List.{get_or_past}
 use Rattle.conf_locks.specs.Locks.{Locks, LetGoFile, LetGoFolder, LetGoShare, Call, after, IsFree, MayBeCalled, HoldsNone, Reaches}

@@ -1,5 +1,5 @@
 -- The locks in memory, as contracts see them.
-use Rattle.std.specs.Prelude.{◌≡◌, ℕ, ⊤}
+use Rattle.std.specs.Prelude.{◌≡◌, ⊤}
 use Rattle.conf_locks.specs.Locks.{Locks, Others}
 use Rattle.conf_locks.specs.Models.{LockModel}
 use Rattle.test_locks.specs.Tables.{locks_of}

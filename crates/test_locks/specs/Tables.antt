@@ -1,5 +1,5 @@
 -- The data of the code as the locks and the calls of the model.
-use Rattle.std.specs.Prelude.{◌≡◌, ◌≢◌, ◌⊎◌, ℕ, get_or, Option, Some, None, Bool, true, false}
+use Rattle.std.specs.Prelude.{◌≡◌, ◌≢◌, ◌⊎◌, ℕ, get_or, Some, None, Bool, true, false}
 use Rattle.conf_locks.specs.Locks.{Locks, Call, LockFile, LockFolder, ShareFolder, Make, Remove, Mark, LetGoFile, LetGoFolder, LetGoShare}
 use Rattle.conf_locks.specs.Locks.{after, IsFree, MayBeCalled}
 use Rattle.test_locks.specs.declared.call.LockCall.{LockCall}

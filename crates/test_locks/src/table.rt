@@ -1,5 +1,5 @@
 // The locks of a folder, as data.
-ghost use Rattle.std.specs.Prelude.{◌≡◌, ◌≢◌, ◌⊎◌, ℕ, true, false, Some, None, IsSome, get_or, vec_len, IfOk};
+ghost use Rattle.std.specs.Prelude.{◌≡◌, ◌≢◌, ◌⊎◌, ◌↔◌, ℕ, true, false, Some, None, IsSome, get_or, vec_len, IfOk};
 ghost use Rattle.conf_locks.specs.Locks.{Call, after, with_entry, IsFree, IsKeptOut, MayBeCalled, HoldsNone, Reaches};
 ghost use Rattle.test_locks.specs.Tables.{call_of, locks_of, no_file, no_locks, Does, DoesOther, Becomes};
 ghost use Rattle.test_locks.specs.Tables.{LetsFileGo, LetsFolderGo};
@@ -66,6 +66,33 @@ impl LockTable {
         self.file(file).is_marked
     }
 
+    /// Whether a run holds no lock.
+    pub fn holds_none(&self, run: usize) -> bool
+        ensures { (result ≡ true) ↔ HoldsNone run (locks_of self.now) }
+    {
+        !is_run(self.alone, run) && !self.is_sharer(run) && !self.holds_file(run)
+    }
+
+    /// Whether a run holds the lock of a file.
+    fn holds_file(&self, run: usize) -> bool
+        ensures yes { result ≡ true → (file : ℕ) × ((locks_of self.now).holder file ≡ Some run) }
+        ensures no { result ≡ false → (file : ℕ) → (locks_of self.now).holder file ≢ Some run }
+    {
+        for file in 0..self.files.len() {
+            if is_run(self.files[file].holder, run) {
+                return true;
+            }
+        }
+        false
+    }
+
+    /// Whether a run shares the folder.
+    fn is_sharer(&self, run: usize) -> bool
+        ensures { result ≡ (locks_of self.now).shared run }
+    {
+        run < self.sharers.len() && self.sharers[run]
+    }
+
     fn file(&self, file: usize) -> LockFile
         ensures { result ≡ get_or self.now.files.items file no_file }
     {
@@ -76,7 +103,7 @@ impl LockTable {
         }
     }
 
-    /// Whether a run shares the folder.
+    /// Whether any run shares the folder.
     fn is_shared(&self) -> bool
         ensures { result ≡ false → (run : ℕ) → (locks_of self.now).shared run ≡ false }
     {

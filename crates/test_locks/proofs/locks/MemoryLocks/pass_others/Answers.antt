@@ -1,5 +1,4 @@
 use Rattle.std.proofs.Common.{refl}
-use Rattle.test_locks.specs.Tables.{call_of}
 use Rattle.test_locks.specs.declared.locks.MemoryLocks.{MemoryLocks}
 use Rattle.test_locks.proofs.Going.{passed-more}
 use Rattle.test_locks.proofs.locks.MemoryLocks.pass_others.Goals as goal

@@ -1,4 +1,4 @@
-use Rattle.std.proofs.Common.{◌≡◌, ◌∙◌, ◌++◌, ◌∷◌, [], ap, List, Some, get_or}
+use Rattle.std.proofs.Common.{◌∙◌, ap, List, Some, get_or}
 use Rattle.conf_locks.specs.Locks.{Locks}
 use Rattle.test_locks.specs.Tables.{locks_of, no_file}
 use Rattle.test_locks.specs.declared.table.LockFile as file

@@ -1,4 +1,4 @@
-use Rattle.std.proofs.Common.{rules, ◌≡◌, ◌≤◌, ◌<◌, ◌∙◌, ℕ, length, arith}
+use Rattle.std.proofs.Common.{rules, ◌≤◌, ◌∙◌, length, arith}
 use Rattle.conf_locks.proofs.Going.{reach-same, reach-then}
 use Rattle.test_locks.specs.Tables.{locks_of}
 use Rattle.test_locks.proofs.LetGo.{reaches-file, below-next, none-past}
