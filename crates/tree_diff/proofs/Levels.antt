@@ -2,8 +2,8 @@
 use Rattle.std.proofs.Common.{◌≡◌, ℕ, ◌+◌, ◌*◌, List, [], ◌∷◌, ◌++◌, map, refl, sym, ap, ap₂, ◌∙◌, append_assoc, arith}
 use Rattle.tree_diff.proofs.Prelude.{append-nil, map-append}
 use Rattle.tree_diff.specs.declared.level.Level.{Level}
-use Rattle.tree_diff.specs.Differences.{Difference, below, under, token_of, rest_differences, path_of_levels, differences_left, rest_nodes}
-use Rattle.tree_diff.specs.Differences.{steps_left}
+use Rattle.tree_diff.specs.Differences.{Difference, below}
+use Rattle.tree_diff.specs.Walks.{under, token_of, rest_differences, path_of_levels, differences_left, rest_nodes, steps_left}
 
 under-none : (ds : List Difference) → map (under []) ds ≡ ds
 under-none [] = refl

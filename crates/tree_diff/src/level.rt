@@ -2,8 +2,8 @@
 ghost use Rattle.std.specs.Prelude.{◌≡◌, ◌==◌, ◌&&◌, ◌<◌, ◌+◌, ◌*◌, ◌++◌, [], map, nat_lt, MatchOption};
 ghost use Rattle.tree_diff.specs.Prelude.{chars, same_text, tree_of, elements_of, members_of, nodes, text_bytes};
 ghost use Rattle.tree_diff.specs.Prelude.{member_nodes};
-ghost use Rattle.tree_diff.specs.Differences.{below, differences, element_differences, member_differences, rest_differences};
-ghost use Rattle.tree_diff.specs.Differences.{rest_nodes, task_differences, task_steps, token_of};
+ghost use Rattle.tree_diff.specs.Differences.{below, differences, element_differences, member_differences};
+ghost use Rattle.tree_diff.specs.Walks.{rest_differences, rest_nodes, task_differences, task_steps, token_of};
 ghost use Rattle.tree_diff.specs.Choices.{count};
 
 use crate::same::{before_end, is_same_text};
@@ -13,9 +13,9 @@ use yaml_data::{Text, Tree};
 
 /// A step from a value to one inside it.
 #[derive(Clone, Copy)]
-pub(crate) enum Step<'t> {
+pub(crate) enum Step<'k> {
     /// To the value of a key.
-    Key(&'t str),
+    Key(&'k str),
     /// To the element at an index.
     Index(usize),
     /// To a new element after the last one.
@@ -24,26 +24,26 @@ pub(crate) enum Step<'t> {
 
 /// Two collections of which a part is compared.
 #[derive(Clone, Copy)]
-pub(crate) struct Level<'t> {
+pub(crate) struct Level<'f, 't> {
     /// The step to the values that are compared now; any step before the first ones.
-    pub(crate) step: Step<'t>,
+    pub(crate) step: Step<'f>,
     /// What is compared after them.
-    pub(crate) rest: Rest<'t>,
+    pub(crate) rest: Rest<'f, 't>,
 }
 
 /// What is left of two collections.
 #[derive(Clone, Copy)]
-pub(crate) enum Rest<'t> {
-    Elements(Tail<'t>),
+pub(crate) enum Rest<'f, 't> {
+    Elements(Tail<'f, 't>),
     Members {
-        first: &'t [(Text, Tree)],
+        first: &'f [(Text, Tree)],
         second: &'t [(Text, Tree)],
     },
 }
 
 /// What is to be done at one place.
 #[derive(Clone, Copy)]
-pub(crate) enum Task<'t> {
+pub(crate) enum Task<'f, 't> {
     /// The values are equal.
     Keep,
     /// The first value gives way to this one.
@@ -51,12 +51,12 @@ pub(crate) enum Task<'t> {
     /// The second tree has no value there.
     Delete,
     /// The values are collections of one kind, and what is in them is compared.
-    Enter(Rest<'t>),
+    Enter(Rest<'f, 't>),
 }
 
-impl<'t> Task<'t> {
+impl<'f, 't: 'f> Task<'f, 't> {
     /// What makes the second value of the first.
-    pub(crate) fn between(first: &'t Tree, second: &'t Tree) -> Task<'t>
+    pub(crate) fn between(first: &'f Tree, second: &'t Tree) -> Task<'f, 't>
         ensures differences { task_differences result
             ≡ differences (tree_of first.now) (tree_of second.now) }
         ensures steps { task_steps result
@@ -88,9 +88,9 @@ impl<'t> Task<'t> {
     }
 }
 
-impl<'t> Rest<'t> {
+impl<'f, 't: 'f> Rest<'f, 't> {
     /// What is to be done at the next place, and the level from there on; `None` if nothing is left.
-    pub(crate) fn next(self) -> Option<(Level<'t>, Task<'t>)>
+    pub(crate) fn next(self) -> Option<(Level<'f, 't>, Task<'f, 't>)>
         ensures { MatchOption result (rest_differences self.entry ≡ [])
             (λ next. (rest_differences self.entry
             ≡ map (below (token_of next.0.step)) (task_differences next.1)
@@ -104,8 +104,8 @@ impl<'t> Rest<'t> {
     }
 }
 
-impl<'t> Tail<'t> {
-    fn next(self) -> Option<(Level<'t>, Task<'t>)>
+impl<'f, 't: 'f> Tail<'f, 't> {
+    fn next(self) -> Option<(Level<'f, 't>, Task<'f, 't>)>
         ensures { MatchOption result (rest_differences (Rest.Elements self.entry) ≡ [])
             (λ next. (rest_differences (Rest.Elements self.entry)
             ≡ map (below (token_of next.0.step)) (task_differences next.1)
@@ -162,7 +162,7 @@ fn is_left_over(ahead: usize, items: &[Tree], others: &[Tree]) -> bool
 }
 
 /// The element at an index is deleted, and this is left.
-fn deleted<'t>(left: Tail<'t>) -> (Level<'t>, Task<'t>)
+fn deleted<'f, 't: 'f>(left: Tail<'f, 't>) -> (Level<'f, 't>, Task<'f, 't>)
     ensures { result ≡ record {
       0 = record { step = Step.Index left.entry.index; rest = Rest.Elements left.entry };
       1 = Task.Delete;
@@ -174,10 +174,10 @@ fn deleted<'t>(left: Tail<'t>) -> (Level<'t>, Task<'t>)
 }
 
 /// The same of members.
-fn next_member<'t>(
-    first: &'t [(Text, Tree)],
+fn next_member<'f, 't: 'f>(
+    first: &'f [(Text, Tree)],
     second: &'t [(Text, Tree)],
-) -> Option<(Level<'t>, Task<'t>)>
+) -> Option<(Level<'f, 't>, Task<'f, 't>)>
     ensures { MatchOption result
         (member_differences (members_of first.now) (members_of second.now) ≡ [])
         (λ next. (member_differences (members_of first.now) (members_of second.now)

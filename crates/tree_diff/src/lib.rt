@@ -7,6 +7,8 @@ mod level;
 mod pointer;
 mod same;
 mod tail;
+#[cfg(test)]
+mod tests;
 mod walk;
 mod whole;
 

@@ -1,14 +1,14 @@
 // The pointer to the place of a walk.
 ghost use Rattle.std.specs.Prelude.{◌≡◌, ◌++◌, ◌∷◌, IfOk, OnOk, string_bytes};
 ghost use Rattle.tree_diff.specs.Prelude.{chars, pointer_text, token_text, char_text, slash};
-ghost use Rattle.tree_diff.specs.Differences.{index_token, path_of_levels, token_of};
+ghost use Rattle.tree_diff.specs.{Differences.index_token, Walks.path_of_levels, Walks.token_of};
 
 use crate::level::{Level, Step};
 use itoa::Buffer;
 use std::alloc::{AllocError, Global};
 
 /// The pointer (RFC 6901, 3) to the values that the last of these levels compares now.
-pub(crate) fn pointer_to(alloc: Global, levels: &[Level<'_>]) -> Result<String, AllocError>
+pub(crate) fn pointer_to(alloc: Global, levels: &[Level<'_, '_>]) -> Result<String, AllocError>
     ensures { IfOk result (λ pointer. chars (string_bytes pointer)
         ≡ pointer_text (path_of_levels levels.now)) }
 {

@@ -5,8 +5,8 @@ use yaml_data::Tree;
 
 /// The elements of two sequences from an index on.
 #[derive(Clone, Copy)]
-pub(crate) struct Tail<'t> {
-    pub(crate) first: &'t [Tree],
+pub(crate) struct Tail<'f, 't> {
+    pub(crate) first: &'f [Tree],
     pub(crate) second: &'t [Tree],
     pub(crate) index: usize,
     /// How many are compared before those are deleted that the second sequence lacks.

@@ -2,8 +2,8 @@
 ghost use Rattle.std.specs.Prelude.{◌≡◌, ◌++◌, ◌+◌, true, IfOk, OnOk, Ok, [], map};
 ghost use Rattle.tree_diff.specs.Prelude.{distinct, tree_of};
 ghost use Rattle.tree_diff.specs.Diffs.{changes_of, performed};
-ghost use Rattle.tree_diff.specs.Differences.{differences_left, path_of_levels, steps_left, task_differences, task_steps};
-ghost use Rattle.tree_diff.specs.Differences.{under, written};
+ghost use Rattle.tree_diff.specs.Differences.{differences, written};
+ghost use Rattle.tree_diff.specs.Walks.{differences_left, path_of_levels, steps_left, task_differences, task_steps, under};
 
 use crate::edit::Edit;
 use crate::level::{Level, Step, Task};
@@ -22,17 +22,17 @@ use yaml_data::Tree;
 ///
 /// The time is linear in the trees and the edits, but elements of a longer sequence are looked at up to eight times
 /// more. The walk has a stack in memory, so the trees may have any depth. It fails only if memory runs out.
-pub fn diff<'t>(
-    alloc: Global,
-    first: &'t Tree,
-    second: &'t Tree,
-) -> Result<Vec<Edit<'t>>, AllocError>
+///
+/// Values are borrowed from the second tree alone, so the edits can be performed on the first one.
+pub fn diff<'t>(alloc: Global, first: &Tree, second: &'t Tree) -> Result<Vec<Edit<'t>>, AllocError>
     requires first { distinct (tree_of first.now) ≡ true }
     requires second { distinct (tree_of second.now) ≡ true }
     ensures diff_makes_the_second { IfOk result (λ edits. performed (changes_of edits.items) (tree_of first.now)
         ≡ Ok (tree_of second.now)) }
     ensures equal_trees_do_not_differ { tree_of first.now ≡ tree_of second.now
         → IfOk result (λ edits. edits.items ≡ []) }
+    ensures differences { IfOk result (λ edits. changes_of edits.items
+        ≡ map written (differences (tree_of first.now) (tree_of second.now))) }
 {
     let mut edits = Vec::new(alloc);
     let mut levels = Vec::new(alloc);
@@ -48,10 +48,10 @@ pub fn diff<'t>(
 }
 
 /// Does what is to be done at the place of the levels: it appends an edit there, or enters collections.
-fn carry_out<'t>(
+fn carry_out<'f, 't: 'f>(
     alloc: Global,
-    task: Task<'t>,
-    levels: &mut Vec<Level<'t>>,
+    task: Task<'f, 't>,
+    levels: &mut Vec<Level<'f, 't>>,
     edits: &mut Vec<Edit<'t>>,
 ) -> Result<(), AllocError>
     ensures differences { OnOk result

@@ -1,8 +1,10 @@
-use Rattle.std.proofs.Common.{◌≡◌, ◌<◌, ◌-◌, ◌++◌, List, [], ◌∷◌, map, take, refl, sym, ap, ap₂, ◌∙◌, arith}
+use Rattle.std.proofs.Common.{◌≡◌, ℕ, ◌<◌, ◌-◌, ◌++◌, List, [], ◌∷◌, map, take, refl, sym, ap, ap₂, ◌∙◌, arith}
 use Rattle.tree_diff.proofs.Prelude.{append-nil, tree_of}
 use Rattle.tree_diff.specs.declared.edit.Edit.{Edit}
-use Rattle.tree_diff.specs.Diffs.{changes_of, performed}
-use Rattle.tree_diff.specs.Differences.{differences, differences_left, path_of_levels, steps_left, task_differences, under, written}
+use Rattle.tree_diff.specs.declared.level.Level.{Level}
+use Rattle.tree_diff.specs.Diffs.{Change, changes_of, performed}
+use Rattle.tree_diff.specs.Differences.{differences, written}
+use Rattle.tree_diff.specs.Walks.{differences_left, path_of_levels, steps_left, task_differences, under}
 use Rattle.tree_diff.proofs.{DiffLaws.differences-made, DiffLaws.differences-same, Performing.performed-written}
 use Rattle.tree_diff.proofs.Levels.{differences_left-start, differences_left-end, differences_left-next, steps_left-push}
 use Rattle.tree_diff.proofs.walk.diff.Goals as goal
@@ -51,26 +53,31 @@ no_changes : (es : List Edit) → changes_of es ≡ [] → es ≡ []
 no_changes [] none = refl
 no_changes (e ∷ es) none = cc
 
+-- where no level is left, the edits are all differences
+all_found : (es : List Edit) (ls rest : List Level) (n : ℕ) (cs : List Change) → ls ≡ rest ++ [] → rest ≡ take (n - 1) ls → n ≡ 0
+    → changes_of es ++ map written (differences_left ls) ≡ cs → changes_of es ≡ cs
+all_found es ls rest n cs items is empty all =
+    let none : ls ≡ [] = items ∙ ap (λ xs. xs ++ []) (is ∙ ap (λ m. take (m - 1) ls) empty) in
+    sym (append-nil (changes_of es)) ∙ ap (λ xs. changes_of es ++ map written (differences_left xs)) (sym none) ∙ all
+
+pub returns-clause-differences : goal.returns-clause-differences
+returns-clause-differences c =
+    all_found c.loop-level.edits.items c.loop-level.levels.items _ _ _ c.in_default.ensures.items c.in_default.ensures.rest
+    c.in_default.ensures.cases.0 c.loop-level.invariant
+
 pub returns-clause-diff_makes_the_second : goal.returns-clause-diff_makes_the_second
 returns-clause-diff_makes_the_second c =
     let first = tree_of c.args.first.now in
     let second = tree_of c.args.second.now in
-    let edits = c.loop-level.edits.items in
-    let levels = c.loop-level.levels.items in
-    let none : levels ≡ [] = c.in_default.ensures.items
-    ∙ ap (λ ls. ls ++ []) (c.in_default.ensures.rest ∙ ap (λ n. take (n - 1) levels) c.in_default.ensures.cases.0) in
-    let all = sym (append-nil (changes_of edits)) ∙ ap (λ ls. changes_of edits ++ map written (differences_left ls)) (sym none)
-    ∙ c.loop-level.invariant in
+    let all = all_found c.loop-level.edits.items c.loop-level.levels.items _ _ _ c.in_default.ensures.items c.in_default.ensures.rest
+    c.in_default.ensures.cases.0 c.loop-level.invariant in
     ap (λ cs. performed cs first) all ∙ performed-written (differences first second) first
     ∙ differences-made first second c.requires.first c.requires.second
 
 pub returns-clause-equal_trees_do_not_differ : goal.returns-clause-equal_trees_do_not_differ
 returns-clause-equal_trees_do_not_differ c = λ same.
     let first = tree_of c.args.first.now in
-    let edits = c.loop-level.edits.items in
-    let levels = c.loop-level.levels.items in
-    let none : levels ≡ [] = c.in_default.ensures.items
-    ∙ ap (λ ls. ls ++ []) (c.in_default.ensures.rest ∙ ap (λ n. take (n - 1) levels) c.in_default.ensures.cases.0) in
-    let all = sym (append-nil (changes_of edits)) ∙ ap (λ ls. changes_of edits ++ map written (differences_left ls)) (sym none)
-    ∙ c.loop-level.invariant in
-    no_changes edits (all ∙ ap (λ t. map written (differences first t)) (sym same) ∙ ap (map written) (differences-same first))
+    let all = all_found c.loop-level.edits.items c.loop-level.levels.items _ _ _ c.in_default.ensures.items c.in_default.ensures.rest
+    c.in_default.ensures.cases.0 c.loop-level.invariant in
+    no_changes c.loop-level.edits.items
+    (all ∙ ap (λ t. map written (differences first t)) (sym same) ∙ ap (map written) (differences-same first))
