@@ -1,7 +1,7 @@
 -- What commands that are spelled one key a line say.
-use Rattle.std.proofs.Common.{◌≡◌, refl, sym, ap, subst, ◌∙◌, inl, arith, ◌≤◌, append_assoc, append-nil}
+use Rattle.std.proofs.Common.{◌≡◌, refl, sym, ap, subst, ◌∙◌, inl, arith, ◌<◌, ◌≤◌, append_assoc, append-nil}
 use Rattle.std.specs.Prelude.{ℕ, zero, suc, ◌+◌, ◌*◌, ◌==◌, Bool, true, false, nat_lt, if◌then◌else◌, List, [], ◌∷◌, ◌++◌, codes, length}
-use Rattle.std.specs.Prelude.{Some}
+use Rattle.std.specs.Prelude.{Option, Some, option_map}
 use Rattle.conf_session.proofs.Prelude.{list_all, chars, IsUtf8, IsAscii, and_parts, and_from, ltb-true, nat_tests, chars-IsAscii}
 use Rattle.conf_session.proofs.Prelude.{code_point, is_in, IsText, byte_len, spaces, text, sequence, mapping, Elements, no_member, member}
 use Rattle.conf_session.proofs.Prelude.{AreTextMembers, AreTextElements, members_depth, elements_depth, members_distinct, elements_distinct}
@@ -9,15 +9,19 @@ use Rattle.conf_session.proofs.Prelude.{word_char, plain_in_style, literal_in_st
 use Rattle.conf_session.proofs.Prelude.{in_double_quotes, scalar_lines, long_key, key_lines, value_at, members_at, members_after}
 use Rattle.conf_session.proofs.Prelude.{elements_after, style_text, Good, Gives, every_joined, every-IsAscii, byte_len-append, stands_alone}
 use Rattle.conf_session.proofs.Prelude.{byte_len-chars, IsKept, set_at, delete_at, member_line, lines_of, scalar_most}
+use Rattle.conf_session.proofs.Prelude.{Tree, element, Members, has_key, not_from_false, number_from_digits, Condition, test_at}
+use Rattle.conf_session.proofs.Prelude.{absent_at, count_is, length-append}
 use Rattle.yaml_config.proofs.TextTreeLemmas.{chars-IsText}
 use Rattle.std.specs.Borrow.{Bor}
 use Rattle.conf_session.specs.Said.{Part, Said, Says, command_limits, piece_limit, import_text, plain, single_part, batch_of_parts, get_at}
-use Rattle.conf_session.specs.Said.{said_by, part_from, parts_of, parts_said}
-use Rattle.conf_session.specs.SaidConditions.{first_and_rest}
+use Rattle.conf_session.specs.Said.{said_by, part_from, part_of, parts_of, parts_said, change_said, with_conditions}
+use Rattle.conf_session.specs.SaidConditions.{first_and_rest, all_in, condition_from, condition_in, all_conditions_in}
 use Rattle.conf_session.specs.CommandLines.{Spelling, bare, quoted, Line, spelled, bare_char, begins_bare, stands, IsField, line_text}
 use Rattle.conf_session.specs.CommandLines.{lines_text, members_of_lines, IsSpelled, IsLine, AreLines, Entry, entry_text, entry_members}
-use Rattle.conf_session.specs.CommandLines.{elements_text, elements_of_entries, AreEntries, SaysPart, SayParts, SpellsPart, ArePartLines}
-use Rattle.conf_session.specs.CommandLines.{Layout, single, batch_of, layout_text, layout_members, IsLayout, IsCommandLines}
+use Rattle.conf_session.specs.CommandLines.{elements_text, elements_of_entries, IsEntry, AreEntries, AreSaid, AreElementLines}
+use Rattle.conf_session.specs.CommandLines.{SaysPart, SpellsPart, ArePartLines, AreConditionLines, IsConditionLines, Layout, single}
+use Rattle.conf_session.specs.CommandLines.{batch_of, after_if, layout_text, layout_members, IsLayout, IsCommandLines}
+use Rattle.conf_session.specs.CommandLines.{IsChangeLines, SayChangeAfter}
 use Rattle.conf_session.proofs.LinesPresented.{Unambiguous, KeysAreText, AllKeysAreText, LayoutIsText, marker_text, document_of, lines_give}
 use Rattle.conf_record.specs.declared.edit_members.EditMembers.TheVariants as cut
 
@@ -85,6 +89,8 @@ elements_low (e ∷ es) are = every_joined low (entry_text 4 e) (elements_text e
 layout_low : (layout : Layout) → IsLayout layout → list_all low (layout_text layout) ≡ true
 layout_low (single e) is = lines_low 0 e.first e.more is.are
 layout_low (batch_of e es) is = elements_low (e ∷ es) is
+layout_low (after_if e es command) is = every_joined low (elements_text (e ∷ es)) (layout_text command)
+    (elements_low (e ∷ es) is.0) (layout_low command is.1)
 
 document_low : (marked : Bool) (layout : Layout) → IsLayout layout → list_all low (document_of marked layout) ≡ true
 document_low true layout is = every_joined low (layout_text layout) (codes "...\n") (layout_low layout is) refl
@@ -107,6 +113,7 @@ all_keys_are_text (e ∷ es) are = (keys_are_text (e.first ∷ e.more) are.0.are
 layout_is_text : (layout : Layout) → IsLayout layout → LayoutIsText layout
 layout_is_text (single e) is = keys_are_text (e.first ∷ e.more) is.are
 layout_is_text (batch_of e es) is = all_keys_are_text (e ∷ es) is
+layout_is_text (after_if e es command) is = (all_keys_are_text (e ∷ es) is.0, layout_is_text command is.1)
 
 members_are_text : (ls : List Line) → AreLines ls → AreTextMembers (members_of_lines ls)
 members_are_text [] are = tt
@@ -123,6 +130,8 @@ elements_are_text (e ∷ es) are = (members_are_text (e.first ∷ e.more) are.0.
 layout_members_are_text : (layout : Layout) → IsLayout layout → AreTextMembers (layout_members layout)
 layout_members_are_text (single e) is = members_are_text (e.first ∷ e.more) is.are
 layout_members_are_text (batch_of e es) is = (refl, elements_are_text (e ∷ es) is, tt)
+layout_members_are_text (after_if e es command) is =
+    (refl, elements_are_text (e ∷ es) is.0, layout_members_are_text command is.1)
 
 elements_differ : (es : List Entry) → AreEntries es → elements_distinct (elements_of_entries es) ≡ true
 elements_differ [] are = refl
@@ -132,6 +141,9 @@ elements_differ (e ∷ es) are = and_from (members_distinct (entry_members e))
 layout_differs : (layout : Layout) → IsLayout layout → members_distinct (layout_members layout) ≡ true
 layout_differs (single e) is = is.differ
 layout_differs (batch_of e es) is = and_from (elements_distinct (elements_of_entries (e ∷ es))) true (elements_differ (e ∷ es) is) refl
+layout_differs (after_if e es command) is = and_from _ _
+    (and_from _ _ (not_from_false (has_key (codes "if") (layout_members command)) is.2) (elements_differ (e ∷ es) is.0))
+    (layout_differs command is.1)
 
 members_flat : (ls : List Line) → members_depth (members_of_lines ls) ≤ 1
 members_flat [] = omega arith
@@ -144,6 +156,8 @@ elements_flat (e ∷ es) = let own = members_flat (e.first ∷ e.more) in let re
 layout_flat : (layout : Layout) → members_depth (layout_members layout) ≤ 3
 layout_flat (single e) = let own = members_flat (e.first ∷ e.more) in omega (arith, own)
 layout_flat (batch_of e es) = let own = elements_flat (e ∷ es) in omega (arith, own)
+layout_flat (after_if e es command) =
+    let own = elements_flat (e ∷ es) in let rest = layout_flat command in omega (arith, own, rest)
 
 key_line : (indent : ℕ) (key : List ℕ) → plain_in_style key ≡ true → long_key key ≡ false → key_lines indent key ≡ key ++ codes ":"
 key_line indent key word short = rw (short, word) refl
@@ -236,6 +250,12 @@ elements_bytes (e ∷ es) are =
     let lines = byte_len-append (entry_text 4 e) (elements_text es) in
     omega (arith, own, rest, style, lines)
 
+-- members after others are written as at the margin
+layout_next : (layout : Layout) → members_after (layout_members layout) 0 ≡ members_at (layout_members layout) 0
+layout_next (single e) = refl
+layout_next (batch_of e es) = refl
+layout_next (after_if e es command) = refl
+
 layout_bytes : (layout : Layout) → IsLayout layout
     → byte_len (style_text (mapping (layout_members layout))) ≤ 4 * byte_len (layout_text layout)
 layout_bytes (single e) is = members_bytes 0 e.first e.more is.are
@@ -244,6 +264,14 @@ layout_bytes (batch_of e es) is =
     let style = members_at (entry_members e) 4 ++ elements_after (elements_of_entries es) 2 in
     let whole = byte_len-append style [] in
     omega (arith, own, whole)
+layout_bytes (after_if e es command) is =
+    let own = elements_bytes (e ∷ es) is.0 in
+    let rest = layout_bytes command is.1 in
+    let next = ap byte_len (layout_next command) in
+    let style = members_at (entry_members e) 4 ++ elements_after (elements_of_entries es) 2 in
+    let whole = byte_len-append style (members_after (layout_members command) 0) in
+    let lines = byte_len-append (elements_text (e ∷ es)) (layout_text command) in
+    omega (arith, own, rest, next, whole, lines)
 
 document_bytes : (marked : Bool) (layout : Layout) → byte_len (layout_text layout) + 4 ≤ byte_len (document_of marked layout)
 document_bytes true layout = let joined = byte_len-append (layout_text layout) (codes "...\n") in omega (arith, joined)
@@ -296,6 +324,10 @@ next_line indent l m ms lines between rest is follows =
     is ∙ ap (λ t. line_text l ++ t) (follows ∙ sym (append_assoc (spaces indent) (lines_text indent m ms) rest))
     ∙ sym (append_assoc (line_text l) (spaces indent ++ lines_text indent m ms) rest)
 
+-- a line and what follows it, by its parts
+abbrev member_of : (key value : List ℕ) → Spelling → List ℕ → List ℕ
+member_of key value spelling rest = key ++ (codes ": " ++ (spelled spelling value ++ 10 ∷ rest))
+
 -- ---- parts
 
 -- the lines of an import
@@ -316,6 +348,8 @@ import_spelled n v name source one two =
       };
       within = refl;
       alone = refl;
+      change = refl;
+      apart = refl;
     } in
     let name_is = sym (spelled_chars one.spelling name one.stands) in
     let source_is = sym (spelled_chars two.spelling source two.stands) in
@@ -344,6 +378,8 @@ set_spelled n p v name path value one two three =
       };
       within = refl;
       alone = refl;
+      change = refl;
+      apart = refl;
     } in
     let name_is = sym (spelled_chars one.spelling name one.stands) in
     let path_is = sym (spelled_chars two.spelling path two.stands) in
@@ -374,6 +410,8 @@ delete_spelled n p name path one two =
       };
       within = refl;
       alone = refl;
+      change = refl;
+      apart = refl;
     } in
     let name_is = sym (spelled_chars one.spelling name one.stands) in
     let path_is = sym (spelled_chars two.spelling path two.stands) in
@@ -409,57 +447,92 @@ get_lines name path lines after_name one two =
 
 -- a part alone
 pub single_lines : (lines end : List ℕ) (own : ℕ → List ℕ) (part : Part) → lines ≡ own 0 ++ end → end ≡ codes "...\n" → SpellsPart own part
-    → IsCommandLines lines (single_part part)
+    → IsChangeLines lines (single_part part)
 single_lines lines end own part is ends spells = record {
-  layout = single spells.entry;
-  are = spells.says.is;
-  is = is ∙ ap (λ t. own 0 ++ t) ends ∙ ap (λ t. t ++ codes "...\n") (spells.is 0);
-  says = sym spells.says.alone;
+  command = record {
+    layout = single spells.entry;
+    are = spells.says.is;
+    is = is ∙ ap (λ t. own 0 ++ t) ends ∙ ap (λ t. t ++ codes "...\n") (spells.is 0);
+    says = sym spells.says.alone;
+  };
+  change = sym spells.says.change;
+  apart = spells.says.apart;
 }
 
+-- ---- elements
+
+elements_joined : (es more : List Entry) → elements_text (es ++ more) ≡ elements_text es ++ elements_text more
+elements_joined [] more = refl
+elements_joined (e ∷ es) more =
+    ap (λ t. codes "  - " ++ (entry_text 4 e ++ t)) (elements_joined es more)
+    ∙ ap (λ t. codes "  - " ++ t) (sym (append_assoc (entry_text 4 e) (elements_text es) (elements_text more)))
+
+module _ {A : Type 0} (read : Tree → Option A) where
+  said_joined : (es more : List Entry) (xs ys : List A) → AreSaid read es xs → AreSaid read more ys
+      → AreSaid read (es ++ more) (xs ++ ys)
+  said_joined [] more [] ys one other = other
+  said_joined [] more (x ∷ xs) ys one other = absurd one
+  said_joined (e ∷ es) more [] ys one other = absurd one
+  said_joined (e ∷ es) more (x ∷ xs) ys one other = (one.0, one.1, said_joined es more xs ys one.2 other)
+
+  -- they are entries
+  pub are_entries : (es : List Entry) (xs : List A) → AreSaid read es xs → AreEntries es
+  are_entries [] xs said = tt
+  are_entries (e ∷ es) [] said = absurd said
+  are_entries (e ∷ es) (x ∷ xs) said = (said.0, are_entries es xs said.2)
+
+  -- all of them are read
+  pub all_said : (es : List Entry) (xs : List A) → AreSaid read es xs → all_in read (elements_of_entries es) ≡ Some xs
+  all_said [] [] said = refl
+  all_said [] (x ∷ xs) said = absurd said
+  all_said (e ∷ es) [] said = absurd said
+  all_said (e ∷ es) (x ∷ xs) said = λ i. first_and_rest (said.1 i) (all_said es xs said.2 i)
+
+  -- no element yet
+  pub no_element_lines : (lines : List ℕ) → AreElementLines read lines [] lines
+  no_element_lines lines = record { entries = []; said = tt; is = refl }
+
+  -- one element
+  pub one_element_line : (lines after : List ℕ) (x : A) (e : Entry) → IsEntry e → read (mapping (entry_members e)) ≡ Some x
+      → lines ≡ codes "  - " ++ (entry_text 4 e ++ after) → AreElementLines read lines (x ∷ []) after
+  one_element_line lines after x e are reads is = record {
+    entries = e ∷ [];
+    said = (are, reads, tt);
+    is = is ∙ ap (λ t. codes "  - " ++ (t ++ after)) (sym (append-nil (entry_text 4 e)));
+  }
+
+  -- elements before others
+  pub element_lines_joined : (lines left after : List ℕ) (xs ys : List A) → AreElementLines read lines xs left
+      → AreElementLines read left ys after → AreElementLines read lines (xs ++ ys) after
+  element_lines_joined lines left after xs ys one other = record {
+    entries = one.entries ++ other.entries;
+    said = said_joined one.entries other.entries xs ys one.said other.said;
+    is =
+        one.is ∙ ap (λ t. elements_text one.entries ++ t) other.is
+        ∙ sym (append_assoc (elements_text one.entries) (elements_text other.entries) after)
+        ∙ ap (λ t. t ++ after) (sym (elements_joined one.entries other.entries));
+  }
+
+  -- an element takes some characters
+  pub element_taken : (lines after : List ℕ) (x : A) → AreElementLines read lines (x ∷ []) after → length after < length lines
+  element_taken lines after x so = by so.entries so.said so.is
+    where
+      by : (es : List Entry) → AreSaid read es (x ∷ []) → lines ≡ elements_text es ++ after → length after < length lines
+      by [] said is = absurd said
+      by (e ∷ es) said is =
+          let whole = ap length is in
+          let apart = length-append (elements_text (e ∷ es)) after in
+          omega (arith, whole, apart)
+
 -- ---- batches
-
--- no element yet
-pub no_part_lines : (lines : List ℕ) → ArePartLines lines [] lines
-no_part_lines lines = record { entries = []; say = tt; is = refl }
-
-elements_one : (es : List Entry) (e : Entry) → elements_text (es ++ e ∷ []) ≡ elements_text es ++ (codes "  - " ++ entry_text 4 e)
-elements_one [] e = append-nil (codes "  - " ++ entry_text 4 e)
-elements_one (d ∷ ds) e =
-    let first = codes "  - " ++ entry_text 4 d in
-    ap (λ t. first ++ t) (elements_one ds e) ∙ sym (append_assoc first (elements_text ds) (codes "  - " ++ entry_text 4 e))
-
-say_one : (es : List Entry) (parts : List Part) (e : Entry) (part : Part) → SayParts es parts → SaysPart e part
-    → SayParts (es ++ e ∷ []) (parts ++ part ∷ [])
-say_one [] [] e part say one = (one, tt)
-say_one [] (p ∷ ps) e part say one = absurd say
-say_one (d ∷ ds) [] e part say one = absurd say
-say_one (d ∷ ds) (p ∷ ps) e part say one = (say.0, say_one ds ps e part say.1 one)
 
 -- one more element
 pub one_part_line : (lines left after : List ℕ) (own : ℕ → List ℕ) (parts : List Part) (part : Part) → ArePartLines lines parts left
     → left ≡ codes "  - " ++ (own 4 ++ after) → SpellsPart own part → ArePartLines lines (parts ++ part ∷ []) after
 one_part_line lines left after own parts part so is spells =
-    let e = spells.entry in
-    let first = codes "  - " ++ entry_text 4 e in
-    record {
-      entries = so.entries ++ e ∷ [];
-      say = say_one so.entries parts e part so.say spells.says;
-      is =
-          so.is ∙ ap (λ t. elements_text so.entries ++ t) (is ∙ ap (λ t. codes "  - " ++ (t ++ after)) (spells.is 4))
-          ∙ sym (append_assoc (elements_text so.entries) first after) ∙ ap (λ t. t ++ after) (sym (elements_one so.entries e));
-    }
-
-say_all : (es : List Entry) (parts : List Part) → SayParts es parts → parts_of (elements_of_entries es) ≡ Some parts
-say_all [] [] say = refl
-say_all [] (p ∷ ps) say = absurd say
-say_all (e ∷ es) [] say = absurd say
-say_all (e ∷ es) (p ∷ ps) say = λ i. first_and_rest (say.0.within i) (say_all es ps say.1 i)
-
-are_entries : (es : List Entry) (parts : List Part) → SayParts es parts → AreEntries es
-are_entries [] parts say = tt
-are_entries (e ∷ es) [] say = absurd say
-are_entries (e ∷ es) (p ∷ ps) say = (say.0.is, are_entries es ps say.1)
+    element_lines_joined part_of lines left after parts (part ∷ []) so
+    (one_element_line part_of left after part spells.entry spells.says.is spells.says.within
+    (is ∙ ap (λ t. codes "  - " ++ (t ++ after)) (spells.is 4)))
 
 batch_says : (ts : Elements) (parts : List Part) → parts_of ts ≡ Some parts
     → batch_of_parts parts ≡ said_by (mapping (member (codes "batch") (sequence ts) no_member))
@@ -468,19 +541,144 @@ batch_says ts parts is = ap parts_said (sym is)
 
 -- all elements of a batch, and the closing line
 pub batch_lines : (elements : List ℕ) (parts : List Part) → (parts ≡ [] → ⊥)
-    → ArePartLines elements parts (codes "...\n") → IsCommandLines (codes "batch:\n" ++ elements) (batch_of_parts parts)
-batch_lines elements parts some so = by so.entries parts some so.say so.is
+    → ArePartLines elements parts (codes "...\n") → IsChangeLines (codes "batch:\n" ++ elements) (batch_of_parts parts)
+batch_lines elements parts some so = by so.entries parts some so.said so.is
   where
-    by : (es : List Entry) (ps : List Part) → (ps ≡ [] → ⊥) → SayParts es ps
-        → elements ≡ elements_text es ++ codes "...\n" → IsCommandLines (codes "batch:\n" ++ elements) (batch_of_parts ps)
-    by [] [] some say is = absurd (some refl)
-    by [] (p ∷ ps) some say is = absurd say
-    by (e ∷ es) ps some say is = record {
-      layout = batch_of e es;
-      are = are_entries (e ∷ es) ps say;
-      is = ap (λ t. codes "batch:\n" ++ t) is;
-      says = batch_says (elements_of_entries (e ∷ es)) ps (say_all (e ∷ es) ps say);
-    }
+    by : (es : List Entry) (ps : List Part) → (ps ≡ [] → ⊥) → AreSaid part_of es ps
+        → elements ≡ elements_text es ++ codes "...\n" → IsChangeLines (codes "batch:\n" ++ elements) (batch_of_parts ps)
+    by [] [] some said is = absurd (some refl)
+    by [] (p ∷ ps) some said is = absurd said
+    by (e ∷ es) ps some said is =
+        let read = all_said part_of (e ∷ es) ps said in
+        record {
+          command = record {
+            layout = batch_of e es;
+            are = are_entries part_of (e ∷ es) ps said;
+            is = ap (λ t. codes "batch:\n" ++ t) is;
+            says = batch_says (elements_of_entries (e ∷ es)) ps read;
+          };
+          change = ap parts_said (sym read);
+          apart = refl;
+        }
+
+-- ---- conditions
+
+-- the lines of a test
+pub test_lines : (name path value lines after_name after_path rest : List ℕ) → IsField lines (codes "  - test: ") name after_name
+    → IsField after_name (codes "    path: ") path after_path → IsField after_path (codes "    value: ") value rest
+    → IsConditionLines lines (test_at (chars name) (chars path) (text (chars value))) rest
+unfolding condition_from
+test_lines name path value lines after_name after_path rest one two three =
+    let a : Line = record { key = codes "test"; spelling = one.spelling; value = name } in
+    let b : Line = record { key = codes "path"; spelling = two.spelling; value = path } in
+    let d : Line = record { key = codes "value"; spelling = three.spelling; value = value } in
+    let entry : Entry = record { first = a; more = b ∷ d ∷ [] } in
+    let is : IsEntry entry = record {
+      are = (
+        record { word = refl; short = refl; stands = one.stands },
+        (record { word = refl; short = refl; stands = two.stands }, (record { word = refl; short = refl; stands = three.stands }, tt)),
+      );
+      differ = refl;
+    } in
+    let read : condition_in (mapping (entry_members entry)) ≡ Some (test_at name path (text value)) = refl in
+    let name_is = sym (spelled_chars one.spelling name one.stands) in
+    let path_is = sym (spelled_chars two.spelling path two.stands) in
+    let value_is = sym (spelled_chars three.spelling value three.stands) in
+    let test_key = member_of (codes "test") name one.spelling after_name in
+    let path_key = member_of (codes "path") path two.spelling after_path in
+    let value_key = member_of (codes "value") value three.spelling rest in
+    one_element_line condition_in lines rest (test_at (chars name) (chars path) (text (chars value))) entry is
+    (read ∙ λ i. Some (test_at (name_is i) (path_is i) (text (value_is i))))
+    (one.is ∙ ap (λ t. codes "  - " ++ t)
+    (next_line 4 a b (d ∷ []) test_key after_name rest (field_line (codes "test") name test_key after_name one.spelling refl)
+    (two.is ∙ ap (λ t. spaces 4 ++ t)
+    (next_line 4 b d [] path_key after_path rest (field_line (codes "path") path path_key after_path two.spelling refl)
+    (three.is ∙ ap (λ t. spaces 4 ++ t) (field_line (codes "value") value value_key rest three.spelling refl))))))
+
+-- the lines of an absent with a path
+pub absent_lines : (name path lines after_name rest : List ℕ) → IsField lines (codes "  - absent: ") name after_name
+    → IsField after_name (codes "    path: ") path rest → IsConditionLines lines (absent_at (chars name) (chars path)) rest
+unfolding condition_from
+absent_lines name path lines after_name rest one two =
+    let a : Line = record { key = codes "absent"; spelling = one.spelling; value = name } in
+    let b : Line = record { key = codes "path"; spelling = two.spelling; value = path } in
+    let entry : Entry = record { first = a; more = b ∷ [] } in
+    let is : IsEntry entry = record {
+      are = (
+        record { word = refl; short = refl; stands = one.stands },
+        (record { word = refl; short = refl; stands = two.stands }, tt),
+      );
+      differ = refl;
+    } in
+    let read : condition_in (mapping (entry_members entry)) ≡ Some (absent_at name path) = refl in
+    let name_is = sym (spelled_chars one.spelling name one.stands) in
+    let path_is = sym (spelled_chars two.spelling path two.stands) in
+    let absent_key = member_of (codes "absent") name one.spelling after_name in
+    let path_key = member_of (codes "path") path two.spelling rest in
+    one_element_line condition_in lines rest (absent_at (chars name) (chars path)) entry is
+    (read ∙ λ i. Some (absent_at (name_is i) (path_is i)))
+    (one.is ∙ ap (λ t. codes "  - " ++ t)
+    (next_line 4 a b [] absent_key after_name rest (field_line (codes "absent") name absent_key after_name one.spelling refl)
+    (two.is ∙ ap (λ t. spaces 4 ++ t) (field_line (codes "path") path path_key rest two.spelling refl))))
+
+-- the line of an absent without one
+pub missing_line : (name lines rest : List ℕ) → IsField lines (codes "  - absent: ") name rest
+    → IsConditionLines lines (absent_at (chars name) []) rest
+unfolding condition_from
+missing_line name lines rest one =
+    let a : Line = record { key = codes "absent"; spelling = one.spelling; value = name } in
+    let entry : Entry = record { first = a; more = [] } in
+    let is : IsEntry entry = record { are = (record { word = refl; short = refl; stands = one.stands }, tt); differ = refl } in
+    let read : condition_in (mapping (entry_members entry)) ≡ Some (absent_at name []) = refl in
+    let name_is = sym (spelled_chars one.spelling name one.stands) in
+    one_element_line condition_in lines rest (absent_at (chars name) []) entry is
+    (read ∙ λ i. Some (absent_at (name_is i) []))
+    (one.is ∙ ap (λ t. codes "  - " ++ t)
+    (field_line (codes "absent") name (member_of (codes "absent") name one.spelling rest) rest one.spelling refl))
+
+-- the line of a count
+pub count_line : (digits lines rest : List ℕ) (count : ℕ) → number_from_digits (chars digits) ≡ Some count
+    → IsField lines (codes "  - count: ") digits rest → IsConditionLines lines (count_is count) rest
+unfolding condition_from
+count_line digits lines rest count number one =
+    let a : Line = record { key = codes "count"; spelling = one.spelling; value = digits } in
+    let entry : Entry = record { first = a; more = [] } in
+    let is : IsEntry entry = record { are = (record { word = refl; short = refl; stands = one.stands }, tt); differ = refl } in
+    let read : condition_in (mapping (entry_members entry)) ≡ option_map count_is (number_from_digits digits) = refl in
+    let digits_are = sym (spelled_chars one.spelling digits one.stands) in
+    one_element_line condition_in lines rest (count_is count) entry is
+    (read ∙ ap (λ ds. option_map count_is (number_from_digits ds)) digits_are ∙ ap (option_map count_is) number)
+    (one.is ∙ ap (λ t. codes "  - " ++ t)
+    (field_line (codes "count") digits (member_of (codes "count") digits one.spelling rest) rest one.spelling refl))
+
+conditional_says : (t : Tree) (ts : Elements) (ms : Members) (conditions : List Condition) (change said : Said)
+    → all_conditions_in (element t ts) ≡ Some conditions → change ≡ change_said ms
+    → said ≡ with_conditions (Some conditions) change
+    → said ≡ said_by (mapping (member (codes "if") (sequence (element t ts)) ms))
+unfolding said_by
+conditional_says t ts ms conditions change said read is says = says ∙ λ i. with_conditions (sym read i) (is i)
+
+-- conditions, and the command after them
+pub conditional_lines : (lines left : List ℕ) (conditions : List Condition) (said : Said) → AreConditionLines lines conditions left
+    → SayChangeAfter conditions left said → IsCommandLines (codes "if:\n" ++ lines) said
+conditional_lines lines left conditions said so after = by so.entries conditions so.said so.is after
+  where
+    by : (es : List Entry) (cs : List Condition) → AreSaid condition_in es cs → lines ≡ elements_text es ++ left
+        → SayChangeAfter cs left said → IsCommandLines (codes "if:\n" ++ lines) said
+    by [] [] are is after = absurd (after.some refl)
+    by [] (c ∷ cs) are is after = absurd are
+    by (e ∷ es) cs are is after =
+        let command = after.command.command in
+        let layout = command.layout in
+        record {
+          layout = after_if e es layout;
+          are = (are_entries condition_in (e ∷ es) cs are, command.are, after.command.apart);
+          is = ap (λ t. codes "if:\n" ++ t)
+              (is ∙ ap (λ t. elements_text (e ∷ es) ++ t) command.is
+              ∙ sym (append_assoc (elements_text (e ∷ es)) (layout_text layout) (codes "...\n")));
+          says = conditional_says (mapping (entry_members e)) (elements_of_entries es) (layout_members layout) cs
+              after.change said (all_said condition_in (e ∷ es) cs are) after.command.change after.says;
+        }
 
 -- ---- a short text is a configuration
 

@@ -14,7 +14,7 @@ use Rattle.yaml_grammar.specs.FlowScalars.{plain_text, values, Scalar, plain, do
 use Rattle.yaml_grammar.specs.FlowScalars.{scalar_fits, outer, block_key, plain_run}
 use Rattle.yaml_grammar.specs.FlowNodes.{scalar, flow_text, flow_fits, short_key}
 use Rattle.yaml_grammar.specs.BlockNodes.{Node, flow, items, pairs, Items, item, item_and, Pairs, pair, pair_and}
-use Rattle.yaml_grammar.specs.BlockNodes.{Pair, keyed, compact_pairs, node_text, node_fits, indented_text, items_text}
+use Rattle.yaml_grammar.specs.BlockNodes.{Pair, keyed, compact_pairs, node_text, indented_text, items_text}
 use Rattle.yaml_grammar.specs.BlockNodes.{items_fit, items_events, pair_text, pair_fits, pairs_text, pairs_fit}
 use Rattle.yaml_grammar.specs.BlockNodes.{pairs_events}
 use Rattle.yaml_grammar.specs.Streams.{Stream, Document, bare as bare_document, explicit, content, suffixes}
@@ -25,8 +25,8 @@ use Rattle.yaml_recognizers.proofs.OneStyle.ScalarsFit.{word_flow_fits}
 use Rattle.yaml_recognizers.proofs.OneStyle.Spelled.{word_flow_spelled}
 use Rattle.conf_session.specs.CommandLines.{Spelling, bare, quoted, Line, spelled, bare_char, begins_bare, stands, line_text, lines_text}
 use Rattle.conf_session.specs.CommandLines.{members_of_lines, IsLine, AreLines, Entry, entry_text, entry_members, elements_text}
-use Rattle.conf_session.specs.CommandLines.{elements_of_entries, AreEntries, Layout, single, batch_of, layout_text, layout_members}
-use Rattle.conf_session.specs.CommandLines.{IsLayout}
+use Rattle.conf_session.specs.CommandLines.{elements_of_entries, AreEntries, Layout, single, batch_of, after_if, layout_text}
+use Rattle.conf_session.specs.CommandLines.{layout_members, IsLayout}
 
 -- ---- presentations
 
@@ -49,12 +49,20 @@ abbrev items_on : Entry → List Entry → Items
 items_on e [] = item (compact_pairs 1 (entry_on e))
 items_on e (d ∷ ds) = item_and (compact_pairs 1 (entry_on e)) (items_on d ds)
 
+-- a list under a word
+abbrev list_on : List ℕ → Entry → List Entry → Pair
+list_on word e es = keyed (scalar (plain word [])) [] (items (feed ∷ []) 2 (items_on e es))
+
 abbrev batch_word : List ℕ
 batch_word = codes "batch"
 
+abbrev if_word : List ℕ
+if_word = codes "if"
+
 abbrev layout_on : Layout → Pairs
 layout_on (single e) = entry_on e
-layout_on (batch_of e es) = pair (keyed (scalar (plain batch_word [])) [] (items (feed ∷ []) 2 (items_on e es)))
+layout_on (batch_of e es) = pair (list_on batch_word e es)
+layout_on (after_if e es command) = pair_and (list_on if_word e es) (layout_on command)
 
 -- a line of `---`, or none
 abbrev pub marker_text : Bool → List ℕ
@@ -118,6 +126,9 @@ items_spelled e (d ∷ ds) =
 layout_spelled : (layout : Layout) → pairs_text (layout_on layout) 0 ≡ layout_text layout
 layout_spelled (single e) = pairs_spelled e.first e.more 0
 layout_spelled (batch_of e es) = ap (λ t. codes "batch:\n" ++ t) (items_spelled e es)
+layout_spelled (after_if e es command) =
+    append_assoc (pair_text (list_on if_word e es) 0) [] (pairs_text (layout_on command) 0)
+    ∙ λ i. codes "if:\n" ++ (items_spelled e es i ++ layout_spelled command i)
 
 stream_spelled : (marked : Bool) (layout : Layout) → stream_text (stream_on marked layout) ≡ document_of marked layout
 stream_spelled true layout = ap (λ t. codes "---\n" ++ (t ++ codes "...\n")) (layout_spelled layout)
@@ -220,6 +231,7 @@ AllKeysAreText (e ∷ es) = KeysAreText (e.first ∷ e.more) × AllKeysAreText e
 abbrev pub LayoutIsText : Layout → Type 0
 LayoutIsText (single e) = KeysAreText (e.first ∷ e.more)
 LayoutIsText (batch_of e es) = AllKeysAreText (e ∷ es)
+LayoutIsText (after_if e es command) = AllKeysAreText (e ∷ es) × LayoutIsText command
 
 pairs_on_fit : (l : Line) (ls : List Line) (indent : ℕ) (bol : Bool) (after : List ℕ) → AreLines (l ∷ ls)
     → KeysAreText (l ∷ ls) → pairs_fit (pairs_on l ls) indent bol after ≡ true
@@ -235,19 +247,20 @@ items_on_fit e (d ∷ ds) after are t =
     and_from _ _ (pairs_on_fit e.first e.more 4 false
     (spaces 2 ++ (items_text (items_on d ds) 2 ++ after)) are.0.are t.0) (items_on_fit d ds after are.1 t.1)
 
-batch_fits : (e : Entry) (es : List Entry) (after : List ℕ) → AreEntries (e ∷ es) → AllKeysAreText (e ∷ es)
-    → pairs_fit (layout_on (batch_of e es)) 0 true after ≡ true
-batch_fits e es after are t =
+list_fits : (word : List ℕ) (e : Entry) (es : List Entry) (after : List ℕ) → plain_in_style word ≡ true → IsText word
+    → short_key (scalar (plain word [])) [] ≡ true → AreEntries (e ∷ es) → AllKeysAreText (e ∷ es)
+    → pair_fits (list_on word e es) 0 true after ≡ true
+list_fits word e es after is_word is_text short are t =
     let value : Node = items (feed ∷ []) 2 (items_on e es) in
     let rest = node_text value ++ after in
-    let key = flow_fits (scalar (plain batch_word [])) 0 block_key true (58 ∷ rest) in
-    and_from (key && true && true) (node_fits value 1 true false after)
-    (and_from (key && true) true (and_from key true (key_on_fits batch_word true rest refl refl) refl) refl)
-    (items_on_fit e es after are t)
+    and_from _ _ (and_from _ _ (and_from _ _ (key_on_fits word true rest is_word is_text) refl) short) (items_on_fit e es after are t)
 
 layout_fits : (layout : Layout) (after : List ℕ) → IsLayout layout → LayoutIsText layout → pairs_fit (layout_on layout) 0 true after ≡ true
 layout_fits (single e) after is t = pairs_on_fit e.first e.more 0 true after is.are t
-layout_fits (batch_of e es) after is t = batch_fits e es after is t
+layout_fits (batch_of e es) after is t = list_fits batch_word e es after refl refl refl is t
+layout_fits (after_if e es command) after is t =
+    and_from _ _ (list_fits if_word e es (pairs_text (layout_on command) 0 ++ after) refl refl refl is.0 t.0)
+    (layout_fits command after is.1 t.1)
 
 -- a line starts after a line feed
 starts_joined : (bol : Bool) (xs ys : List ℕ) → starts_line bol (xs ++ ys) ≡ starts_line (starts_line bol xs) ys
@@ -275,6 +288,10 @@ elements_start bol (e ∷ es) is =
 layout_starts : (layout : Layout) → starts_line true (layout_text layout) ≡ true
 layout_starts (single e) = lines_start true 0 e.first e.more
 layout_starts (batch_of e es) = elements_start true (e ∷ es) refl
+layout_starts (after_if e es command) =
+    starts_joined true (elements_text (e ∷ es)) (layout_text command)
+    ∙ ap (λ b. starts_line b (layout_text command)) (elements_start true (e ∷ es) refl)
+    ∙ layout_starts command
 
 pairs_start : (layout : Layout) → starts_line true (pairs_text (layout_on layout) 0) ≡ true
 pairs_start layout = ap (starts_line true) (layout_spelled layout) ∙ layout_starts layout
@@ -327,9 +344,9 @@ items_meant e (d ∷ ds) at =
     ∙ ap (λ t. t ++ shapes (items_events (items_on d ds) 2 next)) (entry_meant e 4 (at + 1 + 1))
     ∙ ap (λ t. tree_shapes (mapping (entry_members e)) ++ t) (items_meant d ds next)
 
-batch_meant : (e : Entry) (es : List Entry) (at : ℕ)
+list_meant : (e : Entry) (es : List Entry) (at : ℕ)
     → shapes (as_seq (items_events (items_on e es) 2 at)) ≡ tree_shapes (sequence (elements_of_entries (e ∷ es)))
-batch_meant e es at =
+list_meant e es at =
     ap (λ t. seq_from ∷ t) (shapes_joined (items_events (items_on e es) 2 at) (seq_end ∷ [])
     ∙ ap (λ t. t ++ seq_to ∷ []) (items_meant e es at))
 
@@ -337,7 +354,13 @@ layout_meant : (layout : Layout) (at : ℕ) → shapes (pairs_events (layout_on 
 layout_meant (single e) at = pairs_meant e.first e.more 0 at
 layout_meant (batch_of e es) at =
     let first = at + byte_len (flow_text (scalar (plain batch_word []))) + byte_len [] + 1 + byte_len (comments_text (feed ∷ [])) + 2 in
-    ap (λ t. scalar_of batch_word ∷ t) (batch_meant e es first ∙ sym (append-nil (tree_shapes (sequence (elements_of_entries (e ∷ es))))))
+    ap (λ t. scalar_of batch_word ∷ t) (list_meant e es first ∙ sym (append-nil (tree_shapes (sequence (elements_of_entries (e ∷ es))))))
+layout_meant (after_if e es command) at =
+    let first = at + byte_len (flow_text (scalar (plain if_word []))) + byte_len [] + 1 + byte_len (comments_text (feed ∷ [])) + 2 in
+    let own = as_seq (items_events (items_on e es) 2 first) in
+    let next = at + byte_len (pair_text (list_on if_word e es) 0) + 0 in
+    let further = pairs_events (layout_on command) 0 next in
+    ap (λ t. scalar_of if_word ∷ t) (shapes_joined own further ∙ λ i. list_meant e es first i ++ layout_meant command next i)
 
 document_meant : (layout : Layout) (at : ℕ) (es : List Event) → es ≡ pairs_events (layout_on layout) 0 at
     → IsTreeOf (as_document (map_start ∷ (es ++ map_end ∷ [])) ++ []) (mapping (layout_members layout))

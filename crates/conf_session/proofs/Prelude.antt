@@ -1,6 +1,6 @@
 -- What the proofs of this crate name of others.
 pub use Rattle.conf_conditions.proofs.ConditionLemmas.{IsTold, told-first, first-none, first-some}
-pub use Rattle.conf_conditions.specs.Conditions.{Condition, first_fault, condition_of, conditions_of, absent_at}
+pub use Rattle.conf_conditions.specs.Conditions.{Condition, first_fault, condition_of, conditions_of, test_at, absent_at, count_is}
 pub use Rattle.conf_conditions.specs.declared.fault.ConditionFault.{ConditionFault}
 pub use Rattle.conf_disk.proofs.Moments.{LeavesOnly-joined, LeavesOnly-start, LeavesOnly-weaker}
 pub use Rattle.conf_disk.specs.Folder.{bytes_under, Folder}
@@ -13,7 +13,7 @@ pub use Rattle.conf_record.proofs.SizeLemmas.{scalar_most, size, value_size}
 pub use Rattle.conf_record.proofs.TreeLemmas.{asked}
 pub use Rattle.conf_record.specs.EditLines.{member_line, lines_of}
 pub use Rattle.conf_record.specs.Reading.{AreKeptElements, texts, edit_seen, AreKept}
-pub use Rattle.conf_record.specs.RecordsRead.{keys_are, values, edit_under}
+pub use Rattle.conf_record.specs.RecordsRead.{keys_are, values, edit_under, number_from_digits}
 pub use Rattle.conf_state.proofs.BaseLemmas.{count_line, count_bytes, base_length-framed}
 pub use Rattle.conf_state.proofs.LineLemmas.{ascii}
 pub use Rattle.conf_state.proofs.RefusalLemmas.{accepted-room}
@@ -79,9 +79,9 @@ pub use Rattle.yaml_grammar.specs.Style.{in_double_quotes, scalar_lines, long_ke
 pub use Rattle.yaml_grammar.specs.Style.{elements_after, key_text}
 pub use Rattle.yaml_grammar.specs.Texts.{byte_len, IsText, spaces, first, same_text, starts_line}
 pub use Rattle.yaml_grammar.specs.Trees.{Tree, text, sequence, Elements, no_element, element, depth, elements_depth, mapping, no_member}
-pub use Rattle.yaml_grammar.specs.Trees.{member, AreTextMembers, AreTextElements, members_depth, members_distinct, elements_distinct}
+pub use Rattle.yaml_grammar.specs.Trees.{member, has_key, AreTextMembers, AreTextElements, members_depth, members_distinct}
 pub use Rattle.yaml_grammar.specs.Trees.{Members, scalar_of, seq_from, seq_to, map_from, map_to, document_from, document_to, shape, shapes}
-pub use Rattle.yaml_grammar.specs.Trees.{tree_shapes, elements_shapes, members_shapes, IsTreeOf}
+pub use Rattle.yaml_grammar.specs.Trees.{elements_distinct, tree_shapes, elements_shapes, members_shapes, IsTreeOf}
 pub use Rattle.yaml_recognizers.proofs.OneStyle.Characters.{every_joined}
 pub use Rattle.yaml_recognizers.specs.Closings.{framed_text, framed_text_bytes}
 pub use Rattle.yaml_writer.proofs.ByteLemmas.{byte_len-chars, byte_len-encoded}

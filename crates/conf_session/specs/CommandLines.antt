@@ -1,11 +1,12 @@
 -- Commands that are spelled one key a line. Each text is ASCII, and so its bytes are its characters.
-use Rattle.std.specs.Prelude.{◌≡◌, ℕ, Bool, true, false, not, ◌&&◌, List, [], ◌∷◌, ◌++◌, codes, Some}
+use Rattle.std.specs.Prelude.{◌≡◌, ◌≢◌, ℕ, Bool, true, false, not, ◌&&◌, List, [], ◌∷◌, ◌++◌, codes, Option, Some}
 use Rattle.conf_session.specs.Prelude.{list_all, double_quote, line_feed, first, spaces, plain_in_style, long_key, text}
 use Rattle.conf_session.specs.Prelude.{sequence, mapping, Elements, no_element, element, Members, no_member, member}
-use Rattle.conf_session.specs.Prelude.{members_distinct}
+use Rattle.conf_session.specs.Prelude.{Tree, has_key, members_distinct, Condition}
 use Rattle.yaml_chars.specs.Classes.{in_range, is_in, indicator}
 use Rattle.yaml_writer.specs.Runs.{stands_alone}
-use Rattle.conf_session.specs.Said.{Part, part_from, Said, single_part, said_by}
+use Rattle.conf_session.specs.Said.{Part, part_from, part_of, Said, single_part, change_said, with_conditions, said_by}
+use Rattle.conf_session.specs.SaidConditions.{condition_in}
 
 -- how a text is spelled after its key: as it is, or between double quotes
 pub data Spelling : Type 0 where
@@ -91,7 +92,7 @@ pub record IsEntry (e : Entry) : Type 0 where
   pub are : AreLines (e.first ∷ e.more)
   pub differ : members_distinct (entry_members e) ≡ true
 
--- ---- the elements of a batch, as the one style has them: after `  - `, and further keys after four spaces
+-- ---- elements of a list, as the one style has them: after `  - `, and further keys after four spaces
 
 abbrev pub elements_text : List Entry → List ℕ
 elements_text [] = []
@@ -105,19 +106,29 @@ abbrev pub AreEntries : List Entry → Type 0
 AreEntries [] = Unit {0}
 AreEntries (e ∷ es) = IsEntry e × AreEntries es
 
+-- what the elements are, each by its mapping, in order
+abbrev pub AreSaid : {A : Type 0} → (Tree → Option A) → List Entry → List A → Type 0
+AreSaid read [] [] = Unit {0}
+AreSaid read [] (x ∷ xs) = ⊥
+AreSaid read (e ∷ es) [] = ⊥
+AreSaid read (e ∷ es) (x ∷ xs) = IsEntry e × (read (mapping (entry_members e)) ≡ Some x) × AreSaid read es xs
+
+-- the lines begin with elements that are read as these, in order
+pub record AreElementLines {A : Type 0} (read : Tree → Option A) (lines : List ℕ) (xs : List A) (rest : List ℕ)
+    : Type 0 where
+  pub entries : List Entry
+  pub said : AreSaid read entries xs
+  pub is : lines ≡ elements_text entries ++ rest
+
 -- ---- parts
 
--- the mapping says this part, also as a whole command
+-- the mapping says this part: in a batch, as a whole command, and after conditions
 pub record SaysPart (e : Entry) (part : Part) : Type 0 where
   pub is : IsEntry e
   pub within : part_from (entry_members e) ≡ Some part
   pub alone : said_by (mapping (entry_members e)) ≡ single_part part
-
-abbrev pub SayParts : List Entry → List Part → Type 0
-SayParts [] [] = Unit {0}
-SayParts [] (part ∷ parts) = ⊥
-SayParts (e ∷ es) [] = ⊥
-SayParts (e ∷ es) (part ∷ parts) = SaysPart e part × SayParts es parts
+  pub change : change_said (entry_members e) ≡ single_part part
+  pub apart : has_key (codes "if") (entry_members e) ≡ false
 
 -- the lines, at whatever indentation, are those of a mapping that says the part
 pub record SpellsPart (lines : ℕ → List ℕ) (part : Part) : Type 0 where
@@ -126,29 +137,44 @@ pub record SpellsPart (lines : ℕ → List ℕ) (part : Part) : Type 0 where
   pub is : (indent : ℕ) → lines indent ≡ entry_text indent entry
 
 -- the lines begin with the parts as elements of a batch, in order
-pub record ArePartLines (lines : List ℕ) (parts : List Part) (rest : List ℕ) : Type 0 where
-  pub entries : List Entry
-  pub say : SayParts entries parts
-  pub is : lines ≡ elements_text entries ++ rest
+abbrev pub ArePartLines : List ℕ → List Part → List ℕ → Type 0
+ArePartLines lines parts rest = AreElementLines part_of lines parts rest
+
+-- ---- conditions
+
+-- the lines begin with the conditions as elements of a list, in order
+abbrev pub AreConditionLines : List ℕ → List Condition → List ℕ → Type 0
+AreConditionLines lines conditions rest = AreElementLines condition_in lines conditions rest
+
+-- they begin with this condition
+abbrev pub IsConditionLines : List ℕ → Condition → List ℕ → Type 0
+IsConditionLines lines condition rest = AreConditionLines lines (condition ∷ []) rest
 
 -- ---- commands
 
--- a mapping at the margin, or a batch with its elements, of which there is one at least
+-- a mapping at the margin; a batch with its elements; or conditions, and the command after them. There is one element
+-- and one condition at least.
 pub data Layout : Type 0 where
   single : Entry → Layout
   batch_of : Entry → List Entry → Layout
+  after_if : Entry → List Entry → Layout → Layout
 
 abbrev pub layout_text : Layout → List ℕ
 layout_text (single e) = entry_text 0 e
 layout_text (batch_of e es) = codes "batch:\n" ++ elements_text (e ∷ es)
+layout_text (after_if e es command) = codes "if:\n" ++ (elements_text (e ∷ es) ++ layout_text command)
 
 abbrev pub layout_members : Layout → Members
 layout_members (single e) = entry_members e
 layout_members (batch_of e es) = member (codes "batch") (sequence (elements_of_entries (e ∷ es))) no_member
+layout_members (after_if e es command) =
+    member (codes "if") (sequence (elements_of_entries (e ∷ es))) (layout_members command)
 
 abbrev pub IsLayout : Layout → Type 0
 IsLayout (single e) = IsEntry e
 IsLayout (batch_of e es) = AreEntries (e ∷ es)
+IsLayout (after_if e es command) =
+    AreEntries (e ∷ es) × IsLayout command × (has_key (codes "if") (layout_members command) ≡ false)
 
 -- the lines of a command and the closing line, and what their mapping says
 pub record IsCommandLines (lines : List ℕ) (said : Said) : Type 0 where
@@ -156,3 +182,16 @@ pub record IsCommandLines (lines : List ℕ) (said : Said) : Type 0 where
   pub are : IsLayout layout
   pub is : lines ≡ layout_text layout ++ codes "...\n"
   pub says : said ≡ said_by (mapping (layout_members layout))
+
+-- they are those of a command that changes configurations, and say the same after conditions
+pub record IsChangeLines (lines : List ℕ) (said : Said) : Type 0 where
+  pub command : IsCommandLines lines said
+  pub change : said ≡ change_said (layout_members command.layout)
+  pub apart : has_key (codes "if") (layout_members command.layout) ≡ false
+
+-- there are conditions, and the lines are those of a command that says this after them
+pub record SayChangeAfter (conditions : List Condition) (lines : List ℕ) (said : Said) : Type 0 where
+  pub change : Said
+  pub command : IsChangeLines lines change
+  pub says : said ≡ with_conditions (Some conditions) change
+  pub some : conditions ≢ []

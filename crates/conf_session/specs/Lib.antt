@@ -11,6 +11,7 @@ pub mod SaidConditions
 pub mod Said
 pub mod CommandLines
 pub mod PartLines
+pub mod ConditionLines
 pub mod Input
 pub mod Rounds
 pub mod Groups

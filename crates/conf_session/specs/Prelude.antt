@@ -33,6 +33,6 @@ pub use Rattle.yaml_grammar.specs.Reads.{Gives, Limits}
 pub use Rattle.yaml_grammar.specs.Style.{style_text, plain_in_style, long_key}
 pub use Rattle.yaml_grammar.specs.Texts.{first, spaces, same_text}
 pub use Rattle.yaml_grammar.specs.Trees.{Tree, text, sequence, mapping, Elements, no_element, element, no_member}
-pub use Rattle.yaml_grammar.specs.Trees.{member, Members, members_distinct, depth}
+pub use Rattle.yaml_grammar.specs.Trees.{member, Members, has_key, members_distinct, depth}
 pub use Rattle.yaml_recognizers.specs.Closings.{framed_text_bytes, framed_text}
 pub use Rattle.yaml_tree.specs.Reading.{Refuses, IsRead}

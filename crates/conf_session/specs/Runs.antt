@@ -1,5 +1,5 @@
 -- What a run of a session has read, answered and stored, for each of its results.
-use Rattle.std.specs.Prelude.{◌≡◌, ℕ, ◌+◌, ◌*◌, ◌<◌, ◌≤◌, true, false, List, [], ◌∷◌, ◌++◌, length, take, Option}
+use Rattle.std.specs.Prelude.{◌≡◌, ℕ, ◌+◌, ◌*◌, ◌<◌, ◌≤◌, true, false, List, [], ◌∷◌, ◌++◌, length, take}
 use Rattle.std.specs.Prelude.{option_map, Result, Ok, Err, All}
 use Rattle.conf_session.specs.Prelude.{concat, Consumes, IsAtEnd, Keeps, Appends, ClosesOnce, Pieces, bytes_under}
 use Rattle.conf_session.specs.Prelude.{Image, IsImage, DiskModel, LeavesOnly, Store, Command, Contents, after}

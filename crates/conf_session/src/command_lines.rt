@@ -1,15 +1,17 @@
 // Commands that are spelled one key a line, read without the general reader.
-ghost use Rattle.std.specs.Prelude.{◌++◌, codes, IfOk, IfSome};
-ghost use Rattle.conf_session.specs.Prelude.{command_of};
-ghost use Rattle.conf_session.specs.CommandLines.{ArePartLines, IsCommandLines};
+ghost use Rattle.std.specs.Prelude.{◌≡◌, ◌++◌, codes, IfOk, IfSome, Some};
+ghost use Rattle.conf_session.specs.Prelude.{command_of, conditions_of};
+ghost use Rattle.conf_session.specs.CommandLines.{ArePartLines, IsChangeLines, IsCommandLines, SayChangeAfter};
 ghost use Rattle.conf_session.specs.PartLines.{part_cut};
 ghost use Rattle.conf_session.specs.Requests.{Asks, changing};
 ghost use Rattle.conf_session.specs.Said.{Says, parts_seen, said_of, single_part};
 
+use crate::condition_lines::{cut_condition, made_condition};
 use crate::field_lines::{cut_field, is_end};
 use crate::part_lines::{TEXT_KEY, made_part, part_on_lines, texts_on_lines};
 use crate::parts::Part;
-use crate::said::{PIECE_LIMIT, Said};
+use crate::said::{PIECE_LIMIT, Said, with_conditions};
+use conf_conditions::Condition;
 use conf_record::{EditMembers, Place, cut_edit, cut_element};
 use conf_state::Command;
 use std::alloc::{AllocError, Global};
@@ -18,9 +20,10 @@ use yaml_recognizers::texts::unambiguous;
 use yaml_tree::Text;
 
 /// What a piece says that is an `import`, a `set`, a `delete`, a `get` or a `batch`, with each key and its text on a
-/// line of their own, and the closing line after them. A line of `---` may come first. The elements of a batch are
-/// after `  - `, and their further keys after four spaces, as the one style has them. Each text is as [`cut_field`]
-/// takes it. `None` says nothing of the piece: the general reader may still read it. It fails only if memory runs out.
+/// line of their own, and the closing line after them. A line of `---` may come first, and then, but for a `get`, the
+/// conditions. These and the elements of a batch are after `  - `, and their further keys after four spaces, as the one
+/// style has them. Each text is as [`cut_field`] takes it. `None` says nothing of the piece: the general reader may
+/// still read it. It fails only if memory runs out.
 pub(crate) fn said_in_lines(alloc: Global, piece: &[u8]) -> Result<Option<Said>, AllocError>
     ensures { IfOk result (λ found. IfSome found (λ said. Says piece.now (said_of said))) }
 {
@@ -77,7 +80,7 @@ fn begins_with_edit(piece: &[u8]) -> bool {
 
 /// The texts of the one part on these lines.
 fn texts_alone(lines: &str) -> Option<EditMembers<&str, &str>>
-    ensures { IfSome result (λ texts. IsCommandLines lines.now (single_part (part_cut texts))) }
+    ensures { IfSome result (λ texts. IsChangeLines lines.now (single_part (part_cut texts))) }
 {
     let (members, end) = cut_edit(lines, Place::Alone, TEXT_KEY)?;
     if !is_end(end) {
@@ -93,6 +96,54 @@ fn command_in(alloc: Global, lines: &str) -> Result<Option<Said>, AllocError>
     if lines.starts_with("get: ") {
         return get_in(alloc, lines);
     }
+    match lines.strip_prefix("if:\n") {
+        Some(conditions) => conditional_in(alloc, conditions),
+        None => change_in(alloc, lines),
+    }
+}
+
+/// The command on the lines after `if:`, with its conditions.
+fn conditional_in(alloc: Global, lines: &str) -> Result<Option<Said>, AllocError>
+    ensures { IfOk result (λ found. IfSome found
+        (λ said. IsCommandLines (codes "if:\n" ++ lines.now) (said_of said))) }
+{
+    let mut conditions = Vec::new(alloc);
+    let mut left = lines;
+    while left.starts_with("  - ") {
+        let Some((texts, after)) = cut_condition(left) else {
+            return Ok(None);
+        };
+        let Some(condition) = made_condition(alloc, texts)? else {
+            return Ok(None);
+        };
+        conditions.push(condition)?;
+        left = after;
+    }
+    change_after(alloc, conditions, left)
+}
+
+/// The command on these lines, which come after its conditions. `None` if there are no conditions, too.
+fn change_after(
+    alloc: Global,
+    conditions: Vec<Condition>,
+    lines: &str,
+) -> Result<Option<Said>, AllocError>
+    ensures { IfOk result (λ found. IfSome found
+        (λ said. SayChangeAfter (conditions_of conditions.items) lines.now (said_of said))) }
+{
+    if conditions.is_empty() {
+        return Ok(None);
+    }
+    match change_in(alloc, lines)? {
+        Some(said) => Ok(Some(with_conditions(conditions, said))),
+        None => Ok(None),
+    }
+}
+
+/// The command on these lines that changes configurations.
+fn change_in(alloc: Global, lines: &str) -> Result<Option<Said>, AllocError>
+    ensures { IfOk result (λ found. IfSome found (λ said. IsChangeLines lines.now (said_of said))) }
+{
     match lines.strip_prefix("batch:\n") {
         Some(elements) => batch_in(alloc, elements),
         None => single_in(alloc, lines),
@@ -119,7 +170,7 @@ fn get_in(alloc: Global, lines: &str) -> Result<Option<Said>, AllocError>
 
 /// The one part on these lines.
 fn single_in(alloc: Global, lines: &str) -> Result<Option<Said>, AllocError>
-    ensures { IfOk result (λ found. IfSome found (λ said. IsCommandLines lines.now (said_of said))) }
+    ensures { IfOk result (λ found. IfSome found (λ said. IsChangeLines lines.now (said_of said))) }
 {
     let Some(texts) = texts_alone(lines) else {
         return Ok(None);
@@ -133,7 +184,7 @@ fn single_in(alloc: Global, lines: &str) -> Result<Option<Said>, AllocError>
 /// The batch whose elements are on these lines.
 fn batch_in(alloc: Global, elements: &str) -> Result<Option<Said>, AllocError>
     ensures { IfOk result (λ found. IfSome found
-        (λ said. IsCommandLines (codes "batch:\n" ++ elements.now) (said_of said))) }
+        (λ said. IsChangeLines (codes "batch:\n" ++ elements.now) (said_of said))) }
 {
     let Some(parts) = parts_in(alloc, elements)? else {
         return Ok(None);

@@ -18,6 +18,7 @@
 
 mod answer;
 mod command_lines;
+mod condition_lines;
 mod conditions;
 mod edits;
 mod fault;

@@ -97,7 +97,7 @@ fn made_set(alloc: Global, name: &str, path: &str, value: &str) -> Result<Option
 }
 
 /// A text as a configuration. `None` if it is longer than a configuration may be. It fails only if memory runs out.
-fn made_value(alloc: Global, value: &str) -> Result<Option<Config>, AllocError>
+pub(crate) fn made_value(alloc: Global, value: &str) -> Result<Option<Config>, AllocError>
     ensures { IfOk result (λ made. IfSome made (λ config. tree_of config ≡ text (chars value.now))) }
 {
     if value.len() as u64 > Limits::CONFIGURATION.style {

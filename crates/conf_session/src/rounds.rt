@@ -13,8 +13,7 @@ use crate::words::Refusal;
 use conf_disk::Disk;
 use conf_store::Store;
 use std::alloc::{AllocError, Global};
-use std::error::Error;
-use std::fmt;
+use thiserror::Error;
 use yaml_docs::next_close;
 
 /// What one client asks for.
@@ -27,29 +26,20 @@ pub struct Piece {
 }
 
 /// Why a round has no answers.
-#[derive(Clone, Copy, Debug, PartialEq, Eq)]
+#[derive(Clone, Copy, Debug, PartialEq, Eq, Error)]
 pub enum RoundFault {
     /// Out of memory. That many pieces, from the first, are performed. Those up to the last `checkpoint` among them are
     /// flushed; those after it wait.
+    #[error("OutOfMemory")]
     OutOfMemory { performed: u64 },
     /// The device failed. The pieces before the one in hand are performed, and that one is or isn't; the store has to
     /// be opened again.
+    #[error("Device")]
     Device,
     /// The store has to be opened again. Nothing was done.
+    #[error("Reopen")]
     Reopen,
 }
-
-impl fmt::Display for RoundFault {
-    fn fmt<W: fmt::Write>(&self, f: &mut fmt::Formatter<W>) -> fmt::Result {
-        f.write_str(match *self {
-            RoundFault::OutOfMemory { .. } => "OutOfMemory",
-            RoundFault::Device => "Device",
-            RoundFault::Reopen => "Reopen",
-        })
-    }
-}
-
-impl Error for RoundFault {}
 
 /// Whether the bytes are closed once, at their end.
 fn closes_once(bytes: &[u8]) -> bool

@@ -150,7 +150,7 @@ fn change_said(alloc: Global, pairs: Vec<(Text, Tree)>) -> Result<Said, AllocErr
 }
 
 /// A command that changes configurations, after its conditions; any other has none, and is no command then.
-fn with_conditions(conditions: Vec<Condition>, said: Said) -> Said
+pub(crate) fn with_conditions(conditions: Vec<Condition>, said: Said) -> Said
     ensures { said_of result
         ≡ with_conditions (Some (conditions_of conditions.items)) (said_of said) }
 {

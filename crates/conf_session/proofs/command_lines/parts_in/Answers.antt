@@ -1,13 +1,13 @@
 use Rattle.std.proofs.Common.{rules, IfSome, [], ◌∷◌, codes, ap, sym, subst, ◌∙◌}
 use Rattle.conf_session.proofs.Prelude.{map-append, lines_of}
-use Rattle.conf_session.specs.{Said.part_seen, Said.parts_seen, CommandLines.ArePartLines, CommandLines.SpellsPart}
-use Rattle.conf_session.proofs.CommandLineLemmas.{no_part_lines, one_part_line}
+use Rattle.conf_session.specs.{Said.part_of, Said.part_seen, Said.parts_seen, CommandLines.ArePartLines, CommandLines.SpellsPart}
+use Rattle.conf_session.proofs.CommandLineLemmas.{no_element_lines, one_part_line}
 use Rattle.conf_session.proofs.command_lines.parts_in.Goals as goal
 
 pub loop-left-init : goal.loop-left-init
 loop-left-init c =
     let elements = c.args.elements.now in (
-      subst (λ ps. ArePartLines elements (parts_seen ps) elements) (sym c.new-parts.ensures.items) (no_part_lines elements),
+      subst (λ ps. ArePartLines elements (parts_seen ps) elements) (sym c.new-parts.ensures.items) (no_element_lines part_of elements),
       search rules,
     )
 

@@ -1,0 +1,23 @@
+use Rattle.std.proofs.Common.{◌≡◌, IfSome, [], ◌∷◌, List, length, sym, subst, refl, arith}
+use Rattle.std.specs.Vec.{vec_len}
+use Rattle.conf_session.proofs.Prelude.{eqb-false, conditions_of}
+use Rattle.conf_session.specs.{Said.said_of, CommandLines.IsChangeLines}
+use Rattle.conf_conditions.specs.declared.condition.Condition as code
+use Rattle.conf_session.proofs.command_lines.change_after.Goals as goal
+
+some_left : (cs : List code.Condition) → (length cs ≡ 0 → ⊥) → conditions_of cs ≡ [] → ⊥
+some_left [] some e = some refl
+some_left (c ∷ cs) some none = cc
+
+pub returns-in-Some : goal.returns-in-Some
+returns-in-Some c =
+    let lines = c.args.lines.now in
+    let conditions = c.args.conditions in
+    let said = c.in-Some.said in
+    record {
+      change = said_of said;
+      command = subst (λ found. IfSome found (λ said. IsChangeLines lines (said_of said))) c.in-Some.is c.in_ok-said.ensures;
+      says = c.with_conditions.ensures;
+      some = some_left conditions.items (λ none.
+          eqb-false (vec_len conditions) 0 (sym c.if-is_empty.ensures) (omega (arith, conditions.ok, none)));
+    }
