@@ -33,11 +33,13 @@ use Rattle.conf_tools.specs.Asking.{AskedConditions}
 use Rattle.conf_tools.specs.LogWords.{Logs, LogsValues, commands_of}
 use Rattle.conf_tools.specs.Keeping.{CannotKeep, KeepsDropped, PutsFile, SalvagesTo, Verifies}
 use Rattle.conf_tools.specs.Batches.{counted_alone}
-use Rattle.conf_tools.specs.Performs.{BatchesRead, ChangesAt, ChecksAll, Does, FormatsAll, ImportsRead, access_of, grouping_of}
+use Rattle.conf_tools.specs.OnStores.{DoesOnStores, GoesOnByFiles, ReadsInFolder}
+use Rattle.conf_tools.specs.OnStores as on
+use Rattle.conf_tools.specs.Performs.{BatchesRead, ChangesAt, ImportsRead, access_of, grouping_of}
 use Rattle.conf_tools.specs.Exports.{disk_back}
 use Rattle.conf_tools.specs.Tools.{Taken}
 use Rattle.conf_tools.specs.ProgramCalls.{Call, changing, disk_before, disk_behind, exporting, running}
-use Rattle.conf_tools.specs.StoreWords.{Condition, conditions_of, ChangesInFolder, ExportsFromFolder, Inits, MakesChange, MakesInFolder}
+use Rattle.conf_tools.specs.StoreWords.{Condition, conditions_of, ChangesInFolder, Inits, MakesChange, MakesInFolder}
 use Rattle.conf_tools.specs.StoreWords.{OpensFile, OpensNew, RunsOnFolder, Salvages, SavesFound, SavesInFolder}
 use Rattle.conf_tools.specs.StoreWords.{WritesFindings}
 use Rattle.conf_tools.specs.Endings.{EndsTold, ending_after_backup, ending_at_end, told_of}
@@ -63,9 +65,10 @@ use Rattle.conf_tools.specs.declared.world.Access.{Access}
 use Rattle.conf_tools.specs.declared.world.Access.TheVariants.{Changing, New}
 use Rattle.conf_runs.specs.Folders.{IsDiskOf, KeepsFolders, LeavesNoMore}
 use Rattle.conf_runs.specs.Runs.{Deed, asked_for, batched, call_of, changed_if, changed_in, copied_in, copied_of, copies}
-use Rattle.conf_runs.specs.Runs.{exported_from, folder_of, imported, initialised, made_in, makes_new, ran_in}
+use Rattle.conf_runs.specs.Runs.{folder_of, imported, initialised, made_in, makes_new, ran_in, read_from}
 use Rattle.conf_runs.specs.Runs.{saved_in, saved_of, saved_to, saves}
 use Rattle.conf_tools.proofs.EndingLemmas.{imported-status}
+use Rattle.conf_tools.proofs.StoreLemmas.{goes-to-keep, goes-to-open, goes-to-text, goes-unkept}
 
 module _ {W D F P : Type 0} (world : WorldModel W D F P) (disk : DiskModel D) (remaining : F → Option (List ℕ))
     (honest : disk.honest) (leaves : W → List ℕ → Image → Type 0) (keeps : KeepsFolders world disk leaves) where
@@ -81,6 +84,23 @@ module _ {W D F P : Type 0} (world : WorldModel W D F P) (disk : DiskModel D) (r
 
   same : (old new : W) → new ≡ old → Steady old new
   same old new is = subst (λ (w : W). Steady old w) (sym is) (stays old)
+
+  -- a world that goes on by files alone
+  steady : (old new : W) → GoesOnByFiles world old new → Steady old new
+  steady old new (on.stays _) = λ path image is. is
+  steady old new (on.looks folder _ result _ opens) = keeps.stores folder old new result opens
+  steady old new (on.reads path _ file _ opens) = keeps.files path old new file opens
+  steady old new (on.makes path bytes _ result _ made) = keeps.new_files path bytes old new result made
+  steady old new (on.finds path _ result _ opens) = keeps.places path old new result opens
+  steady old new (on.replaces place bytes _ result _ replaced) = keeps.replaced place bytes old new result replaced
+  steady old new (on.then _ between _ first second) = then old between new (steady old between first) (steady between new second)
+
+  of-open : (folder : List ℕ) (old : W) (file : Result F ReadingFault) (new : W) → OpensFile world folder old file new → Steady old new
+  of-open folder old file new opens = steady old new (goes-to-open world disk remaining folder old file new opens)
+
+  of-text : (path : List ℕ) (read : Taken) (old new : W) (given left : Option (List ℕ))
+      → TakesText world remaining path read old new given left → Steady old new
+  of-text path read old new given left takes = steady old new (goes-to-text world disk remaining path read old new given left takes)
 
   -- the status of a change is that of its result
   abbrev pub Fits : Status → Call disk → Type 0
@@ -169,46 +189,11 @@ module _ {W D F P : Type 0} (world : WorldModel W D F P) (disk : DiskModel D) (r
       on_disk folder old.world _ (stays old.world)
       (keeps.disks _ folder old.world runs.opened new.world runs.first _ runs.opens runs.gives_back) tt
 
-  of-export : (form : TreeForm) (folder name : List ℕ) (old new : W) (held written : Option (List ℕ)) (end : Ended)
-      (does : ExportsFromFolder world disk form folder name old new held written end)
-      → Effect old new (status_of_ending end) (Some folder) (exported_from world disk honest does)
-  of-export form folder name old new held written end (inl cannot) =
-      nothing (Some folder) (keeps.no_disk _ folder old new cannot.cannot.fault cannot.cannot.opens)
-  of-export form folder name old new held written end (inr exports) =
-      on_disk folder old _ (stays old) (keeps.disks _ folder old exports.opened new exports.first _ exports.opens exports.gives_back) tt
-
-  -- ---- words that read the file of a store
-
-  of-open : (folder : List ℕ) (old : W) (file : Result F ReadingFault) (new : W) → OpensFile world folder old file new → Steady old new
-  of-open folder old (Ok file) new opens = keeps.stores folder old new _ opens
-  of-open folder old (Err (reading.History history.NotAStore)) new opens = keeps.stores folder old new _ opens
-  of-open folder old (Err (reading.Folder fault)) new opens = keeps.stores folder old new _ opens
-  of-open folder old (Err (reading.History history.Input)) new opens = absurd opens
-  of-open folder old (Err (reading.History history.Output)) new opens = absurd opens
-  of-open folder old (Err (reading.History (history.Damaged bad))) new opens = absurd opens
-  of-open folder old (Err (reading.History history.NoSuchCommand)) new opens = absurd opens
-  of-open folder old (Err (reading.History history.OutOfMemory)) new opens = absurd opens
-  of-open folder old (Err (reading.Value fault)) new opens = absurd opens
-  of-open folder old (Err reading.NotText) new opens = absurd opens
-  of-open folder old (Err reading.NotCollection) new opens = absurd opens
-  of-open folder old (Err (reading.Salvage fault)) new opens = absurd opens
-  of-open folder old (Err reading.Output) new opens = absurd opens
-
-  of-values : (folder : List ℕ) (name : Option (Bor (List ℕ))) (from : ℕ) (at : Option ℕ) (hidden : List (List ℕ))
-      (old new : W) (held written : Option (List ℕ)) (end : Ended)
-      → LogsValues world remaining folder (commands_of name from at) hidden old new held written end → Steady old new
-  of-values folder name from at [] old new held written end does = of-open folder old does.file new does.opens
-  of-values folder name from at (pointer ∷ pointers) old new held written end (inl hides) =
-      of-open folder old hides.logs.file new hides.logs.opens
-  of-values folder name from at (pointer ∷ pointers) old new held written end (inr refuses) = same old new refuses.world_stays
-
-  of-log : (folder : List ℕ) (name : Option (Bor (List ℕ))) (from : ℕ) (at : Option ℕ) (form : AskedLog)
-      (old new : W) (held written : Option (List ℕ)) (end : Ended)
-      → Logs world remaining folder (commands_of name from at) form old new held written end → Steady old new
-  of-log folder name from at asked.Lines old new held written end does = of-open folder old does.file new does.opens
-  of-log folder name from at (asked.Values hidden) old new held written end does =
-      of-values folder name from at (map (λ pointer. pointer.now) hidden.items) old new held written end does
-  of-log folder name from at asked.Records old new held written end does = of-open folder old does.file new does.opens
+  of-export : (folder : List ℕ) (old new : W) (status : Status) (does : ReadsInFolder world disk folder old new)
+      → Effect old new status (Some folder) (read_from world disk honest does)
+  of-export folder old new status (inl (fault, opens)) = nothing (Some folder) (keeps.no_disk _ folder old new fault opens)
+  of-export folder old new status (inr reads) =
+      on_disk folder old _ (stays old) (keeps.disks _ folder old reads.opened new reads.first _ reads.opens reads.gives_back) tt
 
   -- a store is made in one folder alone of what another one says
   abbrev Spares : List ℕ → W → W → Type 0
@@ -271,33 +256,6 @@ module _ {W D F P : Type 0} (world : WorldModel W D F P) (disk : DiskModel D) (r
       (remaining file) old new held written end saving
   of-found folder (Err fault) old new held written end saving = spared folder old new (same old new saving.0)
 
-  -- ---- words that keep what an opening drops
-
-  of-putting : (path bytes : List ℕ) (old : W) (result : Result (Unit {0}) NewFileFault) (new : W)
-      → PutsFile world path bytes old result new → Steady old new
-  of-putting path [] old result new puts = same old new puts.0
-  of-putting path (byte ∷ bytes) old result new puts = keeps.new_files path (byte ∷ bytes) old new result puts
-
-  of-kept : (folder path : List ℕ) (several : Bool) (bytes : List ℕ) (old : W) (result : Result (Unit {0}) NewFileFault) (new : W)
-      → KeepsDropped world remaining folder path several bytes old result new → Steady old new
-  of-kept folder path several bytes old result new kept =
-      then old kept.found new (of-open folder old (Ok kept.file) kept.found kept.opens)
-      (of-putting path (drop kept.kept bytes) kept.found result new kept.puts)
-
-  of-unkept : (folder path : List ℕ) (old new : W) (end : Ended) → CannotKeep world remaining folder path old new end
-      → Steady old new
-  of-unkept folder path old new end (inl cannot) = of-open folder old (Err cannot.fault) new cannot.opens
-  of-unkept folder path old new end (inr (inl cannot)) = of-open folder old (Ok cannot.file) new cannot.opens
-  of-unkept folder path old new end (inr (inr cannot)) =
-      of-kept folder path cannot.several cannot.bytes old (Err cannot.fault) new cannot.keeps
-
-  of-verify : (folder : List ℕ) (keep_dropped : Option (Bor (List ℕ))) (old new : W) (held written : Option (List ℕ))
-      (end : Ended) → Verifies world remaining folder keep_dropped old new held written end → Steady old new
-  of-verify folder None old new held written end does = of-open folder old does.file new does.opens
-  of-verify folder (Some path) old new held written end (inl unkept) = of-unkept folder path.now old new end unkept.cannot
-  of-verify folder (Some path) old new held written end (inr does) =
-      of-kept folder path.now does.several does.bytes old (Ok tt) new does.keeps
-
   of-salvage : (folder : List ℕ) (keep_dropped : Option (Bor (List ℕ))) (new_folder : List ℕ) (old new : W)
       (held written : Option (List ℕ)) (end : Ended)
       → SalvagesTo world disk remaining folder keep_dropped new_folder old new held written end → Spares new_folder old new
@@ -305,17 +263,12 @@ module _ {W D F P : Type 0} (world : WorldModel W D F P) (disk : DiskModel D) (r
       of-open folder old does.file does.found does.opens other image
       (of-found new_folder does.file does.found new held written end does.saves other image is_other is)
   of-salvage folder (Some path) new_folder old new held written end (inl unkept) =
-      spared new_folder old new (of-unkept folder path.now old new end unkept.cannot)
+      spared new_folder old new
+      (steady old new (goes-unkept world disk remaining folder path.now old new end unkept.cannot))
   of-salvage folder (Some path) new_folder old new held written end (inr does) = λ other image is_other is.
-      of-kept folder path.now does.several does.bytes old (Ok tt) does.found does.keeps other image
+      steady old does.found
+      (goes-to-keep world disk remaining folder path.now does.several does.bytes old (Ok tt) does.found does.keeps) other image
       (of-saving new_folder does.several (Some does.bytes) does.found new held written end does.saves other image is_other is)
-
-  -- ---- words on texts
-
-  of-text : (path : List ℕ) (read : Taken) (old new : W) (given left : Option (List ℕ))
-      → TakesText world remaining path read old new given left → Steady old new
-  of-text path read old new given left (inl input) = same old new input.1
-  of-text path read old new given left (inr file) = keeps.files path old new _ file.2.opens
 
   -- the value of `set`
   of-value : (name pointer : List ℕ) (value : Value) (change : Result Change ToolFault) (old seen : W) (given left : Option (List ℕ))
@@ -324,72 +277,11 @@ module _ {W D F P : Type 0} (world : WorldModel W D F P) (disk : DiskModel D) (r
   of-value name pointer (Yaml word) change old seen given left is = same old seen is.0
   of-value name pointer (File path) change old seen given left is = of-text path.now is.read old seen given left is.takes
 
-  -- after one report, the others
-  of-rest : (old now new : Around W) (stops : Bool) (ends others : Type 0) → (others → Steady now.world new.world)
-      → IfSo stops ((new ≡ now) × ends) others → Steady now.world new.world
-  of-rest old now new true ends others goes rest = same now.world new.world (ap (λ (a : Around W). a.world) rest.0)
-  of-rest old now new false ends others goes rest = goes rest
-
-  of-reports : (report : Report) (paths : List (List ℕ)) (so_far : Status) (old new : Around W) (status : Status)
-      → ReportsOnAll world remaining report paths so_far old new status → Steady old.world new.world
-  of-reports report [] so_far old new status does = same old.world new.world (ap (λ (a : Around W). a.world) does.0)
-  of-reports report (path ∷ paths) so_far old new status (now, result, one, rest) =
-      then old.world now.world new.world (of-text path one.read old.world now.world old.input now.input one.takes)
-      (of-rest old now new (stops_all result) _ _ (of-reports report paths (worst so_far (status_of_report result)) now new status) rest)
-
-  of-replacing : (place : P) (restyled : Result Restyled ToolFault) (old new : W) (result : Result (Unit {0}) ToolFault)
-      → ReplacesAt world place restyled old new result → Steady old new
-  of-replacing place (Ok Same) old new result does = same old new does.0
-  of-replacing place (Ok (Changed styled)) old new result (ended, replaced, is) = keeps.replaced place _ old new ended replaced
-  of-replacing place (Err fault) old new result does = same old new does.0
-
-  of-replaced : (comments : Comments) (place : P) (read : Taken) (old new : W) (status : Status)
-      → ReplacesRead world comments place read old new status → Steady old new
-  of-replaced comments place (Ok bytes) old new status (restyled, says, result, does, ends) =
-      of-replacing place restyled old new result does
-  of-replaced comments place (Err fault) old new status does = same old new does.0
-
-  of-restyling : (comments : Comments) (found : Result (F × P) ReplaceFault) (old new : W) (status : Status)
-      → RestylesOpened world remaining comments found old new status → Steady old new
-  of-restyling comments (Ok (file, place)) old new status (read, left, takes, does) = of-replaced comments place read old new status does
-  of-restyling comments (Err fault) old new status does = same old new does.0
-
-  of-restyles : (comments : Comments) (paths : List (List ℕ)) (so_far : Status) (old new : W) (status : Status)
-      → RestylesAll world remaining comments paths so_far old new status → Steady old new
-  of-restyles comments [] so_far old new status does = same old new does.0
-  of-restyles comments (path ∷ paths) so_far old new status (now, of_file, one, rest) =
-      then old now new
-      (then old one.seen now (keeps.places path old one.seen _ one.opens) (of-restyling comments one.found one.seen now of_file one.does))
-      (of-restyles comments paths (worst so_far of_file) now new status rest)
-
-  -- a word that told what is wrong with texts
-  of-told : (Told : Status → Type 0) (end : Ended) (old new : Around W) → ((status : Status) → Told status → Steady old.world new.world)
-      → EndsTold Told end → Steady old.world new.world
-  of-told Told end old new goes does = let told = told_of Told end does in goes told.0 told.1
-
-  of-formatting : (formatting : Formatting) (paths : List (List ℕ)) (old new : Around W) (end : Ended)
-      → FormatsAll world remaining formatting paths old new end → Steady old.world new.world
-  of-formatting (formatting.Write style) [] old new end does = same old.world new.world does.1
-  of-formatting (formatting.Write style) (path ∷ paths) old new end does =
-      of-text path does.read old.world new.world old.input new.input does.takes
-  of-formatting (formatting.InPlace comments) paths old new end does =
-      of-told _ end old new (λ status did. of-restyles comments paths Done old.world new.world status did.does) does
-  of-formatting (formatting.Check style) [] old new end does =
-      of-told _ end old new (of-reports (Name style) (codes "-" ∷ []) Done old new) does
-  of-formatting (formatting.Check style) (path ∷ paths) old new end does =
-      of-told _ end old new (of-reports (Name style) (path ∷ paths) Done old new) does
-
-  of-checking : (style : Style) (paths : List (List ℕ)) (old new : Around W) (end : Ended)
-      → ChecksAll world remaining style paths old new end → Steady old.world new.world
-  of-checking style [] old new end does = same old.world new.world does.1
-  of-checking style (path ∷ paths) old new end does =
-      of-told _ end old new (of-reports (Findings style) (path ∷ paths) Done old new) does
-
   -- ---- all words
 
   -- what a run does, unless it makes a store of another one
   pub effect : (invocation : Invocation) (old new : Around W) (end : Ended)
-      (does : Does world disk remaining invocation old new end)
+      (does : DoesOnStores world disk remaining invocation old new end)
       → makes_new invocation ≡ false
       → Effect old.world new.world (status_of_ending end) (folder_of invocation)
       (call_of world disk remaining honest invocation old new end does)
@@ -414,21 +306,16 @@ module _ {W D F P : Type 0} (world : WorldModel W D F P) (disk : DiskModel D) (r
       of-change Changing folder.now [] change.Checkpoint old.world new.world end does.0
   effect (Run folder grouping) old new end does not_new = of-run folder.now (grouping_of grouping) old new end does
   effect (Export folder name form) old new end does not_new =
-      of-export form folder.now name.now old.world new.world old.output new.output end does.0
-  effect (Names folder at form) old new end does not_new = nothing None (of-open folder.now old.world does.0.file new.world does.0.opens)
-  effect (Get folder name pointers at missing form) old new end does not_new =
-      nothing None (of-open folder.now old.world does.0.file new.world does.0.opens)
-  effect (Exists folder name pointer at) old new end does not_new =
-      nothing None (of-open folder.now old.world does.0.file new.world does.0.opens)
-  effect (Log folder name from at form) old new end does not_new =
-      nothing None (of-log folder.now name from at form old.world new.world old.output new.output end does.0)
-  effect (Verify folder keep_dropped) old new end does not_new =
-      nothing None (of-verify folder.now keep_dropped old.world new.world old.output new.output end does.0)
-  effect (Format formatting files reporting) old new end does not_new =
-      nothing None (of-formatting formatting _ old new end does)
+      of-export folder.now old.world new.world (status_of_ending end) does
+  effect (Names folder at form) old new end does not_new = nothing None (steady old.world new.world does)
+  effect (Get folder name pointers at missing form) old new end does not_new = nothing None (steady old.world new.world does)
+  effect (Exists folder name pointer at) old new end does not_new = nothing None (steady old.world new.world does)
+  effect (Log folder name from at form) old new end does not_new = nothing None (steady old.world new.world does)
+  effect (Verify folder keep_dropped) old new end does not_new = nothing None (steady old.world new.world does)
+  effect (Format formatting files reporting) old new end does not_new = nothing None (steady old.world new.world does)
   effect (Salvage folder new_folder keep_dropped) old new end does not_new = cc
   effect (Backup folder new_folder) old new end does not_new = cc
-  effect (Check style files reporting) old new end does not_new = nothing None (of-checking style _ old new end does)
+  effect (Check style files reporting) old new end does not_new = nothing None (steady old.world new.world does)
 
   -- what is done to one folder leaves another as it was
   beside : (path : List ℕ) (old new : W) {status : Status} {folder : Option (List ℕ)} {call : Option (Call disk)}
@@ -439,7 +326,7 @@ module _ {W D F P : Type 0} (world : WorldModel W D F P) (disk : DiskModel D) (r
       begins path image (of.elsewhere path image (λ same. is_other (ap Some (sym same))) is)
 
   pub spares : (path : List ℕ) (invocation : Invocation) (old new : Around W) (end : Ended)
-      → Does world disk remaining invocation old new end → folder_of invocation ≢ Some path
+      → DoesOnStores world disk remaining invocation old new end → folder_of invocation ≢ Some path
       → (image : Image) → leaves new.world path image → leaves old.world path image
   spares path (Salvage folder new_folder keep_dropped) old new end does is_other image is =
       of-salvage folder.now keep_dropped new_folder.now old.world new.world old.output new.output end does.0 path image
@@ -579,9 +466,10 @@ module _ {W D F P : Type 0} (world : WorldModel W D F P) (disk : DiskModel D) (r
       (saved_to world disk remaining honest folder keep_dropped new_folder old new held written end does)
   salvaged-to folder None new_folder old new held written end does = salvaged folder new_folder old new held written end does
   salvaged-to folder (Some path) new_folder old new held written end (inl unkept) =
-      none_made (of-unkept folder path.now old new end unkept.cannot)
+      none_made (steady old new (goes-unkept world disk remaining folder path.now old new end unkept.cannot))
   salvaged-to folder (Some path) new_folder old new held written end (inr does) =
-      after-that old does.found new (of-kept folder path.now does.several does.bytes old (Ok tt) does.found does.keeps)
+      after-that old does.found new (steady old does.found
+      (goes-to-keep world disk remaining folder path.now does.several does.bytes old (Ok tt) does.found does.keeps))
       (of-saved-in new_folder does.several (Some does.bytes) does.found new held written end does.saves)
 
   -- what a backup does

@@ -25,7 +25,8 @@ use Rattle.conf_words.specs.declared.invocation.ValueForm.TheVariants.{Whole}
 use Rattle.conf_tools.specs.Asking.{AskedConditions}
 use Rattle.conf_tools.specs.Changes.{ChangeSurvives, Performs as ChangePerforms}
 use Rattle.conf_tools.specs.{Endings.ending_at_end, Outcomes.status_of_ending}
-use Rattle.conf_tools.specs.Performs.{ChangesAt, Does, Performs}
+use Rattle.conf_tools.specs.OnStores.{DoesOnStores, PerformsOnStores}
+use Rattle.conf_tools.specs.Performs.{ChangesAt, Performs}
 use Rattle.conf_tools.specs.Prelude.{IsRead}
 use Rattle.conf_tools.specs.ProgramCalls.{CallHolds, changing}
 use Rattle.conf_tools.specs.Reads.{ShowsTree}
@@ -134,14 +135,14 @@ module _ {W D F P : Type 0} (world : WorldModel W D F P) (disk : DiskModel D) (r
   -- a set of a value in this folder
   module _ (name pointer : List ℕ) (value : Tree) where
     abbrev Put : (invocation : Invocation) (old new : Around W) (end : Ended)
-        → Does world disk remaining invocation old new end → Type 0
+        → DoesOnStores world disk remaining invocation old new end → Type 0
     Put (Set folder named place given conditions reporting) old new end does =
         (folder.now ≡ path) × (named.now ≡ name) × (place.now ≡ pointer) × IfOk does.0.change (SetsAt name pointer value)
     Put invocation old new end does = ⊥
 
     set-one : (invocation : Invocation) (place : Where world disk path invocation) (ending : Ending) → ending ≡ returned
         → (old new : Around W) (end : Ended) → status_of_ending end ≡ Done
-        → (does : Does world disk remaining invocation old new end) → Put invocation old new end does
+        → (does : DoesOnStores world disk remaining invocation old new end) → Put invocation old new end does
         → Made (status_of_ending end) (deed_at world disk remaining honest leaves path invocation place ending old new end does)
         → AcceptsOne (status_of_ending end) (deed_at world disk remaining honest leaves path invocation place ending old new end does)
         (single (set_at (chars name) (chars pointer) value))
@@ -207,7 +208,7 @@ input-read bytes short (Ok read) (Some all) (Some rest) is taken =
 module _ {W D F P : Type 0} (world : WorldModel W D F P) (disk : DiskModel D) (remaining : F → Option (List ℕ))
     (honest : disk.honest) (leaves : W → List ℕ → Image → Type 0) (unambiguous : AreUnambiguous) where
   says-import : (invocation : Invocation) → SaysImport invocation → (old new : Around W) (status : Status)
-      (does : Performs world disk remaining invocation old new status) → old.input ≡ Some (codes "port: 80\n")
+      (does : PerformsOnStores world disk remaining invocation old new status) → old.input ≡ Some (codes "port: 80\n")
       → Puts world disk remaining honest leaves (codes "shop") (codes "web") [] (port_is (codes "80")) invocation old new status does
   says-import (Import folder named file root absent conditions reporting) (of_folder, of_name, of_file) old new status does given =
       (of_folder, of_name, refl, by does.does.takes)
@@ -225,7 +226,7 @@ module _ {W D F P : Type 0} (world : WorldModel W D F P) (disk : DiskModel D) (r
   says-import invocation says old new status does given = absurd says
 
   says-set : (invocation : Invocation) → SaysSet invocation → (old new : Around W) (end : Ended)
-      (does : Does world disk remaining invocation old new end)
+      (does : DoesOnStores world disk remaining invocation old new end)
       → Put world disk remaining honest leaves (codes "shop") (codes "web") (codes "/port") (text (codes "81")) invocation old new
       end does
   says-set (Set folder named place (Text word) conditions reporting) (of_folder, of_name, of_place, of_word) old new end does =

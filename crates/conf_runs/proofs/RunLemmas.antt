@@ -24,7 +24,7 @@ use Rattle.conf_store.specs.Opens.{OneMeaning}
 use Rattle.conf_words.specs.declared.invocation.Invocation.{Invocation}
 use Rattle.conf_words.specs.declared.invocation.Invocation.TheVariants.{Backup, Salvage}
 use Rattle.conf_tools.specs.{Endings.ending_after_backup, Outcomes.status_of_ending}
-use Rattle.conf_tools.specs.Performs.{Does}
+use Rattle.conf_tools.specs.OnStores.{DoesOnStores}
 use Rattle.conf_tools.specs.StoreWords.{WritesFindings}
 use Rattle.conf_tools.specs.ProgramCalls.{Call, CallHolds, EachMeans, disk_before, disk_behind}
 use Rattle.conf_tools.specs.ProgramCalls as program
@@ -246,7 +246,7 @@ module _ {W D F P : Type 0} (world : WorldModel W D F P) (disk : DiskModel D) (r
   -- a run that makes a store of what another one says
   at-new : (invocation : Invocation) (is : folder_of invocation ≡ Some path) (is_new : makes_new invocation ≡ true)
       (empty : HandsOutNone world disk)
-      (ending : Ending) (old new : Around W) (end : Ended) (does : Does world disk remaining invocation old new end)
+      (ending : Ending) (old new : Around W) (end : Ended) (does : DoesOnStores world disk remaining invocation old new end)
       → At ending old.world new.world (status_of_ending end) (deed_at world disk remaining honest leaves path invocation
       (anew is is_new empty) ending old new end does)
   at-new invocation is is_new empty not_begun old new end does = quiet (λ image left. left)
@@ -271,7 +271,7 @@ module _ {W D F P : Type 0} (world : WorldModel W D F P) (disk : DiskModel D) (r
   at-new invocation is is_new empty ending old new end does = cc
 
   at : (invocation : Invocation) (place : Where world disk path invocation) (ending : Ending) (old new : Around W) (end : Ended)
-      (does : Does world disk remaining invocation old new end)
+      (does : DoesOnStores world disk remaining invocation old new end)
       → At ending old.world new.world (status_of_ending end)
       (deed_at world disk remaining honest leaves path invocation place ending old new end does)
   at invocation (elsewhere is_other) returned old new end does =

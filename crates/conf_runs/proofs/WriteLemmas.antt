@@ -22,6 +22,7 @@ use Rattle.conf_words.specs.declared.invocation.Invocation.TheVariants.{Import, 
 use Rattle.conf_words.specs.declared.invocation.ValueForm.{ValueForm}
 use Rattle.conf_tools.specs.Asking.{AskedConditions}
 use Rattle.conf_tools.specs.Changes.{ChangesOn, Makes}
+use Rattle.conf_tools.specs.OnStores.{PerformsOnStores}
 use Rattle.conf_tools.specs.Performs.{ChangesAt, ImportsRead, Performs, access_of}
 use Rattle.conf_tools.specs.Exports.{disk_handed_back}
 use Rattle.conf_tools.specs.Prelude.{IsRead}
@@ -181,7 +182,7 @@ module _ {W D F P : Type 0} (world : WorldModel W D F P) (disk : DiskModel D) (r
     (keeps : KeepsFolders world disk leaves) (gives_one : OneTree) where
   -- a run that put a value at the place, with the status Done
   put-there : (value : Tree) (invocation : Invocation) (old new : Around W) (status : Status)
-      (does : Performs world disk remaining invocation old new status)
+      (does : PerformsOnStores world disk remaining invocation old new status)
       → Puts world disk remaining honest leaves path name pointer value invocation old new status does → status ≡ Done
       → StandsIn leaves path name pointer value new.world
   put-there value (Set folder named place given conditions reporting) old new status does

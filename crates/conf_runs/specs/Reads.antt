@@ -19,7 +19,7 @@ use Rattle.conf_words.specs.declared.invocation.MissingValue.{MissingValue}
 use Rattle.conf_words.specs.declared.invocation.TreeForm.{TreeForm}
 use Rattle.conf_words.specs.declared.invocation.ValueForm.{ValueForm}
 use Rattle.conf_words.specs.declared.invocation.ValueForm.TheVariants.{Whole}
-use Rattle.conf_tools.specs.Performs.{Performs}
+use Rattle.conf_tools.specs.{OnStores.PerformsOnStores, Performs.Performs}
 use Rattle.conf_tools.specs.Prelude.{IsRead}
 use Rattle.conf_tools.specs.Reads.{ShowsTree, pointers_of}
 use Rattle.conf_tools.specs.StoreWords.{ExportsFromFolder, SaysOfFile, SaysValues}
@@ -92,7 +92,7 @@ module _ {W D F P : Type 0} (world : WorldModel W D F P) (disk : DiskModel D) (r
 
   -- The words put the value there: they set it, or import it, which puts it in the place of the whole configuration.
   abbrev pub Puts : Tree → (invocation : Invocation) (old new : Around W) (status : Status)
-      → Performs world disk remaining invocation old new status → Type 0
+      → PerformsOnStores world disk remaining invocation old new status → Type 0
   Puts value (Set folder named place given conditions reporting) old new status does =
       (folder.now ≡ path) × (named.now ≡ name) × (place.now ≡ pointer) × IsSteady pointer
       × IfOk does.does.0.change (SetsAt name pointer value)

@@ -26,11 +26,12 @@ use Rattle.conf_tools.specs.Changes.{Performs as ChangePerforms}
 use Rattle.conf_tools.specs.Exports.{disk_back, disk_handed_back}
 use Rattle.conf_tools.specs.Keeping.{SalvagesTo}
 use Rattle.conf_tools.specs.Batches.{counted_alone}
-use Rattle.conf_tools.specs.Performs.{BatchesRead, ChangesAt, Does, ImportsRead, Performs, access_of, grouping_of}
+use Rattle.conf_tools.specs.OnStores.{DoesOnStores, PerformsOnStores, ReadsInFolder}
+use Rattle.conf_tools.specs.Performs.{BatchesRead, ChangesAt, ImportsRead, access_of, grouping_of}
 use Rattle.conf_tools.specs.ProgramCalls.{Call, Ending as CallEnding, accepted, answered, changing, disk_before}
 use Rattle.conf_tools.specs.ProgramCalls.{disk_behind, exporting, running}
 use Rattle.conf_tools.specs.ProgramCalls as call
-use Rattle.conf_tools.specs.StoreWords.{Condition, ChangesInFolder, ExportsFromFolder, Inits, MakesChange, MakesInFolder}
+use Rattle.conf_tools.specs.StoreWords.{Condition, ChangesInFolder, Inits, MakesChange, MakesInFolder}
 use Rattle.conf_tools.specs.StoreWords.{RunsOnFolder, SavesFound, SavesInFolder}
 use Rattle.conf_tools.specs.Tools.{Taken}
 use Rattle.conf_tools.specs.Worlds.{Around, WorldModel}
@@ -128,16 +129,15 @@ module _ {W D F P : Type 0} (world : WorldModel W D F P) (disk : DiskModel D) (h
   ran_in grouping old new (inr runs) =
       Some (running (streams_of old.input new.input old.output new.output) grouping runs.first runs.result (runs.survives honest))
 
-  abbrev pub exported_from : {form : TreeForm} {folder name : List ℕ} {old new : W} {held written : Option (List ℕ)} {end : Ended}
-      → ExportsFromFolder world disk form folder name old new held written end → Option (Call disk)
-  exported_from (inl cannot) = None
-  exported_from (inr exports) = Some (exporting exports.first (disk_back exports.result) (exports.survives honest))
+  abbrev pub read_from : {folder : List ℕ} {old new : W} → ReadsInFolder world disk folder old new → Option (Call disk)
+  read_from (inl cannot) = None
+  read_from (inr reads) = Some (exporting reads.first reads.last (reads.survives honest))
 
 module _ {W D F P : Type 0} (world : WorldModel W D F P) (disk : DiskModel D) (remaining : F → Option (List ℕ))
     (honest : disk.honest) where
   -- the call of a run, if the disk was handed out to it
   abbrev pub call_of : (invocation : Invocation) (old new : Around W) (end : Ended)
-      → Does world disk remaining invocation old new end → Option (Call disk)
+      → DoesOnStores world disk remaining invocation old new end → Option (Call disk)
   call_of (Init folder) old new end does = initialised world disk honest does.0
   call_of (Import folder name file root absent conditions reporting) old new end does =
       imported world disk honest conditions root (access_of absent) folder.now name.now does.read does.seen new.world end
@@ -158,7 +158,7 @@ module _ {W D F P : Type 0} (world : WorldModel W D F P) (disk : DiskModel D) (r
       batched world disk honest folder.now count does.read does.seen new.world end does.makes
   call_of (Checkpoint folder) old new end does = changed_in world disk honest change.Checkpoint does.0
   call_of (Run folder grouping) old new end does = ran_in world disk honest (grouping_of grouping) old new does
-  call_of (Export folder name form) old new end does = exported_from world disk honest does.0
+  call_of (Export folder name form) old new end does = read_from world disk honest does
   call_of invocation old new end does = None
 
 -- ---- a new store
@@ -229,7 +229,7 @@ module _ {W D F P : Type 0} (world : WorldModel W D F P) (disk : DiskModel D) (r
 
   -- how a run makes a new store, if the disk was handed out to it
   abbrev pub made_new : (invocation : Invocation) (old new : Around W) (end : Ended)
-      → Does world disk remaining invocation old new end → Option (Deed disk)
+      → DoesOnStores world disk remaining invocation old new end → Option (Deed disk)
   made_new (Salvage folder new_folder keep_dropped) old new end does =
       saved_to folder.now keep_dropped new_folder.now old.world new.world old.output new.output end does.0
   made_new (Backup folder new_folder) old new end does =
@@ -269,20 +269,20 @@ if_done status number = 0
 
 module _ {W D F P : Type 0} (world : WorldModel W D F P) (disk : DiskModel D) (remaining : F → Option (List ℕ))
     (honest : disk.honest) (leaves : W → List ℕ → Image → Type 0) (path : List ℕ) where
-  -- A run of the program, with what the contract of `perform` says of it. One that was cut off is given by what it would
-  -- have done.
+  -- A run of the program, with what the clause `stores` of `perform` says of it. One that was cut off is given by what it
+  -- would have done.
   pub record Event : Type 0 where
     pub invocation : Invocation
     pub place : Where world disk path invocation
     pub old : Around W
     pub new : Around W
     pub status : Status
-    pub does : Performs world disk remaining invocation old new status
+    pub does : PerformsOnStores world disk remaining invocation old new status
     pub ending : Ending
 
   -- what it does on the disk of the folder
   abbrev pub deed_at : (invocation : Invocation) → Where world disk path invocation → Ending → (old new : Around W)
-      (end : Ended) → Does world disk remaining invocation old new end → Option (Deed disk)
+      (end : Ended) → DoesOnStores world disk remaining invocation old new end → Option (Deed disk)
   deed_at invocation place not_begun old new end does = None
   deed_at invocation (elsewhere is_other) ending old new end does = None
   deed_at invocation (here is not_new) ending old new end does =

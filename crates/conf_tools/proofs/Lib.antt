@@ -17,5 +17,7 @@ pub mod EndingLemmas
 pub mod FileLemmas
 pub mod StyleLemmas
 pub mod OutcomeLemmas
+pub mod StoreLemmas
 pub mod KeepingLemmas
 mod MadeLemmas
+pub mod TellingLemmas

@@ -4,8 +4,8 @@ use Rattle.std.specs.Prelude.{nat_lt, if◌then◌else◌, None, Option, Result,
 use Rattle.conf_tools.proofs.Prelude.{common_steps, Tally}
 use Rattle.conf_tools.specs.{Dropped.TellsDropped, FaultLines.text_fault_name, Listening.fault_line, Statuses.code_of, Statuses.status_of}
 use Rattle.conf_tools.specs.{Refused.TellsFault, Statuses.worst, Tails.end_of_rest, TextWords.ending_after_check}
-use Rattle.conf_tools.specs.TextWords.{ending_after_format, status_after}
-use Rattle.conf_tools.specs.{TextWords.status_of_report, declared.outcome.Ending.Ending, declared.outcome.Ending.TheVariants.Of}
+use Rattle.conf_tools.specs.TextWords.{ending_after_format}
+use Rattle.conf_tools.specs.{declared.outcome.Ending.Ending, declared.outcome.Ending.TheVariants.Of}
 use Rattle.conf_tools.specs.declared.outcome.Ending.TheVariants.{Told, ToldFault}
 use Rattle.conf_tools.specs.{declared.outcome.Outcome.Outcome, declared.program.Status.Status}
 use Rattle.conf_tools.specs.{Statuses.ShowsText, StoreWords.WritesWhole}
@@ -13,7 +13,7 @@ use Rattle.conf_tools.specs.{declared.program.Status.TheVariants.Done, declared.
 use Rattle.conf_tools.specs.{declared.texts.ToolFault.ToolFault}
 use Rattle.conf_tools.specs.Endings.{StaysUnlessFault}
 use Rattle.conf_tools.specs.Losses.{SetTells, TellsLoss, TellsLossIfAsked, TellsLossOr, TellsWritten}
-use Rattle.conf_tools.specs.Outcomes.{EndsWriting, LeavesImport, LeavesTold, SilentIfDone, SilentReport}
+use Rattle.conf_tools.specs.Outcomes.{EndsWriting, LeavesImport, LeavesTold, SilentIfDone}
 use Rattle.conf_tools.specs.Outcomes.{TellsIfDone, TellsOnlyTold, TellsOutcome}
 use Rattle.conf_tools.specs.Outcomes.{TellsSession, TellsUnperformed, status_of_ending, status_of_outcome}
 use Rattle.conf_tools.specs.Styles.{TellsLeftOut, TellsLeftOutOf}
@@ -69,30 +69,6 @@ written_shown bytes held written outcome status (inl (appends, done)) is = inl (
 written_shown bytes held written outcome status (inr (part, cut)) is = inr (is ∙ ap status_of_ending cut, part)
 
 module _ {E : Type 0} where
-  -- a text that was written, or not
-  pub written_silently : (ended : Result (Unit {0}) ToolFault) (status : Status) (old new : E)
-      → status ≡ status_after ended → OnOk ended (new ≡ old) → SilentIfDone status old new
-  written_silently (Ok done) status old new is same zero = same
-  written_silently (Err fault) status old new is same zero = absurd (never_done fault status is zero)
-
-  -- a report, whose status is this
-  pub reported_silently : (ended : Result Status ToolFault) (old new : E)
-      → SilentReport ended old new → SilentIfDone (status_of_report ended) old new
-  reported_silently (Ok status) old new silent = silent
-  reported_silently (Err fault) old new silent = λ zero. absurd (never_done fault (status_of fault) refl zero)
-
-  -- a report, after which more may be told of it
-  pub report_on : (ended : Result Status ToolFault) (old mid new : E)
-      → OnOk ended (mid ≡ old) → SilentReport ended mid new → SilentReport ended old new
-  report_on (Ok status) old mid new same silent = λ zero. silent zero ∙ same
-  report_on (Err fault) old mid new same silent = tt
-
-  -- a report, after which nothing is told where there is one
-  pub report_then : (ended : Result Status ToolFault) (old mid new : E)
-      → SilentReport ended old mid → OnOk ended (new ≡ mid) → SilentReport ended old new
-  report_then (Ok status) old mid new silent same = λ zero. same ∙ silent zero
-  report_then (Err fault) old mid new silent same = tt
-
   -- one more file
   pub worst_silently : (one other : Status) (old mid new : E)
       → SilentIfDone one old mid → SilentIfDone other mid new → SilentIfDone (worst one other) old new

@@ -10,7 +10,7 @@ use Rattle.conf_session.specs.declared.groups.Checkpoints.{Checkpoints}
 use Rattle.conf_session.specs.declared.groups.Checkpoints.TheVariants.{After, Asked}
 use Rattle.conf_session.specs.declared.fault.SessionFault.TheVariants.{Device, Reopen}
 use Rattle.conf_tools.specs.Stores.{Answers, AnswersOn, BeginsWhenDue, KeepsAnswered, OpensOn, RunsOn, SessionRuns, SurvivesCrashes, Work}
-use Rattle.conf_tools.specs.Stores.{after_session}
+use Rattle.conf_tools.specs.Stores.{WasOpened, after_session}
 use Rattle.conf_tools.specs.declared.stores.Grouping.{Grouping}
 use Rattle.conf_tools.specs.declared.stores.Grouping.TheVariants.{Single, Grouped}
 
@@ -177,3 +177,8 @@ module _ {D : Type 0} (model : DiskModel D) (io : Streams) (grouping : Grouping)
       → SurvivesCrashes model io grouping old (after_session new ended)
   survives-after (Ok tally) keeps = keeps
   survives-after (Err fault) keeps = keeps
+
+-- a session runs on a store that was opened
+pub opened-after : {D : Type 0} (disk : D) (ended : Result Tally SessionFault) → WasOpened (after_session disk ended)
+opened-after disk (Ok tally) = tt
+opened-after disk (Err fault) = tt

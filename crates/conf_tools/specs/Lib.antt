@@ -29,4 +29,7 @@ pub mod Listening
 pub mod NewFiles
 pub mod Keeping
 pub mod Refused
+pub mod Sentences
 pub mod Outcomes
+pub mod OnStores
+pub mod Telling

@@ -9,10 +9,10 @@ use Rattle.conf_tools.specs.{ReadingStatuses.status_of_reading, Refused.TellsFau
 use Rattle.conf_tools.specs.{Tails.TellsRest, Tails.end_of_rest, declared.outcome.Ending.Ending}
 use Rattle.conf_tools.specs.declared.outcome.Ending.TheVariants.{Of, Told, ToldFault}
 use Rattle.conf_tools.specs.{declared.outcome.Outcome.Outcome, declared.program.Status.Status, declared.tail.Tail.Tail}
-use Rattle.conf_tools.specs.{declared.texts.ToolFault.ToolFault, declared.texts.ToolFault.TheVariants.Output}
+use Rattle.conf_tools.specs.declared.texts.ToolFault.TheVariants.{Output}
 use Rattle.conf_tools.specs.FaultLines.{reading_fault_name, store_fault_name, text_fault_name}
 use Rattle.conf_tools.specs.NewFiles.{new_file_fault_name, status_of_new_file}
-use Rattle.conf_tools.specs.Statuses.{code_of, status_of, status_of_store}
+use Rattle.conf_tools.specs.{Sentences.HasSentence, Statuses.code_of, Statuses.status_of, Statuses.status_of_store}
 use Rattle.conf_tools.specs.declared.program.Status.TheVariants.{Done, Absent, Refused, WrongWords, Device}
 use Rattle.conf_tools.specs.declared.outcome.Outcome.TheVariants as ends
 
@@ -81,11 +81,6 @@ pub record TellsSession {E : Type 0} (hears : E → List ℕ → E → Type 0) (
 -- where the status is 0, nothing was told
 abbrev pub SilentIfDone : {E : Type 0} → Status → E → E → Type 0
 SilentIfDone status old new = code_of status ≡ 0 → new ≡ old
-
--- the same of a report on one text, where there is one
-abbrev pub SilentReport : {E : Type 0} → Result Status ToolFault → E → E → Type 0
-SilentReport (Ok status) old new = SilentIfDone status old new
-SilentReport (Err fault) old new = Unit {0}
 
 -- what went wrong is still to be told
 abbrev pub IsUntold : Ending → Type 0
@@ -161,15 +156,15 @@ module _ {E : Type 0} (hears : E → List ℕ → E → Type 0) where
   Leaves (Format formatting files reporting) old ending new = LeavesTold TellsIfDone old ending new
   Leaves (Check style files reporting) old ending new = LeavesTold SilentIfDone old ending new
 
--- What a run tells that ends so, with this status: first what its word does (`leaves`), and then its ending. Only where a
--- device failed does more follow, which says why.
+-- What a run tells that ends so, with this status: first what its word does (`leaves`), and then its ending. More follows
+-- only where a sentence says what was looked for, or where a device failed, of which it is said why.
 pub record Tells {E : Type 0} (hears : E → List ℕ → E → Type 0) (word : Invocation) (old new : E) (ending : Ending)
     (ended : Status) : Type 0 where
   pub before : E
   pub leaves : Leaves hears word old ending before
   pub told : E
   pub tells : TellsEnding hears ending before told
-  pub cause : (ended ≡ Device) ⊎ (new ≡ told)
+  pub cause : HasSentence ending ⊎ (ended ≡ Device) ⊎ (new ≡ told)
 
 -- ---- words that ask for nothing
 

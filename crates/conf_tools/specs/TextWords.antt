@@ -1,12 +1,11 @@
 -- What the words on texts do, and how a change is made ready of the text that it is given.
 use Rattle.std.specs.Prelude.{◌≡◌, ◌≢◌, ◌⊎◌, ◌<◌, ◌≤◌, ℕ, Bool, true, false, ◌==◌, if◌then◌else◌, List, [], ◌∷◌, length}
-use Rattle.std.specs.Prelude.{Option, Some, None, Result, Ok, Err, IfOk, IfErr, IsErrAnd, OnOk, codes, encode_utf8_all}
+use Rattle.std.specs.Prelude.{Option, Some, None, Result, Ok, Err, IfOk, IfErr, IsErrAnd, OnOk, codes}
 use Rattle.std.specs.Prelude.{string_bytes}
 use Rattle.conf_tools.specs.Prelude.{chars, IsUtf8, ReplaceFault, command_of, delete_at, import_as, set_at, single, text_of}
 use Rattle.conf_tools.specs.Prelude.{Comments, Style, Value, IsFirstFault, own_limits, config_limits, TooLong, NotUtf8}
 use Rattle.conf_tools.specs.Prelude.{OutOfMemory, Tree, text, IsRead, Refuses}
 use Rattle.std.specs.Str.Lossy.{utf8_valid_len}
-use Rattle.conf_words.specs.Escapes.{escaped}
 use Rattle.conf_words.specs.declared.invocation.{Root.Root, Root.TheVariants.Any, Root.TheVariants.Collection}
 use Rattle.conf_words.specs.declared.invocation.Value.TheVariants.{Text, Yaml, File}
 use Rattle.yaml_events.specs.declared.read_fault.ReadFault.{ReadFault}
@@ -30,6 +29,7 @@ use Rattle.conf_tools.specs.declared.program.Status.TheVariants.{Done, Found, De
 use Rattle.conf_tools.specs.declared.texts.ToolFault.TheVariants.{Input, OneValue, Output, Read}
 use Rattle.conf_files.specs.declared.replace.ReplaceFault.TheVariants as replacing
 use Rattle.conf_tools.specs.declared.change_words.Alteration.TheVariants as alteration
+pub use Rattle.conf_tools.specs.Refused.{shown_name}
 
 -- ---- statuses
 
@@ -258,10 +258,6 @@ SaysReport (Name style) name (Err fault) bytes held written =
 abbrev pub ReportsOnRead : Report → List ℕ → Taken → Result Status ToolFault → Option (List ℕ) → Option (List ℕ) → Type 0
 ReportsOnRead report name (Ok bytes) result held written = SaysReport report name result bytes.items held written
 ReportsOnRead report name (Err fault) result held written = (result ≡ Err fault) × (written ≡ held)
-
--- the name of a file as it is shown
-abbrev pub shown_name : List ℕ → List ℕ
-shown_name path = encode_utf8_all (escaped (chars path))
 
 -- whether the writer failed, so that no other file is tried
 abbrev pub stops_all : Result Status ToolFault → Bool

@@ -1,12 +1,13 @@
 // What `format` and `check` do with files and standard input.
-ghost use Rattle.std.specs.Prelude.{◌≡◌, Err, IfErr, OnOk, map};
-ghost use Rattle.conf_tools.specs.Outcomes.{LeavesTold, SilentIfDone, SilentReport, TellsIfDone};
+ghost use Rattle.std.specs.Prelude.{◌≡◌, Err, IfErr, IfOk, OnErr, OnOk, map};
+ghost use Rattle.conf_tools.specs.Outcomes.{LeavesTold, SilentIfDone, TellsIfDone};
 ghost use Rattle.conf_tools.specs.Performs.{ChecksAll, ChecksText, FormatsAll, FormatsText};
 ghost use Rattle.conf_tools.specs.Statuses.{status_of, worst};
 ghost use Rattle.conf_tools.specs.Endings.{StaysUnlessFault};
 ghost use Rattle.conf_tools.specs.Losses.{TellsLoss, TellsWritten};
-ghost use Rattle.conf_tools.specs.Refused.{TellsFault};
-ghost use Rattle.conf_tools.specs.TextWords.{ChecksRead, FormatsFile, FormatsRead, ReplacesAt, ReplacesRead, ReportsOn, ReportsOnAll, ReportsOnRead, RestylesAll, RestylesFile, SaysReport, TakesText, replaced_or_not, shown_name, ending_after_check, ending_after_format, status_after, status_of_change, status_of_count, status_of_report, stops_all, unopened};
+ghost use Rattle.conf_tools.specs.Refused.{TellsFault, TellsFaultOf, blamed, path_of};
+ghost use Rattle.conf_tools.specs.Telling.{TellsCause, TellsCheck, TellsFirstComment, TellsFormat, TellsNote, TellsOpened, TellsReplaced, TellsReport, TellsReportOnRead, TellsReports, TellsRestyled, TellsRestyledAll};
+ghost use Rattle.conf_tools.specs.TextWords.{ChecksRead, FormatsFile, FormatsRead, ReplacesAt, ReportsOnAll, ReportsOnRead, RestylesAll, SaysReport, TakesText, replaced_or_not, shown_name, ending_after_check, ending_after_format, status_after, status_of_change, status_of_count, status_of_report, stops_all, unopened};
 ghost use Rattle.conf_tools.specs.Worlds.{around};
 
 use crate::file_texts::{Restyled, check_file, list_changed, restyle};
@@ -48,6 +49,11 @@ pub(crate) fn format_files<A: World, R: Read, W: Write, E: Listener>(
         (around world.old (R.remaining input.old) (W.contents output.old))
         (around world.new (R.remaining input.new) (W.contents output.new)) result }
     ensures told { LeavesTold E.hears (TellsIfDone E.hears) errors.old result errors.new }
+    ensures tells { TellsFormat A.model A.File.remaining E.hears reporter.reporting formatting
+        (map (λ file. file.now) files.now)
+        (around world.old (R.remaining input.old) (W.contents output.old))
+        (around world.new (R.remaining input.new) (W.contents output.new))
+        errors.old errors.new result }
 {
     match (formatting, files) {
         (Formatting::Write { style }, []) => format_input(reporter, style, input, output, errors),
@@ -82,6 +88,11 @@ pub(crate) fn check_files<A: World, R: Read, W: Write, E: Listener>(
         (around world.old (R.remaining input.old) (W.contents output.old))
         (around world.new (R.remaining input.new) (W.contents output.new)) result }
     ensures told { LeavesTold E.hears SilentIfDone errors.old result errors.new }
+    ensures tells { TellsCheck A.model A.File.remaining E.hears reporter.reporting style
+        (map (λ file. file.now) files.now)
+        (around world.old (R.remaining input.old) (W.contents output.old))
+        (around world.new (R.remaining input.new) (W.contents output.new))
+        errors.old errors.new result }
 {
     match files {
         [] => check_input(reporter, style, input, output, errors),
@@ -143,7 +154,7 @@ pub(crate) fn tell_cause_of<A: World, T, E: Write>(
     }
 }
 
-/// Writes why a file could not be opened or replaced, if the status is not 0 and that is known.
+/// Writes why a file could not be opened, read or replaced, if this is the status of a device and that is known.
 fn tell_cause_at<A: World, E: Write>(
     world: &A,
     alloc: Global,
@@ -151,12 +162,12 @@ fn tell_cause_at<A: World, E: Write>(
     status: Status,
     errors: &mut E,
 )
-    ensures { SilentIfDone status errors.old errors.new }
+    ensures { TellsCause status errors.old errors.new }
 {
-    if status.code() == 0 {
-        return;
+    match status {
+        Status::Device => tell_cause(world, alloc, file, errors),
+        _ => {}
     }
-    tell_cause(world, alloc, file, errors);
 }
 
 /// Writes why a file could not be opened, if its text came to nothing and that is known.
@@ -249,12 +260,12 @@ fn tell_written<T, E: Listener>(
 )
     ensures same { OnOk ended.now (errors.new ≡ errors.old) }
     ensures told { IfErr ended.now (TellsFault E.hears errors.old) }
+    ensures of { IfErr ended.now (λ fault. TellsFaultOf E.hears reporter.reporting
+        (blamed (path_of origin.entry) fault) fault errors.old errors.new) }
 {
     match ended {
-        Err(ToolFault::Output) => {
-            reporter.tell_fault(errors, Origin::Input, text, ToolFault::Output);
-        }
-        ended => reporter.tell(errors, origin, text, ended),
+        Ok(_) => {}
+        Err(fault) => reporter.tell_fault(errors, origin.blamed(*fault), text, *fault),
     }
 }
 
@@ -395,6 +406,9 @@ fn replace_files<A: World, E: Listener>(
     ensures replaces { RestylesAll A.model A.File.remaining comments (map (λ file. file.now) files.now)
         Status.Done world.old world.new result }
     ensures silent { SilentIfDone result errors.old errors.new }
+    ensures tells { TellsRestyledAll A.model A.File.remaining E.hears reporter.reporting comments
+        (map (λ file. file.now) files.now) Status.Done world.old world.new
+        errors.old errors.new result }
 {
     let mut status = Status::Done;
     for file in files {
@@ -414,8 +428,8 @@ fn restyle_file<A: World, E: Listener>(
     file: &str,
     errors: &mut E,
 ) -> Status
-    ensures replaces { RestylesFile A.model A.File.remaining comments file.now world.old world.new result }
-    ensures silent { SilentIfDone result errors.old errors.new }
+    ensures { TellsRestyled A.model A.File.remaining E.hears reporter.reporting comments file.now
+        world.old world.new errors.old errors.new result }
 {
     let status = restyle_opened(world, reporter, comments, file, errors);
     tell_cause_at(world, reporter.alloc, file, status, errors);
@@ -430,8 +444,8 @@ fn restyle_opened<A: World, E: Listener>(
     file: &str,
     errors: &mut E,
 ) -> Status
-    ensures replaces { RestylesFile A.model A.File.remaining comments file.now world.old world.new result }
-    ensures silent { SilentIfDone result errors.old errors.new }
+    ensures { TellsOpened A.model A.File.remaining E.hears reporter.reporting comments file.now
+        world.old world.new errors.old errors.new result }
 {
     match world.open_to_replace(reporter.alloc, file) {
         Ok((mut opened, place)) => {
@@ -456,8 +470,8 @@ fn replace_read<A: World, E: Listener>(
     place: A::Place,
     errors: &mut E,
 ) -> Status
-    ensures replaces { ReplacesRead A.model comments place read world.old world.new result }
-    ensures silent { SilentIfDone result errors.old errors.new }
+    ensures { TellsReplaced A.model E.hears reporter.reporting comments file.now place read
+        world.old world.new errors.old errors.new result }
 {
     match read {
         Ok(text) => {
@@ -526,6 +540,11 @@ fn try_files<A: World, R: Read, W: Write, E: Listener>(
         (around world.old (R.remaining input.old) (W.contents output.old))
         (around world.new (R.remaining input.new) (W.contents output.new)) result }
     ensures silent { SilentIfDone result errors.old errors.new }
+    ensures tells { TellsReports A.model A.File.remaining E.hears reporter.reporting report
+        (map (λ file. file.now) files.now) Status.Done
+        (around world.old (R.remaining input.old) (W.contents output.old))
+        (around world.new (R.remaining input.new) (W.contents output.new))
+        errors.old errors.new result }
 {
     let mut status = Status::Done;
     for file in files {
@@ -568,14 +587,14 @@ fn try_file<A: World, R: Read, W: Write, E: Listener>(
     output: &mut W,
     errors: &mut E,
 ) -> Result<Status, ToolFault>
-    ensures reports { ReportsOn A.model A.File.remaining report file.now
+    ensures { TellsReport A.model A.File.remaining E.hears reporter.reporting report file.now
         (around world.old (R.remaining input.old) (W.contents output.old))
-        (around world.new (R.remaining input.new) (W.contents output.new)) result }
-    ensures silent { SilentReport result errors.old errors.new }
+        (around world.new (R.remaining input.new) (W.contents output.new))
+        errors.old errors.new result }
 {
     let read = read_named(world, reporter.alloc, file, input);
     let ended = report_on_read(reporter, report, file, read, output, errors);
-    tell_cause_of(world, reporter.alloc, file, &ended, errors);
+    tell_cause_at(world, reporter.alloc, file, status_of_report(ended), errors);
     ended
 }
 
@@ -590,7 +609,8 @@ fn report_on_read<W: Write, E: Listener>(
 ) -> Result<Status, ToolFault>
     ensures reports { ReportsOnRead report (shown_name file.now) read result
         (W.contents output.old) (W.contents output.new) }
-    ensures silent { SilentReport result errors.old errors.new }
+    ensures tells { TellsReportOnRead E.hears reporter.reporting report file.now read result
+        errors.old errors.new }
 {
     match read {
         Ok(text) => {
@@ -616,7 +636,9 @@ fn tell_comments<E: Listener>(
     text: &[u8],
     ended: &Result<Status, ToolFault>,
 )
-    ensures { SilentReport ended.now errors.old errors.new }
+    ensures note { IfOk ended.now (λ status. TellsNote E.hears reporter.reporting report file.now
+        text.now status errors.old errors.new) }
+    ensures same { OnErr ended.now (errors.new ≡ errors.old) }
 {
     match (report, ended) {
         (Report::Name { style: Style::Bare }, Ok(Status::Found)) => tell_first_comment(
@@ -627,7 +649,10 @@ fn tell_comments<E: Listener>(
 }
 
 /// Writes where a text has its first comment, if it has one.
-fn tell_first_comment<E: Listener>(reporter: Reporter, errors: &mut E, file: &str, text: &[u8]) {
+fn tell_first_comment<E: Listener>(reporter: Reporter, errors: &mut E, file: &str, text: &[u8])
+    ensures { TellsFirstComment E.hears reporter.reporting file.now text.now
+        errors.old errors.new }
+{
     if let Ok(Some(place)) = first_comment(reporter.alloc, text) {
         let fault = ToolFault::Comments(place);
         reporter.tell_fault(errors, Origin::Named(file), text, fault);

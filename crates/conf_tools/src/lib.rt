@@ -36,6 +36,7 @@ mod reads;
 mod report;
 mod reporter;
 mod rest;
+mod sentences;
 mod stores;
 mod styles;
 mod surveys;

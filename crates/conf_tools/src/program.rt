@@ -4,9 +4,12 @@ ghost use Rattle.std.specs.Process.{exit_status};
 ghost use Rattle.conf_tools.specs.Endings.{ending_at_end};
 ghost use Rattle.conf_tools.specs.Exports.{TellsExport, disk_back};
 ghost use Rattle.conf_tools.specs.Outcomes.{EndsWriting, Leaves, RefusesWords, TellsNoMemory, TellsSession, TellsShown, TellsUnparsed, TellsUnperformed};
+ghost use Rattle.conf_tools.specs.OnStores.{PerformsOnStores};
 ghost use Rattle.conf_tools.specs.Performs.{Does, DoesWords, EndsProcess, RunsTo, grouping_of, output_of, output_of_words};
+ghost use Rattle.conf_tools.specs.Refused.{IsReporting};
 ghost use Rattle.conf_tools.specs.Statuses.{ShowsText, ShowsUnparsed, code_of, status_of, status_of_store};
 ghost use Rattle.conf_tools.specs.StoreWords.{ExportsFromFolder, RunsOnFolder, WritesFound, WritesWhole};
+ghost use Rattle.conf_tools.specs.Telling.{TellsOf, TellsOfRun, TellsOfWords, TellsRun};
 ghost use Rattle.conf_tools.specs.Worlds.{around};
 ghost use Rattle.conf_tools.specs.declared.outcome.Ending.TheVariants.{Of};
 
@@ -26,6 +29,7 @@ use crate::read_words::{Question, answer_on_folder};
 use crate::reads::{Place, Places};
 use crate::reporter::{Reporter, write_cause};
 use crate::rest::tell_rest;
+use crate::sentences::{Sought, tell_sentence};
 use crate::stores::{Grouping, StoreToolFault, run_store};
 use crate::tail::{Tail, TailReader};
 use crate::texts::{ToolFault, write_whole};
@@ -82,8 +86,9 @@ impl Status {
 /// performed, and the likely cause. Another line there says how many bytes after the last whole record of a store were
 /// dropped, if there were any.
 ///
-/// A fault of a store is told by its name, as `confstore: NoConfig`, and nothing else is told where a file of a store
-/// is only read. Where a folder or a file could not be used, a line after the fault says why, as
+/// A fault of a store is told by its name, as `confstore: NoConfig`. A line after it says what was looked for, where
+/// that is a store, a configuration, a place, a command or what a condition wants; after an export it does if reports
+/// explain. Where a folder or a file could not be used, a line after the fault says why, as
 /// `store.yaml: No space left on device`.
 ///
 /// Where writing to `output` fails, only the first of what it is to hold is written.
@@ -91,6 +96,9 @@ impl Status {
 /// Each disk that the world hands out is given back to it before this returns, and before anything is written to
 /// `output` but the answers of a session. `output` gets those by [`put`](AnswerSink::put) alone, which requires that no
 /// crash takes back what they tell: also in a run that is cut off, no answer is out before its sync.
+///
+/// The clause `stores` is the part of `runs` on which the laws of `conf_runs` stand: what is done with the stores in
+/// folders.
 pub fn perform<A: World, R: Read, W: Write + AnswerSink<A::Disk>, E: Listener>(
     world: &mut A,
     alloc: Global,
@@ -99,15 +107,29 @@ pub fn perform<A: World, R: Read, W: Write + AnswerSink<A::Disk>, E: Listener>(
     output: &mut W,
     errors: &mut E,
 ) -> Status
-    ensures { RunsTo A.model A.Disk.model A.File.remaining E.hears invocation.entry
+    ensures runs { RunsTo A.model A.Disk.model A.File.remaining E.hears invocation.entry
         (around world.old (R.remaining input.old.inner)
         (output_of invocation.entry (W.contents output.old) (W.taken output.old)))
         (around world.new (R.remaining input.new.inner)
         (output_of invocation.entry (W.contents output.new) (W.taken output.new)))
         errors.old errors.new result }
+    ensures tells { TellsOfRun A.model A.Disk.model A.File.remaining E.hears
+        invocation.entry input.new.tail
+        (around world.old (R.remaining input.old.inner)
+        (output_of invocation.entry (W.contents output.old) (W.taken output.old)))
+        (around world.new (R.remaining input.new.inner)
+        (output_of invocation.entry (W.contents output.new) (W.taken output.new)))
+        errors.old errors.new (code_of result) }
+    ensures stores { PerformsOnStores A.model A.Disk.model A.File.remaining invocation.entry
+        (around world.old (R.remaining input.old.inner)
+        (output_of invocation.entry (W.contents output.old) (W.taken output.old)))
+        (around world.new (R.remaining input.new.inner)
+        (output_of invocation.entry (W.contents output.new) (W.taken output.new))) result }
 {
+    let sought = Sought::of(&invocation, world.reporting());
     let ending = perform_word(world, alloc, invocation, input, output, errors);
     let status = tell_ending(errors, ending);
+    tell_sentence(errors, alloc, sought, ending);
     tell_cause_at(world, alloc, status, errors);
     status
 }
@@ -122,7 +144,14 @@ pub fn run_program<A: World, R: Read, W: Write + AnswerSink<A::Disk>, E: Listene
     output: &mut W,
     errors: &mut E,
 ) -> ExitCode
-    ensures { EndsProcess A.model A.Disk.model A.File.remaining E.hears asked.entry
+    ensures ends { EndsProcess A.model A.Disk.model A.File.remaining E.hears asked.entry
+        (around world.old (R.remaining input.old.inner)
+        (output_of_words asked.entry (W.contents output.old) (W.taken output.old)))
+        (around world.new (R.remaining input.new.inner)
+        (output_of_words asked.entry (W.contents output.new) (W.taken output.new)))
+        errors.old errors.new (exit_status result) }
+    ensures tells { TellsOfWords A.model A.Disk.model A.File.remaining E.hears
+        asked.entry input.new.tail
         (around world.old (R.remaining input.old.inner)
         (output_of_words asked.entry (W.contents output.old) (W.taken output.old)))
         (around world.new (R.remaining input.new.inner)
@@ -142,12 +171,19 @@ fn do_words<A: World, R: Read, W: Write + AnswerSink<A::Disk>, E: Listener>(
     output: &mut W,
     errors: &mut E,
 ) -> Status
-    ensures { DoesWords A.model A.Disk.model A.File.remaining E.hears asked.entry
+    ensures does { DoesWords A.model A.Disk.model A.File.remaining E.hears asked.entry
         (around world.old (R.remaining input.old.inner)
         (output_of_words asked.entry (W.contents output.old) (W.taken output.old)))
         (around world.new (R.remaining input.new.inner)
         (output_of_words asked.entry (W.contents output.new) (W.taken output.new)))
         errors.old errors.new result }
+    ensures tells { TellsOfWords A.model A.Disk.model A.File.remaining E.hears
+        asked.entry input.new.tail
+        (around world.old (R.remaining input.old.inner)
+        (output_of_words asked.entry (W.contents output.old) (W.taken output.old)))
+        (around world.new (R.remaining input.new.inner)
+        (output_of_words asked.entry (W.contents output.new) (W.taken output.new)))
+        errors.old errors.new (code_of result) }
 {
     match asked {
         Ok(invocation) => perform(world, alloc, invocation, input, output, errors),
@@ -182,6 +218,13 @@ fn perform_word<'w, A: World, R: Read, W: Write + AnswerSink<A::Disk>, E: Listen
         (around world.new (R.remaining input.new.inner)
         (output_of invocation.entry (W.contents output.new) (W.taken output.new))) result }
     ensures leaves { Leaves E.hears invocation.entry errors.old result errors.new }
+    ensures tells { TellsOf A.model A.Disk.model A.File.remaining E.hears
+        invocation.entry input.new.tail
+        (around world.old (R.remaining input.old.inner)
+        (output_of invocation.entry (W.contents output.old) (W.taken output.old)))
+        (around world.new (R.remaining input.new.inner)
+        (output_of invocation.entry (W.contents output.new) (W.taken output.new)))
+        errors.old errors.new result }
 {
     match invocation {
         Invocation::Init { folder } => Ending::Of(init_folder(world, alloc, folder, errors)),
@@ -369,12 +412,19 @@ fn perform_word<'w, A: World, R: Read, W: Write + AnswerSink<A::Disk>, E: Listen
 }
 
 /// Who writes why texts are refused: as much as the words or the world ask for.
-fn reporter_of<A: World>(world: &A, alloc: Global, asked: Reporting) -> Reporter {
-    let reporting = match asked {
-        Reporting::Brief => world.reporting(),
-        Reporting::Explained => Reporting::Explained,
-    };
-    Reporter { alloc, reporting }
+fn reporter_of<A: World>(world: &A, alloc: Global, asked: Reporting) -> Reporter
+    ensures { IsReporting asked result.reporting }
+{
+    match asked {
+        Reporting::Brief => Reporter {
+            alloc,
+            reporting: world.reporting(),
+        },
+        Reporting::Explained => Reporter {
+            alloc,
+            reporting: Reporting::Explained,
+        },
+    }
 }
 
 /// Performs the commands of `input` on the store in a folder. One line to `errors` says how many bytes opening dropped,
@@ -393,6 +443,10 @@ fn run_folder<A: World, R: Read, S: AnswerSink<A::Disk>, E: Listener>(
         (around world.new (R.remaining input.new.inner) (S.taken output.new))
         (Of result) }
     ensures told { TellsSession E.hears errors.old errors.new }
+    ensures tells { TellsRun A.model A.Disk.model E.hears folder.now grouping input.new.tail
+        (around world.old (R.remaining input.old.inner) (S.taken output.old))
+        (around world.new (R.remaining input.new.inner) (S.taken output.new))
+        errors.old errors.new (Of result) }
 {
     match world.open(alloc, Access::Making, folder) {
         Ok(disk) => {

@@ -1,6 +1,7 @@
 // What standard error has of a text that is refused.
-ghost use Rattle.std.specs.Prelude.{◌≡◌, ◌++◌, IfErr, OnOk};
-ghost use Rattle.conf_tools.specs.Refused.{HasPlace, IsPlaceOf, TellsFault, fault_and_more, place_text, refusal_line};
+ghost use Rattle.std.specs.Prelude.{◌≡◌, ◌++◌, IfErr, OnOk, Some};
+ghost use Rattle.conf_tools.specs.FaultLines.{text_fault_name};
+ghost use Rattle.conf_tools.specs.Refused.{HasPlace, TellsCalled, TellsFault, TellsFaultOf, TellsUnnamed, blamed, fault_and_more, path_of, place_text, refusal_line};
 
 use crate::listener::Listener;
 use crate::texts::ToolFault;
@@ -23,6 +24,18 @@ pub(crate) enum Origin<'f> {
     Input,
     /// A file of this name, `-` for standard input, or the word for a text that the words give.
     Named(&'f str),
+}
+
+impl<'f> Origin<'f> {
+    /// What a fault of the text is told of: a failure of the output is none of the file.
+    pub(crate) fn blamed(self, fault: ToolFault) -> Origin<'f>
+        ensures { path_of result ≡ blamed (path_of self.entry) fault }
+    {
+        match fault {
+            ToolFault::Output => Origin::Input,
+            _ => self,
+        }
+    }
 }
 
 /// What is known of the refusal of a text.
@@ -54,6 +67,8 @@ impl Reporter {
     )
         ensures same { OnOk ended.now (errors.new ≡ errors.old) }
         ensures told { IfErr ended.now (TellsFault E.hears errors.old) }
+        ensures of { IfErr ended.now (λ fault. TellsFaultOf E.hears self.now.reporting
+            (path_of origin.entry) fault errors.old errors.new) }
     {
         match ended {
             Ok(_) => {}
@@ -70,7 +85,9 @@ impl Reporter {
         text: &[u8],
         fault: ToolFault,
     )
-        ensures { TellsFault E.hears errors.old fault }
+        ensures told { TellsFault E.hears errors.old fault }
+        ensures of { TellsFaultOf E.hears self.now.reporting (path_of origin.entry) fault
+            errors.old errors.new }
     {
         match origin {
             Origin::Input => self.tell_unnamed(errors, fault),
@@ -80,7 +97,7 @@ impl Reporter {
 
     /// Tells a fault of standard input, where the words name no file.
     fn tell_unnamed<E: Listener>(&self, errors: &mut E, fault: ToolFault)
-        ensures { TellsFault E.hears errors.old fault }
+        ensures { TellsUnnamed E.hears fault errors.old errors.new }
     {
         let shown = format!(in self.alloc; "{fault}").ok();
         let more = more_of(&shown, fault.name());
@@ -89,10 +106,19 @@ impl Reporter {
 
     /// Tells a fault of a text of which these bytes were read, under the name of its file.
     fn tell_named<E: Listener>(&self, errors: &mut E, file: &str, text: &[u8], fault: ToolFault)
-        ensures { TellsFault E.hears errors.old fault }
+        ensures { TellsFaultOf E.hears self.now.reporting (Some file.now) fault
+            errors.old errors.new }
     {
-        let name = escaped(self.alloc, file).ok();
-        let name = name.as_deref().unwrap_or("FILE");
+        match escaped(self.alloc, file) {
+            Ok(name) => self.tell_called(errors, &name, text, fault),
+            Err(_) => self.tell_called(errors, "FILE", text, fault),
+        }
+    }
+
+    /// Tells a fault of a text of which these bytes were read, and which is called so.
+    fn tell_called<E: Listener>(&self, errors: &mut E, name: &str, text: &[u8], fault: ToolFault)
+        ensures { TellsCalled E.hears self.now.reporting name.now fault errors.old errors.new }
+    {
         match fault {
             ToolFault::Read(fault) => self.tell_refusal(errors, name, text, fault),
             ToolFault::Comments(place) => self.tell_comments(errors, name, text, place),
@@ -107,7 +133,8 @@ impl Reporter {
 
     /// Tells that a text has comments, of which the first is at this place.
     fn tell_comments<E: Listener>(&self, errors: &mut E, name: &str, text: &[u8], place: Place)
-        ensures { TellsFault E.hears errors.old (ToolFault.Comments place) }
+        ensures { TellsCalled E.hears self.now.reporting name.now (ToolFault.Comments place)
+            errors.old errors.new }
     {
         tell_fault_line(errors, name, Some(place), ToolFault::Comments(place), "");
         self.explain(
@@ -120,7 +147,8 @@ impl Reporter {
 
     /// Tells that a text is one value alone.
     fn tell_one_value<E: Listener>(&self, errors: &mut E, name: &str)
-        ensures { TellsFault E.hears errors.old ToolFault.OneValue }
+        ensures { TellsCalled E.hears self.now.reporting name.now ToolFault.OneValue
+            errors.old errors.new }
     {
         let more = " (neither a mapping nor a list)";
         tell_fault_line(errors, name, None, ToolFault::OneValue, more);
@@ -134,7 +162,8 @@ impl Reporter {
 
     /// Tells that a text lists no edits.
     fn tell_no_edits<E: Listener>(&self, errors: &mut E, name: &str)
-        ensures { TellsFault E.hears errors.old ToolFault.NoEdits }
+        ensures { TellsCalled E.hears self.now.reporting name.now ToolFault.NoEdits
+            errors.old errors.new }
     {
         tell_fault_line(
             errors,
@@ -148,7 +177,8 @@ impl Reporter {
 
     /// Tells why the text of an import in a list is refused.
     fn tell_import_text<E: Listener>(&self, errors: &mut E, name: &str, fault: ReadFault)
-        ensures { TellsFault E.hears errors.old (ToolFault.ImportText fault) }
+        ensures { TellsCalled E.hears self.now.reporting name.now (ToolFault.ImportText fault)
+            errors.old errors.new }
     {
         let brief = fault.brief();
         let shown = format!(in self.alloc; "{brief} (the text of an import)").ok();
@@ -159,7 +189,8 @@ impl Reporter {
 
     /// Tells where and why a text is refused.
     fn tell_refusal<E: Listener>(&self, errors: &mut E, name: &str, text: &[u8], fault: ReadFault)
-        ensures { TellsFault E.hears errors.old (ToolFault.Read fault) }
+        ensures { TellsCalled E.hears self.now.reporting name.now (ToolFault.Read fault)
+            errors.old errors.new }
     {
         let report = self.report_on(text, fault);
         let more = more_of(&report.shown, ToolFault::Read(fault).name());
@@ -208,17 +239,24 @@ impl Reporter {
 
     /// Writes the line of a text that has a place, with a mark under it, and what to do, if there is more than the line
     /// before says. Nothing is written where reports are brief.
-    fn explain<E: Write>(&self, errors: &mut E, text: &[u8], place: Option<Place>, remedy: &str) {
-        if self.reporting == Reporting::Brief {
-            return;
+    fn explain<E: Write>(&self, errors: &mut E, text: &[u8], place: Option<Place>, remedy: &str)
+        ensures { self.now.reporting ≡ Reporting.Brief → errors.new ≡ errors.old }
+    {
+        match self.reporting {
+            Reporting::Brief => {}
+            Reporting::Explained => write_explanation(errors, text, place, remedy),
         }
-        if let Some(place) = place {
-            let excerpt = Excerpt::new(text, place);
-            let _ = writeln!(errors, "{excerpt}");
-        }
-        if !remedy.is_empty() {
-            let _ = writeln!(errors, "help: {remedy}");
-        }
+    }
+}
+
+/// Writes the line of a text that has a place, with a mark under it, and what to do, if there is more than that.
+fn write_explanation<E: Write>(errors: &mut E, text: &[u8], place: Option<Place>, remedy: &str) {
+    if let Some(place) = place {
+        let excerpt = Excerpt::new(text, place);
+        let _ = writeln!(errors, "{excerpt}");
+    }
+    if !remedy.is_empty() {
+        let _ = writeln!(errors, "help: {remedy}");
     }
 }
 
@@ -245,7 +283,8 @@ fn tell_fault_line<E: Listener>(
     fault: ToolFault,
     more: &str,
 )
-    ensures { IsPlaceOf fault place → TellsFault E.hears errors.old fault }
+    ensures { E.hears errors.old (refusal_line text.now place (text_fault_name fault) more.now)
+        errors.new }
 {
     tell_line(errors, text, place, fault.name(), more);
 }

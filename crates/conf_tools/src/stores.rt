@@ -134,6 +134,7 @@ pub fn run_store<D: Disk + Drop, R: Read, S: AnswerSink<D>, E: Listener>(
         (R.remaining reader.new) (S.taken sink.old) (S.taken sink.new))
         grouping disk result }
     ensures told { TellsDropped E.hears errors.old errors.new }
+    ensures untold { WasOpened result ⊎ (errors.new ≡ errors.old) }
     // The line says how many bytes followed the last whole record of the file.
     ensures dropped { D.model.honest → WasOpened result →
         TellsDroppedOf E.hears (store_note D.model disk) (store_file D.model disk)

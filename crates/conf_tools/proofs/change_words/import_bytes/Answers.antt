@@ -32,4 +32,4 @@ returns-in-Err-clause-imports g c = record {
 }
 
 pub returns-in-Err-clause-leaves : goal.returns-in-Err-clause-leaves
-returns-in-Err-clause-leaves g c = (c.args.errors.now, inl refl, c.tell_fault.ensures)
+returns-in-Err-clause-leaves g c = (c.args.errors.now, inl refl, c.tell_fault.ensures.told)

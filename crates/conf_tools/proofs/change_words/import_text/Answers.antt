@@ -11,4 +11,4 @@ returns-in-Ok-clause-imports g c = rw (c.in-Ok.is)
     c.deref.ensures.value c.import_bytes.ensures.imports)
 
 pub returns-in-Err-clause-leaves : goal.returns-in-Err-clause-leaves
-returns-in-Err-clause-leaves g c = (c.args.errors.now, inl refl, c.tell_fault.ensures)
+returns-in-Err-clause-leaves g c = (c.args.errors.now, inl refl, c.tell_fault.ensures.told)

@@ -18,4 +18,4 @@ returns-in-Ok-clause-told g c = check_told g.E.Listener.hears c.check_text-ended
     c.args.errors.now c.tell.new.errors c.ending_after_check.ensures c.tell.ensures.same c.tell.ensures.told
 
 pub returns-in-Err-clause-told : goal.returns-in-Err-clause-told
-returns-in-Err-clause-told g c = c.tell_fault.ensures
+returns-in-Err-clause-told g c = c.tell_fault.ensures.told

@@ -23,4 +23,4 @@ returns-in-Ok-clause-told g c = rw (c.in-Ok.is)
     c.ending_after_format.ensures c.tell_written.ensures.same c.tell_written.ensures.told c.tell_loss.ensures))
 
 pub returns-in-Err-clause-told : goal.returns-in-Err-clause-told
-returns-in-Err-clause-told g c = rw (c.in-Err.is) c.tell_fault.ensures
+returns-in-Err-clause-told g c = rw (c.in-Err.is) c.tell_fault.ensures.told

@@ -1,6 +1,9 @@
--- Where the status is 0, no more is told.
-use Rattle.std.proofs.Common.{◌∙◌}
+-- What was told of the file, and then perhaps the cause.
 use Rattle.conf_tools.proofs.file_words.restyle_file.Goals as goal
 
-pub returns-clause-silent : goal.returns-clause-silent
-returns-clause-silent g c = λ zero. c.tell_cause_at.ensures zero ∙ c.restyle_opened-status.ensures.silent zero
+pub returns : goal.returns
+returns g c = record {
+  told = c.restyle_opened-status.new.errors;
+  tells = c.restyle_opened-status.ensures;
+  cause = c.tell_cause_at.ensures;
+}

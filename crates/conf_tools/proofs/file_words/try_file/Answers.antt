@@ -1,8 +1,17 @@
--- Where there is a report, nothing more is told.
-use Rattle.conf_tools.proofs.OutcomeLemmas.{report_then}
+-- What was told of the file, and then perhaps the cause.
+use Rattle.std.proofs.Common.{subst}
+use Rattle.conf_tools.specs.{Telling.TellsCause, declared.program.Status.Status}
 use Rattle.conf_tools.proofs.file_words.try_file.Goals as goal
 
-pub returns-clause-silent : goal.returns-clause-silent
-returns-clause-silent g c =
-    report_then c.report_on_read-ended.result c.args.errors.now c.report_on_read-ended.new.errors c.tell_cause_of.new.errors
-    c.report_on_read-ended.ensures.silent c.tell_cause_of.ensures
+pub returns : goal.returns
+returns g c = record {
+  does = record {
+    read = c.read_named-read.result;
+    takes = c.read_named-read.ensures;
+    says = c.report_on_read-ended.ensures.reports;
+  };
+  told = c.report_on_read-ended.new.errors;
+  tells = c.report_on_read-ended.ensures.tells;
+  cause = subst (λ (status : Status). TellsCause status c.report_on_read-ended.new.errors c.tell_cause_at.new.errors)
+      c.status_of_report.ensures c.tell_cause_at.ensures;
+}

@@ -23,3 +23,30 @@ returns-in-Ok-clause-told g c =
 
 pub returns-in-Err-clause-told : goal.returns-in-Err-clause-told
 returns-in-Err-clause-told g c = record { opened = c.args.errors.now; dropped = inl refl; end = None; rest = 0; tells = refl }
+
+pub returns-in-Ok-clause-tells : goal.returns-in-Ok-clause-tells
+returns-in-Ok-clause-tells g c = inr (record {
+  does = record {
+    first = c.in-Ok.disk;
+    opened = c.open.new.self;
+    opens = c.in-Ok.ensures;
+    result = c.run_store-ended.result;
+    gives_back = c.end_session.ensures.back;
+    ends = c.end_session.ensures.ends;
+    runs = c.run_store-ended.ensures.runs;
+    survives = c.run_store-ended.ensures.crashes;
+  };
+  opened = c.run_store-ended.new.errors;
+  dropped = c.run_store-ended.ensures.dropped;
+  unopened = c.run_store-ended.ensures.untold;
+  rest = c.end_session.ensures.told;
+})
+
+pub returns-in-Err-clause-tells : goal.returns-in-Err-clause-tells
+returns-in-Err-clause-tells g c = inl (record {
+  cannot = record {
+    cannot = record { fault = c.in-Err.fault; opens = c.in-Err.ensures; ends = refl };
+    streams = record { input = refl; output = refl };
+  };
+  untold = refl;
+})

@@ -1,8 +1,8 @@
 -- What the session left is what the closed store hands back.
-use Rattle.std.proofs.Common.{sym, subst}
+use Rattle.std.proofs.Common.{inl, sym, subst}
 use Rattle.conf_tools.proofs.Prelude.{streams_of}
 use Rattle.conf_tools.specs.Stores.{AnswersOn, KeepsAnswered}
-use Rattle.conf_tools.proofs.SessionLemmas.{answers-on, keeps-answered, runs-after, survives-after}
+use Rattle.conf_tools.proofs.SessionLemmas.{answers-on, keeps-answered, opened-after, runs-after, survives-after}
 use Rattle.conf_tools.proofs.stores.run_store.Goals as goal
 
 pub returns-clause-runs : goal.returns-clause-runs
@@ -31,3 +31,6 @@ returns-clause-crashes g c h =
     (subst (λ (disk : g.row.D.Denot). KeepsAnswered model io c.args.grouping c.args.disk disk ran.result) (sym c.close-disk.ensures)
     (keeps-answered model io c.args.disk c.in-Ok.store ran.new.store ran.result c.in-Ok.ensures.opens c.args.grouping
     ran.ensures.runs c.answers_acknowledge.ensures h)))
+
+pub returns-clause-untold : goal.returns-clause-untold
+returns-clause-untold g c = inl (rw c.after_session.ensures (opened-after c.close-disk.result c.run_session-result.result))

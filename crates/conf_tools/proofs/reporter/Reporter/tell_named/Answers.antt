@@ -1,11 +1,9 @@
--- Each fault is told in its own line.
+-- The file is called by its name, or by a word.
+use Rattle.std.proofs.Common.{◌∙◌, inl, inr, refl}
 use Rattle.conf_tools.proofs.reporter.Reporter.tell_named.Goals as goal
 
-pub returns-in-Input : goal.returns-in-Input
-returns-in-Input g c = rw (c.in-Input.is) (c.tell_fault_line.ensures tt)
+pub returns-in-Ok : goal.returns-in-Ok
+returns-in-Ok g c = (c.deref.result.now, inl (c.deref.ensures ∙ c.in-Ok.ensures), c.tell_called.ensures)
 
-pub returns-in-Output : goal.returns-in-Output
-returns-in-Output g c = rw (c.in-Output.is) (c.tell_fault_line-in-Output.ensures tt)
-
-pub returns : goal.returns
-returns g c = rw (c.in-Unsettled.is) (c.tell_fault_line-in-Unsettled.ensures tt)
+pub returns-in-Err : goal.returns-in-Err
+returns-in-Err g c = (_, inr refl, c.tell_called-in-Err.ensures)
