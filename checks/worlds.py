@@ -2,9 +2,10 @@
 """Runs random lists of the program's words in worlds in memory, by orders to the built world_probe, beside a model.
 
 The model is a dict of folders, each with the state of its store. Each word has to end with the model's status, and a
-session has to answer as the model does. After each word its run is cut off after each call of a disk, and each image
-that a crash leaves then is opened again (those with some zeros, but not as many as fit, are left out). What is found in
-a folder has to be the states that the model goes through in that word, all of them, in order, and no other.
+session has to answer as the model does. After each word its run is killed after each call of a system, and what the
+kill leaves is opened again, and each image that a crash leaves then (cuts with some zeros, but not as many as fit, are
+left out). What is found in a folder has to be the states that the model goes through in that word, all of them, in
+order, and no other.
 
 Run it after the program is built. It takes some seconds.
 

@@ -36,7 +36,7 @@ impl History {
             path: String::from_str(alloc, path)?,
             states: Vec::new(alloc),
         };
-        let mut world = list.world_before(alloc, u64::MAX)?;
+        let mut world = list.world_before(alloc, usize::MAX)?;
         history.push(told(alloc, &mut world, path)?)?;
         if let Some(last) = &list.last {
             history.push_run(alloc, list, last)?;
@@ -68,7 +68,7 @@ impl History {
 
     /// Adds the state once the store is opened, or made if there is none.
     fn push_opened(&mut self, alloc: Global, list: &List) -> Result<(), AllocError> {
-        let mut world = list.world_before(alloc, u64::MAX)?;
+        let mut world = list.world_before(alloc, usize::MAX)?;
         let making = Invocation::Init { folder: &self.path };
         let _ = ask(&mut world, alloc, making, "");
         let state = told(alloc, &mut world, &self.path)?;
@@ -100,7 +100,7 @@ impl History {
         last: &Asked,
         input: &str,
     ) -> Result<(), AllocError> {
-        let mut world = list.world_before(alloc, u64::MAX)?;
+        let mut world = list.world_before(alloc, usize::MAX)?;
         let _ = run(&mut world, alloc, &last.words, input);
         let state = told(alloc, &mut world, &self.path)?;
         self.push(state)

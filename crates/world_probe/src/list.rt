@@ -1,11 +1,18 @@
 // A list of runs of the program, and what is there before the first.
 use crate::runs::{Ran, run};
 use crate::world::MemoryWorld;
+use conf_system::Note;
 use std::alloc::{AllocError, Global};
-use test_disks::MemoryDisk;
+use test_system::MemorySystem;
 
 /// What the path of a store's file ends with, after that of its folder.
 const STORE_FILE: &str = "/store.yaml";
+
+/// What counts as noted in a folder in which no run has noted anything: the worst.
+const UNKNOWN: Note = Note {
+    on_device: false,
+    several: true,
+};
 
 /// The words of a run, of which the first is the program's name, and its standard input.
 #[derive(Drop)]
@@ -49,11 +56,11 @@ impl List {
         Ok(())
     }
 
-    /// The world before the last run, with disks that let so many calls pass in all.
+    /// The world before the last run, whose systems let so many calls pass in all.
     pub(crate) fn world_before(
         &self,
         alloc: Global,
-        most_calls: u64,
+        most_calls: usize,
     ) -> Result<MemoryWorld, AllocError> {
         let mut world = MemoryWorld::new(alloc, most_calls);
         put_all(alloc, &mut world, &self.given)?;
@@ -63,12 +70,12 @@ impl List {
         Ok(world)
     }
 
-    /// The world after the last run, with disks that let so many calls pass in all, and what that run left.
+    /// The world after the last run, whose systems let so many calls pass in all, and what that run left.
     pub(crate) fn world_after(
         &self,
         alloc: Global,
         last: &Asked,
-        most_calls: u64,
+        most_calls: usize,
     ) -> Result<(MemoryWorld, Ran), AllocError> {
         let mut world = self.world_before(alloc, most_calls)?;
         let ran = run(&mut world, alloc, &last.words, &last.input);
@@ -87,11 +94,14 @@ fn put_all(alloc: Global, world: &mut MemoryWorld, all: &[Given]) -> Result<(), 
 /// Adds a folder or a file to a world.
 fn put(alloc: Global, world: &mut MemoryWorld, given: &Given) -> Result<(), AllocError> {
     match given {
-        Given::Folder { path } => world.put_folder(path, MemoryDisk::new(alloc)),
+        Given::Folder { path } => world.put_folder(path, MemorySystem::new(alloc)?),
         Given::File { path, bytes } => match path.strip_suffix(STORE_FILE) {
             Some(folder) => {
                 let store = Some(bytes.clone()?);
-                world.put_folder(folder, MemoryDisk::with_files(alloc, store, None)?)
+                world.put_folder(
+                    folder,
+                    MemorySystem::with_files(alloc, store, None, None, UNKNOWN)?,
+                )
             }
             None => world.put_file(path, bytes),
         },

@@ -79,7 +79,7 @@ fn run_next(alloc: Global, list: &mut List, order: &str) -> Result<String, Alloc
     };
     list.push(Asked { words, input })?;
     match &list.last {
-        Some(last) => list.world_after(alloc, last, u64::MAX)?.1.line(alloc),
+        Some(last) => list.world_after(alloc, last, usize::MAX)?.1.line(alloc),
         None => no_order(alloc),
     }
 }

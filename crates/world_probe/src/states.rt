@@ -11,7 +11,7 @@ const CHECKPOINT: &str = "---\ncheckpoint:\n...\n";
 /// What stands around the number in the answer to it.
 const ANSWER: (&str, &str) = ("---\nok: \"", "\"\n...\n");
 
-/// What is said where a folder has no store.
+/// What is said first where a folder has no store.
 const NO_STORE: &str = "confstore: NotAStore\n";
 
 /// What a folder without a store is shown as, and one that is not there.
@@ -24,14 +24,23 @@ pub(crate) fn told(
     world: &mut MemoryWorld,
     path: &str,
 ) -> Result<String, AllocError> {
-    if world.disk(path).is_none() {
+    if world.system(path).is_none() {
         return String::from_str(alloc, NOTHING);
     }
+    let mut told = told_by_words(alloc, world, path)?;
+    if world.is_misused() {
+        told.push_str(" by a call that may not be made")?;
+    }
+    Ok(told)
+}
+
+/// What the words say that a folder holds.
+fn told_by_words(alloc: Global, world: &mut MemoryWorld, path: &str) -> Result<String, AllocError> {
     let read = ask(world, alloc, names_of(path), "");
     if read.status == Status::Done {
         return told_of_store(alloc, world, path, read.output());
     }
-    if read.errors() == NO_STORE {
+    if read.errors().starts_with(NO_STORE) {
         return told_of_none(alloc, world, path);
     }
     read.line(alloc)

@@ -1,38 +1,50 @@
-// A world in memory: folders of disks that stop after so many calls, and files.
-use conf_disk::{Content, Disk, DiskFault, Name};
+// A world in memory: folders of systems that stop after so many calls, and files.
+use crate::disk::ProbeDisk;
+use crate::file::WorldFile;
+use crate::guarded::GuardedSystem;
 use conf_files::{Cause, NewFileFault, ReplaceFault};
 use conf_folder::FolderFault;
 use conf_store::Waiting;
+use conf_system::{FileName, Note};
 use conf_tools::{Access, World};
 use conf_words::Reporting;
 use std::alloc::{AllocError, Global};
 use std::collections::BTreeMap;
-use std::io::Cursor;
-use test_disks::{Fuse, FusedDisk, MemoryDisk};
+use test_system::{Fault, MemorySystem};
 
 /// Folders and files in memory, by their paths, which are taken as they are written. After a number of calls of its
-/// disks all stop, as if the program had been killed.
+/// systems all fail, and do nothing, as if the program had been killed.
 #[derive(Drop)]
 pub(crate) struct MemoryWorld {
     alloc: Global,
     /// The folders. One whose disk is handed out has none.
-    folders: BTreeMap<String, Option<MemoryDisk>>,
+    folders: BTreeMap<String, Option<MemorySystem>>,
     files: BTreeMap<String, Vec<u8>>,
     /// The folder whose disk is handed out: one at most.
-    held: Option<String>,
+    held: Option<Held>,
     /// The folder that was made last, until its disk is given back, or none could be handed out.
     made: Option<String>,
-    /// How many calls the disks let pass in all.
-    most_calls: u64,
-    /// How many calls the disks that were given back let pass.
-    calls: u64,
-    /// Whether a call has failed.
+    /// How many calls the systems let pass in all.
+    most_calls: usize,
+    /// How many calls passed, but for those of the disk that is handed out.
+    calls: usize,
+    /// Whether a call was to be made after those.
     is_stopped: bool,
+    /// Whether a call was made that may not be made.
+    is_misused: bool,
+}
+
+/// A folder whose disk is handed out.
+#[derive(Drop)]
+struct Held {
+    path: String,
+    /// How many calls of its system were made before.
+    before: usize,
 }
 
 impl MemoryWorld {
-    /// An empty world, whose disks let so many calls pass.
-    pub(crate) fn new(alloc: Global, most_calls: u64) -> MemoryWorld {
+    /// An empty world, whose systems let so many calls pass.
+    pub(crate) fn new(alloc: Global, most_calls: usize) -> MemoryWorld {
         MemoryWorld {
             alloc,
             folders: BTreeMap::new(alloc),
@@ -42,20 +54,25 @@ impl MemoryWorld {
             most_calls,
             calls: 0,
             is_stopped: false,
+            is_misused: false,
         }
     }
 
-    /// Adds a folder, or puts another disk into one that is there.
-    pub(crate) fn put_folder(&mut self, path: &str, disk: MemoryDisk) -> Result<(), AllocError> {
+    /// Adds a folder, or puts another system into one that is there.
+    pub(crate) fn put_folder(
+        &mut self,
+        path: &str,
+        system: MemorySystem,
+    ) -> Result<(), AllocError> {
         self.folders
-            .insert(String::from_str(self.alloc, path)?, Some(disk))?;
+            .insert(String::from_str(self.alloc, path)?, Some(system))?;
         Ok(())
     }
 
     /// Makes a folder that is not there.
     fn add_folder(&mut self, alloc: Global, path: &str) -> Result<(), AllocError> {
         let made = String::from_str(alloc, path)?;
-        self.put_folder(path, MemoryDisk::new(alloc))?;
+        self.put_folder(path, MemorySystem::new(alloc)?)?;
         self.made = Some(made);
         Ok(())
     }
@@ -69,38 +86,87 @@ impl MemoryWorld {
         Ok(())
     }
 
-    /// The folders, with their disks.
-    pub(crate) fn folders(&self) -> &BTreeMap<String, Option<MemoryDisk>> {
+    /// The folders, with their systems.
+    pub(crate) fn folders(&self) -> &BTreeMap<String, Option<MemorySystem>> {
         &self.folders
     }
 
-    /// The disk of a folder, if it is there and not handed out.
-    pub(crate) fn disk(&self, path: &str) -> Option<&MemoryDisk> {
+    /// The system of a folder, if it is there and its disk is not handed out.
+    pub(crate) fn system(&self, path: &str) -> Option<&MemorySystem> {
         self.folders.get(path)?.as_ref()
     }
 
-    /// How many calls of its disks passed.
-    pub(crate) fn calls(&self) -> u64 {
+    /// How many calls of its systems passed.
+    pub(crate) fn calls(&self) -> usize {
         self.calls
     }
 
+    /// Whether a call was made that may not be made.
+    pub(crate) fn is_misused(&self) -> bool {
+        self.is_misused
+    }
+
+    /// Lets each call pass from now on, as in a next run of the program.
+    pub(crate) fn go_on(&mut self) {
+        self.most_calls = usize::MAX;
+        self.is_stopped = false;
+    }
+
     /// Hands out the disk of a folder, if it has what is wanted there.
-    fn hand_out(
-        &mut self,
-        alloc: Global,
-        access: Access,
-        path: &str,
-    ) -> Result<FusedDisk<MemoryDisk>, FolderFault> {
-        let left = self.most_calls.saturating_sub(self.calls);
+    fn hand_out(&mut self, access: Access, path: &str) -> Result<ProbeDisk, FolderFault> {
         let Ok(held) = String::from_str(self.alloc, path) else {
             return Err(FolderFault::OutOfMemory);
         };
         let Some(place) = self.folders.get_mut(path) else {
             return Err(FolderFault::Device);
         };
-        let disk = take_disk(alloc, place, access)?;
-        self.held = Some(held);
-        Ok(FusedDisk::new(disk, left, Fuse::Stop))
+        let system = take_system(place, access)?;
+        self.lend(held, system)
+    }
+
+    /// Opens the disk of a folder over its system, which lets as many calls pass as are left.
+    fn lend(&mut self, path: String, system: MemorySystem) -> Result<ProbeDisk, FolderFault> {
+        let before = system.calls();
+        let last = before.saturating_add(self.left());
+        self.held = Some(Held { path, before });
+        let system = system.with_fault(last, Fault::Kill { part: 0 });
+        match ProbeDisk::open(GuardedSystem::over(system)) {
+            Ok(disk) => Ok(disk),
+            Err(system) => {
+                self.take_back(system);
+                Err(FolderFault::Device)
+            }
+        }
+    }
+
+    /// How many calls may still pass.
+    fn left(&self) -> usize {
+        self.most_calls.saturating_sub(self.calls)
+    }
+
+    /// Puts the system of the disk that was handed out back into its folder. Calls that did not pass are forgotten.
+    fn take_back(&mut self, system: GuardedSystem) {
+        let Some(Held { path, before }) = self.held.take() else {
+            return;
+        };
+        self.is_misused = self.is_misused || system.is_misused();
+        let system = system.into_inner();
+        let passed = self.count(system.calls().saturating_sub(before));
+        let Ok(system) = system.killed_at(before.saturating_add(passed)) else {
+            return;
+        };
+        if let Some(place) = self.folders.get_mut(path.as_str()) {
+            *place = Some(system);
+        }
+    }
+
+    /// Counts calls that were made. Returns how many of them passed.
+    fn count(&mut self, made: usize) -> usize {
+        let left = self.left();
+        let passed = made.min(left);
+        self.calls = self.calls.saturating_add(passed);
+        self.is_stopped = self.is_stopped || made > left;
+        passed
     }
 
     /// Removes the folder that was made last, if there is no file in it. A program that is stopped removes none.
@@ -114,68 +180,69 @@ impl MemoryWorld {
     }
 
     /// Whether there is no file in a folder.
-    fn is_empty(&mut self, path: &str) -> bool {
-        match self.folders.get_mut(path) {
-            Some(Some(disk)) => {
-                is_missing(self.alloc, disk, Name::Store)
-                    && is_missing(self.alloc, disk, Name::Next)
-            }
-            _ => false,
+    fn is_empty(&self, path: &str) -> bool {
+        match self.system(path) {
+            Some(system) => !has(system, FileName::Store) && !has(system, FileName::Next),
+            None => false,
         }
     }
 }
 
-/// Takes the disk of a folder, if it has what is wanted there.
-fn take_disk(
-    alloc: Global,
-    place: &mut Option<MemoryDisk>,
+/// Takes the system of a folder, if it has what is wanted there.
+fn take_system(
+    place: &mut Option<MemorySystem>,
     access: Access,
-) -> Result<MemoryDisk, FolderFault> {
-    let Some(mut disk) = place.take() else {
+) -> Result<MemorySystem, FolderFault> {
+    let Some(system) = place.take() else {
         return Err(FolderFault::Locked);
     };
-    match refusal(alloc, &mut disk, access) {
+    match refusal(&system, access) {
         Some(fault) => {
-            *place = Some(disk);
+            *place = Some(system);
             Err(fault)
         }
-        None => Ok(disk),
+        None => Ok(system),
     }
 }
 
 /// Why a folder can't be opened for what is wanted there, if it can't.
-fn refusal(alloc: Global, disk: &mut MemoryDisk, access: Access) -> Option<FolderFault> {
-    match (access, is_missing(alloc, disk, Name::Store)) {
-        (Access::Changing, true) => Some(FolderFault::NotAStore),
-        (Access::New, false) => Some(FolderFault::StoreExists),
+fn refusal(system: &MemorySystem, access: Access) -> Option<FolderFault> {
+    match (access, has(system, FileName::Store)) {
+        (Access::Changing, false) => Some(FolderFault::NotAStore),
+        (Access::New, true) => Some(FolderFault::StoreExists),
         _ => None,
     }
 }
 
-/// Whether there is no file under a name.
-fn is_missing(alloc: Global, disk: &mut MemoryDisk, name: Name) -> bool {
-    matches!(disk.read(alloc, name, u64::MAX), Ok(Content::Missing))
+/// Whether there is a file under a name.
+fn has(system: &MemorySystem, name: FileName) -> bool {
+    !matches!(system.file(name), Ok(None))
 }
 
-/// The file of the store on a disk, to be read. `None` if there is none.
-fn store_file(
-    alloc: Global,
-    disk: &mut MemoryDisk,
-) -> Result<Option<Cursor<Vec<u8>>>, FolderFault> {
-    match disk.read(alloc, Name::Store, u64::MAX) {
-        Ok(Content::Missing) => Ok(None),
-        Ok(Content::Bytes(bytes)) => Ok(Some(Cursor::new(bytes))),
-        Err(DiskFault::OutOfMemory) => Err(FolderFault::OutOfMemory),
-        Ok(Content::TooLong) | Err(DiskFault::Device) => Err(FolderFault::Device),
+/// The file of the store in a folder, to be read. `None` if there is none.
+fn store_file(system: &MemorySystem) -> Result<Option<WorldFile>, FolderFault> {
+    match (system.file(FileName::Store), system.note()) {
+        (Ok(None), _) => Ok(None),
+        (Ok(Some(bytes)), Ok(note)) => Ok(Some(WorldFile::new(bytes, waiting_as(note)))),
+        _ => Err(FolderFault::OutOfMemory),
+    }
+}
+
+/// How many records may have waited for one sync, as it is noted.
+fn waiting_as(note: Note) -> Waiting {
+    if note.several {
+        Waiting::Several
+    } else {
+        Waiting::One
     }
 }
 
 impl World for MemoryWorld {
-    ghost use Rattle.std.specs.Prelude.{false};
+    ghost use Rattle.conf_store.specs.Holes.{is_several};
 
-    type Disk = FusedDisk<MemoryDisk>;
+    type Disk = ProbeDisk;
 
-    type File = Cursor<Vec<u8>>;
+    type File = WorldFile;
 
     /// The path of the file.
     type Place = String;
@@ -185,7 +252,7 @@ impl World for MemoryWorld {
       opened = λ access folder old result new. Unit {0};
       given_back = λ disk old new. Unit {0};
       opened_store = λ folder old result new. Unit {0};
-      several = λ file. false;
+      several = λ file. is_several file.waiting;
       opened_file = λ path old result new. Unit {0};
       opened_to_replace = λ path old result new. Unit {0};
       created_file = λ path bytes old result new. Unit {0};
@@ -219,11 +286,11 @@ impl World for MemoryWorld {
 
     fn open(
         &mut self,
-        alloc: Global,
+        _alloc: Global,
         access: Access,
         folder: &str,
-    ) -> Result<FusedDisk<MemoryDisk>, FolderFault> {
-        let opened = self.hand_out(alloc, access, folder);
+    ) -> Result<ProbeDisk, FolderFault> {
+        let opened = self.hand_out(access, folder);
         if opened.is_err() {
             self.leave_nothing();
         }
@@ -233,31 +300,25 @@ impl World for MemoryWorld {
     fn open_saved(
         &mut self,
         alloc: Global,
-        _like: &Cursor<Vec<u8>>,
+        _like: &WorldFile,
         folder: &str,
-    ) -> Result<FusedDisk<MemoryDisk>, FolderFault> {
+    ) -> Result<ProbeDisk, FolderFault> {
         self.open(alloc, Access::New, folder)
     }
 
-    fn give_back(&mut self, disk: FusedDisk<MemoryDisk>) {
-        self.calls = self.calls.saturating_add(disk.passed());
-        self.is_stopped = self.is_stopped || disk.failures() > 0;
-        if let Some(path) = self.held.take() {
-            if let Some(place) = self.folders.get_mut(path.as_str()) {
-                *place = Some(disk.into_inner());
-            }
-        }
+    fn give_back(&mut self, disk: ProbeDisk) {
+        self.take_back(disk.release());
         self.leave_nothing();
     }
 
     fn open_store(
         &mut self,
-        alloc: Global,
+        _alloc: Global,
         folder: &str,
-    ) -> Result<Option<Cursor<Vec<u8>>>, FolderFault> {
-        let opened = match self.folders.get_mut(folder) {
-            Some(Some(disk)) => store_file(alloc, disk),
-            _ => Err(FolderFault::Device),
+    ) -> Result<Option<WorldFile>, FolderFault> {
+        let opened = match self.system(folder) {
+            Some(system) => store_file(system),
+            None => Err(FolderFault::Device),
         };
         if opened.is_err() {
             self.leave_nothing();
@@ -265,20 +326,20 @@ impl World for MemoryWorld {
         opened
     }
 
-    fn waiting(&self, _file: &Cursor<Vec<u8>>) -> Waiting {
-        Waiting::One
+    fn waiting(&self, file: &WorldFile) -> Waiting {
+        file.waiting()
     }
 
-    fn open_file(&mut self, path: &str) -> Option<Cursor<Vec<u8>>> {
+    fn open_file(&mut self, path: &str) -> Option<WorldFile> {
         let bytes = self.files.get(path)?.to_vec(self.alloc).ok()?;
-        Some(Cursor::new(bytes))
+        Some(WorldFile::new(bytes, Waiting::One))
     }
 
     fn open_to_replace(
         &mut self,
         alloc: Global,
         path: &str,
-    ) -> Result<(Cursor<Vec<u8>>, String), ReplaceFault> {
+    ) -> Result<(WorldFile, String), ReplaceFault> {
         let Ok(place) = String::from_str(alloc, path) else {
             return Err(ReplaceFault::OutOfMemory);
         };
