@@ -237,12 +237,24 @@ def named(line: str) -> str:
     return OF_EDITS.sub(r"\1", line)
 
 
+# The lines of the program that say what was looked for. Over a socket there is the fault alone.
+SENTENCE = re.compile(
+    r"the store has no |the folder has no store\.yaml |a configuration is missing|nothing is at a pointer"
+    r"|begin the pointer |a name has 1 to 64 |a condition does not hold|an element of a list is named "
+    r"|\".*\" (?:has (?:nothing|a list) at|is no pointer)"
+)
+
+
+def without_sentences(lines: Sequence[str]) -> list[str]:
+    return [line for line in lines if not SENTENCE.match(line)]
+
+
 def compare(side: Side, model: Side, rows: Sequence[Row], failures: Failures) -> None:
     for row, found, wanted in zip(rows, side.results, model.results):
         name = f"{side.name}: {' '.join(row.words)[:80]}"
         failures.expect(f"{name}: status", found.status, wanted.status)
         failures.expect(f"{name}: output", found.output, wanted.output)
-        told, of_model = found.told("confstorectl"), wanted.told("confstore")
+        told, of_model = without_sentences(found.told("confstorectl")), without_sentences(wanted.told("confstore"))
         if row.words[0] == "batch":  # confstorectl names what an edit is refused for, and the program the file, too
             told, of_model = [named(line) for line in told], [named(line) for line in of_model]
         failures.expect(f"{name}: what is told", told, of_model)
@@ -509,7 +521,8 @@ def add_all(folder: str, clients: int, adds: int, failures: Failures) -> None:
     for error in errors:
         with error:
             error.seek(0)
-            told |= {line.partition(": ")[2].partition(": ")[0] for line in error.read().decode().splitlines()}
+            lines = without_sentences(error.read().decode().splitlines())
+            told |= {line.partition(": ")[2].partition(": ")[0] for line in lines}
     failures.expect("what they are told", told <= {"Unmet"}, True)
     failures.expect("the number", Reader(folder, program=PROGRAM).get("app", "/n"), str(clients * adds))
 

@@ -51,7 +51,7 @@ AHEAD = 20
 
 MEMORY = "/dev/shm"
 
-NO_SUCH_COMMAND = (1, "", "confstore: NoSuchCommand\n")
+NO_SUCH_COMMAND = (1, "", "confstore: NoSuchCommand")
 
 
 def edits(count: int) -> Iterator[str]:
@@ -154,9 +154,9 @@ class Reader:
 
     def get_at(self) -> None:
         number = self.seen
-        found = read("get", self.folder, "web", "/count", "--raw", "--at", str(number))
-        if found != NO_SUCH_COMMAND:
-            self.failures.expect(f"get --at {number}", found, (0, f"{number}\n", ""))
+        status, output, errors = read("get", self.folder, "web", "/count", "--raw", "--at", str(number))
+        if (status, output, errors.partition("\n")[0]) != NO_SUCH_COMMAND:
+            self.failures.expect(f"get --at {number}", (status, output, errors), (0, f"{number}\n", ""))
 
     def read_often(self, times: int) -> None:
         turns = (self.names, self.get, self.log, self.get, self.verify, self.get_at)

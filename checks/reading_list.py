@@ -4,8 +4,8 @@
     checks/reading_list.py             a line for each file: how many of its lines have to be read, of how many
     checks/reading_list.py --names     the definitions, too
 
-It begins with the clauses of the functions and traits of ROOTS, and follows each name that a clause or a definition
-uses to what defines it, in crates/*/specs, or in crates/*/src for a type of the code. What the toolchain's library
+It begins with the clauses of the functions and traits of ROOTS, of `perform` with one clause, and follows each name that
+a clause or a definition uses to what defines it, in crates/*/specs, or in crates/*/src for a type of the code. What the toolchain's library
 defines is left out. A line counts if it is one of a definition that was reached, or of the comment before it. The last
 line is 'N files, M definitions, L lines', and the status is 1 if a file is missing in docs/TRUSTED.md.
 """
@@ -22,12 +22,14 @@ from pathlib import Path
 TOP = Path(__file__).resolve().parent.parent
 CRATES = TOP / "crates"
 TRUSTED = TOP / "docs" / "TRUSTED.md"
-# The headline: what runs keep and what a run does, in a world and on a disk; and when a text is read.
+# The headline: what runs keep and what a run does with stores, in a world and on a disk; and when a text is read. Of an
+# item with a clause's name, that clause alone.
 ROOTS = (
-    ("conf_runs", "laws", "runs_hold"), ("conf_runs", "laws", "Folders"), ("conf_tools", "program", "perform"),
-    ("conf_tools", "world", "World"), ("conf_disk", "disk", "Disk"), ("conf_store", "laws", "lives_hold"),
-    ("conf_session", "groups", "run_grouped"), ("conf_session", "session", "run"), ("yaml_tree", "read", "read_one"),
-    ("yaml_tree", "format", "format_one"),
+    ("conf_runs", "laws", "runs_hold", ""), ("conf_runs", "laws", "Folders", ""),
+    ("conf_tools", "program", "perform", "stores"), ("conf_tools", "world", "World", ""),
+    ("conf_disk", "disk", "Disk", ""), ("conf_store", "laws", "lives_hold", ""),
+    ("conf_session", "groups", "run_grouped", ""), ("conf_session", "session", "run", ""),
+    ("yaml_tree", "read", "read_one", ""), ("yaml_tree", "format", "format_one", ""),
 )
 IMPORT = re.compile(r"^\s*(?:unfoldable )?(pub )?(?:ghost )?use Rattle\.([\w.]+?)(?:\.\{([^}]*)\}| as (\w+))?;?$")
 DECLARED = re.compile(r"^( *)(?:(?:pub|abbrev|unfoldable|opaque|data|record)\s+)*([^\s:={}()|.]+) (?::|\(|\{)")
@@ -146,14 +148,26 @@ def item_in(lines: list[str], name: str) -> tuple[int, int] | None:
     return None
 
 
-def reach_code(crate: str, file: str, name: str) -> tuple[Path, int, int, set[tuple[str, str]]] | None:
-    """An item of code: where it stands, and the definitions that its clauses name."""
+def clause_in(lines: list[str], clause: str) -> list[str]:
+    """The lines of the clause with this name; all lines for no name."""
+    if not clause:
+        return lines
+    first = next((at for at, line in enumerate(lines) if re.match(rf"\s*ensures {clause} ", line)), len(lines))
+    behind = (at for at in range(first + 1, len(lines)) if re.match(r"\s*(?:ensures |requires |\{)", lines[at]))
+    return lines[first:next(behind, len(lines))]
+
+
+def reach_code(
+    crate: str, file: str, name: str, clause: str = ""
+) -> tuple[Path, int, int, set[tuple[str, str]]] | None:
+    """An item of code: where it stands, and the definitions that its clauses name, or this one."""
     found = code_of(crate, file)
     span = item_in(found[1], name) if found else None
     if not found or not span:
         return None
     path, lines = found
-    body = "\n".join(line for line in lines[span[0]:span[1]] if not line.lstrip().startswith("//"))
+    clauses = clause_in(lines[span[0]:span[1]], clause)
+    body = "\n".join(line for line in clauses if not line.lstrip().startswith("//"))
     imports = imports_of([line.strip() for line in lines])
     return path, *span, {imports[word] for word in WORD.findall(body) if word in imports}
 
@@ -171,8 +185,8 @@ class Reached:
         self.lines.setdefault(path, set()).update(range(first, end))
         self.names.setdefault(path, set()).add(name)
 
-    def item(self, crate: str, file: str, name: str) -> bool:
-        found = reach_code(crate, file, name)
+    def item(self, crate: str, file: str, name: str, clause: str = "") -> bool:
+        found = reach_code(crate, file, name, clause)
         if found:
             path, first, end, used = found
             self.add(path, first, end, name)
@@ -209,8 +223,8 @@ class Reached:
 
 def reached() -> Reached:
     found = Reached()
-    for crate, file, name in ROOTS:
-        if not found.item(crate, file, name):
+    for crate, file, name, clause in ROOTS:
+        if not found.item(crate, file, name, clause):
             sys.exit(f"reading_list.py: {crate}::{file}::{name} is not there")
     found.follow()
     return found

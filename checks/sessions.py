@@ -250,8 +250,9 @@ def read_only_folders_are_refused(top: str, failures: Failures) -> None:
         wanted = (0, b"x\n", READ_ALONE.encode()) if files else (1, b"", b"confstore: NoConfig\n")
         failures.expect(f"an export, {name}", (done.returncode, done.stdout, done.stderr), wanted)
         done = subprocess.run([program, "get", folder, "a"], capture_output=True, check=False, **who)
-        wanted = (0, b"x\n", b"") if files else (1, b"", b"confstore: NotAStore\n")
-        failures.expect(f"a value, {name}", (done.returncode, done.stdout, done.stderr), wanted)
+        wanted = (0, b"x\n", b"") if files else (1, b"", b"confstore: NotAStore")
+        first_line = done.stderr.partition(b"\n")[0]
+        failures.expect(f"a value, {name}", (done.returncode, done.stdout, first_line), wanted)
         left = {file: read_file(os.path.join(folder, file)) for file in os.listdir(folder)}
         failures.expect(f"the files of a read-only folder, {name}", left, files)
         os.chmod(folder, 0o755)

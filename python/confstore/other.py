@@ -16,6 +16,8 @@ from .faults import AnswerCut, ConfstoreError, Disconnected, end_of, program_fau
 # How many bytes are read at once, and how many of standard error are kept.
 PART = 65_536
 ERRORS_KEPT = 8_192
+# What is kept of its beginning, which names the fault: a line behind it may be as long as the words.
+ERRORS_BEGUN = 1_024
 
 # How many seconds a program may take to be gone after it closed its output.
 GOING = 5.0
@@ -210,10 +212,10 @@ def take(source: int) -> Optional[bytes]:
 
 
 def take_errors(source: int, errors: bytearray) -> bool:
-    """Takes what is on standard error, and keeps its end. Whether there may be more."""
+    """Takes what is on standard error, and keeps its beginning and its end. Whether there may be more."""
     part = take(source)
     errors += part or b""
-    del errors[:-ERRORS_KEPT]
+    del errors[ERRORS_BEGUN:-ERRORS_KEPT]
     return part != b""
 
 
