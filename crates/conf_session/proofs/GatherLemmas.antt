@@ -15,7 +15,8 @@ use Rattle.conf_session.specs.Replies.{DidAsked, MeansPrefixes, Performs, Perfor
 use Rattle.conf_session.specs.Gathering.{last_bytes, unwritten_bytes, HasRoomFor, KeepsAnswer, KeepsAnswers, GathersPiece}
 use Rattle.conf_session.specs.Gathering.{LeavesPiece, GathersPieces, PerformsTurns, PerformsFlushed, BreaksOff, StopsShort, FlushesAll}
 use Rattle.conf_session.specs.Gathering.{SubmitsGroup, WritesAnswers, CutsAnswers, CutsSending, FailsToWrite, SendsAnswers}
-use Rattle.conf_session.specs.Gathering.{PassesGroup, PerformsGroup}
+use Rattle.conf_session.specs.Gathering.{HandsOut, PassesGroup, PerformsGroup}
+use Rattle.conf_session.specs.Handings.{Handing}
 use Rattle.conf_session.proofs.{SinkLemmas.kept-acknowledged}
 use Rattle.conf_session.proofs.PassedLemmas.{few-accepted, few-refused, continues, prefix-whole, pieces-last, performs-none, performs-more}
 use Rattle.conf_session.proofs.PassedLemmas.{state-more, moments-more, accepted_commands-last, output-last, refusals-last}
@@ -356,19 +357,19 @@ module _ {D : Type 0} (model : DiskModel D) where
   -- ---- how a group ends
 
   -- the device failed in it, or it has no answer
-  pub ends-unanswered : (held : Option (List ℕ)) (bytes : List ℕ) (input : Input) (old new : StoreView D)
+  pub ends-unanswered : (held : Option (List ℕ)) (had : List Handing) (bytes : List ℕ) (input : Input) (old new : StoreView D)
       (before after : Unwritten) (r : Result (Unit {0}) SessionFault) → SubmitsGroup model bytes input old new before after r
       → (new.reopen ≡ true) ⊎ (after.tally.documents ≡ before.tally.documents)
-      → PerformsGroup model held held bytes input old new before after r
-  ends-unanswered held bytes input old new before after (Ok done) s (inl broken) = absurd (cc (broken, s.2.performs.sound))
-  ends-unanswered held bytes input old new before after (Ok done) s (inr none) = absurd (omega (arith, s.1, none))
-  ends-unanswered held bytes input old new before after (Err f) (inl s) (inl broken) = absurd (cc (broken, s.2.performs.sound))
-  ends-unanswered held bytes input old new before after (Err f) (inl s) (inr none) =
-      subst (λ (x : SessionFault). PerformsGroup model held held bytes input old new before after (Err x)) (sym s.0)
-      (inl (s.2.none (no-length s.2.requests (let count = s.2.keeps.documents in omega (arith, count, none))), Keeps-refl held))
-  ends-unanswered held bytes input old new before after (Err f) (inr s) why =
-      subst (λ (x : SessionFault). PerformsGroup model held held bytes input old new before after (Err x)) (sym s.0)
-      (s.1, Keeps-refl held)
+      → PerformsGroup model held held had had bytes input old new before after r
+  ends-unanswered held had bytes input old new before after (Ok done) s (inl broken) = absurd (cc (broken, s.2.performs.sound))
+  ends-unanswered held had bytes input old new before after (Ok done) s (inr none) = absurd (omega (arith, s.1, none))
+  ends-unanswered held had bytes input old new before after (Err f) (inl s) (inl broken) = absurd (cc (broken, s.2.performs.sound))
+  ends-unanswered held had bytes input old new before after (Err f) (inl s) (inr none) =
+      subst (λ (x : SessionFault). PerformsGroup model held held had had bytes input old new before after (Err x)) (sym s.0)
+      (inl (s.2.none (no-length s.2.requests (let count = s.2.keeps.documents in omega (arith, count, none))), Keeps-refl held, refl))
+  ends-unanswered held had bytes input old new before after (Err f) (inr s) why =
+      subst (λ (x : SessionFault). PerformsGroup model held held had had bytes input old new before after (Err x)) (sym s.0)
+      (s.1, Keeps-refl held, refl)
 
   -- the pieces that were gathered, unless the device failed
   pub gathered : (bytes : List ℕ) (input : Input) (old new : StoreView D) (before after : Unwritten)
@@ -378,14 +379,15 @@ module _ {D : Type 0} (model : DiskModel D) where
   gathered bytes input old new before after (Err f) (inl s) on = (s.1, s.2)
   gathered bytes input old new before after (Err f) (inr s) on = absurd (cc (on, s.1.broken))
 
-  module _ (held : Option (List ℕ)) (bytes : List ℕ) (input : Input) (old mid new : StoreView D) (before kept : Unwritten)
+  module _ (held : Option (List ℕ)) (had : List Handing) (bytes : List ℕ) (input : Input) (old mid new : StoreView D)
+      (before kept : Unwritten)
       (further : List ℕ) (s : GathersPieces model bytes further old mid before kept)
       (more : kept.tally.documents ≢ before.tally.documents) where
     -- the flush fails
     pub ends-unflushed : (after : Unwritten) (f : SessionFault) → FlushesAll model mid new (Err f)
-        → PerformsGroup model held held bytes input old new before after (Err f)
+        → PerformsGroup model held held had had bytes input old new before after (Err f)
     ends-unflushed after f stops =
-        subst (λ (x : SessionFault). PerformsGroup model held held bytes input old new before after (Err x)) (sym stops.0) (
+        subst (λ (x : SessionFault). PerformsGroup model held held had had bytes input old new before after (Err x)) (sym stops.0) (
           record {
             broken = stops.1.broken;
             requests = s.requests;
@@ -397,6 +399,7 @@ module _ {D : Type 0} (model : DiskModel D) where
             any_moment = flush-moments old mid new s.requests s.performs stops.1.any_moment;
           },
           Keeps-refl held,
+          refl,
         )
 
     module _ (none : unwritten_bytes before ≡ []) (flush : PerformsTurns model mid new []) where
@@ -408,41 +411,49 @@ module _ {D : Type 0} (model : DiskModel D) where
       group-acknowledged sent = kept-acknowledged model held old new s.requests before kept sent none s.keeps flushed
 
       -- they are written in part
-      pub ends-cut : (written : Option (List ℕ)) (after : Unwritten) (f : SessionFault) → FailsToWrite held written kept f
-          → PerformsGroup model held written bytes input old new before after (Err f)
-      ends-cut written after f fails =
-          subst (λ (x : SessionFault). PerformsGroup model held written bytes input old new before after (Err x)) (sym fails.1)
+      pub ends-cut : (written : Option (List ℕ)) (has : List Handing) (after : Unwritten) (f : SessionFault)
+          → FailsToWrite held written kept f
+          → HandsOut had has (model.moment new.disk) (length (unwritten_bytes kept))
+          → PerformsGroup model held written had has bytes input old new before after (Err f)
+      ends-cut written has after f fails hands =
+          subst (λ (x : SessionFault). PerformsGroup model held written had has bytes input old new before after (Err x)) (sym fails.1)
           (record {
             requests = s.requests;
             single = s.single;
             performs = flushed;
             cuts = cuts-sending held written bytes further (stored_of old) s.requests before kept none s.takes s.keeps fails.0 fails.2;
+            hands = subst (λ (l : List ℕ). HandsOut had has (model.moment new.disk) (length l))
+                (these held written bytes further (stored_of old) s.requests before kept none s.takes s.keeps) hands;
           })
 
-      pub passes : (written : Option (List ℕ)) (after : Unwritten) → WritesAnswers held written kept after
-          → PassesGroup model held written bytes further old new before after
-      passes written after writes = record {
+      pub passes : (written : Option (List ℕ)) (has : List Handing) (after : Unwritten) → WritesAnswers held written kept after
+          → HandsOut had has (model.moment new.disk) (length (unwritten_bytes kept))
+          → PassesGroup model held written had has bytes further old new before after
+      passes written has after writes hands = record {
         requests = s.requests;
         some = λ e. more (let count = s.keeps.documents in let no = ap length e in omega (arith, count, no));
         performs = flushed;
         sends = sends held written bytes further (stored_of old) s.requests before kept none s.takes s.keeps after writes;
+        hands = subst (λ (l : List ℕ). HandsOut had has (model.moment new.disk) (length l))
+            (these held written bytes further (stored_of old) s.requests before kept none s.takes s.keeps) hands;
       }
 
   -- they are written
-  pub ends-answered : (held written : Option (List ℕ)) (bytes : List ℕ) (input : Input) (old mid new : StoreView D)
+  pub ends-answered : (held written : Option (List ℕ)) (had has : List Handing) (bytes : List ℕ) (input : Input) (old mid new : StoreView D)
       (before kept after : Unwritten) (r : Result (Unit {0}) SessionFault) → SubmitsGroup model bytes input old mid before kept r
       → mid.reopen ≡ false → kept.tally.documents ≢ before.tally.documents → unwritten_bytes before ≡ []
       → PerformsTurns model mid new [] → WritesAnswers held written kept after
-      → PerformsGroup model held written bytes input old new before after r
-  ends-answered held written bytes input old mid new before kept after (Ok done) s on more none flush writes = (
+      → HandsOut had has (model.moment new.disk) (length (unwritten_bytes kept))
+      → PerformsGroup model held written had has bytes input old new before after r
+  ends-answered held written had has bytes input old mid new before kept after (Ok done) s on more none flush writes hands = (
     s.0,
     none-kept held written kept after writes,
     writes.none,
     writes.limit ∙ s.2.keeps.limit,
-    passes held bytes input old mid new before kept (ahead input) s.2 more none flush written after writes,
+    passes held had bytes input old mid new before kept (ahead input) s.2 more none flush written has after writes hands,
   )
-  ends-answered held written bytes input old mid new before kept after (Err f) (inl s) on more none flush writes =
-      subst (λ (x : SessionFault). PerformsGroup model held written bytes input old new before after (Err x)) (sym s.0)
-      (inr (s.1, passes held bytes input old mid new before kept s.1 s.2 more none flush written after writes))
-  ends-answered held written bytes input old mid new before kept after (Err f) (inr s) on more none flush writes =
+  ends-answered held written had has bytes input old mid new before kept after (Err f) (inl s) on more none flush writes hands =
+      subst (λ (x : SessionFault). PerformsGroup model held written had has bytes input old new before after (Err x)) (sym s.0)
+      (inr (s.1, passes held had bytes input old mid new before kept s.1 s.2 more none flush written has after writes hands))
+  ends-answered held written had has bytes input old mid new before kept after (Err f) (inr s) on more none flush writes hands =
       absurd (cc (on, s.1.broken))

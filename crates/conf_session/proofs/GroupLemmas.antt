@@ -16,13 +16,17 @@ use Rattle.conf_session.specs.Runs.{stored_of, AfterAtLeast, BeginsWith, EndsAns
 use Rattle.conf_session.specs.Groups.{AreDue, Files, Turn, asked, all_asked, requests_of, files_of, stored_after_turns, files_after_turns}
 use Rattle.conf_session.specs.Groups.{turns_output, turns_accepted, turns_refused, acknowledged_turns, GroupedEnds, RunsGrouped}
 use Rattle.conf_session.specs.Groups.{checkpoints_of, FailsAtRequests}
-use Rattle.conf_session.specs.Gathering.{PerformsTurns, BreaksOff, StopsShort, Starts, Tends, PassesGroup, CutsGroup, PerformsGroup}
+use Rattle.conf_session.specs.Gathering.{HandsOut, PerformsTurns, BreaksOff, StopsShort, Starts, Tends, PassesGroup, CutsGroup}
+use Rattle.conf_session.specs.Gathering.{PerformsGroup}
 use Rattle.conf_session.proofs.{GatherLemmas.joined-none, PassedLemmas.take-beyond, RequestLemmas.leaves-same, RequestLemmas.synced-leaves}
 use Rattle.conf_session.proofs.ReadLemmas.{ReadSoFar, read-none, read-as, read-more, ends-before, ends-here, ends-unanswered, nothing-read}
 use Rattle.conf_session.proofs.TurnLemmas.{stored-joined, output-joined, accepted-joined, refused-joined, due-joined, asked-due}
 use Rattle.conf_session.proofs.TurnLemmas.{requests-joined, asked-joined, asked-requests, asked-stored, asked-output, asked-accepted}
 use Rattle.conf_session.proofs.TurnLemmas.{asked-refused, quiet-output, quiet-accepted, quiet-refused, few-acknowledged, performs-joined}
 use Rattle.conf_session.proofs.TurnLemmas.{moments-after, kept-after, kept-during}
+use Rattle.conf_session.specs.Handings.{Handing, handings_of}
+use Rattle.conf_session.proofs.HandedLemmas.{handed-after, handed-since, Handed, handed-none, handed-more, handed-later, handed-now}
+use Rattle.conf_session.proofs.HandedLemmas.{handed-empty}
 use Rattle.conf_session.specs.declared.fault.SessionFault.TheVariants as fault
 use Rattle.conf_session.proofs.ReadLemmas as reading
 
@@ -211,8 +215,9 @@ module _ {D : Type 0} (model : DiskModel D) (grouping : Grouping) (old now : Sto
 -- ---- so far
 
 -- the pieces that were read are performed, flushed and answered
-pub record GroupsSoFar {D : Type 0} (model : DiskModel D) (given left held written : Option (List ℕ)) (grouping : Grouping)
-    (old new : StoreView D) (further : List ℕ) (answers : Unwritten) (total : ℕ) : Type 0 where
+pub record GroupsSoFar {D : Type 0} (model : DiskModel D) (had has : List Handing)
+    (given left held written : Option (List ℕ)) (grouping : Grouping) (old new : StoreView D) (further : List ℕ) (answers : Unwritten)
+    (total : ℕ) : Type 0 where
   pub turns : List Turn
   pub read : ReadSoFar given left held written (requests_of turns) (turns_output (stored_of old) turns)
       (length (turns_accepted (stored_of old) turns)) (turns_refused (stored_of old) turns) further answers total
@@ -220,6 +225,7 @@ pub record GroupsSoFar {D : Type 0} (model : DiskModel D) (given left held writt
   pub due : model.honest → (bytes : ℕ) → checkpoints_of grouping ≡ After bytes
       → AreDue bytes (files_of model.folder old) (stored_of old) turns
   pub performs : HasPerformed model grouping old new turns
+  pub handed : Handed model had has old new turns (length (turns_output (stored_of old) turns))
 
 -- one request has no answer that was written whole
 abbrev pub IsOne : List Request → Type 0
@@ -237,10 +243,12 @@ AreSingle (Err (fault.Write count)) rs = IsOne rs
 AreSingle result rs = Unit {0}
 
 -- A session, whatever its groups are.
-pub record Session {D : Type 0} (model : DiskModel D) (grouping : Grouping) (given left held written : Option (List ℕ))
-    (old new : StoreView D) (result : Result Tally SessionFault) : Type 0 where
+pub record Session {D : Type 0} (model : DiskModel D) (grouping : Grouping) (had has : List Handing)
+    (given left held written : Option (List ℕ)) (old new : StoreView D) (result : Result Tally SessionFault) : Type 0 where
   pub answered : List Turn
   pub unanswered : List Request
+  pub most : ℕ
+  pub handed : Handed model had has old new (answered ++ all_asked unanswered) most
   pub ends : GroupedEnds (streams_of given left held written) (stored_of old) answered unanswered result
   pub single : grouping ≡ Each → AreSingle result unanswered
   pub only_asked : checkpoints_of grouping ≡ Asked → answered ≡ all_asked (requests_of answered)
@@ -260,11 +268,11 @@ pub record Session {D : Type 0} (model : DiskModel D) (grouping : Grouping) (giv
       (waiting ++ turns_accepted (stored_of old) (answered ++ all_asked unanswered)) image
 
 -- a session that flushes what one read brought
-pub session-grouped : {D : Type 0} (model : DiskModel D) (checkpoints : Checkpoints) (given left held written : Option (List ℕ))
-    (old new : StoreView D) (result : Result Tally SessionFault)
-    → Session model (Read checkpoints) given left held written old new result
-    → RunsGrouped model (streams_of given left held written) checkpoints old new result
-session-grouped model checkpoints given left held written old new result s =
+pub session-grouped : {D : Type 0} (model : DiskModel D) (checkpoints : Checkpoints) (had has : List Handing)
+    (given left held written : Option (List ℕ)) (old new : StoreView D) (result : Result Tally SessionFault)
+    → Session model (Read checkpoints) had has given left held written old new result
+    → RunsGrouped model (streams_of given left held written) (handings_of had has) checkpoints old new result
+session-grouped model checkpoints had has given left held written old new result s =
     let performs : (on : new.reopen ≡ false) → PerformsTurns model old new (s.answered ++ all_asked s.unanswered) =
     λ on. ⊎_elim (λ u. absurd (cc u.each)) (λ f. f.performs) (s.performs on) in
     record {
@@ -278,30 +286,50 @@ session-grouped model checkpoints given left held written old new result s =
       stored = λ on. (performs on).stored;
       files = λ h on. (performs on).files h;
       any_moment = s.any_moment;
+      handed = handed-after model had has old new (s.answered ++ all_asked s.unanswered) s.most s.handed;
+      cut_off = λ h on flushed waiting has-flushed.
+          handed-since model had has old new (s.answered ++ all_asked s.unanswered) s.most s.handed h on flushed waiting has-flushed;
       kept = s.kept;
       flushed = λ h on. (performs on).flushed h;
       now = λ h on. (performs on).now h;
     }
 
-module _ {D : Type 0} (model : DiskModel D) (grouping : Grouping) where
+module _ {D : Type 0} (model : DiskModel D) (grouping : Grouping) (had : List Handing) where
   -- ---- a session that ends
 
+  -- further turns are performed, of which nothing is handed out
+  performed-handed : (has : List Handing) (old now new : StoreView D) (turns us : List Turn) (most : ℕ) (more : List Command)
+      → turns_accepted (stored_of old) (turns ++ us) ≡ turns_accepted (stored_of old) turns ++ more
+      → most ≤ length (turns_output (stored_of old) turns)
+      → HasPerformed model grouping old now turns
+      → (model.honest → (flushed : Contents) (waiting : List Command) → HasFlushed (model.folder now.disk) flushed waiting now.state
+      → LeavesOnly model now.disk new.disk (λ image. MeansPrefix flushed (waiting ++ more) image))
+      → Handed model had has old now turns most → Handed model had has old new (turns ++ us) most
+  performed-handed has old now new turns us most more all within (inl u) run handed =
+      handed-empty model had old has now new turns (turns ++ us) most u.none handed
+  performed-handed has old now new turns us most more all within (inr f) run handed =
+      handed-later model had old has now new turns us most more all within f.performs
+      (λ h. run h now.state [] (f.performs.flushed h)) handed
+
   -- all turns are performed
-  runs-flushed : (given left held written : Option (List ℕ)) (old new : StoreView D)
+  runs-flushed : (has : List Handing) (given left held written : Option (List ℕ)) (old new : StoreView D)
       (result : Result Tally SessionFault) (answered : List Turn) (unanswered : List Request)
       → HasPerformed model grouping old new (answered ++ all_asked unanswered)
+      → (most : ℕ) → Handed model had has old new (answered ++ all_asked unanswered) most
       → (checkpoints_of grouping ≡ Asked → answered ≡ all_asked (requests_of answered))
       → (model.honest → (bytes : ℕ) → checkpoints_of grouping ≡ After bytes
       → AreDue bytes (files_of model.folder old) (stored_of old) answered)
       → (grouping ≡ Each → AreSingle result unanswered)
       → FailsAtRequests answered unanswered result
       → GroupedEnds (streams_of given left held written) (stored_of old) answered unanswered result
-      → Session model grouping given left held written old new result
-  runs-flushed given left held written old new result answered unanswered performs only due single fails ends =
+      → Session model grouping had has given left held written old new result
+  runs-flushed has given left held written old new result answered unanswered performs most handed only due single fails ends =
       let turns = answered ++ all_asked unanswered in
       record {
         answered = answered;
         unanswered = unanswered;
+        most = most;
+        handed = handed;
         ends = ends;
         single = single;
         only_asked = only;
@@ -315,23 +343,27 @@ module _ {D : Type 0} (model : DiskModel D) (grouping : Grouping) where
       }
 
   -- and none is unanswered
-  runs-answered : (given left held written : Option (List ℕ)) (old new : StoreView D)
+  runs-answered : (has : List Handing) (given left held written : Option (List ℕ)) (old new : StoreView D)
       (result : Result Tally SessionFault) (answered : List Turn)
       → HasPerformed model grouping old new answered
+      → (most : ℕ) → Handed model had has old new answered most
       → (checkpoints_of grouping ≡ Asked → answered ≡ all_asked (requests_of answered))
       → (model.honest → (bytes : ℕ) → checkpoints_of grouping ≡ After bytes
       → AreDue bytes (files_of model.folder old) (stored_of old) answered)
       → (grouping ≡ Each → AreSingle result [])
       → FailsAtRequests answered [] result
       → GroupedEnds (streams_of given left held written) (stored_of old) answered [] result
-      → Session model grouping given left held written old new result
-  runs-answered given left held written old new result answered performs only due single fails ends =
-      runs-flushed given left held written old new result answered []
-      (subst (HasPerformed model grouping old new) (sym (append-nil answered)) performs) only due single fails ends
+      → Session model grouping had has given left held written old new result
+  runs-answered has given left held written old new result answered performs most handed only due single fails ends =
+      runs-flushed has given left held written old new result answered []
+      (subst (HasPerformed model grouping old new) (sym (append-nil answered)) performs) most
+      (subst (λ (l : List Turn). Handed model had has old new l most) (sym (append-nil answered)) handed) only due single fails ends
 
   -- the device failed at these requests
-  runs-broken : (given left held written : Option (List ℕ)) (old mid new : StoreView D) (answered : List Turn) (unanswered : List Request)
+  runs-broken : (has : List Handing) (given left held written : Option (List ℕ)) (old mid new : StoreView D) (answered : List Turn)
+      (unanswered : List Request)
       → HasPerformed model grouping old mid answered
+      → Handed model had has old mid answered (length (turns_output (stored_of old) answered))
       → (checkpoints_of grouping ≡ Asked → answered ≡ all_asked (requests_of answered))
       → (model.honest → (bytes : ℕ) → checkpoints_of grouping ≡ After bytes
       → AreDue bytes (files_of model.folder old) (stored_of old) answered)
@@ -344,8 +376,9 @@ module _ {D : Type 0} (model : DiskModel D) (grouping : Grouping) where
       → (grouping ≡ Each → IsOne unanswered)
       → (checkpoints_of grouping ≡ Asked → FailsAtRequests answered unanswered (Err fault.Device))
       → GroupedEnds (streams_of given left held written) (stored_of old) answered unanswered (Err fault.Device)
-      → Session model grouping given left held written old new (Err fault.Device)
-  runs-broken given left held written old mid new answered unanswered performs only due broken state run counts_now single fails ends =
+      → Session model grouping had has given left held written old new (Err fault.Device)
+  runs-broken has given left held written old mid new answered unanswered performs handed only due broken state run counts_now single
+      fails ends =
       let start = stored_of old in
       let here = performed-stored model grouping old mid answered performs in
       let more = accepted_commands (stored_of mid) unanswered in
@@ -359,6 +392,9 @@ module _ {D : Type 0} (model : DiskModel D) (grouping : Grouping) where
       record {
         answered = answered;
         unanswered = unanswered;
+        most = length (turns_output start answered);
+        handed = performed-handed has old mid new answered (all_asked unanswered) (length (turns_output start answered)) more
+            all (omega arith) performs run handed;
         ends = ends;
         single = single;
         only_asked = only;
@@ -382,10 +418,12 @@ module _ {D : Type 0} (model : DiskModel D) (grouping : Grouping) where
 
   -- nothing is done
   pub reopens : (given held : Option (List ℕ)) (store : StoreView D) → (store.reopen ≡ false → ⊥)
-      → Session model grouping given given held held store store (Err fault.Reopen)
+      → Session model grouping had had given given held held store store (Err fault.Reopen)
   reopens given held store broken = record {
     answered = [];
     unanswered = [];
+    most = 0;
+    handed = handed-none model had store store [];
     ends = (Keeps-refl given, Keeps-refl held, refl, refl);
     single = λ e. tt;
     only_asked = λ e. refl;
@@ -401,10 +439,12 @@ module _ {D : Type 0} (model : DiskModel D) (grouping : Grouping) where
   starts-broken : (given held : Option (List ℕ)) (old new : StoreView D) → (grouping ≡ Each → ⊥) → StopsShort model old new
       → ((t : ℕ) (image : Image) → model.honest → t ≤ model.moment new.disk → IsImage (model.folder new.disk) image
       → model.left new.disk t image)
-      → Session model grouping given given held held old new (Err fault.Device)
+      → Session model grouping had had given given held held old new (Err fault.Device)
   starts-broken given held old new read stops counts_now = record {
     answered = [];
     unanswered = [];
+    most = 0;
+    handed = handed-none model had old new [];
     ends = nothing-read given held;
     single = λ e. absurd (read e);
     only_asked = λ e. refl;
@@ -426,14 +466,14 @@ module _ {D : Type 0} (model : DiskModel D) (grouping : Grouping) where
       → Starts model grouping old new (Err f)
       → ((t : ℕ) (image : Image) → model.honest → t ≤ model.moment new.disk → IsImage (model.folder new.disk) image
       → model.left new.disk t image)
-      → Session model grouping given given held held old new (Err f)
+      → Session model grouping had had given given held held old new (Err f)
   starts-failing given held old new f starts counts_now = by grouping refl starts
     where
       by : (k : Grouping) → k ≡ grouping → Starts model k old new (Err f)
-          → Session model grouping given given held held old new (Err f)
+          → Session model grouping had had given given held held old new (Err f)
       by Each is starts = absurd (cc starts.0)
       by (Read checkpoints) is starts =
-          subst (λ (x : SessionFault). Session model grouping given given held held old new (Err x)) (sym starts.0)
+          subst (λ (x : SessionFault). Session model grouping had had given given held held old new (Err x)) (sym starts.0)
           (starts-broken given held old new (λ e. absurd (cc (is ∙ e))) starts.1 counts_now)
 
   -- before the first group
@@ -455,25 +495,28 @@ module _ {D : Type 0} (model : DiskModel D) (grouping : Grouping) where
 
   -- there is no memory for the input
   pub starts-without-memory : (given held : Option (List ℕ)) (old new : StoreView D) → HasPerformed model grouping old new []
-      → Session model grouping given given held held old new (Err fault.OutOfMemory)
+      → Session model grouping had had given given held held old new (Err fault.OutOfMemory)
   starts-without-memory given held old new performs =
-      runs-answered given given held held old new (Err fault.OutOfMemory) [] performs (λ e. refl) (λ h bytes e. tt) (λ e. tt) tt
+      runs-answered had given given held held old new (Err fault.OutOfMemory) [] performs 0 (handed-none model had old new [])
+      (λ e. refl) (λ h bytes e. tt) (λ e. tt) tt
       (refl, nothing-read given held)
 
   pub groups-none : (given held : Option (List ℕ)) (old now : StoreView D) (further : List ℕ) (answers : Unwritten)
       (total : ℕ) → HasPerformed model grouping old now [] → further ≡ []
       → answers.tally.documents ≡ 0 → answers.tally.accepted ≡ 0 → answers.tally.refused ≡ 0 → answers.written ≡ 0 → total ≡ 0
-      → GroupsSoFar model given given held held grouping old now further answers total
+      → GroupsSoFar model had had given given held held grouping old now further answers total
   groups-none given held old now further answers total performs none d a r w t = record {
     turns = [];
     read = read-none given held further answers total none d a r w t;
     only_asked = λ e. refl;
     due = λ h bytes e. tt;
     performs = performs;
+    handed = handed-none model had old now [];
   }
 
-  module _ (given mid left held between : Option (List ℕ)) (old now : StoreView D) (was then : Input) (answers : Unwritten)
-      (s : GroupsSoFar model given mid held between grouping old now (ahead was) answers (bytes_read was)) where
+  module _ (between-had : List Handing) (given mid left held between : Option (List ℕ)) (old now : StoreView D) (was then : Input)
+      (answers : Unwritten) (s : GroupsSoFar model had between-had given mid held between grouping old now (ahead was) answers
+      (bytes_read was)) where
     abbrev start : Stored
     start = stored_of old
 
@@ -501,9 +544,10 @@ module _ {D : Type 0} (model : DiskModel D) (grouping : Grouping) where
     pub ends-well : (tally : Tally) → AdvancesToEnd mid left was then
         → tally.documents ≡ answers.tally.documents → tally.accepted ≡ answers.tally.accepted
         → tally.refused ≡ answers.tally.refused → tally.rest ≡ length (piece_of then)
-        → Session model grouping given left held between old now (Ok tally)
+        → Session model grouping had between-had given left held between old now (Ok tally)
     ends-well tally end d a r rest =
-        runs-answered given left held between old now (Ok tally) s.turns s.performs s.only_asked s.due (λ e. tt) tt (
+        runs-answered between-had given left held between old now (Ok tally) s.turns s.performs (length sent) s.handed s.only_asked s.due
+        (λ e. tt) tt (
           refl,
           reading.ends-well given mid left held between (requests_of s.turns) sent accepted refused was
               then answers s.read tally end d a r rest,
@@ -511,9 +555,10 @@ module _ {D : Type 0} (model : DiskModel D) (grouping : Grouping) where
 
     -- the input has no further piece for a reason
     pub ends-in_input : (f : SessionFault) → Advances mid left was then (Err f)
-        → Session model grouping given left held between old now (Err f)
+        → Session model grouping had between-had given left held between old now (Err f)
     ends-in_input f fails =
-        runs-answered given left held between old now (Err f) s.turns s.performs s.only_asked s.due (λ e. (by f fails).1)
+        runs-answered between-had given left held between old now (Err f) s.turns s.performs (length sent) s.handed s.only_asked s.due
+        (λ e. (by f fails).1)
         (by f fails).2 (by f fails).0
       where
         ends : (f : SessionFault) → Advances mid left was then (Err f)
@@ -577,13 +622,46 @@ module _ {D : Type 0} (model : DiskModel D) (grouping : Grouping) where
       asked-more rs e = ap (λ l. l ++ all_asked rs) (s.only_asked e) ∙ sym (asked-joined (requests_of s.turns) rs)
           ∙ ap all_asked (sym (requests-more rs))
 
-      pub groups-more : (written : Option (List ℕ)) (new : StoreView D) (after : Unwritten) (further : List ℕ) (total : ℕ)
-          → total ≡ bytes_read then → PassesGroup model between written group further now new answers after
-          → GroupsSoFar model given left held written grouping old new further after total
-      groups-more written new after further total same one =
+      -- what is handed out with it
+      handed-more-now : (has : List Handing) (new : StoreView D) (rs : List Request) → (all_asked rs ≡ [] → ⊥)
+          → PerformsTurns model now new (all_asked rs)
+          → HandsOut between-had has (model.moment new.disk) (length (output (stored_of now) rs))
+          → ((image : Image) → model.honest → model.left new.disk (model.moment new.disk) image → IsImage (model.folder new.disk) image)
+          → Handed model had has old new (s.turns ++ all_asked rs) (length (turns_output (stored_of old) (s.turns ++ all_asked rs)))
+      handed-more-now has new rs some performs hands only =
+          let turns = s.turns ++ all_asked rs in
+          let long = ap length (output-more rs) in
+          let sum = length-append sent (output (stored_of now) rs) in
+          by (performed-more model grouping old now s.turns new (all_asked rs) s.performs some performs)
+          (handed-more model had old has new turns (length sent + length (output (stored_of now) rs)) (length (turns_output start turns))
+          (omega (arith, long, sum)))
+        where
+          by : HasPerformed model grouping old new (s.turns ++ all_asked rs)
+              → (Handed model had has old new (s.turns ++ all_asked rs) (length sent + length (output (stored_of now) rs))
+              → Handed model had has old new (s.turns ++ all_asked rs) (length (turns_output start (s.turns ++ all_asked rs))))
+              → Handed model had has old new (s.turns ++ all_asked rs) (length (turns_output start (s.turns ++ all_asked rs)))
+          by (inl u) more = absurd (some (joined-none s.turns (all_asked rs) u.none))
+          by (inr f) more = more
+              (handed-now model had old between-had has new (s.turns ++ all_asked rs) (length sent) (length (output (stored_of now) rs))
+              (λ e. some (joined-none s.turns (all_asked rs) e)) f.performs
+              (let long = ap length (output-more rs) in let sum = length-append sent (output (stored_of now) rs) in omega
+              (arith, long, sum))
+              only hands
+              (performed-handed between-had old now new s.turns (all_asked rs) (length sent) (accepted_commands (stored_of now) rs)
+              (accepted-more rs) (omega arith) s.performs
+              (λ h flushed waiting is. subst
+              (λ (l : List Command). LeavesOnly model now.disk new.disk (λ image. MeansPrefix flushed (waiting ++ l) image))
+              (asked-accepted (stored_of now) rs) (performs.any_moment h flushed waiting is)) s.handed))
+
+      pub groups-more : (has : List Handing) (written : Option (List ℕ)) (new : StoreView D) (after : Unwritten) (further : List ℕ)
+          (total : ℕ)
+          → total ≡ bytes_read then → PassesGroup model between written between-had has group further now new answers after
+          → ((image : Image) → model.honest → model.left new.disk (model.moment new.disk) image → IsImage (model.folder new.disk) image)
+          → GroupsSoFar model had has given left held written grouping old new further after total
+      groups-more has written new after further total same one only =
           let rs = one.requests in
           let turns = s.turns ++ all_asked rs in
-          subst (GroupsSoFar model given left held written grouping old new further after) (sym same) (record {
+          subst (GroupsSoFar model had has given left held written grouping old new further after) (sym same) (record {
             turns = turns;
             read = read-as given left held written (requests_of s.turns ++ rs) (requests_of turns)
                 (sent ++ output (stored_of now) rs) (turns_output start turns)
@@ -600,29 +678,34 @@ module _ {D : Type 0} (model : DiskModel D) (grouping : Grouping) where
             due = due-more rs;
             performs = performed-more model grouping old now s.turns new (all_asked rs) s.performs
                 (λ e. one.some (sym (asked-requests rs) ∙ ap requests_of e)) one.performs;
+            handed = handed-more-now has new rs (λ e. one.some (sym (asked-requests rs) ∙ ap requests_of e)) one.performs one.hands only;
           })
 
       -- ---- its exits
 
-      ends-memory : (written : Option (List ℕ)) (new : StoreView D) (after : Unwritten) (further : List ℕ)
-          → PassesGroup model between written group further now new answers after
-          → Session model grouping given left held written old new (Err fault.OutOfMemory)
-      ends-memory written new after further one =
-          let all = groups-more written new after further (bytes_read then) refl one in
+      ends-memory : (has : List Handing) (written : Option (List ℕ)) (new : StoreView D) (after : Unwritten) (further : List ℕ)
+          → PassesGroup model between written between-had has group further now new answers after
+          → ((image : Image) → model.honest → model.left new.disk (model.moment new.disk) image → IsImage (model.folder new.disk) image)
+          → Session model grouping had has given left held written old new (Err fault.OutOfMemory)
+      ends-memory has written new after further one only =
+          let all = groups-more has written new after further (bytes_read then) refl one only in
           let early = ends-here given left held written (requests_of all.turns) (turns_output start all.turns)
           (length (turns_accepted start all.turns)) (turns_refused start all.turns) further after
           (bytes_read then) all.read in
-          runs-answered given left held written old new (Err fault.OutOfMemory) all.turns all.performs all.only_asked all.due
+          runs-answered has given left held written old new (Err fault.OutOfMemory) all.turns all.performs
+          (length (turns_output start all.turns)) all.handed all.only_asked all.due
           (λ e. tt) tt (refl, early)
 
       -- where nothing was done of the group
       ends-starved : (written : Option (List ℕ)) (new : StoreView D) → new ≡ now → Keeps between written
-          → Session model grouping given left held written old new (Err fault.OutOfMemory)
+          → Session model grouping had between-had given left held written old new (Err fault.OutOfMemory)
       ends-starved written new same keeps =
           let early = ends-before given mid left held between (requests_of s.turns) sent accepted refused
           was then answers s.read advances in
-          subst (λ (t : StoreView D). Session model grouping given left held written old t (Err fault.OutOfMemory)) (sym same)
-          (runs-answered given left held written old now (Err fault.OutOfMemory) s.turns s.performs s.only_asked s.due (λ e. tt) tt (
+          subst (λ (t : StoreView D). Session model grouping had between-had given left held written old t (Err fault.OutOfMemory))
+          (sym same)
+          (runs-answered between-had given left held written old now (Err fault.OutOfMemory) s.turns s.performs
+          (length sent) s.handed s.only_asked s.due (λ e. tt) tt (
             refl,
             record {
               bytes = early.bytes;
@@ -636,20 +719,21 @@ module _ {D : Type 0} (model : DiskModel D) (grouping : Grouping) where
           → BreaksOff model group answers.limit now new → (grouping ≡ Each → answers.limit ≡ 0) → Keeps between written
           → ((t : ℕ) (image : Image) → model.honest → t ≤ model.moment new.disk
           → IsImage (model.folder new.disk) image → model.left new.disk t image)
-          → Session model grouping given left held written old new (Err fault.Device)
+          → Session model grouping had between-had given left held written old new (Err fault.Device)
       ends-device written new breaks none keeps counts_now =
-          runs-broken given left held written old now new s.turns breaks.requests s.performs s.only_asked s.due
+          runs-broken between-had given left held written old now new s.turns breaks.requests s.performs s.handed s.only_asked s.due
           breaks.broken breaks.state breaks.any_moment counts_now (λ e. is-one breaks.requests (breaks.single (none e)))
           (λ e. inr breaks.some)
           (ends-unanswered given mid left held between (requests_of s.turns) sent accepted refused was
           then answers s.read advances breaks.further breaks.requests breaks.takes
           written (Appends-kept held between written sent s.read.out keeps))
 
-      ends-write : (written : Option (List ℕ)) (new : StoreView D) (total : ℕ)
-          → CutsGroup model between written group answers.limit now new answers.written total
+      ends-write : (has : List Handing) (written : Option (List ℕ)) (new : StoreView D) (total : ℕ)
+          → CutsGroup model between written between-had has group answers.limit now new answers.written total
           → (grouping ≡ Each → answers.limit ≡ 0) → answers.written ≤ answers.tally.documents * answer_limit
-          → Session model grouping given left held written old new (Err (fault.Write total))
-      ends-write written new total cuts none room =
+          → ((image : Image) → model.honest → model.left new.disk (model.moment new.disk) image → IsImage (model.folder new.disk) image)
+          → Session model grouping had has given left held written old new (Err (fault.Write total))
+      ends-write has written new total cuts none room only =
           let rs = cuts.requests in
           let c = cuts.cuts in
           let at = cut-at (stored_of now) rs c.count c.cut in
@@ -664,6 +748,8 @@ module _ {D : Type 0} (model : DiskModel D) (grouping : Grouping) where
           let upto : answered ++ asked at.last ∷ [] ≡ s.turns ++ all_asked (at.whole ++ at.last ∷ []) =
           append_assoc s.turns (all_asked at.whole) (asked at.last ∷ [])
           ∙ ap (λ l. s.turns ++ l) (sym (asked-joined at.whole (at.last ∷ []))) in
+          let some : all_asked rs ≡ [] → ⊥ =
+          λ e. absurd (cc (joined-none at.whole unanswered (sym at.is ∙ sym (asked-requests rs) ∙ ap requests_of e))) in
           let sum = s.read.sent in
           let early = ends-unanswered given mid left held between (requests_of s.turns) sent accepted refused was
           then answers s.read advances c.further rs c.takes between s.read.out in
@@ -672,10 +758,13 @@ module _ {D : Type 0} (model : DiskModel D) (grouping : Grouping) where
           ap (take total) (ap (turns_output start) these ∙ output-more rs)
           ∙ ap (λ n. take n (sent ++ output (stored_of now) rs)) (c.is ∙ ap (λ n. n + c.count) sum)
           ∙ take-beyond c.count sent (output (stored_of now) rs) in
-          runs-flushed given left held written old new (Err (fault.Write total)) answered unanswered
+          runs-flushed has given left held written old new (Err (fault.Write total)) answered unanswered
           (subst (HasPerformed model grouping old new) (sym these)
           (performed-more model grouping old now s.turns new (all_asked rs) s.performs
-          (λ e. absurd (cc (joined-none at.whole unanswered (sym at.is ∙ sym (asked-requests rs) ∙ ap requests_of e)))) cuts.performs))
+          (λ e. some e) cuts.performs))
+          (length (turns_output start (s.turns ++ all_asked rs)))
+          (subst (λ (l : List Turn). Handed model had has old new l (length (turns_output start (s.turns ++ all_asked rs)))) (sym these)
+          (handed-more-now has new rs some cuts.performs cuts.hands only))
           (asked-more at.whole)
           (due-more at.whole)
           (λ e. is-one unanswered (let one = cuts.single (none e) in let count = ap length at.is in
@@ -700,27 +789,33 @@ module _ {D : Type 0} (model : DiskModel D) (grouping : Grouping) where
           })
 
       -- a group that isn't answered whole
-      pub ends-failing : (written : Option (List ℕ)) (new : StoreView D) (input : Input) (after : Unwritten) (f : SessionFault)
-          → PerformsGroup model between written group input now new answers after (Err f)
+      pub ends-failing : (has : List Handing) (written : Option (List ℕ)) (new : StoreView D) (input : Input) (after : Unwritten)
+          (f : SessionFault)
+          → PerformsGroup model between written between-had has group input now new answers after (Err f)
           → (grouping ≡ Each → answers.limit ≡ 0) → answers.written ≤ answers.tally.documents * answer_limit
           → ((t : ℕ) (image : Image) → model.honest → t ≤ model.moment new.disk
           → IsImage (model.folder new.disk) image → model.left new.disk t image)
-          → Session model grouping given left held written old new (Err f)
-      ends-failing written new input after fault.OutOfMemory (inl fails) none room counts_now = ends-starved written new fails.0 fails.1
-      ends-failing written new input after fault.OutOfMemory (inr fails) none room counts_now =
-          ends-memory written new after fails.0 fails.1
-      ends-failing written new input after fault.Device fails none room counts_now =
-          ends-device written new fails.0 none fails.1 counts_now
-      ends-failing written new input after (fault.Write total) fails none room counts_now = ends-write written new total fails none room
-      ends-failing written new input after fault.Read fails none room counts_now = absurd fails
-      ends-failing written new input after fault.TooLong fails none room counts_now = absurd fails
-      ends-failing written new input after fault.SessionLong fails none room counts_now = absurd fails
-      ends-failing written new input after fault.Reopen fails none room counts_now = absurd fails
+          → ((image : Image) → model.honest → model.left new.disk (model.moment new.disk) image → IsImage (model.folder new.disk) image)
+          → Session model grouping had has given left held written old new (Err f)
+      ends-failing has written new input after fault.OutOfMemory (inl fails) none room counts_now only =
+          subst (λ (l : List Handing). Session model grouping had l given left held written old new (Err fault.OutOfMemory)) (sym fails.2)
+          (ends-starved written new fails.0 fails.1)
+      ends-failing has written new input after fault.OutOfMemory (inr fails) none room counts_now only =
+          ends-memory has written new after fails.0 fails.1 only
+      ends-failing has written new input after fault.Device fails none room counts_now only =
+          subst (λ (l : List Handing). Session model grouping had l given left held written old new (Err fault.Device)) (sym fails.2)
+          (ends-device written new fails.0 none fails.1 counts_now)
+      ends-failing has written new input after (fault.Write total) fails none room counts_now only =
+          ends-write has written new total fails none room only
+      ends-failing has written new input after fault.Read fails none room counts_now only = absurd fails
+      ends-failing has written new input after fault.TooLong fails none room counts_now only = absurd fails
+      ends-failing has written new input after fault.SessionLong fails none room counts_now only = absurd fails
+      ends-failing has written new input after fault.Reopen fails none room counts_now only = absurd fails
 
     -- ---- a turn that no request asked for
 
     pub groups-tended : (new : StoreView D) → Tends model (checkpoints_of grouping) now new (Ok tt)
-        → GroupsSoFar model given mid held between grouping old new (ahead was) answers (bytes_read was)
+        → GroupsSoFar model had between-had given mid held between grouping old new (ahead was) answers (bytes_read was)
     groups-tended new tends = by (checkpoints_of grouping) refl
       where
         us : List Turn
@@ -741,9 +836,10 @@ module _ {D : Type 0} (model : DiskModel D) (grouping : Grouping) where
             (quiet-accepted (stored_after_turns start s.turns) us tends.1.1) ∙ append-nil (turns_accepted start s.turns))
 
         by : (c : Checkpoints) → checkpoints_of grouping ≡ c
-            → GroupsSoFar model given mid held between grouping old new (ahead was) answers (bytes_read was)
+            → GroupsSoFar model had between-had given mid held between grouping old new (ahead was) answers (bytes_read was)
         by Asked e =
-            subst (λ (t : StoreView D). GroupsSoFar model given mid held between grouping old t (ahead was) answers (bytes_read was))
+            subst (λ (t : StoreView D). GroupsSoFar model had between-had given mid held between grouping old t (ahead was) answers
+            (bytes_read was))
             (sym (tends.0 e).1) s
         by (After wanted) e = record {
           turns = turns;
@@ -757,6 +853,10 @@ module _ {D : Type 0} (model : DiskModel D) (grouping : Grouping) where
               (subst (λ (f : Files). AreDue bytes f (stored_of now) us) (performed-files model grouping old now s.turns s.performs h)
               (tends.1.2 h bytes e)));
           only_asked = λ asked. absurd (cc (asked, e));
+          handed = subst (λ (l : List ℕ). Handed model had between-had old new turns (length l)) out
+              (performed-handed between-had old now new s.turns us (length sent) (turns_accepted (stored_of now) us)
+              (accepted-joined start s.turns us ∙ ap (λ t. turns_accepted start s.turns ++ turns_accepted t us) (sym here))
+              (omega arith) s.performs tends.1.3.any_moment s.handed);
           performs = performed-tended model grouping old now s.turns new us s.performs
               (λ each. absurd (cc (ap checkpoints_of each, e))) tends.1.3;
         }
@@ -765,11 +865,12 @@ module _ {D : Type 0} (model : DiskModel D) (grouping : Grouping) where
     pub ends-tending : (new : StoreView D) (f : SessionFault) → Tends model (checkpoints_of grouping) now new (Err f)
         → ((t : ℕ) (image : Image) → model.honest → t ≤ model.moment new.disk → IsImage (model.folder new.disk) image
         → model.left new.disk t image)
-        → Session model grouping given mid held between old new (Err f)
+        → Session model grouping had between-had given mid held between old new (Err f)
     ends-tending new f tends counts_now =
         let stops = tends.1.1 in
-        subst (λ (x : SessionFault). Session model grouping given mid held between old new (Err x)) (sym tends.1.0)
-        (runs-broken given mid held between old now new s.turns [] s.performs s.only_asked s.due stops.broken stops.state
+        subst (λ (x : SessionFault). Session model grouping had between-had given mid held between old new (Err x)) (sym tends.1.0)
+        (runs-broken between-had given mid held between old now new s.turns
+        [] s.performs s.handed s.only_asked s.due stops.broken stops.state
         (λ h flushed waiting has. subst (λ (l : List Command).
         LeavesOnly model now.disk new.disk (λ image. MeansPrefix flushed l image))
         (sym (append-nil waiting)) (stops.any_moment h flushed waiting has))

@@ -18,6 +18,7 @@ pub mod PartLemmas
 pub mod EditLemmas
 pub mod TurnLemmas
 pub mod SinkLemmas
+pub mod HandedLemmas
 pub mod TendLemmas
 pub mod GatherLemmas
 pub mod RoundLemmas

@@ -1,6 +1,6 @@
 -- A session each of whose pieces is a group is a run.
 use Rattle.std.proofs.Common.{◌≡◌, inl, inr, refl, sym, ◌∙◌, ap, subst, arith, ◌≤◌}
-use Rattle.std.specs.Prelude.{ℕ, true, false, List, [], ◌∷◌, ◌++◌, length, take, Option, Result, Ok, Err}
+use Rattle.std.specs.Prelude.{ℕ, ◌+◌, true, false, List, [], ◌∷◌, ◌++◌, length, take, Option, Result, Ok, Err}
 use Rattle.conf_session.proofs.Prelude.{Appends, append-nil, Folder, DiskModel, LeavesOnly, Command, Contents, MeansPrefix}
 use Rattle.conf_session.proofs.Prelude.{HasFlushed, StoreView}
 use Rattle.conf_session.specs.{declared.fault.SessionFault.SessionFault, declared.groups.Grouping.Grouping, declared.session.Tally.Tally}
@@ -9,9 +9,11 @@ use Rattle.conf_session.specs.Answers.{Stored, acknowledged, accepted_commands, 
 use Rattle.conf_session.specs.Answers.{stored_after_all, file_after_all, staged_after_all, waiting_after}
 use Rattle.conf_session.specs.Runs.{AfterAtLeast, BeginsWith, Ends, EndsAnswered, EndsEarly, Runs, stored_of}
 use Rattle.conf_session.specs.Groups.{acknowledged_turns, all_asked, asked, files_of, files_after_turns, requests_of, stored_after_turns}
-use Rattle.conf_session.specs.Groups.{GroupedEnds, RunsBy, turns_accepted, turns_output, turns_refused}
+use Rattle.conf_session.specs.Handings.{Handing, accepted_within, handings_of, taken_in}
+use Rattle.conf_session.specs.Groups.{GroupedEnds, RunsBy, turns_within, turns_accepted, turns_output, turns_refused}
 use Rattle.conf_session.specs.declared.groups.Grouping.TheVariants.{Each, Read}
 use Rattle.conf_session.proofs.GroupLemmas.{AreSingle, HasPerformed, Session, performed-files, performed-stored, session-grouped}
+use Rattle.conf_session.proofs.HandedLemmas.{asked-within, handed-after, handed-since, since-weaker}
 use Rattle.conf_session.proofs.PassedLemmas.{none-waits}
 use Rattle.conf_session.proofs.TurnLemmas.{asked-accepted, asked-files, asked-joined, asked-output, asked-refused, asked-requests}
 use Rattle.conf_session.proofs.TurnLemmas.{asked-stored}
@@ -39,11 +41,12 @@ few-acknowledged now waiting [] = let none = ap length (append-nil waiting) in o
 few-acknowledged now waiting (r ∷ rs) =
     let same = ap (λ l. length (waiting ++ l)) (asked-accepted now (r ∷ rs)) in omega (arith, same)
 
-module _ {D : Type 0} (model : DiskModel D) (given left held written : Option (List ℕ)) (old new : StoreView D) where
+module _ {D : Type 0} (model : DiskModel D) (had has : List Handing) (given left held written : Option (List ℕ))
+    (old new : StoreView D) where
   abbrev io : Streams
   io = streams_of given left held written
 
-  module _ (result : Result Tally SessionFault) (s : Session model Each given left held written old new result) where
+  module _ (result : Result Tally SessionFault) (s : Session model Each had has given left held written old new result) where
     abbrev start : Stored
     start = stored_of old
 
@@ -140,7 +143,7 @@ module _ {D : Type 0} (model : DiskModel D) (given left held written : Option (L
         settled (model.folder new.disk) start flushed new.state waiting performed
         (λ none. f.some refl (turns ∙ ap all_asked none)) (ap (λ (t : Stored). t.state) (sym (here on))) (f.performs.flushed h)
 
-    session-each : Runs model io old new result
+    session-each : Runs model io (handings_of had has) old new result
     session-each = record {
       answered = rs;
       performed = performed;
@@ -152,6 +155,21 @@ module _ {D : Type 0} (model : DiskModel D) (given left held written : Option (L
       any_moment = λ h on flushed waiting has.
           subst (λ (l : List Command). LeavesOnly model old.disk new.disk (λ image. MeansPrefix flushed (waiting ++ l) image))
           accepted (s.any_moment h on flushed waiting has);
+      handed = handed-after model had has old new (s.answered ++ all_asked s.unanswered) s.most s.handed;
+      cut_off = λ h on flushed waiting is.
+          since-weaker model new.disk 0 (taken_in (handings_of had has)) _ _
+          (λ bytes image some.
+          (let within = ap (λ l. turns_within start l bytes) turns ∙ asked-within start performed bytes in
+          let enough = some.enough in
+          subst (λ (l : List Command). AfterAtLeast flushed (length waiting + accepted_within start performed bytes) (waiting ++ l) image)
+          accepted (record {
+            count = some.count;
+            enough = omega (arith, enough, within);
+            state = some.state;
+            leads = some.leads;
+            means = some.means;
+          })))
+          (handed-since model had has old new (s.answered ++ all_asked s.unanswered) s.most s.handed h on flushed waiting is);
       kept = λ h on flushed waiting has image is.
           (let kept = subst (λ (l : List Command).
           AfterAtLeast flushed (acknowledged_turns start waiting s.answered) (waiting ++ l) image)
@@ -169,9 +187,10 @@ module _ {D : Type 0} (model : DiskModel D) (given left held written : Option (L
     }
 
 -- what a session is, by its groups
-pub runs-by : {D : Type 0} (model : DiskModel D) (grouping : Grouping) (given left held written : Option (List ℕ)) (old new : StoreView D)
-    (result : Result Tally SessionFault) → Session model grouping given left held written old new result
-    → RunsBy model (streams_of given left held written) grouping old new result
-runs-by model Each given left held written old new result s = session-each model given left held written old new result s
-runs-by model (Read checkpoints) given left held written old new result s =
-    session-grouped model checkpoints given left held written old new result s
+pub runs-by : {D : Type 0} (model : DiskModel D) (grouping : Grouping) (had has : List Handing)
+    (given left held written : Option (List ℕ)) (old new : StoreView D)
+    (result : Result Tally SessionFault) → Session model grouping had has given left held written old new result
+    → RunsBy model (streams_of given left held written) (handings_of had has) grouping old new result
+runs-by model Each had has given left held written old new result s = session-each model had has given left held written old new result s
+runs-by model (Read checkpoints) had has given left held written old new result s =
+    session-grouped model checkpoints had has given left held written old new result s

@@ -72,7 +72,7 @@ module _ {D : Type 0} (model : DiskModel D) where
     }
 
 -- a file after a prefix of further commands is after all that were accepted before
-further-kept : (start s : Contents) (accepted further : List Command) (image : Image)
+pub further-kept : (start s : Contents) (accepted further : List Command) (image : Image)
     → after start accepted ≡ Ok s → MeansPrefix s further image
     → AfterAtLeast start (length accepted) (accepted ++ further) image
 further-kept start s accepted further image leads some = record {

@@ -162,8 +162,8 @@ module _ {D : Type 0} (model : DiskModel D) where
   module _ (old mid : StoreView D) (ts : List Turn) (before : PerformsTurns model old mid ts)
       (h : model.honest) (flushed : Contents) (waiting : List Command)
       (has : HasFlushed (model.folder old.disk) flushed waiting old.state) where
-    leads : after flushed (waiting ++ turns_accepted (stored_of old) ts) ≡ Ok mid.state
-    leads =
+    pub leads-performed : after flushed (waiting ++ turns_accepted (stored_of old) ts) ≡ Ok mid.state
+    leads-performed =
         after-joined flushed old.state mid.state waiting (turns_accepted (stored_of old) ts) has.journal.leads
         (leads-turns (stored_of old) ts ∙ ap (λ (t : Stored). Ok t.state) (sym before.stored))
 
@@ -171,7 +171,7 @@ module _ {D : Type 0} (model : DiskModel D) where
     continued = record {
       first = waiting ++ turns_accepted (stored_of old) ts;
       is = sym (append-nil (waiting ++ turns_accepted (stored_of old) ts));
-      leads = leads;
+      leads = leads-performed;
     }
 
     -- what a crash leaves of the turns and of what comes after them
@@ -193,7 +193,7 @@ module _ {D : Type 0} (model : DiskModel D) where
           count = length all;
           enough = few;
           state = mid.state;
-          leads = ap (after flushed) (take_all (length all) all (omega arith)) ∙ leads;
+          leads = ap (after flushed) (take_all (length all) all (omega arith)) ∙ leads-performed;
           means = before.now h image is;
         }
 

@@ -1,6 +1,6 @@
 -- One group of a grouped session: the pieces that one read brought are performed, flushed and then answered.
 use Rattle.std.specs.Prelude.{◌≡◌, ◌≢◌, ◌⊎◌, ℕ, ◌+◌, ◌*◌, ◌<◌, ◌≤◌, true, false, List, [], ◌++◌, length, take, Option}
-use Rattle.std.specs.Prelude.{Some, None, Result, Ok, Err}
+use Rattle.std.specs.Prelude.{Some, None, Result, Ok, Err, All}
 use Rattle.conf_session.specs.Prelude.{Appends, Keeps, ClosesOnce, DiskModel, LeavesOnly, Command, Contents}
 use Rattle.conf_session.specs.Prelude.{MeansPrefix, AllImagesMean, HasFlushed, HasGrown, StoreView}
 use Rattle.conf_session.specs.{Said.piece_limit, declared.input.Input.Input, Requests.Request, Requests.Asks}
@@ -11,6 +11,7 @@ use Rattle.conf_session.specs.{declared.reply.Reply.Reply}
 use Rattle.conf_session.specs.declared.groups.Grouping.TheVariants.{Each, Read}
 use Rattle.conf_session.specs.{declared.unwritten.Unwritten.Unwritten, declared.fault.SessionFault.SessionFault}
 use Rattle.conf_session.specs.Input.{IsSound, ahead, bytes_read, piece_or_rest, session_limit}
+use Rattle.conf_session.specs.Handings.{Handing, handed_bytes}
 use Rattle.conf_session.specs.Answers.{Stored, answer_limit, output, stored_after_all, accepted_commands, refusals}
 use Rattle.conf_session.specs.Replies.{DidAsked, MeansPrefixes, Performs, PerformsAll, Replies, accepts, refuses}
 use Rattle.conf_session.specs.Replies.{reply_bytes}
@@ -64,6 +65,13 @@ pub record CutsAnswers (held written : Option (List ℕ)) (answers : Unwritten) 
   pub is : total ≡ answers.written + count
   pub cut : count < length (unwritten_bytes answers)
   pub out : Appends held written (take count (unwritten_bytes answers))
+
+-- a sink took no more than so many bytes, all of them at this moment
+pub record HandsOut (before after : List Handing) (moment most : ℕ) : Type 0 where
+  pub handings : List Handing
+  pub noted : after ≡ before ++ handings
+  pub now : All (λ handing. handing.moment ≡ moment) handings
+  pub few : handed_bytes handings ≤ most
 
 -- what a write that fails says
 abbrev pub FailsToWrite : Option (List ℕ) → Option (List ℕ) → Unwritten → SessionFault → Type 0
@@ -256,33 +264,35 @@ pub record CutsSending (held written : Option (List ℕ)) (bytes : List ℕ) (st
   pub out : Appends held written (take count (output start requests))
 
 -- the pieces are performed, flushed and answered
-pub record PassesGroup {D : Type 0} (model : DiskModel D) (held written : Option (List ℕ)) (bytes further : List ℕ)
-    (old new : StoreView D) (before after : Unwritten) : Type 0 where
+pub record PassesGroup {D : Type 0} (model : DiskModel D) (held written : Option (List ℕ)) (had has : List Handing)
+    (bytes further : List ℕ) (old new : StoreView D) (before after : Unwritten) : Type 0 where
   pub requests : List Request
   pub some : requests ≡ [] → ⊥
   pub performs : PerformsFlushed model old new requests
   pub sends : SendsAnswers held written bytes further (stored_of old) requests before after
+  pub hands : HandsOut had has (model.moment new.disk) (length (output (stored_of old) requests))
 
 -- the pieces are performed and flushed, and so many bytes were written, with those of the answers before
-pub record CutsGroup {D : Type 0} (model : DiskModel D) (held written : Option (List ℕ)) (bytes : List ℕ) (limit : ℕ)
-    (old new : StoreView D) (sent total : ℕ) : Type 0 where
+pub record CutsGroup {D : Type 0} (model : DiskModel D) (held written : Option (List ℕ)) (had has : List Handing)
+    (bytes : List ℕ) (limit : ℕ) (old new : StoreView D) (sent total : ℕ) : Type 0 where
   pub requests : List Request
   pub single : limit ≡ 0 → length requests ≤ 1
   pub performs : PerformsFlushed model old new requests
   pub cuts : CutsSending held written bytes (stored_of old) requests sent total
+  pub hands : HandsOut had has (model.moment new.disk) (length (output (stored_of old) requests))
 
 -- what became of a group: if memory ran out, nothing was done, or the pieces before are performed, flushed and answered
-abbrev pub PerformsGroup : {D : Type 0} → DiskModel D → Option (List ℕ)
-    → Option (List ℕ) → List ℕ → Input → StoreView D → StoreView D → Unwritten → Unwritten
+abbrev pub PerformsGroup : {D : Type 0} → DiskModel D → Option (List ℕ) → Option (List ℕ) → List Handing
+    → List Handing → List ℕ → Input → StoreView D → StoreView D → Unwritten → Unwritten
     → Result (Unit {0}) SessionFault → Type 0
-PerformsGroup model held written bytes input old new before after (Ok done) =
+PerformsGroup model held written had has bytes input old new before after (Ok done) =
     IsSound input × (unwritten_bytes after ≡ []) × (after.last ≡ None) × (after.limit ≡ before.limit)
-    × PassesGroup model held written bytes (ahead input) old new before after
-PerformsGroup model held written bytes input old new before after (Err fault.OutOfMemory) =
-    ((new ≡ old) × Keeps held written)
-    ⊎ ((further : List ℕ) × PassesGroup model held written bytes further old new before after)
-PerformsGroup model held written bytes input old new before after (Err fault.Device) =
-    BreaksOff model bytes before.limit old new × Keeps held written
-PerformsGroup model held written bytes input old new before after (Err (fault.Write total)) =
-    CutsGroup model held written bytes before.limit old new before.written total
-PerformsGroup model held written bytes input old new before after (Err fault) = ⊥
+    × PassesGroup model held written had has bytes (ahead input) old new before after
+PerformsGroup model held written had has bytes input old new before after (Err fault.OutOfMemory) =
+    ((new ≡ old) × Keeps held written × (has ≡ had))
+    ⊎ ((further : List ℕ) × PassesGroup model held written had has bytes further old new before after)
+PerformsGroup model held written had has bytes input old new before after (Err fault.Device) =
+    BreaksOff model bytes before.limit old new × Keeps held written × (has ≡ had)
+PerformsGroup model held written had has bytes input old new before after (Err (fault.Write total)) =
+    CutsGroup model held written had has bytes before.limit old new before.written total
+PerformsGroup model held written had has bytes input old new before after (Err fault) = ⊥

@@ -1,5 +1,5 @@
 -- What a grouped session has read, answered and stored, for each of its results.
-use Rattle.std.specs.Prelude.{◌≡◌, ◌≢◌, ◌⊎◌, ℕ, ◌+◌, ◌*◌, ◌<◌, ◌≤◌, false, List, [], ◌∷◌, ◌++◌, length, take, map, Option, Some}
+use Rattle.std.specs.Prelude.{◌≡◌, ◌≢◌, ◌⊎◌, ℕ, zero, ◌+◌, ◌-◌, ◌*◌, ◌<◌, ◌≤◌, false, List, [], ◌∷◌, ◌++◌, length, take, map, Option, Some}
 use Rattle.std.specs.Prelude.{None, unwrap_or, Result, Err}
 use Rattle.conf_session.specs.Prelude.{Consumes, Keeps, Appends, Folder, bytes_under, Image, IsImage, DiskModel}
 use Rattle.conf_session.specs.Prelude.{LeavesOnly, Store, base_bytes, Command, Contents, MeansPrefix, AllImagesMean}
@@ -7,6 +7,7 @@ use Rattle.conf_session.specs.Prelude.{HasFlushed, staged_text, HasGrown, StoreV
 use Rattle.conf_session.specs.{Requests.Request, declared.fault.SessionFault.SessionFault}
 use Rattle.conf_session.specs.{declared.groups.Checkpoints.Checkpoints, declared.session.Tally.Tally, Streams.Streams}
 use Rattle.conf_session.specs.{declared.groups.Grouping.Grouping}
+use Rattle.conf_session.specs.Handings.{Handings, HoldsSince, taken_in}
 use Rattle.conf_session.specs.declared.groups.Grouping.TheVariants.{Each, Read}
 use Rattle.conf_session.specs.Answers.{Stored, answer_bytes, answer_limit, stored_after, file_after, staged_after}
 use Rattle.conf_session.specs.Answers.{accepted_command, refused_of}
@@ -89,6 +90,13 @@ abbrev pub turns_accepted : Stored → List Turn → List Command
 turns_accepted now [] = []
 turns_accepted now (turn ∷ turns) = turn_accepted now turn ++ turns_accepted (stored_after_turn now turn) turns
 
+-- how many commands were accepted in the turns whose answers begin within so many bytes of the output
+abbrev pub turns_within : Stored → List Turn → ℕ → ℕ
+turns_within now [] bytes = 0
+turns_within now (turn ∷ turns) zero = 0
+turns_within now (turn ∷ turns) bytes =
+    length (turn_accepted now turn) + turns_within (stored_after_turn now turn) turns (bytes - length (turn_output now turn))
+
 -- whether a turn is answered by a refusal: 1 or 0
 abbrev pub turn_refused : Stored → Turn → ℕ
 turn_refused now (asked request) = refused_of now request
@@ -155,8 +163,8 @@ acknowledged_turns now waiting (turn ∷ turns) = length (waiting ++ turns_accep
 -- A grouped session from one value of a store to the next. `flushed` is the state that is flushed at its start, and
 -- `waiting` are the commands that were submitted since. At Device the store has to be opened again: `ends` says which
 -- answers were handed out, `unanswered` are the requests that are performed without one, and `kept` says what no crash
--- takes back.
-pub record RunsGrouped {D : Type 0} (model : DiskModel D) (io : Streams)
+-- takes back. `handings` are what the sink had taken before the session and after it.
+pub record RunsGrouped {D : Type 0} (model : DiskModel D) (io : Streams) (handings : Handings)
     (checkpoints : Checkpoints)
     (old new : StoreView D) (result : Result Tally SessionFault) : Type 0 where
   pub answered : List Turn
@@ -181,6 +189,13 @@ pub record RunsGrouped {D : Type 0} (model : DiskModel D) (io : Streams)
       → LeavesOnly model old.disk new.disk
       (λ image. MeansPrefix flushed
       (waiting ++ turns_accepted (stored_of old) (answered ++ all_asked unanswered)) image)
+  -- a crash at any moment since bytes were handed out leaves one that has every command whose answer they begin
+  pub handed : handings.after ≡ handings.before ++ taken_in handings
+  pub cut_off : model.honest → old.reopen ≡ false → (flushed : Contents) (waiting : List Command)
+      → HasFlushed (model.folder old.disk) flushed waiting old.state
+      → HoldsSince model new.disk 0 (taken_in handings) (λ bytes image. AfterAtLeast flushed
+      (length waiting + turns_within (stored_of old) (answered ++ all_asked unanswered) bytes)
+      (waiting ++ turns_accepted (stored_of old) (answered ++ all_asked unanswered)) image)
   -- and a crash after the session leaves one that has every command that was answered
   pub kept : model.honest → old.reopen ≡ false → (flushed : Contents) (waiting : List Command)
       → HasFlushed (model.folder old.disk) flushed waiting old.state
@@ -204,7 +219,7 @@ answers_limit Each = 0
 answers_limit (Read checkpoints) = 65536
 
 -- what it has read, answered and stored
-abbrev pub RunsBy : {D : Type 0} → DiskModel D → Streams → Grouping → StoreView D → StoreView D
+abbrev pub RunsBy : {D : Type 0} → DiskModel D → Streams → Handings → Grouping → StoreView D → StoreView D
     → Result Tally SessionFault → Type 0
-RunsBy model io Each old new result = Runs model io old new result
-RunsBy model io (Read checkpoints) old new result = RunsGrouped model io checkpoints old new result
+RunsBy model io handings Each old new result = Runs model io handings old new result
+RunsBy model io handings (Read checkpoints) old new result = RunsGrouped model io handings checkpoints old new result

@@ -2,6 +2,7 @@ pub mod Prelude
 pub mod Requests
 pub mod Answers
 pub mod AnswersRead
+pub mod Handings
 pub mod Runs
 pub mod Replies
 pub mod ReadChanges

@@ -9,6 +9,7 @@ use Rattle.conf_store.specs.Staged.{Staged}
 use Rattle.conf_session.specs.{Said.piece_limit, Input.session_limit, Input.IsOverlong}
 use Rattle.conf_session.specs.{declared.fault.SessionFault.SessionFault, Requests.Request, Requests.AllAsk}
 use Rattle.conf_session.specs.{declared.session.Tally.Tally, Streams.Streams}
+use Rattle.conf_session.specs.Handings.{Handings, HoldsSince, accepted_within, taken_in}
 use Rattle.conf_session.specs.Answers.{Stored, answer_limit, output, stored_after_all, file_after_all, staged_after_all}
 use Rattle.conf_session.specs.Answers.{accepted_commands, refusals, flushed_after, waiting_after, acknowledged}
 use Rattle.conf_session.specs.declared.fault.SessionFault.TheVariants as fault
@@ -150,8 +151,9 @@ pub record AfterAtLeast (s : Contents) (least : ℕ) (commands : List Command) (
 -- A run from one value of a store to the next. `flushed` is the state that is flushed at its start, and `waiting` are
 -- the commands that were submitted since. At Device the store has to be opened again: `ends` says which answers were
 -- handed out and which request has none, `state` has that request too, and `kept` says what no crash takes back.
+-- `handings` are what the sink had taken before the run and after it.
 pub record Runs {D : Type 0} (model : DiskModel D)
-    (io : Streams) (old new : StoreView D)
+    (io : Streams) (handings : Handings) (old new : StoreView D)
     (result : Result Tally SessionFault) : Type 0 where
   pub answered : List Request
   pub performed : List Request
@@ -171,6 +173,13 @@ pub record Runs {D : Type 0} (model : DiskModel D)
       → HasFlushed (model.folder old.disk) flushed waiting old.state
       → LeavesOnly model old.disk new.disk
       (λ image. MeansPrefix flushed (waiting ++ accepted_commands (stored_of old) performed) image)
+  -- a crash at any moment since bytes were handed out leaves one that has every command whose answer they begin
+  pub handed : handings.after ≡ handings.before ++ taken_in handings
+  pub cut_off : model.honest → old.reopen ≡ false → (flushed : Contents) (waiting : List Command)
+      → HasFlushed (model.folder old.disk) flushed waiting old.state
+      → HoldsSince model new.disk 0 (taken_in handings) (λ bytes image.
+      AfterAtLeast flushed (length waiting + accepted_within (stored_of old) performed bytes)
+      (waiting ++ accepted_commands (stored_of old) performed) image)
   -- and a crash after the run leaves one that has every command that was answered
   pub kept : model.honest → old.reopen ≡ false → (flushed : Contents) (waiting : List Command)
       → HasFlushed (model.folder old.disk) flushed waiting old.state

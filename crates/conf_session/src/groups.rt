@@ -7,6 +7,7 @@ ghost use Rattle.conf_session.specs.Replies.{CountsFailures};
 ghost use Rattle.conf_session.specs.Gathering.{CanGoOn, CanTakeGroup, FlushesAll, PerformsGroup, Starts, SubmitsGroup, Tends, TendsByBeginning, TendsBySlice, unwritten_bytes};
 ghost use Rattle.conf_session.specs.Groups.{RunsBy, RunsGrouped, answers_limit, checkpoints_of};
 ghost use Rattle.conf_session.specs.Sinks.{SentSoFar};
+ghost use Rattle.conf_session.specs.Handings.{handings_of};
 ghost use Rattle.conf_session.specs.Streams.{streams_of};
 
 use crate::fault::SessionFault;
@@ -128,7 +129,7 @@ fn perform_group<D: Disk, S: AnswerSink<D>>(
     requires none { unwritten_bytes answers.old ≡ [] }
     requires sent { SentSoFar D.model (S.taken sink.old) store.old }
     ensures performs { PerformsGroup D.model
-        (S.taken sink.old) (S.taken sink.new)
+        (S.taken sink.old) (S.taken sink.new) (S.handings sink.old) (S.handings sink.new)
         (piece_or_rest input.old ++ ahead input.old) input.new store.old store.new
         answers.old answers.new result }
     ensures goes_on { OnOk result (CanGoOn input.old input.new answers.new) }
@@ -259,7 +260,7 @@ pub fn run_grouped<D: Disk, R: Read, S: AnswerSink<D>>(
 ) -> Result<Tally, SessionFault>
     ensures runs { RunsGrouped D.model
         (streams_of (R.remaining reader.old) (R.remaining reader.new) (S.taken sink.old)
-        (S.taken sink.new))
+        (S.taken sink.new)) (handings_of (S.handings sink.old) (S.handings sink.new))
         checkpoints store.old store.new result }
     ensures reopen { IsErrOf result SessionFault.Reopen ↔ (store.old.reopen ≡ true) }
     ensures unchanged { IsErrOf result SessionFault.Reopen → store.new ≡ store.old }
@@ -300,7 +301,7 @@ pub(crate) fn run_groups<D: Disk, R: Read, S: AnswerSink<D>>(
 ) -> Result<Tally, SessionFault>
     ensures runs { RunsBy D.model
         (streams_of (R.remaining reader.old) (R.remaining reader.new) (S.taken sink.old)
-        (S.taken sink.new))
+        (S.taken sink.new)) (handings_of (S.handings sink.old) (S.handings sink.new))
         grouping store.old store.new result }
     ensures reopen { IsErrOf result SessionFault.Reopen ↔ (store.old.reopen ≡ true) }
     ensures unchanged { IsErrOf result SessionFault.Reopen → store.new ≡ store.old }

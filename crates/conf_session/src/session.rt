@@ -2,6 +2,7 @@
 ghost use Rattle.std.specs.Prelude.{◌≡◌, ◌≤◌, ◌⊎◌, ◌↔◌, true, IsErrOf};
 ghost use Rattle.conf_session.specs.Prelude.{HasFailed};
 ghost use Rattle.conf_session.specs.Runs.{Runs};
+ghost use Rattle.conf_session.specs.Handings.{handings_of};
 ghost use Rattle.conf_session.specs.Streams.{streams_of};
 
 use crate::fault::SessionFault;
@@ -34,7 +35,8 @@ pub struct Tally {
 ///
 /// A crash at any moment leaves the state after a prefix of the accepted commands. Once an answer is handed to
 /// the sink, that prefix has every command that was accepted up to it: the sink requires so
-/// ([`AnswerSink::put`]), also in a session that is cut off, and the clause `kept` says so of one that returned.
+/// ([`AnswerSink::put`]). The field `cut_off` of the clause says so of each moment since then, and `kept` of one that
+/// returned.
 /// Commands that were submitted before, and wait for a flush, come first: they are flushed with the first piece,
 /// whatever it asks for.
 ///
@@ -57,7 +59,7 @@ pub fn run<D: Disk, R: Read, S: AnswerSink<D>>(
 ) -> Result<Tally, SessionFault>
     ensures runs { Runs D.model
         (streams_of (R.remaining reader.old) (R.remaining reader.new) (S.taken sink.old)
-        (S.taken sink.new))
+        (S.taken sink.new)) (handings_of (S.handings sink.old) (S.handings sink.new))
         store.old store.new result }
     ensures reopen { IsErrOf result SessionFault.Reopen ↔ (store.old.reopen ≡ true) }
     ensures unchanged { IsErrOf result SessionFault.Reopen → store.new ≡ store.old }

@@ -2,7 +2,7 @@
 ghost use Rattle.std.specs.Prelude.{◌≡◌, ◌+◌, ◌^◌, ◌<◌, ◌≤◌, ◌⊎◌, ◌↔◌, ◌++◌, true, [], None, if◌then◌else◌, OnOk};
 ghost use Rattle.std.specs.Prelude.{IfErr, IsSome, length, take};
 ghost use Rattle.conf_session.specs.Prelude.{Appends};
-ghost use Rattle.conf_session.specs.Gathering.{FailsToWrite, KeepsAnswer, WritesAnswers, last_bytes, unwritten_bytes};
+ghost use Rattle.conf_session.specs.Gathering.{FailsToWrite, HandsOut, KeepsAnswer, WritesAnswers, last_bytes, unwritten_bytes};
 ghost use Rattle.conf_session.specs.Sinks.{AreAcknowledged};
 
 use crate::fault::SessionFault;
@@ -52,6 +52,8 @@ fn put_some<D: Disk, S: AnswerSink<D>>(
     ensures cut { IfErr result (λ count. count < length bytes.now) }
     ensures prefix { IfErr result (λ count.
         Appends (S.taken sink.old) (S.taken sink.new) (take count bytes.now)) }
+    ensures hands { HandsOut (S.handings sink.old) (S.handings sink.new)
+        (D.model.moment store.now.disk) (length bytes.now) }
 {
     if bytes.is_empty() {
         return Ok(());
@@ -77,6 +79,8 @@ fn put_both<D: Disk, S: AnswerSink<D>>(
     ensures cut { IfErr result (λ count. count < length (text.now ++ last.now)) }
     ensures prefix { IfErr result (λ count.
         Appends (S.taken sink.old) (S.taken sink.new) (take count (text.now ++ last.now))) }
+    ensures hands { HandsOut (S.handings sink.old) (S.handings sink.new)
+        (D.model.moment store.now.disk) (length (text.now ++ last.now)) }
 {
     if let Err(count) = put_some(store, sink, text) {
         return Err(count as u64);
@@ -167,6 +171,8 @@ impl Unwritten {
             (WritesAnswers (S.taken sink.old) (S.taken sink.new) self.old self.new) }
         ensures fails { IfErr result
             (FailsToWrite (S.taken sink.old) (S.taken sink.new) self.old) }
+        ensures hands { HandsOut (S.handings sink.old) (S.handings sink.new)
+            (D.model.moment store.now.disk) (length (unwritten_bytes self.old)) }
     {
         let last = bytes_of_last(&self.last);
         let len = self.text.len() as u64 + last.len() as u64;

@@ -29,9 +29,11 @@ struct Stopping {
 }
 
 impl<D: Disk> AnswerSink<D> for Stopping {
-    ghost use Rattle.std.specs.Prelude.{None};
+    ghost use Rattle.std.specs.Prelude.{None, []};
 
     ghost taken = { λ _. None };
+
+    ghost handings = { λ _. [] };
 
     fn put(&mut self, _store: &Store<D>, bytes: &[u8]) -> Result<(), usize> {
         self.handed_out = self.handed_out.saturating_add(bytes.len() as u64);

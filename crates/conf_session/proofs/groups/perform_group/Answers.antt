@@ -11,14 +11,16 @@ use Rattle.conf_session.proofs.groups.perform_group.Goals as goal
 pub returns-then-needs_reopen-clause-performs : goal.returns-then-needs_reopen-clause-performs
 returns-then-needs_reopen-clause-performs g c =
     let new = c.submit_group-ended.new in
-    ends-unanswered g.D.Disk.model (g.S.AnswerSink.taken c.args.sink.now) (piece_or_rest c.args.input.now ++ ahead c.args.input.now)
+    ends-unanswered g.D.Disk.model (g.S.AnswerSink.taken c.args.sink.now) (g.S.AnswerSink.handings c.args.sink.now)
+    (piece_or_rest c.args.input.now ++ ahead c.args.input.now)
     new.input c.args.store.now new.store c.args.answers.now new.answers c.submit_group-ended.result c.submit_group-ended.ensures.submits
     (inl (sym c.needs_reopen.ensures.reopen ∙ c.if-needs_reopen.true))
 
 pub returns-then-answers-before-clause-performs : goal.returns-then-answers-before-clause-performs
 returns-then-answers-before-clause-performs g c =
     let new = c.submit_group-ended.new in
-    ends-unanswered g.D.Disk.model (g.S.AnswerSink.taken c.args.sink.now) (piece_or_rest c.args.input.now ++ ahead c.args.input.now)
+    ends-unanswered g.D.Disk.model (g.S.AnswerSink.taken c.args.sink.now) (g.S.AnswerSink.handings c.args.sink.now)
+    (piece_or_rest c.args.input.now ++ ahead c.args.input.now)
     new.input c.args.store.now new.store c.args.answers.now new.answers c.submit_group-ended.result c.submit_group-ended.ensures.submits
     (inr c.if-answers-before.true)
 
@@ -29,7 +31,8 @@ returns-in_err-flush_all-clause-performs g c =
     let bytes = piece_or_rest c.args.input.now ++ ahead c.args.input.now in
     let s = gathered d.model bytes mid.input c.args.store.now mid.store c.args.answers.now mid.answers c.submit_group-ended.result
     c.submit_group-ended.ensures.submits (sym c.needs_reopen.ensures.reopen ∙ c.if-needs_reopen.false) in
-    let ends = ends-unflushed d.model (g.S.AnswerSink.taken c.args.sink.now) bytes mid.input c.args.store.now mid.store
+    let ends = ends-unflushed d.model (g.S.AnswerSink.taken c.args.sink.now)
+    (g.S.AnswerSink.handings c.args.sink.now) bytes mid.input c.args.store.now mid.store
     c.flush_all.new.store c.args.answers.now mid.answers s.0 s.1 c.if-answers-before.false mid.answers
     c.in_err-flush_all.field-0.0 c.in_err-flush_all.ensures.flushes in
     let p = err_from_is_err_and c.from_residual.result c.from_residual.ensures.1 in
@@ -42,7 +45,8 @@ put-requires-clause-acknowledged g c =
     let bytes = piece_or_rest c.args.input.now ++ ahead c.args.input.now in
     let s = gathered d.model bytes mid.input c.args.store.now mid.store c.args.answers.now mid.answers c.submit_group-ended.result
     c.submit_group-ended.ensures.submits (sym c.needs_reopen.ensures.reopen ∙ c.if-needs_reopen.false) in
-    group-acknowledged d.model (g.S.AnswerSink.taken c.args.sink.now) bytes mid.input c.args.store.now mid.store
+    group-acknowledged d.model (g.S.AnswerSink.taken c.args.sink.now)
+    (g.S.AnswerSink.handings c.args.sink.now) bytes mid.input c.args.store.now mid.store
     c.flush_all.new.store c.args.answers.now mid.answers s.0 s.1 c.if-answers-before.false c.requires.none
     c.in_ok-flush_all.ensures.flushes c.requires.sent
 
@@ -53,10 +57,11 @@ returns-in_err-put-clause-performs g c =
     let bytes = piece_or_rest c.args.input.now ++ ahead c.args.input.now in
     let s = gathered d.model bytes mid.input c.args.store.now mid.store c.args.answers.now mid.answers c.submit_group-ended.result
     c.submit_group-ended.ensures.submits (sym c.needs_reopen.ensures.reopen ∙ c.if-needs_reopen.false) in
-    let ends = ends-cut d.model (g.S.AnswerSink.taken c.args.sink.now) bytes mid.input c.args.store.now mid.store
+    let ends = ends-cut d.model (g.S.AnswerSink.taken c.args.sink.now)
+    (g.S.AnswerSink.handings c.args.sink.now) bytes mid.input c.args.store.now mid.store
     c.flush_all.new.store c.args.answers.now mid.answers s.0 s.1 c.if-answers-before.false c.requires.none
-    c.in_ok-flush_all.ensures.flushes (g.S.AnswerSink.taken c.put.new.sink) c.put.new.self c.in_err-put.field-0.0
-    c.in_err-put.ensures.fails in
+    c.in_ok-flush_all.ensures.flushes (g.S.AnswerSink.taken c.put.new.sink) (g.S.AnswerSink.handings c.put.new.sink) c.put.new.self
+    c.in_err-put.field-0.0 c.in_err-put.ensures.fails c.put.ensures.hands in
     let p = err_from_is_err_and c.from_residual-in_err-put.result c.from_residual-in_err-put.ensures.1 in
     rw (p.1, p.2) ends
 
@@ -65,10 +70,11 @@ returns-clause-performs g c =
     let d = g.D.Disk in
     let mid = c.submit_group-ended.new in
     ends-answered d.model (g.S.AnswerSink.taken c.args.sink.now) (g.S.AnswerSink.taken c.put.new.sink)
+    (g.S.AnswerSink.handings c.args.sink.now) (g.S.AnswerSink.handings c.put.new.sink)
     (piece_or_rest c.args.input.now ++ ahead c.args.input.now) mid.input c.args.store.now mid.store c.flush_all.new.store
     c.args.answers.now mid.answers c.put.new.self c.submit_group-ended.result c.submit_group-ended.ensures.submits
     (sym c.needs_reopen.ensures.reopen ∙ c.if-needs_reopen.false) c.if-answers-before.false c.requires.none
-    c.in_ok-flush_all.ensures.flushes c.in_ok-put.ensures.ok
+    c.in_ok-flush_all.ensures.flushes c.in_ok-put.ensures.ok c.put.ensures.hands
 
 pub returns-clause-goes_on : goal.returns-clause-goes_on
 returns-clause-goes_on g c =

@@ -13,55 +13,61 @@ use Rattle.conf_session.proofs.groups.run_groups.Goals as goal
 
 pub returns-then-needs_reopen-clause-runs : goal.returns-then-needs_reopen-clause-runs
 returns-then-needs_reopen-clause-runs g c =
+    let hands = g.S.AnswerSink.handings in
     let d = g.D.Disk in
     let given = g.R.Read.remaining c.args.reader.now in
     let held = g.S.AnswerSink.taken c.args.sink.now in
     let store = c.args.store.now in
     let on = sym c.needs_reopen.ensures.reopen ∙ c.if-needs_reopen.true in
-    runs-by d.model c.args.grouping given given held held store store _
-    (reopens d.model c.args.grouping given held store (λ off. false≢true (sym off ∙ on)))
+    runs-by d.model c.args.grouping (hands c.args.sink.now) (hands c.args.sink.now) given given held held store store _
+    (reopens d.model c.args.grouping (hands c.args.sink.now) given held store (λ off. false≢true (sym off ∙ on)))
 
 pub returns-in_err-start-clause-runs : goal.returns-in_err-start-clause-runs
 returns-in_err-start-clause-runs g c =
+    let hands = g.S.AnswerSink.handings in
     let d = g.D.Disk in
     let given = g.R.Read.remaining c.args.reader.now in
     let held = g.S.AnswerSink.taken c.args.sink.now in
     let f = c.in_err-start.field-0.0 in
-    let ends = runs-by d.model c.args.grouping given given held held c.args.store.now c.start.new.store (Err f)
-    (starts-failing d.model c.args.grouping given held c.args.store.now c.start.new.store f c.in_err-start.ensures.starts
+    let ends = runs-by d.model c.args.grouping (hands c.args.sink.now)
+    (hands c.args.sink.now) given given held held c.args.store.now c.start.new.store (Err f)
+    (starts-failing d.model c.args.grouping
+    (hands c.args.sink.now) given held c.args.store.now c.start.new.store f c.in_err-start.ensures.starts
     (λ t image h le is. g.met.D.Disk.counts_now c.start.new.store.disk t image h le is)) in
     let p = err_from_is_err_and c.from_residual.result c.from_residual.ensures.1 in
     rw (p.1, p.2) ends
 
 pub returns-in_err-input-clause-runs : goal.returns-in_err-input-clause-runs
 returns-in_err-input-clause-runs g c =
+    let hands = g.S.AnswerSink.handings in
     let d = g.D.Disk in
     let old = c.args.store.now in
     let given = g.R.Read.remaining c.args.reader.now in
     let held = g.S.AnswerSink.taken c.args.sink.now in
     let off = sym c.needs_reopen.ensures.reopen ∙ c.if-needs_reopen.false in
-    let ends = runs-by d.model c.args.grouping given given held held old c.start.new.store _
-    (starts-without-memory d.model c.args.grouping given held old c.start.new.store
-    (started d.model c.args.grouping old c.start.new.store c.in_ok-start.ensures.starts off
+    let ends = runs-by d.model c.args.grouping (hands c.args.sink.now) (hands c.args.sink.now) given given held held old c.start.new.store _
+    (starts-without-memory d.model c.args.grouping (hands c.args.sink.now) given held old c.start.new.store
+    (started d.model c.args.grouping (hands c.args.sink.now) old c.start.new.store c.in_ok-start.ensures.starts off
     (λ image h is. g.met.D.Disk.only_now old.disk image h is) c.needs_reopen.ensures.now)) in
     let p = err_from_is_err_and c.from_residual-in_err-input.result c.from_residual-in_err-input.ensures.1 in
     rw (p.1, p.2) ends
 
 pub groups-init : goal.groups-init
 groups-init g c =
+    let hands = g.S.AnswerSink.handings in
     let d = g.D.Disk in
     let old = c.args.store.now in
     let begin = c.in_ok-input.ensures in
     let zero = c.new-answers.ensures in
     let answers = c.new-answers.result in
     let off = sym c.needs_reopen.ensures.reopen ∙ c.if-needs_reopen.false in
-    let performs = started d.model c.args.grouping old c.start.new.store c.in_ok-start.ensures.starts off
+    let performs = started d.model c.args.grouping (hands c.args.sink.now) old c.start.new.store c.in_ok-start.ensures.starts off
     (λ image h is. g.met.D.Disk.only_now old.disk image h is) c.needs_reopen.ensures.now in
     record {
       off = off;
       sound = performed-sound d.model c.args.grouping old c.start.new.store [] off performs;
       input = begin.0;
-      so_far = groups-none d.model c.args.grouping (g.R.Read.remaining c.args.reader.now)
+      so_far = groups-none d.model c.args.grouping (hands c.args.sink.now) (g.R.Read.remaining c.args.reader.now)
           (g.S.AnswerSink.taken c.args.sink.now) old c.start.new.store
           (ahead c.in_ok-input.input) answers (bytes_read c.in_ok-input.input) performs begin.1 zero.documents
           zero.accepted zero.refused zero.written begin.2;
@@ -75,13 +81,16 @@ groups-init g c =
 
 pub returns-in_err-advance-clause-runs : goal.returns-in_err-advance-clause-runs
 returns-in_err-advance-clause-runs g c =
+    let hands = g.S.AnswerSink.handings in
     let d = g.D.Disk in
     let given = g.R.Read.remaining in
     let held = g.S.AnswerSink.taken in
     let f = c.in_err-advance.field-0.0 in
-    let ends = runs-by d.model c.args.grouping (given c.args.reader.now) (given c.advance.new.reader)
+    let ends = runs-by d.model c.args.grouping (hands c.args.sink.now) (hands c.groups.sink) (given c.args.reader.now)
+    (given c.advance.new.reader)
     (held c.args.sink.now) (held c.groups.sink) c.args.store.now c.groups.store (Err f)
-    (ends-in_input d.model c.args.grouping (given c.args.reader.now) (given c.groups.reader) (given c.advance.new.reader)
+    (ends-in_input d.model c.args.grouping (hands c.args.sink.now) (hands c.groups.sink) (given c.args.reader.now)
+    (given c.groups.reader) (given c.advance.new.reader)
     (held c.args.sink.now) (held c.groups.sink) c.args.store.now c.groups.store c.groups.input c.advance.new.self
     c.groups.answers c.groups.invariant.so_far f c.in_err-advance.ensures) in
     let p = err_from_is_err_and c.from_residual-in_err-advance.result c.from_residual-in_err-advance.ensures.1 in
@@ -89,6 +98,7 @@ returns-in_err-advance-clause-runs g c =
 
 pub perform_group-requires-clause-can : goal.perform_group-requires-clause-can
 perform_group-requires-clause-can g c =
+    let hands = g.S.AnswerSink.handings in
     let given = g.R.Read.remaining in
     let held = g.S.AnswerSink.taken in
     let inv = c.groups.invariant in
@@ -96,7 +106,8 @@ perform_group-requires-clause-can g c =
     (given c.advance.new.reader) c.groups.input c.advance.new.self _ c.in_ok-advance.ensures c.if-branch.true in
     record {
       sound = inv.sound;
-      means = means-prefixes g.D.Disk.model c.args.grouping (given c.args.reader.now) (given c.groups.reader) (given c.groups.reader)
+      means = means-prefixes g.D.Disk.model c.args.grouping (hands c.args.sink.now) (hands c.groups.sink) (given c.args.reader.now)
+          (given c.groups.reader) (given c.groups.reader)
           (held c.args.sink.now) (held c.groups.sink) c.args.store.now c.groups.store c.groups.input c.groups.input c.groups.answers
           inv.so_far;
       piece = record { sound = advances.sound; piece = advances.piece; short = advances.short };
@@ -107,14 +118,17 @@ perform_group-requires-clause-can g c =
 
 pub perform_group-requires-clause-sent : goal.perform_group-requires-clause-sent
 perform_group-requires-clause-sent g c =
+    let hands = g.S.AnswerSink.handings in
     let given = g.R.Read.remaining in
     let held = g.S.AnswerSink.taken in
-    sent-so-far g.D.Disk.model c.args.grouping (given c.args.reader.now) (given c.groups.reader) (given c.groups.reader)
+    sent-so-far g.D.Disk.model c.args.grouping (hands c.args.sink.now) (hands c.groups.sink) (given c.args.reader.now)
+    (given c.groups.reader) (given c.groups.reader)
     (held c.args.sink.now) (held c.groups.sink) c.args.store.now c.groups.store c.groups.input c.groups.input c.groups.answers
     c.groups.invariant.so_far
 
 pub returns-in_err-perform_group-clause-runs : goal.returns-in_err-perform_group-clause-runs
 returns-in_err-perform_group-clause-runs g c =
+    let hands = g.S.AnswerSink.handings in
     let d = g.D.Disk in
     let given = g.R.Read.remaining in
     let held = g.S.AnswerSink.taken in
@@ -124,14 +138,17 @@ returns-in_err-perform_group-clause-runs g c =
     (given c.advance.new.reader) c.groups.input c.advance.new.self _ c.in_ok-advance.ensures c.if-branch.true in
     let out = inv.room.out in
     let f = c.in_err-perform_group.field-0.0 in
-    let ends = runs-by d.model c.args.grouping (given c.args.reader.now) (given c.advance.new.reader)
+    let ends = runs-by d.model c.args.grouping (hands c.args.sink.now) (hands new.sink) (given c.args.reader.now)
+    (given c.advance.new.reader)
     (held c.args.sink.now) (held new.sink) c.args.store.now new.store (Err f)
-    (ends-failing d.model c.args.grouping (given c.args.reader.now) (given c.groups.reader) (given c.advance.new.reader)
+    (ends-failing d.model c.args.grouping (hands c.args.sink.now) (hands c.groups.sink) (given c.args.reader.now) (given c.groups.reader)
+    (given c.advance.new.reader)
     (held c.args.sink.now) (held c.groups.sink) c.args.store.now c.groups.store c.groups.input c.advance.new.self
     c.groups.answers inv.so_far advances
-    (held new.sink) new.store new.input new.answers f c.in_err-perform_group.ensures.performs
+    (hands new.sink) (held new.sink) new.store new.input new.answers f c.in_err-perform_group.ensures.performs
     (λ e. inv.limit ∙ ap answers_limit e) (omega (arith, out))
-    (λ t image h le is. g.met.D.Disk.counts_now new.store.disk t image h le is)) in
+    (λ t image h le is. g.met.D.Disk.counts_now new.store.disk t image h le is)
+    (λ image h is. g.met.D.Disk.only_now new.store.disk image h is)) in
     let p = err_from_is_err_and c.from_residual-in_err-perform_group.result c.from_residual-in_err-perform_group.ensures.1 in
     rw (p.1, p.2) ends
 
@@ -148,6 +165,7 @@ groups-smaller g c =
 
 pub groups-preserved : goal.groups-preserved
 groups-preserved g c =
+    let hands = g.S.AnswerSink.handings in
     let d = g.D.Disk in
     let given = g.R.Read.remaining in
     let held = g.S.AnswerSink.taken in
@@ -157,17 +175,20 @@ groups-preserved g c =
     let new = c.perform_group.new in
     let last = c.tend_checkpoint.new.store in
     let performs = c.in_ok-perform_group.ensures.performs in
-    let so_far = groups-more d.model c.args.grouping (given c.args.reader.now) (given c.groups.reader) (given c.advance.new.reader)
+    let so_far = groups-more d.model c.args.grouping (hands c.args.sink.now) (hands c.groups.sink) (given c.args.reader.now)
+    (given c.groups.reader) (given c.advance.new.reader)
     (held c.args.sink.now) (held c.groups.sink) c.args.store.now c.groups.store c.groups.input c.advance.new.self
     c.groups.answers inv.so_far advances
-    (held new.sink) new.store new.answers (ahead new.input) (bytes_read new.input) c.in_ok-perform_group.ensures.goes_on.read performs.4 in
+    (hands new.sink) (held new.sink) new.store new.answers (ahead new.input) (bytes_read new.input)
+    c.in_ok-perform_group.ensures.goes_on.read performs.4 (λ image h is. g.met.D.Disk.only_now new.store.disk image h is) in
     let tends = subst (λ (k : Checkpoints). Tends d.model k new.store last (Ok tt)) c.checkpoints.ensures
     c.in_ok-tend_checkpoint.ensures.tends in
     record {
       off = inv.off;
       sound = tends.1.3.sound;
       input = performs.0;
-      so_far = groups-tended d.model c.args.grouping (given c.args.reader.now) (given c.advance.new.reader) (given c.advance.new.reader)
+      so_far = groups-tended d.model c.args.grouping (hands c.args.sink.now) (hands new.sink) (given c.args.reader.now)
+          (given c.advance.new.reader) (given c.advance.new.reader)
           (held c.args.sink.now) (held new.sink) c.args.store.now new.store new.input new.input new.answers so_far last tends;
       no_last = performs.2;
       limit = performs.3 ∙ inv.limit;
@@ -178,6 +199,7 @@ groups-preserved g c =
 
 pub returns-in_err-tend_checkpoint-clause-runs : goal.returns-in_err-tend_checkpoint-clause-runs
 returns-in_err-tend_checkpoint-clause-runs g c =
+    let hands = g.S.AnswerSink.handings in
     let d = g.D.Disk in
     let given = g.R.Read.remaining in
     let held = g.S.AnswerSink.taken in
@@ -187,16 +209,20 @@ returns-in_err-tend_checkpoint-clause-runs g c =
     let new = c.perform_group.new in
     let last = c.tend_checkpoint.new.store in
     let performs = c.in_ok-perform_group.ensures.performs in
-    let so_far = groups-more d.model c.args.grouping (given c.args.reader.now) (given c.groups.reader) (given c.advance.new.reader)
+    let so_far = groups-more d.model c.args.grouping (hands c.args.sink.now) (hands c.groups.sink) (given c.args.reader.now)
+    (given c.groups.reader) (given c.advance.new.reader)
     (held c.args.sink.now) (held c.groups.sink) c.args.store.now c.groups.store c.groups.input c.advance.new.self
     c.groups.answers inv.so_far advances
-    (held new.sink) new.store new.answers (ahead new.input) (bytes_read new.input) c.in_ok-perform_group.ensures.goes_on.read performs.4 in
+    (hands new.sink) (held new.sink) new.store new.answers (ahead new.input) (bytes_read new.input)
+    c.in_ok-perform_group.ensures.goes_on.read performs.4 (λ image h is. g.met.D.Disk.only_now new.store.disk image h is) in
     let f = c.in_err-tend_checkpoint.field-0.0 in
     let tends = subst (λ (k : Checkpoints). Tends d.model k new.store last (Err f)) c.checkpoints.ensures
     c.in_err-tend_checkpoint.ensures.tends in
-    let ends = runs-by d.model c.args.grouping (given c.args.reader.now) (given c.advance.new.reader)
+    let ends = runs-by d.model c.args.grouping (hands c.args.sink.now) (hands new.sink) (given c.args.reader.now)
+    (given c.advance.new.reader)
     (held c.args.sink.now) (held new.sink) c.args.store.now last (Err f)
-    (ends-tending d.model c.args.grouping (given c.args.reader.now) (given c.advance.new.reader) (given c.advance.new.reader)
+    (ends-tending d.model c.args.grouping (hands c.args.sink.now) (hands new.sink) (given c.args.reader.now) (given c.advance.new.reader)
+    (given c.advance.new.reader)
     (held c.args.sink.now) (held new.sink) c.args.store.now new.store new.input new.input new.answers so_far last f tends
     (λ t image h le is. g.met.D.Disk.counts_now last.disk t image h le is)) in
     let p = err_from_is_err_and c.from_residual-in_err-tend_checkpoint.result c.from_residual-in_err-tend_checkpoint.ensures.1 in
@@ -204,14 +230,16 @@ returns-in_err-tend_checkpoint-clause-runs g c =
 
 pub returns-clause-runs : goal.returns-clause-runs
 returns-clause-runs g c =
+    let hands = g.S.AnswerSink.handings in
     let d = g.D.Disk in
     let given = g.R.Read.remaining in
     let held = g.S.AnswerSink.taken in
     let end = at-end (given c.groups.reader) (given c.advance.new.reader) c.groups.input c.advance.new.self _
     c.in_ok-advance.ensures c.if-branch.false in
-    runs-by d.model c.args.grouping (given c.args.reader.now) (given c.advance.new.reader)
+    runs-by d.model c.args.grouping (hands c.args.sink.now) (hands c.groups.sink) (given c.args.reader.now) (given c.advance.new.reader)
     (held c.args.sink.now) (held c.groups.sink) c.args.store.now c.groups.store _
-    (ends-well d.model c.args.grouping (given c.args.reader.now) (given c.groups.reader) (given c.advance.new.reader)
+    (ends-well d.model c.args.grouping (hands c.args.sink.now) (hands c.groups.sink) (given c.args.reader.now) (given c.groups.reader)
+    (given c.advance.new.reader)
     (held c.args.sink.now) (held c.groups.sink) c.args.store.now c.groups.store
     c.groups.input c.advance.new.self c.groups.answers c.groups.invariant.so_far
     _ end refl refl refl (ap length c.piece.ensures))

@@ -11,7 +11,8 @@ invariant-groups g l = let d = g.D.Disk in record {
   off : l.fn.store.reopen ≡ false;
   sound : l.store.reopen ≡ false;
   input : IsSound l.input;
-  so_far : GroupsSoFar d.model (g.R.Read.remaining l.fn.reader) (g.R.Read.remaining l.reader)
+  so_far : GroupsSoFar d.model (g.S.AnswerSink.handings l.fn.sink) (g.S.AnswerSink.handings l.sink) (g.R.Read.remaining l.fn.reader)
+      (g.R.Read.remaining l.reader)
       (g.S.AnswerSink.taken l.fn.sink) (g.S.AnswerSink.taken l.sink)
       l.fn.grouping l.fn.store l.store (ahead l.input) l.answers (bytes_read l.input);
   no_last : l.answers.last ≡ None;
