@@ -1,0 +1,4 @@
+pub mod Prelude
+pub mod Abouts
+pub mod AboutWords
+pub mod ReadBack
