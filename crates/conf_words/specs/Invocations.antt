@@ -15,7 +15,7 @@ use Rattle.conf_words.specs.declared.invocation.Formatting.TheVariants as format
 use Rattle.conf_words.specs.declared.invocation.Grouping.{Grouping}
 use Rattle.conf_words.specs.declared.invocation.Grouping.TheVariants as grouping
 use Rattle.conf_words.specs.declared.invocation.Invocation.{Invocation}
-use Rattle.conf_words.specs.declared.invocation.Invocation.TheVariants.{Init, Import, Set, Delete, Copy, Rename}
+use Rattle.conf_words.specs.declared.invocation.Invocation.TheVariants.{Init, Import, Set, Delete, Copy, Rename, Move}
 use Rattle.conf_words.specs.declared.invocation.Invocation.TheVariants.{Batch, Checkpoint, Run, Export, Names, Get, Exists}
 use Rattle.conf_words.specs.declared.invocation.Invocation.TheVariants.{Log, Verify, Salvage, Backup, Format, Check}
 use Rattle.conf_words.specs.declared.invocation.LogForm.{LogForm}
@@ -26,6 +26,8 @@ use Rattle.conf_words.specs.declared.invocation.MissingValue.{MissingValue}
 use Rattle.conf_words.specs.declared.invocation.MissingValue.TheVariants as missing_value
 use Rattle.conf_words.specs.declared.invocation.NamesForm.{NamesForm}
 use Rattle.conf_words.specs.declared.invocation.NamesForm.TheVariants as names_form
+use Rattle.conf_words.specs.declared.invocation.Placing.{Placing}
+use Rattle.conf_words.specs.declared.invocation.Placing.TheVariants as placing
 use Rattle.conf_words.specs.declared.invocation.RawEnd.TheVariants as raw_end
 use Rattle.conf_words.specs.declared.invocation.Reporting.{Reporting}
 use Rattle.conf_words.specs.declared.invocation.Reporting.TheVariants as reporting
@@ -104,6 +106,12 @@ IsValueBy file yaml text None = (file ≡ None) × (text ≡ None)
 abbrev pub IsValue : Given → Option Value → Type 0
 IsValue given v =
     IsValueBy (text_of given (codes "file")) (has given (codes "yaml")) (text_of given (codes "VALUE")) v
+
+-- how `set` puts its value at its place
+abbrev pub placing_in : Given → Placing
+placing_in given =
+    if has given (codes "insert") then placing.BeforeElement
+    else (if has given (codes "parents") then placing.WithParents else placing.AtPlace)
 
 -- the pointer of `set` or `delete` is empty, and the words don't say `--whole`, or the other way round
 abbrev pub differs : Bool → Bool → Bool
@@ -206,9 +214,10 @@ set_is_wrong given =
     || pointer_is_wrong given
 
 abbrev pub IsSet : Given → Invocation → Type 0
-IsSet given (Set folder name pointer v conditions reporting) =
+IsSet given (Set folder name pointer v placing conditions reporting) =
     Is given (codes "FOLDER") folder × Is given (codes "NAME") name × Is given (codes "POINTER") pointer
-    × IsValue given (Some v) × AreConditions given conditions × (reporting ≡ reporting_in given)
+    × IsValue given (Some v) × (placing ≡ placing_in given) × AreConditions given conditions
+    × (reporting ≡ reporting_in given)
 IsSet given _ = ⊥
 
 abbrev pub delete_is_wrong : Given → Bool
@@ -237,6 +246,22 @@ IsRename given (Rename folder name to conditions) =
     Is given (codes "FOLDER") folder × Is given (codes "NAME") name × Is given (codes "TO") to
     × AreConditions given conditions
 IsRename given _ = ⊥
+
+-- no text of `move` is missing, and neither of its pointers is empty: that one stands for the whole configuration
+abbrev pub is_empty : Option (List ℕ) → Bool
+is_empty None = false
+is_empty (Some pointer) = length pointer == 0
+
+abbrev pub move_is_wrong : Given → Bool
+move_is_wrong given =
+    lacks given (codes "FOLDER" ∷ codes "NAME" ∷ codes "FROM" ∷ codes "TO" ∷ [])
+    || (is_empty (text_of given (codes "FROM")) || is_empty (text_of given (codes "TO")))
+
+abbrev pub IsMove : Given → Invocation → Type 0
+IsMove given (Move folder name from to conditions) =
+    Is given (codes "FOLDER") folder × Is given (codes "NAME") name × Is given (codes "FROM") from
+    × Is given (codes "TO") to × AreConditions given conditions
+IsMove given _ = ⊥
 
 abbrev pub batch_is_wrong : Given → Bool
 batch_is_wrong given = lacks given (codes "FOLDER" ∷ [])
@@ -369,6 +394,7 @@ is_wrong word.Set given = set_is_wrong given
 is_wrong word.Delete given = delete_is_wrong given
 is_wrong word.Copy given = copy_is_wrong given
 is_wrong word.Rename given = rename_is_wrong given
+is_wrong word.Move given = move_is_wrong given
 is_wrong word.Batch given = batch_is_wrong given
 is_wrong word.Checkpoint given = checkpoint_is_wrong given
 is_wrong word.Run given = run_is_wrong given
@@ -391,6 +417,7 @@ IsAsked word.Set given invocation = IsSet given invocation
 IsAsked word.Delete given invocation = IsDelete given invocation
 IsAsked word.Copy given invocation = IsCopy given invocation
 IsAsked word.Rename given invocation = IsRename given invocation
+IsAsked word.Move given invocation = IsMove given invocation
 IsAsked word.Batch given invocation = IsBatch given invocation
 IsAsked word.Checkpoint given invocation = IsCheckpoint given invocation
 IsAsked word.Run given invocation = IsRun given invocation

@@ -5,7 +5,7 @@ use Rattle.std.specs.Str.{bytes_eq}
 use Rattle.command_line.specs.Rows.{Kind, Row, Tie, Required, Optional, OptionalText, Several, Flag, ShortFlag, Word, Words}
 use Rattle.command_line.specs.Rows.{Text, Number, Free, Needs, Excludes, Replaces}
 use Rattle.conf_words.specs.declared.subcommand.Subcommand.{Subcommand}
-use Rattle.conf_words.specs.declared.subcommand.Subcommand.TheVariants.{Init, Import, Set, Delete, Copy, Rename}
+use Rattle.conf_words.specs.declared.subcommand.Subcommand.TheVariants.{Init, Import, Set, Delete, Copy, Rename, Move}
 use Rattle.conf_words.specs.declared.subcommand.Subcommand.TheVariants.{Batch, Checkpoint, Run, Export, Names, Get, Keys}
 use Rattle.conf_words.specs.declared.subcommand.Subcommand.TheVariants.{Exists, Log, Verify, Salvage, Backup, Format}
 use Rattle.conf_words.specs.declared.subcommand.Subcommand.TheVariants.{Check}
@@ -18,6 +18,7 @@ name_of Set = codes "set"
 name_of Delete = codes "delete"
 name_of Copy = codes "copy"
 name_of Rename = codes "rename"
+name_of Move = codes "move"
 name_of Batch = codes "batch"
 name_of Checkpoint = codes "checkpoint"
 name_of Run = codes "run"
@@ -74,6 +75,12 @@ explain = flag (codes "explain")
 abbrev pub whole : Row
 whole = flag (codes "whole")
 
+abbrev pub parents : Row
+parents = row (codes "parents") Flag (Excludes (codes "whole" ∷ []))
+
+abbrev pub insert : Row
+insert = row (codes "insert") Flag (Excludes (codes "parents" ∷ codes "whole" ∷ []))
+
 abbrev pub at : Row
 at = row (codes "at") (Number 0) Free
 
@@ -101,14 +108,15 @@ rows_of Import =
     flag (codes "init") ∷ flag (codes "any-root") ∷ explain ∷ if_value ∷ if_absent ∷ if_count ∷ wait ∷ folder ∷ name
     ∷ file ∷ []
 rows_of Set =
-    flag (codes "yaml") ∷ row (codes "file") Word (Excludes (codes "yaml" ∷ [])) ∷ whole ∷ explain ∷ if_value
-    ∷ if_absent ∷ if_count ∷ wait ∷ folder ∷ name ∷ place (codes "POINTER")
+    flag (codes "yaml") ∷ row (codes "file") Word (Excludes (codes "yaml" ∷ [])) ∷ parents ∷ insert ∷ whole ∷ explain
+    ∷ if_value ∷ if_absent ∷ if_count ∷ wait ∷ folder ∷ name ∷ place (codes "POINTER")
     ∷ row (codes "VALUE") OptionalText (Replaces (codes "file")) ∷ []
 rows_of Delete = whole ∷ if_value ∷ if_absent ∷ if_count ∷ wait ∷ folder ∷ name ∷ pointer ∷ []
 rows_of Copy =
     row (codes "replace") Flag (Excludes (codes "if-absent" ∷ [])) ∷ if_value ∷ if_absent ∷ if_count ∷ wait ∷ folder
     ∷ name ∷ other ∷ []
 rows_of Rename = if_value ∷ if_absent ∷ if_count ∷ wait ∷ folder ∷ name ∷ other ∷ []
+rows_of Move = if_value ∷ if_absent ∷ if_count ∷ wait ∷ folder ∷ name ∷ place (codes "FROM") ∷ other ∷ []
 rows_of Batch = explain ∷ if_count ∷ wait ∷ folder ∷ file ∷ []
 rows_of Checkpoint = wait ∷ folder ∷ []
 rows_of Run =
@@ -137,8 +145,8 @@ rows_of Check = flag (codes "keep-comments") ∷ explain ∷ files ∷ []
 -- all of them
 abbrev pub all : List Subcommand
 all =
-    Init ∷ Import ∷ Set ∷ Delete ∷ Copy ∷ Rename ∷ Batch ∷ Checkpoint ∷ Run ∷ Export ∷ Names ∷ Get ∷ Keys ∷ Exists
-    ∷ Log ∷ Verify ∷ Salvage ∷ Backup ∷ Format ∷ Check ∷ []
+    Init ∷ Import ∷ Set ∷ Delete ∷ Copy ∷ Rename ∷ Move ∷ Batch ∷ Checkpoint ∷ Run ∷ Export ∷ Names ∷ Get ∷ Keys
+    ∷ Exists ∷ Log ∷ Verify ∷ Salvage ∷ Backup ∷ Format ∷ Check ∷ []
 
 -- the subcommand of this word
 abbrev pub named_among : List ℕ → List Subcommand → Option Subcommand

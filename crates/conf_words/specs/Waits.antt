@@ -12,7 +12,7 @@ use Rattle.command_line.specs.Numbers.{is_digit, number_below}
 use Rattle.conf_words.specs.declared.refusal.Unasked.{Unasked}
 use Rattle.conf_words.specs.declared.refusal.Unasked.TheVariants.{Because, OutOfMemory}
 use Rattle.conf_words.specs.declared.subcommand.Subcommand.{Subcommand}
-use Rattle.conf_words.specs.declared.subcommand.Subcommand.TheVariants.{Init, Import, Set, Delete, Copy, Rename}
+use Rattle.conf_words.specs.declared.subcommand.Subcommand.TheVariants.{Init, Import, Set, Delete, Copy, Rename, Move}
 use Rattle.conf_words.specs.declared.subcommand.Subcommand.TheVariants.{Batch, Checkpoint, Run, Export}
 
 -- the subcommands that take locks, and so `--wait`
@@ -23,6 +23,7 @@ takes_wait Set = true
 takes_wait Delete = true
 takes_wait Copy = true
 takes_wait Rename = true
+takes_wait Move = true
 takes_wait Batch = true
 takes_wait Checkpoint = true
 takes_wait Run = true

@@ -11,7 +11,7 @@ use crate::conditions::{
     conditions_of,
 };
 use crate::invocation::{
-    Conditions, Grouping, Invocation, MissingStore, Root, STANDARD_INPUT, Value, Wanted,
+    Conditions, Grouping, Invocation, MissingStore, Placing, Root, STANDARD_INPUT, Value, Wanted,
 };
 use crate::listing::Listing;
 use crate::refusal::Unasked;
@@ -147,6 +147,18 @@ pub(crate) const SET: Listing = Listing {
             form: Form::Word(FILE),
             relation: Relation::Excludes(&[YAML]),
         },
+        Argument {
+            name: PARENTS,
+            help: "Makes the mappings that are missing on the way",
+            form: Form::Flag,
+            relation: Relation::Excludes(&[ALLOW_WHOLE]),
+        },
+        Argument {
+            name: INSERT,
+            help: "Inserts the value before the element at an index of a list",
+            form: Form::Flag,
+            relation: Relation::Excludes(&[PARENTS, ALLOW_WHOLE]),
+        },
         ALLOW_WHOLE_ARGUMENT,
         EXPLAIN_ARGUMENT,
         IF_VALUE_ARGUMENT,
@@ -174,6 +186,11 @@ set; then `-` stands for standard input. With --file in place of VALUE, the byte
 also a line feed at their end; they have to be UTF-8. The pointer \"\" needs --whole: it stands for the
 whole configuration. Nothing is printed where it is done.
 
+The mapping or the list that the place is in has to be there (NoSuchPlace). With --parents, mappings
+are made where a step of the pointer finds no member; a new configuration is not made. With --insert,
+the pointer ends with the index of an element: the value comes before it, and the elements from there on
+move back by one. The index may be the length of the list, or `-` for that.
+
 A YAML text or a file that is refused is reported on standard error, as
 `VALUE:1:8: KeyTwice \"a\" (first at 1:2)`, with the name of the file, or with `-` for standard input.
 If a condition does not hold, nothing changes (Unmet).
@@ -183,6 +200,8 @@ Examples:
   confstore set store web /port 81 --if-value 80
   confstore set store web /tags '[a, b]' --yaml
   confstore set store web /tags - --yaml < tags.yaml
+  confstore set store web /tls/key/file key.pem --parents
+  confstore set store web /tags/0 first --insert
   confstore set store web /key --file key.pem",
 };
 
@@ -198,6 +217,12 @@ const ALLOW_WHOLE_ARGUMENT: Argument = Argument {
     form: Form::Flag,
     relation: Relation::Free,
 };
+
+/// The word of `set` that has mappings made that are missing on the way. It excludes [`ALLOW_WHOLE`].
+const PARENTS: &str = "parents";
+
+/// The word of `set` that has the value inserted into a list. It excludes [`PARENTS`] and [`ALLOW_WHOLE`].
+const INSERT: &str = "insert";
 
 /// The word of `set` that gives the file of a text in place of the value. It excludes [`YAML`].
 const FROM_FILE: &str = "file";
@@ -225,9 +250,23 @@ pub(crate) fn set_invocation<'w>(words: &Matches<'w>) -> Result<Invocation<'w>, 
         name,
         pointer,
         value,
+        placing: placing_of(words),
         conditions: conditions_of(words),
         reporting: reporting_of(words),
     })
+}
+
+/// How the words of `set` have the value put at its place.
+fn placing_of(words: &Matches<'_>) -> Placing
+    ensures { result ≡ spec.placing_in words.now }
+{
+    if words.flag(INSERT) {
+        Placing::BeforeElement
+    } else if words.flag(PARENTS) {
+        Placing::WithParents
+    } else {
+        Placing::AtPlace
+    }
 }
 
 /// Why `set` or `delete` may not be at its pointer; `None` if it may. The pointer is empty exactly if the words say
@@ -329,7 +368,7 @@ Examples:
 /// The word of `copy` that has a configuration replaced. It excludes [`IF_ABSENT`].
 const REPLACE: &str = "replace";
 
-/// The argument of `copy` and `rename` that is the other name.
+/// The argument of `copy` and `rename` that is the other name, and of `move` that is the other pointer.
 const TO: &str = "TO";
 
 const TO_ARGUMENT: Argument = Argument {
@@ -411,6 +450,70 @@ pub(crate) fn rename_invocation<'w>(words: &Matches<'w>) -> Result<Invocation<'w
     Ok(Invocation::Rename {
         folder,
         name,
+        to,
+        conditions: conditions_of(words),
+    })
+}
+
+pub(crate) const MOVE: Listing = Listing {
+    about: "Moves what is at a JSON Pointer of a configuration to another place of it",
+    arguments: &[
+        IF_VALUE_ARGUMENT,
+        IF_ABSENT_ARGUMENT,
+        IF_COUNT_ARGUMENT,
+        WAIT_ARGUMENT,
+        FOLDER_ARGUMENT,
+        NAME_ARGUMENT,
+        Argument {
+            name: FROM,
+            help: "A JSON Pointer to what is moved, as /port",
+            form: Form::Required,
+            relation: Relation::Free,
+        },
+        Argument {
+            name: TO,
+            help: "A JSON Pointer to where it is put, as /http/port",
+            form: Form::Required,
+            relation: Relation::Free,
+        },
+    ],
+    help: "\
+What is at FROM is deleted, and then set at TO, in place of what is there, unless --if-absent is given.
+The steps of TO are taken once FROM is deleted: behind an element of a list that is moved, indexes are
+one less. The mapping or the list that TO is in has to be there (NoSuchPlace), and it may not be in FROM.
+All of it is done or nothing, in one command. Nothing is printed where it is done. If a condition does
+not hold, nothing changes (Unmet); --if-value and --if-absent look at TO, before anything is deleted.
+
+Examples:
+  confstore move store web /port /http/port
+  confstore move store web /tags/0 /tags/-",
+};
+
+/// The argument of `move` that is the pointer to what is moved.
+const FROM: &str = "FROM";
+
+pub(crate) fn move_invocation<'w>(words: &Matches<'w>) -> Result<Invocation<'w>, Unasked>
+    ensures { spec.Makes (spec.move_is_wrong words.now) (spec.IsMove words.now) result }
+{
+    let Some(folder) = words.text(FOLDER) else {
+        return Err(Unasked::OTHER);
+    };
+    let Some(name) = words.text(NAME) else {
+        return Err(Unasked::OTHER);
+    };
+    let Some(from) = words.text(FROM) else {
+        return Err(Unasked::OTHER);
+    };
+    let Some(to) = words.text(TO) else {
+        return Err(Unasked::OTHER);
+    };
+    if from.is_empty() || to.is_empty() {
+        return Err(Unasked::Because("FROM and TO may not be empty"));
+    }
+    Ok(Invocation::Move {
+        folder,
+        name,
+        from,
         to,
         conditions: conditions_of(words),
     })

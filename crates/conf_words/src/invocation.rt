@@ -29,6 +29,7 @@ pub enum Invocation<'w> {
         name: &'w str,
         pointer: &'w str,
         value: Value<'w>,
+        placing: Placing,
         conditions: Conditions<'w>,
         reporting: Reporting,
     },
@@ -52,6 +53,15 @@ pub enum Invocation<'w> {
     Rename {
         folder: &'w str,
         name: &'w str,
+        to: &'w str,
+        conditions: Conditions<'w>,
+    },
+    /// Moves what is at the JSON Pointer `from` of a configuration to the JSON Pointer `to` of it, in place of what is
+    /// there. Neither is empty.
+    Move {
+        folder: &'w str,
+        name: &'w str,
+        from: &'w str,
         to: &'w str,
         conditions: Conditions<'w>,
     },
@@ -156,6 +166,17 @@ pub enum Value<'w> {
     Yaml(&'w str),
     /// The bytes of this file as a text, or those of standard input for [`STANDARD_INPUT`].
     File(&'w str),
+}
+
+/// How `set` puts its value at its place.
+#[derive(Clone, Copy, Debug, PartialEq, Eq)]
+pub enum Placing {
+    /// In place of what is there, or as a new member of what is there on the way.
+    AtPlace,
+    /// The same; the mappings that are missing on the way are made.
+    WithParents,
+    /// Before the element at an index of a list.
+    BeforeElement,
 }
 
 /// What has to hold of a store, before its change, for a word to change it.

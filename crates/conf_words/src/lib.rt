@@ -23,7 +23,8 @@ pub use escapes::escaped;
 pub use folder_word::FolderWord;
 pub use invocation::{
     Comments, Conditions, Formatting, Grouping, Invocation, LogForm, MissingStore, MissingValue,
-    NamesForm, RawEnd, Reporting, Root, STANDARD_INPUT, Style, TreeForm, Value, ValueForm, Wanted,
+    NamesForm, Placing, RawEnd, Reporting, Root, STANDARD_INPUT, Style, TreeForm, Value, ValueForm,
+    Wanted,
 };
 pub use laws::{files_always_fit, no_two_texts_are_shown_alike};
 pub use subcommand::Subcommand;

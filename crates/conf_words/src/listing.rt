@@ -3,7 +3,7 @@ ghost use Rattle.std.specs.Prelude.{◌≡◌, map};
 ghost use Rattle.command_line.specs.Rows.{row_of};
 ghost use Rattle.conf_words.specs.Subcommands.{rows_of};
 
-use crate::change_words::{BATCH, CHECKPOINT, COPY, DELETE, IMPORT, INIT, RENAME, RUN, SET};
+use crate::change_words::{BATCH, CHECKPOINT, COPY, DELETE, IMPORT, INIT, MOVE, RENAME, RUN, SET};
 use crate::read_words::{BACKUP, EXISTS, EXPORT, GET, KEYS, LOG, NAMES, SALVAGE, VERIFY};
 use crate::subcommand::Subcommand;
 use crate::text_words::{CHECK, FORMAT};
@@ -53,6 +53,7 @@ fn listing_of(subcommand: Subcommand) -> Listing
         Subcommand::Delete => DELETE,
         Subcommand::Copy => COPY,
         Subcommand::Rename => RENAME,
+        Subcommand::Move => MOVE,
         Subcommand::Batch => BATCH,
         Subcommand::Checkpoint => CHECKPOINT,
         Subcommand::Run => RUN,

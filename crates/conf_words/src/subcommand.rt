@@ -18,6 +18,8 @@ pub enum Subcommand {
     Copy,
     /// Gives a configuration another name.
     Rename,
+    /// Moves what is at a JSON Pointer of a configuration to another place of it.
+    Move,
     /// Makes all edits that a YAML text lists, or none of them.
     Batch,
     /// Makes the store file as short as its state.
@@ -50,13 +52,14 @@ pub enum Subcommand {
 
 impl Subcommand {
     /// All of them, in the order of the help.
-    pub(crate) const ALL: [Subcommand; 20] = [
+    pub(crate) const ALL: [Subcommand; 21] = [
         Subcommand::Init,
         Subcommand::Import,
         Subcommand::Set,
         Subcommand::Delete,
         Subcommand::Copy,
         Subcommand::Rename,
+        Subcommand::Move,
         Subcommand::Batch,
         Subcommand::Checkpoint,
         Subcommand::Run,
@@ -114,6 +117,7 @@ impl Subcommand {
             Subcommand::Delete => "delete",
             Subcommand::Copy => "copy",
             Subcommand::Rename => "rename",
+            Subcommand::Move => "move",
             Subcommand::Batch => "batch",
             Subcommand::Checkpoint => "checkpoint",
             Subcommand::Run => "run",

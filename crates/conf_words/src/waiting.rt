@@ -56,6 +56,7 @@ fn waits(subcommand: Subcommand) -> bool
         | Subcommand::Delete
         | Subcommand::Copy
         | Subcommand::Rename
+        | Subcommand::Move
         | Subcommand::Batch
         | Subcommand::Checkpoint
         | Subcommand::Run

@@ -8,7 +8,7 @@ ghost use Rattle.conf_words.specs.Subcommands.{asks_for_help, begins_with_reques
 
 use crate::change_words::{
     batch_invocation, checkpoint_invocation, copy_invocation, delete_invocation, import_invocation,
-    init_invocation, rename_invocation, run_invocation, set_invocation,
+    init_invocation, move_invocation, rename_invocation, run_invocation, set_invocation,
 };
 use crate::invocation::Invocation;
 use crate::listing::{arguments_of, listed};
@@ -27,13 +27,13 @@ use command_line::{Matches, Refusal, read};
 use std::alloc::{AllocError, Global};
 use std::time::Duration;
 
-const VERSION: &str = "0.4.0";
+const VERSION: &str = "0.5.0";
 
 const ABOUT: &str = "A crash-safe store of named configuration trees, and tools for their texts.";
 
 const GROUPS_AND_STATUSES: &str = "\
 The words by what they do:
-  change a store  init, import, set, delete, copy, rename, batch, checkpoint, run
+  change a store  init, import, set, delete, copy, rename, move, batch, checkpoint, run
   read a store    export, names, get, keys, exists, log, verify, salvage, backup
   read a text     format, check
 
@@ -237,6 +237,7 @@ fn invocation_of<'w>(
         Subcommand::Delete => delete_invocation(words),
         Subcommand::Copy => copy_invocation(words),
         Subcommand::Rename => rename_invocation(words),
+        Subcommand::Move => move_invocation(words),
         Subcommand::Batch => batch_invocation(words),
         Subcommand::Checkpoint => checkpoint_invocation(words),
         Subcommand::Run => run_invocation(words),
