@@ -17,7 +17,7 @@ use Rattle.conf_history.specs.declared.survey.Findings.{Findings as Surveyed}
 use Rattle.conf_words.specs.declared.invocation.Conditions.{Conditions}
 use Rattle.conf_words.specs.declared.invocation.{Invocation.Invocation, Root.Root}
 use Rattle.conf_words.specs.declared.invocation.TreeForm.{TreeForm}
-use Rattle.conf_words.specs.declared.invocation.Invocation.TheVariants.{Init, Import, Set, Delete, Copy, Rename}
+use Rattle.conf_words.specs.declared.invocation.Invocation.TheVariants.{Init, Import, Set, Delete, Copy, Rename, Move}
 use Rattle.conf_words.specs.declared.invocation.Invocation.TheVariants.{Batch, Checkpoint, Run, Export, Names, Get, Exists}
 use Rattle.conf_words.specs.declared.invocation.Invocation.TheVariants.{Log, Verify, Salvage, Backup, Format, Check}
 use Rattle.conf_words.specs.declared.invocation.Comments.{Comments}
@@ -36,6 +36,7 @@ use Rattle.conf_tools.specs.Batches.{counted_alone}
 use Rattle.conf_tools.specs.OnStores.{DoesOnStores, GoesOnByFiles, ReadsInFolder}
 use Rattle.conf_tools.specs.OnStores as on
 use Rattle.conf_tools.specs.Performs.{BatchesRead, ChangesAt, ImportsRead, access_of, grouping_of}
+use Rattle.conf_tools.specs.Edits.{placed_or_not}
 use Rattle.conf_tools.specs.Exports.{disk_back}
 use Rattle.conf_tools.specs.Tools.{Taken}
 use Rattle.conf_tools.specs.ProgramCalls.{Call, changing, disk_before, disk_behind, exporting, running}
@@ -104,7 +105,7 @@ module _ {W D F P : Type 0} (world : WorldModel W D F P) (disk : DiskModel D) (r
 
   -- the status of a change is that of its result
   abbrev pub Fits : Status → Call disk → Type 0
-  Fits status (running io grouping old result crashes) = Unit {0}
+  Fits status (running io handings grouping old result crashes) = Unit {0}
   Fits status (changing change old result crashes) = status ≡ status_of_ending (ending_at_end result)
   Fits status (exporting old new crashes) = Unit {0}
 
@@ -289,16 +290,19 @@ module _ {W D F P : Type 0} (world : WorldModel W D F P) (disk : DiskModel D) (r
   effect (Import folder name file root absent conditions reporting) old new end does not_new =
       after old.world does.seen new.world (of-text file.now does.read old.world does.seen old.input new.input does.takes)
       (of-import conditions root (access_of absent) folder.now name.now does.read does.seen new.world end does.imports)
-  effect (Set folder name pointer value conditions reporting) old new end does not_new =
+  effect (Set folder name pointer value placing conditions reporting) old new end does not_new =
       after old.world does.0.seen new.world (of-value name.now pointer.now value does.0.change old.world does.0.seen
       old.input new.input does.0.is)
-      (of-asked conditions Changing folder.now name.now pointer.now does.0.change does.0.seen new.world end does.0.changes)
+      (of-asked conditions Changing folder.now name.now pointer.now (placed_or_not placing does.0.change) does.0.seen new.world end
+      does.0.changes)
   effect (Delete folder name pointer conditions) old new end does not_new =
       of-asked conditions Changing folder.now name.now pointer.now does.0.change old.world new.world end does.0.changes
   effect (Copy folder name to conditions) old new end does not_new =
       of-asked conditions Changing folder.now to.now [] does.0.change old.world new.world end does.0.changes
   effect (Rename folder name to conditions) old new end does not_new =
       of-asked conditions Changing folder.now to.now [] does.0.change old.world new.world end does.0.changes
+  effect (Move folder name from to conditions) old new end does not_new =
+      of-asked conditions Changing folder.now name.now to.now does.0.change old.world new.world end does.0.changes
   effect (Batch folder file count reporting) old new end does not_new =
       after old.world does.seen new.world (of-text file.now does.read old.world does.seen old.input new.input does.takes)
       (of-batch folder.now count does.read does.seen new.world end does.makes)
@@ -341,8 +345,8 @@ module _ {W D F P : Type 0} (world : WorldModel W D F P) (disk : DiskModel D) (r
   spares path (Import folder name file root absent conditions reporting) old new end does is_other image is =
       beside path old.world new.world (effect (Import folder name file root absent conditions reporting) old new end
       does refl) is_other image is
-  spares path (Set folder name pointer value conditions reporting) old new end does is_other image is =
-      beside path old.world new.world (effect (Set folder name pointer value conditions reporting) old new end does
+  spares path (Set folder name pointer value placing conditions reporting) old new end does is_other image is =
+      beside path old.world new.world (effect (Set folder name pointer value placing conditions reporting) old new end does
       refl) is_other image is
   spares path (Delete folder name pointer conditions) old new end does is_other image is =
       beside path old.world new.world (effect (Delete folder name pointer conditions) old new end does refl) is_other image is
@@ -350,6 +354,8 @@ module _ {W D F P : Type 0} (world : WorldModel W D F P) (disk : DiskModel D) (r
       beside path old.world new.world (effect (Copy folder name to conditions) old new end does refl) is_other image is
   spares path (Rename folder name to conditions) old new end does is_other image is =
       beside path old.world new.world (effect (Rename folder name to conditions) old new end does refl) is_other image is
+  spares path (Move folder name from to conditions) old new end does is_other image is =
+      beside path old.world new.world (effect (Move folder name from to conditions) old new end does refl) is_other image is
   spares path (Batch folder file count reporting) old new end does is_other image is =
       beside path old.world new.world (effect (Batch folder file count reporting) old new end does refl) is_other image is
   spares path (Checkpoint folder) old new end does is_other image is =

@@ -19,6 +19,7 @@ use Rattle.conf_store.specs.Opens.{OneMeaning, RefusedMeansNothing}
 use Rattle.conf_words.specs.declared.invocation.Conditions.{Conditions}
 use Rattle.conf_words.specs.declared.invocation.Invocation.{Invocation}
 use Rattle.conf_words.specs.declared.invocation.Invocation.TheVariants.{Get, Import, Set}
+use Rattle.conf_words.specs.declared.invocation.Placing.TheVariants.{AtPlace}
 use Rattle.conf_words.specs.declared.invocation.TreeForm.TheVariants.{Styled}
 use Rattle.conf_words.specs.declared.invocation.Value.TheVariants.{Text}
 use Rattle.conf_words.specs.declared.invocation.ValueForm.TheVariants.{Whole}
@@ -71,7 +72,7 @@ module _ {W D F P : Type 0} (world : WorldModel W D F P) (disk : DiskModel D) (r
   -- one command was accepted, and acknowledged
   record AcceptsOne (status : Status) (deed : Option (Deed disk)) (command : Command) : Type 0 where
     one : accepted_in world disk remaining honest leaves path deed ≡ command ∷ []
-    least : (count : ℕ) → acknowledged world disk remaining honest leaves path status deed ≤ count → 1 ≤ count
+    least : (count : ℕ) → acknowledged world disk remaining honest leaves path returned status deed ≤ count → 1 ≤ count
 
   abbrev Made : Status → Option (Deed disk) → Type 0
   Made = IsMade world disk remaining honest leaves path
@@ -118,6 +119,7 @@ module _ {W D F P : Type 0} (world : WorldModel W D F P) (disk : DiskModel D) (r
   performs-set name pointer value (change.Import imported bytes) sets s accepted performs = absurd sets
   performs-set name pointer value (change.Copy from to) sets s accepted performs = absurd sets
   performs-set name pointer value (change.Rename from to) sets s accepted performs = absurd sets
+  performs-set name pointer value (change.Edit edited edit) sets s accepted performs = absurd sets
   performs-set name pointer value change.Checkpoint sets s accepted performs = absurd sets
 
   asked-one : (end : Ended) → status_of_ending end ≡ Done → (name pointer : List ℕ) (value : Tree) (wanted : Conditions) (access : Access)
@@ -136,7 +138,7 @@ module _ {W D F P : Type 0} (world : WorldModel W D F P) (disk : DiskModel D) (r
   module _ (name pointer : List ℕ) (value : Tree) where
     abbrev Put : (invocation : Invocation) (old new : Around W) (end : Ended)
         → DoesOnStores world disk remaining invocation old new end → Type 0
-    Put (Set folder named place given conditions reporting) old new end does =
+    Put (Set folder named place given AtPlace conditions reporting) old new end does =
         (folder.now ≡ path) × (named.now ≡ name) × (place.now ≡ pointer) × IfOk does.0.change (SetsAt name pointer value)
     Put invocation old new end does = ⊥
 
@@ -146,23 +148,23 @@ module _ {W D F P : Type 0} (world : WorldModel W D F P) (disk : DiskModel D) (r
         → Made (status_of_ending end) (deed_at world disk remaining honest leaves path invocation place ending old new end does)
         → AcceptsOne (status_of_ending end) (deed_at world disk remaining honest leaves path invocation place ending old new end does)
         (single (set_at (chars name) (chars pointer) value))
-    set-one invocation place cut_off ended old new end done does put made = cc
+    set-one invocation place (cut_off noted) ended old new end done does put made = cc
     set-one invocation place not_begun ended old new end done does put made = cc
-    set-one (Set folder named pointed given conditions reporting) (elsewhere is_other) returned ended old new end done does
+    set-one (Set folder named pointed given AtPlace conditions reporting) (elsewhere is_other) returned ended old new end done does
         (of_path, of_name, of_pointer, sets) made = absurd (is_other (ap Some of_path))
-    set-one (Set folder named pointed given conditions reporting) (anew is is_new empty) returned ended old new end done does
+    set-one (Set folder named pointed given AtPlace conditions reporting) (anew is is_new empty) returned ended old new end done does
         (of_path, of_name, of_pointer, sets) made = cc
-    set-one (Set folder named pointed given conditions reporting) (here is not_new) returned ended old new end done does
+    set-one (Set folder named pointed given AtPlace conditions reporting) (here is not_new) returned ended old new end done does
         (of_path, of_name, of_pointer, sets) made =
         let one = asked-one end done named.now pointed.now value conditions Changing folder.now does.0.change
         (subst (λ (n : List ℕ). IfOk does.0.change (SetsAt n pointed.now value)) (sym of_name)
         (subst (λ (q : List ℕ). IfOk does.0.change (SetsAt name q value)) (sym of_pointer) sets))
         does.0.seen new.world does.0.changes made in
         subst (λ (n : List ℕ). AcceptsOne (status_of_ending end)
-        (deed_at world disk remaining honest leaves path (Set folder named pointed given conditions reporting) (here is not_new)
+        (deed_at world disk remaining honest leaves path (Set folder named pointed given AtPlace conditions reporting) (here is not_new)
         returned old new end does) (single (set_at (chars n) (chars pointer) value))) of_name
         (subst (λ (q : List ℕ). AcceptsOne (status_of_ending end)
-        (deed_at world disk remaining honest leaves path (Set folder named pointed given conditions reporting) (here is not_new)
+        (deed_at world disk remaining honest leaves path (Set folder named pointed given AtPlace conditions reporting) (here is not_new)
         returned old new end does) (single (set_at (chars named.now) (chars q) value))) of_pointer one)
     set-one invocation place ending ended old new end done does put made = absurd put
 
@@ -177,7 +179,9 @@ module _ {W D F P : Type 0} (world : WorldModel W D F P) (disk : DiskModel D) (r
         (set-one event.invocation event.place event.ending ended event.old event.new event.does.ending (sym event.does.is ∙ done)
         event.does.does put (subst (λ (s : Status). Made s deed) event.does.is (keeps.is_made ended))) in
         keeps.are ∙ ap (take keeps.count) one.one
-        ∙ take-one keeps.count (single (set_at (chars name) (chars pointer) value)) (one.least keeps.count (keeps.all_acknowledged ended))
+        ∙ take-one keeps.count (single (set_at (chars name) (chars pointer) value)) (one.least keeps.count
+        (subst (λ (e : Ending). acknowledged world disk remaining honest leaves path e event.status deed ≤ keeps.count) ended
+        keeps.all_acknowledged))
 
 -- ---- the words of the example
 
@@ -229,7 +233,7 @@ module _ {W D F P : Type 0} (world : WorldModel W D F P) (disk : DiskModel D) (r
       (does : DoesOnStores world disk remaining invocation old new end)
       → Put world disk remaining honest leaves (codes "shop") (codes "web") (codes "/port") (text (codes "81")) invocation old new
       end does
-  says-set (Set folder named place (Text word) conditions reporting) (of_folder, of_name, of_place, of_word) old new end does =
+  says-set (Set folder named place (Text word) AtPlace conditions reporting) (of_folder, of_name, of_place, of_word) old new end does =
       (of_folder, of_name, of_place, by does.0.change does.0.is.2)
     where
       by : (change : Result Change ToolFault) → SetsText named.now place.now (chars word.now) change

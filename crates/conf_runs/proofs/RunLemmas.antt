@@ -26,7 +26,7 @@ use Rattle.conf_words.specs.declared.invocation.Invocation.TheVariants.{Backup, 
 use Rattle.conf_tools.specs.{Endings.ending_after_backup, Outcomes.status_of_ending}
 use Rattle.conf_tools.specs.OnStores.{DoesOnStores}
 use Rattle.conf_tools.specs.StoreWords.{WritesFindings}
-use Rattle.conf_tools.specs.ProgramCalls.{Call, CallHolds, EachMeans, disk_before, disk_behind}
+use Rattle.conf_tools.specs.ProgramCalls.{Call, CallHolds, EachMeans, disk_before, disk_behind, noted_in}
 use Rattle.conf_tools.specs.ProgramCalls as program
 use Rattle.conf_tools.specs.Worlds.{Around, WorldModel}
 use Rattle.conf_tools.specs.EndOfRun.{EndOfRun as Ended}
@@ -51,8 +51,8 @@ file-one one several (Some bytes) s t a b = one bytes several several s t a b
 some-one : (one other : List ℕ) → Some one ≡ Some other → one ≡ other
 some-one one other is = cc
 
-cut-off-returned : cut_off ≡ returned → ⊥
-cut-off-returned is = cc
+cut-off-returned : (noted : ℕ) → cut_off noted ≡ returned → ⊥
+cut-off-returned noted is = cc
 
 not-begun-returned : not_begun ≡ returned → ⊥
 not-begun-returned is = cc
@@ -86,7 +86,7 @@ module _ {W D F P : Type 0} (world : WorldModel W D F P) (disk : DiskModel D) (r
         → IsStoreOf (disk.folder (first_disk disk deed)) image ⊎ IsNew deed image
     done : status ≡ Done → (image : Image) → IsImage (disk.folder (last_disk disk deed)) image → IsNew deed image
     no_commands : accepted_in world disk remaining honest leaves path (Some deed) ≡ []
-    none_acknowledged : acknowledged world disk remaining honest leaves path status (Some deed) ≡ 0
+    none_acknowledged : (ending : Ending) → acknowledged world disk remaining honest leaves path ending status (Some deed) ≡ 0
     not_kept : status ≢ Done → IsMade world disk remaining honest leaves path status (Some deed)
 
   is-copied : (several : Bool) (given left : Option (List ℕ)) (first : D) (result : Result D (D × SalvageFault))
@@ -124,7 +124,7 @@ module _ {W D F P : Type 0} (world : WorldModel W D F P) (disk : DiskModel D) (r
     either = λ image was. is-copied several given left first result made survives image (survives.each image was);
     done = copy-done end several given left first result made survives ends;
     no_commands = refl;
-    none_acknowledged = refl;
+    none_acknowledged = λ ending. refl;
     not_kept = λ not. not;
   }
 
@@ -166,7 +166,7 @@ module _ {W D F P : Type 0} (world : WorldModel W D F P) (disk : DiskModel D) (r
     either = λ image was. is-saved several given left first result made survives image (survives.each image was);
     done = salvage-done end held written several given left first result made survives writes;
     no_commands = refl;
-    none_acknowledged = refl;
+    none_acknowledged = λ ending. refl;
     not_kept = λ not. not;
   }
 
@@ -175,12 +175,12 @@ module _ {W D F P : Type 0} (world : WorldModel W D F P) (disk : DiskModel D) (r
     quiet : ((image : Image) → Leaves ending None old new image → leaves old path image) → At ending old new status None
     busy : (call : Call disk) → ((image : Image) → IsImage (disk.folder (disk_before disk call)) image → leaves old path image)
         → ((image : Image) → Leaves ending (Some (calls call)) old new image
-        → program.MayLeave disk (ending_of_call ending) (disk_before disk call) (disk_behind disk call) image)
+        → program.MayLeave disk (ending_of_call ending) (noted_in disk call) (disk_before disk call) (disk_behind disk call) image)
         → Fits world disk remaining honest leaves keeps status call → At ending old new status (Some (calls call))
     fresh : (deed : Deed disk) → MakesNew status deed
         → ((image : Image) → IsImage (disk.folder (first_disk disk deed)) image → leaves old path image)
         → ((image : Image) → Leaves ending (Some deed) old new image
-        → program.MayLeave disk (ending_of_call ending) (first_disk disk deed) (last_disk disk deed) image)
+        → program.MayLeave disk (ending_of_call ending) [] (first_disk disk deed) (last_disk disk deed) image)
         → bytes_under (disk.folder (first_disk disk deed)) Store ≡ None → At ending old new status (Some deed)
 
   abbrev Did : W → W → Status → Option (List ℕ) → Option (Call disk) → Type 0
@@ -196,12 +196,12 @@ module _ {W D F P : Type 0} (world : WorldModel W D F P) (disk : DiskModel D) (r
       (disk_behind disk call) new) (some-one own_path path is) of in
       busy call (λ image was. begins path image (here.handed_out image was)) (λ image now. here.given_back image now) fits
 
-  at-cut-off : (old new : W) (status : Status) (folder : Option (List ℕ)) (c : Option (Call disk))
+  at-cut-off : (noted : ℕ) (old new : W) (status : Status) (folder : Option (List ℕ)) (c : Option (Call disk))
       → Did old new status folder c → folder ≡ Some path
-      → At cut_off old new status (own disk c)
-  at-cut-off old new status folder None (nothing _ steady) is = quiet (λ image left. left)
-  at-cut-off old new status None (Some call) did is = elim did [ ]
-  at-cut-off old new status (Some own_path) (Some call) (on_disk _ found _ begins of fits) is =
+      → At (cut_off noted) old new status (own disk c)
+  at-cut-off noted old new status folder None (nothing _ steady) is = quiet (λ image left. left)
+  at-cut-off noted old new status None (Some call) did is = elim did [ ]
+  at-cut-off noted old new status (Some own_path) (Some call) (on_disk _ found _ begins of fits) is =
       let here = subst (λ (p : List ℕ). IsDiskOf disk leaves p found (disk_before disk call)
       (disk_behind disk call) new) (some-one own_path path is) of in
       busy call (λ image was. begins path image (here.handed_out image was)) (λ image left. left) fits
@@ -227,16 +227,17 @@ module _ {W D F P : Type 0} (world : WorldModel W D F P) (disk : DiskModel D) (r
       (λ image was. begins path image (here.handed_out image was)) (λ image now. here.given_back image now)
       (empty own_path found opened first opens)
 
-  new-cut-off : (own_path : List ℕ) (old new : W) (end : Ended) (deed : Option (Deed disk)) → DidCopy own_path old new end deed
-      → own_path ≡ path → HandsOutNone world disk → At cut_off old new (status_of_ending end) deed
-  new-cut-off own_path old new end None (none_made steady) is empty = quiet (λ image left. left)
-  new-cut-off own_path old new end (Some (calls call)) did is empty = elim did [ ]
-  new-cut-off own_path old new end (Some (copies several given left first result made survives))
+  new-cut-off : (noted : ℕ) (own_path : List ℕ) (old new : W) (end : Ended) (deed : Option (Deed disk))
+      → DidCopy own_path old new end deed
+      → own_path ≡ path → HandsOutNone world disk → At (cut_off noted) old new (status_of_ending end) deed
+  new-cut-off noted own_path old new end None (none_made steady) is empty = quiet (λ image left. left)
+  new-cut-off noted own_path old new end (Some (calls call)) did is empty = elim did [ ]
+  new-cut-off noted own_path old new end (Some (copies several given left first result made survives))
       (made_there found opened _ _ _ _ _ _ _ begins opens of ends) is empty =
       let here = subst (λ (p : List ℕ). IsDiskOf disk leaves p found first (copied_disk result) new) is of in
       fresh (copies several given left first result made survives) (makes-copy end several given left first result made survives ends)
       (λ image was. begins path image (here.handed_out image was)) (λ image left. left) (empty own_path found opened first opens)
-  new-cut-off own_path old new end (Some (saves several given left first result made survives))
+  new-cut-off noted own_path old new end (Some (saves several given left first result made survives))
       (saved_there found opened _ _ _ _ _ _ _ held written begins opens of writes) is empty =
       let here = subst (λ (p : List ℕ). IsDiskOf disk leaves p found first (saved_disk result) new) is of in
       fresh (saves several given left first result made survives)
@@ -254,8 +255,8 @@ module _ {W D F P : Type 0} (world : WorldModel W D F P) (disk : DiskModel D) (r
       new-returned new_folder.now old.world new.world end _
       (backed world disk remaining honest leaves keeps folder.now new_folder.now old.world new.world end does.0)
       (some-one new_folder.now path is) empty
-  at-new (Backup folder new_folder) is is_new empty cut_off old new end does =
-      new-cut-off new_folder.now old.world new.world end _
+  at-new (Backup folder new_folder) is is_new empty (cut_off noted) old new end does =
+      new-cut-off noted new_folder.now old.world new.world end _
       (backed world disk remaining honest leaves keeps folder.now new_folder.now old.world new.world end does.0)
       (some-one new_folder.now path is) empty
   at-new (Salvage folder new_folder keep_dropped) is is_new empty returned old new end does =
@@ -263,8 +264,8 @@ module _ {W D F P : Type 0} (world : WorldModel W D F P) (disk : DiskModel D) (r
       (salvaged-to world disk remaining honest leaves keeps folder.now keep_dropped new_folder.now old.world new.world old.output
       new.output end does.0)
       (some-one new_folder.now path is) empty
-  at-new (Salvage folder new_folder keep_dropped) is is_new empty cut_off old new end does =
-      new-cut-off new_folder.now old.world new.world end _
+  at-new (Salvage folder new_folder keep_dropped) is is_new empty (cut_off noted) old new end does =
+      new-cut-off noted new_folder.now old.world new.world end _
       (salvaged-to world disk remaining honest leaves keeps folder.now keep_dropped new_folder.now old.world new.world old.output
       new.output end does.0)
       (some-one new_folder.now path is) empty
@@ -276,14 +277,14 @@ module _ {W D F P : Type 0} (world : WorldModel W D F P) (disk : DiskModel D) (r
       (deed_at world disk remaining honest leaves path invocation place ending old new end does)
   at invocation (elsewhere is_other) returned old new end does =
       quiet (λ image left. spares world disk remaining honest leaves keeps path invocation old new end does is_other image left)
-  at invocation (elsewhere is_other) cut_off old new end does = quiet (λ image left. left)
+  at invocation (elsewhere is_other) (cut_off noted) old new end does = quiet (λ image left. left)
   at invocation (elsewhere is_other) not_begun old new end does = quiet (λ image left. left)
   at invocation (here is not_new) not_begun old new end does = quiet (λ image left. left)
   at invocation (here is not_new) returned old new end does =
       at-returned old.world new.world (status_of_ending end) (folder_of invocation) _
       (effect world disk remaining honest leaves keeps invocation old new end does not_new) is
-  at invocation (here is not_new) cut_off old new end does =
-      at-cut-off old.world new.world (status_of_ending end) (folder_of invocation) _
+  at invocation (here is not_new) (cut_off noted) old new end does =
+      at-cut-off noted old.world new.world (status_of_ending end) (folder_of invocation) _
       (effect world disk remaining honest leaves keeps invocation old new end does not_new) is
   at invocation (anew is is_new empty) ending old new end does = at-new invocation is is_new empty ending old new end does
 
@@ -293,23 +294,25 @@ module _ {W D F P : Type 0} (world : WorldModel W D F P) (disk : DiskModel D) (r
   Run = Event world disk remaining honest leaves path
 
   -- what is acknowledged of a call was answered
-  least : (status : Status) (call : Call disk) → Fits world disk remaining honest leaves keeps status call
-      → (count : ℕ) → program.answered disk call ≤ count
-      → acknowledged world disk remaining honest leaves path status (Some (calls call)) ≤ count
-  least status (program.running io grouping old result crashes) fits count le = le
-  least status (program.exporting old new crashes) fits count le = omega arith
-  least Done (program.changing change old (Ok new) crashes) fits count le = le
-  least Done (program.changing change old (Err (new, fault)) crashes) fits count le = absurd (not-done fault fits)
-  least Found (program.changing change old result crashes) fits count le = omega arith
-  least Absent (program.changing change old result crashes) fits count le = omega arith
-  least Refused (program.changing change old result crashes) fits count le = omega arith
-  least WrongWords (program.changing change old result crashes) fits count le = omega arith
-  least Device (program.changing change old result crashes) fits count le = omega arith
+  least : (ending : Ending) (status : Status) (call : Call disk) → Fits world disk remaining honest leaves keeps status call
+      → (count : ℕ) → program.answered disk (ending_of_call ending) call ≤ count
+      → acknowledged world disk remaining honest leaves path ending status (Some (calls call)) ≤ count
+  least ending status (program.running io handings grouping old result crashes) fits count le = le
+  least ending status (program.exporting old new crashes) fits count le = omega arith
+  least returned Done (program.changing change old (Ok new) crashes) fits count le = le
+  least returned Done (program.changing change old (Err (new, fault)) crashes) fits count le = absurd (not-done fault fits)
+  least returned Found (program.changing change old result crashes) fits count le = omega arith
+  least returned Absent (program.changing change old result crashes) fits count le = omega arith
+  least returned Refused (program.changing change old result crashes) fits count le = omega arith
+  least returned WrongWords (program.changing change old result crashes) fits count le = omega arith
+  least returned Device (program.changing change old result crashes) fits count le = omega arith
+  least (cut_off noted) status (program.changing change old result crashes) fits count le = omega arith
+  least not_begun status (program.changing change old result crashes) fits count le = omega arith
 
   -- a change whose status is Done was accepted
   made : (status : Status) (call : Call disk) → Fits world disk remaining honest leaves keeps status call
       → IsMade world disk remaining honest leaves path status (Some (calls call))
-  made status (program.running io grouping old result crashes) fits = tt
+  made status (program.running io handings grouping old result crashes) fits = tt
   made status (program.exporting old new crashes) fits = tt
   made status (program.changing change old (Ok new) crashes) fits = λ is. crashes.all refl
   made status (program.changing change old (Err (new, fault)) crashes) fits = λ is. not-done fault (sym is ∙ fits)
@@ -318,7 +321,7 @@ module _ {W D F P : Type 0} (world : WorldModel W D F P) (disk : DiskModel D) (r
   record Parts (ending : Ending) (status : Status) (deed : Option (Deed disk)) (kept : List Command) : Type 0 where
     count : ℕ
     are : kept ≡ take count (accepted_in world disk remaining honest leaves path deed)
-    all : ending ≡ returned → acknowledged world disk remaining honest leaves path status deed ≤ count
+    all : acknowledged world disk remaining honest leaves path ending status deed ≤ count
     is : ending ≡ returned → IsMade world disk remaining honest leaves path status deed
 
   kept-of : (event : Run) (deed : Option (Deed disk)) (kept : List Command) → deed_in world disk remaining honest leaves path event ≡ deed
@@ -345,9 +348,6 @@ module _ {W D F P : Type 0} (world : WorldModel W D F P) (disk : DiskModel D) (r
   -- whatever is left means a state of which Held holds
   abbrev Stands : (Image → Type 0) → (Contents → Type 0) → Type 0
   Stands left Held = (image : Image) → left image → (s : Contents) × Held s × ImageMeans image s
-
-  returns : (ending : Ending) → ending ≡ returned → ending_of_call ending ≡ program.returned
-  returns ending is = ap ending_of_call is
 
   -- a new store is kept, of a folder that had none
   kept-new : (Held : Contents → Type 0) (event : Run) (deed : Deed disk) → deed_in world disk remaining honest leaves path event ≡ Some deed
@@ -380,7 +380,7 @@ module _ {W D F P : Type 0} (world : WorldModel W D F P) (disk : DiskModel D) (r
         of = kept-of event (Some deed) [] is (record {
           count = 0;
           are = sym (ap (λ (c : List Command). take 0 c) makes.no_commands);
-          all = λ _. subst (λ (n : ℕ). n ≤ 0) (sym makes.none_acknowledged) (omega arith);
+          all = subst (λ (n : ℕ). n ≤ 0) (sym (makes.none_acknowledged event.ending)) (omega arith);
           is = λ ends. makes.not_kept (not_done ends);
         });
         from = entry.0;
@@ -409,12 +409,12 @@ module _ {W D F P : Type 0} (world : WorldModel W D F P) (disk : DiskModel D) (r
       → deed_in world disk remaining honest leaves path event ≡ Some deed
       → ((image : Image) → IsImage (disk.folder (first_disk disk deed)) image → leaves event.old.world path image)
       → bytes_under (disk.folder (first_disk disk deed)) Store ≡ None → Stands (leaves event.old.world path) Held
-      → (image : Image) → program.MayLeave disk (ending_of_call ending) (first_disk disk deed)
+      → (image : Image) → program.MayLeave disk (ending_of_call ending) [] (first_disk disk deed)
       (last_disk disk deed) image → KeptRun Held event image
   kept-fresh Held event returned ended deed makes is found none stands image may =
       kept-returned Held event event.status refl deed makes is found none stands image may
-  kept-fresh Held event cut_off ended deed makes is found none stands image may =
-      kept-either Held event deed makes is (λ other. absurd (cut-off-returned (sym ended ∙ other))) found none stands
+  kept-fresh Held event (cut_off noted) ended deed makes is found none stands image may =
+      kept-either Held event deed makes is (λ other. absurd (cut-off-returned noted (sym ended ∙ other))) found none stands
       image (makes.either image may)
   kept-fresh Held event not_begun ended deed makes is found none stands image may =
       kept-either Held event deed makes is (λ other. absurd (not-begun-returned (sym ended ∙ other))) found none
@@ -427,7 +427,7 @@ module _ {W D F P : Type 0} (world : WorldModel W D F P) (disk : DiskModel D) (r
   kept-at Held event None is (quiet steady) stands image left =
       let here = stands image (steady image left) in record {
         kept = commands [];
-        of = kept-of event None [] is (record { count = 0; are = refl; all = λ _. omega arith; is = λ _. tt });
+        of = kept-of event None [] is (record { count = 0; are = refl; all = omega arith; is = λ _. tt });
         from = here.0;
         stood = here.1;
         to = here.0;
@@ -442,7 +442,7 @@ module _ {W D F P : Type 0} (world : WorldModel W D F P) (disk : DiskModel D) (r
         of = kept-of event (Some (calls call)) got.kept is (record {
           count = got.of.count;
           are = got.of.are;
-          all = λ ends. least event.status call fits got.of.count (got.of.all_answered (returns event.ending ends));
+          all = least event.ending event.status call fits got.of.count got.of.all_answered;
           is = λ _. made event.status call fits;
         });
         from = got.start;

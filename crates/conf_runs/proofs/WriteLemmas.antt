@@ -19,6 +19,7 @@ use Rattle.conf_words.specs.declared.invocation.Root.TheVariants.{Any, Collectio
 use Rattle.conf_words.specs.declared.invocation.Conditions.{Conditions}
 use Rattle.conf_words.specs.declared.invocation.Invocation.{Invocation}
 use Rattle.conf_words.specs.declared.invocation.Invocation.TheVariants.{Import, Set}
+use Rattle.conf_words.specs.declared.invocation.Placing.TheVariants.{AtPlace}
 use Rattle.conf_words.specs.declared.invocation.ValueForm.{ValueForm}
 use Rattle.conf_tools.specs.Asking.{AskedConditions}
 use Rattle.conf_tools.specs.Changes.{ChangesOn, Makes}
@@ -129,6 +130,7 @@ module _ {W D F P : Type 0} (world : WorldModel W D F P) (disk : DiskModel D) (r
   set-leads steady (change.Import imported bytes) sets opened closed makes = absurd sets
   set-leads steady (change.Copy from to) sets opened closed makes = absurd sets
   set-leads steady (change.Rename from to) sets opened closed makes = absurd sets
+  set-leads steady (change.Edit edited edit) sets opened closed makes = absurd sets
   set-leads steady change.Checkpoint sets opened closed makes = absurd sets
 
   set-leads-all : IsSteady pointer → (change : Result Change ToolFault) → IfOk change (SetsAt name pointer value) → IfOk change Leads
@@ -160,6 +162,7 @@ module _ {W D F P : Type 0} (world : WorldModel W D F P) (disk : DiskModel D) (r
     import-leads Any bytes reads (change.Perform command) is opened closed makes = absurd is
     import-leads root bytes reads (change.Copy from to) is opened closed makes = absurd is
     import-leads root bytes reads (change.Rename from to) is opened closed makes = absurd is
+    import-leads root bytes reads (change.Edit edited edit) is opened closed makes = absurd is
     import-leads root bytes reads change.Checkpoint is opened closed makes = absurd is
 
     import-leads-all : (root : Root) (bytes : List ℕ) → IsRead bytes config_limits value → (change : Result Change ToolFault)
@@ -185,7 +188,7 @@ module _ {W D F P : Type 0} (world : WorldModel W D F P) (disk : DiskModel D) (r
       (does : PerformsOnStores world disk remaining invocation old new status)
       → Puts world disk remaining honest leaves path name pointer value invocation old new status does → status ≡ Done
       → StandsIn leaves path name pointer value new.world
-  put-there value (Set folder named place given conditions reporting) old new status does
+  put-there value (Set folder named place given AtPlace conditions reporting) old new status does
       (of_path, of_name, of_pointer, steady, sets) done =
       stands-as leaves folder.now named.now place.now path name pointer (sym of_path) (sym of_name) (sym of_pointer) value new.world
       (changed-at world disk remaining honest leaves keeps named.now place.now value conditions Changing folder.now named.now place.now
@@ -216,7 +219,7 @@ module _ {W D F P : Type 0} (world : WorldModel W D F P) (disk : DiskModel D) (r
       event.old.world event.new.world image
       → leaves event.new.world path image
   left-returned returned is event image left = left
-  left-returned cut_off is event image left = cc
+  left-returned (cut_off noted) is event image left = cc
   left-returned not_begun is event image left = cc
 
   written : (write : Run) (value : Tree) → Writes world disk remaining honest leaves path name pointer write value

@@ -4,6 +4,7 @@ use Rattle.conf_disk.specs.Image.{Image}
 use Rattle.conf_disk.specs.Models.{DiskModel}
 use Rattle.conf_words.specs.declared.invocation.Invocation.{Invocation}
 use Rattle.conf_words.specs.declared.invocation.Invocation.TheVariants.{Get, Import, Init, Set}
+use Rattle.conf_words.specs.declared.invocation.Placing.TheVariants.{AtPlace}
 use Rattle.conf_words.specs.declared.invocation.TreeForm.TheVariants.{Styled}
 use Rattle.conf_words.specs.declared.invocation.Value.TheVariants.{Text}
 use Rattle.conf_words.specs.declared.invocation.ValueForm.TheVariants.{Whole}
@@ -30,7 +31,7 @@ SaysImport invocation = ⊥
 
 -- confstore set shop web /port 81
 abbrev pub SaysSet : Invocation → Type 0
-SaysSet (Set folder name pointer (Text word) conditions reporting) =
+SaysSet (Set folder name pointer (Text word) AtPlace conditions reporting) =
     (folder.now ≡ codes "shop") × (name.now ≡ codes "web") × (pointer.now ≡ codes "/port") × (word.now ≡ codes "81")
 SaysSet invocation = ⊥
 

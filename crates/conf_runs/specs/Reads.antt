@@ -16,6 +16,7 @@ use Rattle.conf_store.specs.declared.fault.OpenFault.TheVariants as opening
 use Rattle.conf_words.specs.declared.invocation.Invocation.{Invocation}
 use Rattle.conf_words.specs.declared.invocation.Invocation.TheVariants.{Export, Get, Import, Set}
 use Rattle.conf_words.specs.declared.invocation.MissingValue.{MissingValue}
+use Rattle.conf_words.specs.declared.invocation.Placing.TheVariants.{AtPlace}
 use Rattle.conf_words.specs.declared.invocation.TreeForm.{TreeForm}
 use Rattle.conf_words.specs.declared.invocation.ValueForm.{ValueForm}
 use Rattle.conf_words.specs.declared.invocation.ValueForm.TheVariants.{Whole}
@@ -90,10 +91,11 @@ module _ {W D F P : Type 0} (world : WorldModel W D F P) (disk : DiskModel D) (r
     (honest : disk.honest) (leaves : W → List ℕ → Image → Type 0) (path name pointer : List ℕ) where
   -- ---- runs that write
 
-  -- The words put the value there: they set it, or import it, which puts it in the place of the whole configuration.
+  -- The words put the value there: they set it at its place, or import it, which puts it in the place of the whole
+  -- configuration.
   abbrev pub Puts : Tree → (invocation : Invocation) (old new : Around W) (status : Status)
       → PerformsOnStores world disk remaining invocation old new status → Type 0
-  Puts value (Set folder named place given conditions reporting) old new status does =
+  Puts value (Set folder named place given AtPlace conditions reporting) old new status does =
       (folder.now ≡ path) × (named.now ≡ name) × (place.now ≡ pointer) × IsSteady pointer
       × IfOk does.does.0.change (SetsAt name pointer value)
   Puts value (Import folder named file root absent conditions reporting) old new status does =

@@ -18,18 +18,19 @@ use Rattle.conf_store.specs.Meaning.{ImageMeans, empty_state}
 use Rattle.conf_words.specs.declared.invocation.Conditions.{Conditions}
 use Rattle.conf_words.specs.declared.invocation.{Invocation.Invocation, Root.Root}
 use Rattle.conf_words.specs.declared.invocation.TreeForm.{TreeForm}
-use Rattle.conf_words.specs.declared.invocation.Invocation.TheVariants.{Init, Import, Set, Delete, Copy, Rename}
+use Rattle.conf_words.specs.declared.invocation.Invocation.TheVariants.{Init, Import, Set, Delete, Copy, Rename, Move}
 use Rattle.conf_words.specs.declared.invocation.Invocation.TheVariants.{Batch, Checkpoint, Run, Export, Salvage, Backup}
 use Rattle.conf_tools.specs.Asking.{AskedConditions}
 use Rattle.conf_tools.specs.Backups.{BacksUpFound, BacksUpInFolder}
 use Rattle.conf_tools.specs.Changes.{Performs as ChangePerforms}
+use Rattle.conf_tools.specs.Edits.{placed_or_not}
 use Rattle.conf_tools.specs.Exports.{disk_back, disk_handed_back}
 use Rattle.conf_tools.specs.Keeping.{SalvagesTo}
 use Rattle.conf_tools.specs.Batches.{counted_alone}
 use Rattle.conf_tools.specs.OnStores.{DoesOnStores, PerformsOnStores, ReadsInFolder}
 use Rattle.conf_tools.specs.Performs.{BatchesRead, ChangesAt, ImportsRead, access_of, grouping_of}
 use Rattle.conf_tools.specs.ProgramCalls.{Call, Ending as CallEnding, accepted, answered, changing, disk_before}
-use Rattle.conf_tools.specs.ProgramCalls.{disk_behind, exporting, running}
+use Rattle.conf_tools.specs.ProgramCalls.{disk_behind, exporting, noted_in, running}
 use Rattle.conf_tools.specs.ProgramCalls as call
 use Rattle.conf_tools.specs.StoreWords.{Condition, ChangesInFolder, Inits, MakesChange, MakesInFolder}
 use Rattle.conf_tools.specs.StoreWords.{RunsOnFolder, SavesFound, SavesInFolder}
@@ -46,6 +47,7 @@ use Rattle.conf_tools.specs.declared.texts.ToolFault.{ToolFault}
 use Rattle.conf_tools.specs.declared.world.Access.{Access}
 use Rattle.conf_tools.specs.declared.world.Access.TheVariants.{Changing}
 use Rattle.conf_runs.specs.Folders.{HandsOutNone, KeepsFolders}
+use Rattle.conf_session.specs.Handings.{Handing, handings_of, moment_after}
 use Rattle.conf_session.specs.Streams.{streams_of}
 
 -- ---- the folder of a run
@@ -54,10 +56,11 @@ use Rattle.conf_session.specs.Streams.{streams_of}
 abbrev pub folder_of : Invocation → Option (List ℕ)
 folder_of (Init folder) = Some folder.now
 folder_of (Import folder name file root absent conditions reporting) = Some folder.now
-folder_of (Set folder name pointer value conditions reporting) = Some folder.now
+folder_of (Set folder name pointer value placing conditions reporting) = Some folder.now
 folder_of (Delete folder name pointer conditions) = Some folder.now
 folder_of (Copy folder name to conditions) = Some folder.now
 folder_of (Rename folder name to conditions) = Some folder.now
+folder_of (Move folder name from to conditions) = Some folder.now
 folder_of (Batch folder file count reporting) = Some folder.now
 folder_of (Checkpoint folder) = Some folder.now
 folder_of (Run folder grouping) = Some folder.now
@@ -127,7 +130,8 @@ module _ {W D F P : Type 0} (world : WorldModel W D F P) (disk : DiskModel D) (h
       → RunsOnFolder world disk folder grouping old new end → Option (Call disk)
   ran_in grouping old new (inl cannot) = None
   ran_in grouping old new (inr runs) =
-      Some (running (streams_of old.input new.input old.output new.output) grouping runs.first runs.result (runs.survives honest))
+      Some (running (streams_of old.input new.input old.output new.output) (handings_of old.handings new.handings) grouping
+      runs.first runs.result (runs.survives honest))
 
   abbrev pub read_from : {folder : List ℕ} {old new : W} → ReadsInFolder world disk folder old new → Option (Call disk)
   read_from (inl cannot) = None
@@ -142,9 +146,9 @@ module _ {W D F P : Type 0} (world : WorldModel W D F P) (disk : DiskModel D) (r
   call_of (Import folder name file root absent conditions reporting) old new end does =
       imported world disk honest conditions root (access_of absent) folder.now name.now does.read does.seen new.world end
       does.imports
-  call_of (Set folder name pointer value conditions reporting) old new end does =
-      asked_for world disk honest conditions Changing folder.now name.now pointer.now does.0.change does.0.seen new.world
-      end does.0.changes
+  call_of (Set folder name pointer value placing conditions reporting) old new end does =
+      asked_for world disk honest conditions Changing folder.now name.now pointer.now
+      (placed_or_not placing does.0.change) does.0.seen new.world end does.0.changes
   call_of (Delete folder name pointer conditions) old new end does =
       asked_for world disk honest conditions Changing folder.now name.now pointer.now does.0.change old.world new.world
       end does.0.changes
@@ -154,6 +158,9 @@ module _ {W D F P : Type 0} (world : WorldModel W D F P) (disk : DiskModel D) (r
   call_of (Rename folder name to conditions) old new end does =
       asked_for world disk honest conditions Changing folder.now to.now [] does.0.change old.world new.world end
       does.0.changes
+  call_of (Move folder name from to conditions) old new end does =
+      asked_for world disk honest conditions Changing folder.now name.now to.now does.0.change old.world new.world
+      end does.0.changes
   call_of (Batch folder file count reporting) old new end does =
       batched world disk honest folder.now count does.read does.seen new.world end does.makes
   call_of (Checkpoint folder) old new end does = changed_in world disk honest change.Checkpoint does.0
@@ -186,6 +193,11 @@ module _ {D : Type 0} (disk : DiskModel D) where
   last_disk (calls call) = disk_behind disk call
   last_disk (copies several given left first result made survives) = copied_disk result
   last_disk (saves several given left first result made survives) = saved_disk result
+
+  -- what the output noted during it
+  abbrev pub handings_in : Deed → List Handing
+  handings_in (calls call) = noted_in disk call
+  handings_in deed = []
 
   -- a call, if there is one
   abbrev pub own : Option (Call disk) → Option Deed
@@ -238,17 +250,18 @@ module _ {W D F P : Type 0} (world : WorldModel W D F P) (disk : DiskModel D) (r
 
 -- ---- a run
 
--- Whether a run returned, was cut off while it had the disk, by a crash or by the end of its process, or had none yet.
+-- Whether a run returned, was cut off while it had the disk, by a crash or by the end of its process, or had none yet. Of one
+-- that was cut off, how many handings of answers its output had noted by then.
 pub data Ending : Type 0 where
   returned : Ending
-  cut_off : Ending
+  cut_off : (noted : ℕ) → Ending
   not_begun : Ending
 
 -- The same of its call: one that never began is as one that was not made.
 abbrev pub ending_of_call : Ending → CallEnding
 ending_of_call returned = call.returned
-ending_of_call cut_off = call.cut_off
-ending_of_call not_begun = call.cut_off
+ending_of_call (cut_off noted) = call.cut_off noted
+ending_of_call not_begun = call.cut_off 0
 
 -- What is kept of a run in the folder: commands that it performed there, or the whole state of a store that it made.
 pub data Kept : Type 0 where
@@ -294,12 +307,12 @@ module _ {W D F P : Type 0} (world : WorldModel W D F P) (disk : DiskModel D) (r
   deed_in event =
       deed_at event.invocation event.place event.ending event.old event.new event.does.ending event.does.does
 
-  -- What a crash leaves of the folder after a run that returned; of one that was cut off, at any moment of its deed. A run
-  -- that did nothing there leaves no more than was there.
+  -- What a crash leaves of the folder after a run that returned; of one that was cut off, at any moment of its deed since
+  -- its output noted so many handings. A run that did nothing there leaves no more than was there.
   abbrev pub LeavesAfter : Ending → Option (Deed disk) → (old new : W) → Image → Type 0
   LeavesAfter returned deed old new image = leaves new path image
-  LeavesAfter cut_off (Some deed) old new image =
-      disk.left (last_disk disk deed) (disk.moment (first_disk disk deed)) image
+  LeavesAfter (cut_off noted) (Some deed) old new image =
+      disk.left (last_disk disk deed) (moment_after (disk.moment (first_disk disk deed)) (handings_in disk deed) noted) image
   LeavesAfter ending deed old new image = leaves old path image
 
   abbrev pub MayLeave : Event → Image → Type 0
@@ -319,14 +332,14 @@ module _ {W D F P : Type 0} (world : WorldModel W D F P) (disk : DiskModel D) (r
   accepted_in (Some (calls call)) = accepted disk call
   accepted_in deed = []
 
-  -- How many of them it acknowledged, the first ones: those that a session answered, and the command of a change whose
-  -- status was Done.
-  abbrev pub acknowledged : Status → Option (Deed disk) → ℕ
-  acknowledged status (Some (calls (running io grouping old result crashes))) =
-      answered disk (running io grouping old result crashes)
-  acknowledged status (Some (calls (changing change old result crashes))) =
+  -- How many of them it acknowledged, the first ones: those that a session answered, and the command of a change that
+  -- returned with the status Done. A session that was cut off answered those whose answers its output had begun to take.
+  abbrev pub acknowledged : Ending → Status → Option (Deed disk) → ℕ
+  acknowledged ending status (Some (calls (running io handings grouping old result crashes))) =
+      answered disk (ending_of_call ending) (running io handings grouping old result crashes)
+  acknowledged returned status (Some (calls (changing change old result crashes))) =
       if_done status (length (accepted disk (changing change old result crashes)))
-  acknowledged status deed = 0
+  acknowledged ending status deed = 0
 
   -- Where the status of a change was Done, what was accepted is what the change performs on the state that the file meant.
   -- Where the status of a backup or a salvage was Done, its store is kept, and not what was there.
@@ -338,11 +351,11 @@ module _ {W D F P : Type 0} (world : WorldModel W D F P) (disk : DiskModel D) (r
   IsMade status (Some (saves several given left first result made survives)) = status ≢ Done
   IsMade status deed = Unit {0}
 
-  -- the first of the commands that a run accepted; if it returned, all that it acknowledged
+  -- the first of the commands that a run accepted, with all that it acknowledged
   pub record KeepsCommands (event : Event) (kept : List Command) : Type 0 where
     pub count : ℕ
     pub are : kept ≡ take count (accepted_in (deed_in event))
-    pub all_acknowledged : event.ending ≡ returned → acknowledged event.status (deed_in event) ≤ count
+    pub all_acknowledged : acknowledged event.ending event.status (deed_in event) ≤ count
     pub is_made : event.ending ≡ returned → IsMade event.status (deed_in event)
 
   -- a state that the base and the records mean that a file gave

@@ -38,7 +38,9 @@ pub trait Files: World {
 /// differ. Then each image that a crash leaves of it in the end means what is kept of the runs makes of one of these
 /// states. Of each run in turn that is a prefix of the commands that it accepted. If the run returned, the prefix has
 /// each command whose answer it wrote; and where a word that changes the store had the status
-/// [`Done`](conf_tools::Status::Done), the prefix is its change.
+/// [`Done`](conf_tools::Status::Done), the prefix is its change. If a session was cut off, the prefix has each command
+/// whose answer its output had begun to take, as far as it noted that
+/// ([`AnswerSink::handings`](conf_session::AnswerSink)).
 ///
 /// A backup or a salvage into the folder is kept whole or not at all: whole if its status was `Done`. Then the state is
 /// the one that the other store's file meant, or at a salvage the one that stands before the first bad piece of it. The

@@ -26,15 +26,21 @@ use Rattle.conf_tools.proofs.Prelude.{
   SessionFault,
   Tally,
 }
-use Rattle.conf_tools.proofs.Prelude.{Streams}
+use Rattle.conf_tools.proofs.Prelude.{AfterAtLeast, Stored, Streams}
 use Rattle.conf_state.proofs.RunLaws.{after-append}
 use Rattle.conf_store.specs.Lives.{all_commands}
 use Rattle.conf_tools.specs.declared.stores.StoreToolFault.TheVariants.{Folder as InFolder}
 use Rattle.conf_tools.specs.declared.stores.StoreToolFault.TheVariants.{Condition as OnCondition}
-use Rattle.conf_tools.specs.{Changes.KeepsChange, Stores.KeepsAnswered, declared.changes.Change.Change, declared.stores.Grouping.Grouping}
+use Rattle.conf_tools.specs.{Changes.KeepsChange, Stores.Answers, Stores.KeepsAnswered, Stores.Work, declared.changes.Change.Change}
+use Rattle.conf_tools.specs.declared.stores.Grouping.{Grouping}
+use Rattle.conf_tools.specs.declared.stores.Grouping.TheVariants.{Single, Grouped}
+use Rattle.conf_session.specs.Handings.{Handings, accepted_within, taken_in}
+use Rattle.conf_session.specs.Groups.{Turn, all_asked, turns_within}
+use Rattle.conf_session.specs.Requests.{Request}
+use Rattle.conf_session.proofs.HandedLemmas.{since-some, since-weaker}
 use Rattle.conf_tools.specs.ProgramCalls.{AreCalls, Call, CallHolds, CallsHold, EachKept, EachMeans, Ending, Event, KeptOf, MayLeave}
-use Rattle.conf_tools.specs.ProgramCalls.{MeantBy, accepted, answered, changing, cut_off, disk_before, disk_behind, exporting, returned}
-use Rattle.conf_tools.specs.ProgramCalls.{running}
+use Rattle.conf_tools.specs.ProgramCalls.{MeantBy, accepted, answered, answered_of, changing, cut_off, disk_before, disk_behind}
+use Rattle.conf_tools.specs.ProgramCalls.{exporting, if_returned, noted_in, returned, running}
 use Rattle.conf_tools.specs.declared.stores.StoreToolFault.TheVariants.{Open, Session, Export, Refused, StoreExists}
 
 -- a file means one state at most
@@ -50,32 +56,51 @@ led-on from between to first others one two = after-append from first others
     ∙ ap (λ r. and_then r (λ (s : Contents). after s others)) one ∙ two
 
 -- What is kept of a call: it leads from a state of which P holds to the state that the image means.
-record Kept (P : Contents → Type 0) (ending : Ending) (accepted : List Command) (answered : ℕ) (image : Image) : Type 0 where
+record Kept (P : Contents → Type 0) (accepted : List Command) (answered : ℕ) (image : Image) : Type 0 where
   kept : List Command
-  of : KeptOf ending accepted answered kept
+  of : KeptOf accepted answered kept
   from : Contents
   holds : P from
   to : Contents
   leads : after from kept ≡ Ok to
   means : ImageMeans image to
 
--- a call that was cut off owes no answer
-none-owed : (answered count : ℕ) → cut_off ≡ returned → answered ≤ count
-none-owed answered count is = cc
-
-kept-prefix : (P : Contents → Type 0) (ending : Ending) (s : Contents) (accepted : List Command) (answered : ℕ)
-    (image : Image) → P s
-    → (after-prefix : MeansPrefix s accepted image) → (ending ≡ returned → answered ≤ after-prefix.count)
-    → Kept P ending accepted answered image
-kept-prefix P ending s accepted answered image holds prefix enough = record {
-  kept = take prefix.count accepted;
-  of = record { count = prefix.count; are = refl; all_answered = enough };
+kept-prefix : (P : Contents → Type 0) (s : Contents) (accepted : List Command) (answered : ℕ) (image : Image) → P s
+    → AfterAtLeast s answered accepted image → Kept P accepted answered image
+kept-prefix P s accepted answered image holds some = record {
+  kept = take some.count accepted;
+  of = record { count = some.count; are = refl; all_answered = some.enough };
   from = s;
   holds = holds;
-  to = prefix.state;
-  leads = prefix.leads;
-  means = prefix.means;
+  to = some.state;
+  leads = some.leads;
+  means = some.means;
 }
+
+-- a prefix has none of them, at least
+at-least-none : (s : Contents) (accepted : List Command) (image : Image) → MeansPrefix s accepted image → AfterAtLeast s 0 accepted image
+at-least-none s accepted image some =
+    record { count = some.count; enough = omega arith; state = some.state; leads = some.leads; means = some.means }
+
+-- a call that refused something made nothing
+none-returned : (ending : Ending) → if_returned ending 0 ≡ 0
+none-returned returned = refl
+none-returned (cut_off noted) = refl
+
+-- nothing is answered within no bytes
+within-none : (io : Streams) (grouping : Grouping) (result : Result Tally SessionFault) (start : Stored) (file : Option (List ℕ))
+    (work : Work) → Answers io start file grouping result work → work.within 0 ≡ 0
+within-none io Single result start file work answers = ap (λ (w : Work). w.within 0) answers.does ∙ none start answers.performed
+  where
+    none : (now : Stored) (rs : List Request) → accepted_within now rs 0 ≡ 0
+    none now [] = refl
+    none now (r ∷ rs) = refl
+within-none io (Grouped checkpoints) result start file work answers =
+    ap (λ (w : Work). w.within 0) answers.does ∙ none start (answers.answered ++ all_asked answers.unanswered)
+  where
+    none : (now : Stored) (ts : List Turn) → turns_within now ts 0 ≡ 0
+    none now [] = refl
+    none now (t ∷ ts) = refl
 
 module _ {D : Type 0} (model : DiskModel D)
     (one : OneMeaning) (reading : ReadingIsAnImage)
@@ -92,12 +117,12 @@ module _ {D : Type 0} (model : DiskModel D)
       subst P (file-one one (several_waited (model.folder disk)) (bytes_under (model.folder disk) Store) now.0 s now.2 means) now.1
 
   -- what was meant at entry: nothing is kept
-  kept-entry : (P : Contents → Type 0) (old : D) (ending : Ending) (accepted : List Command) (answered : ℕ) (image : Image) → Stands old P
-      → (ending ≡ returned → answered ≤ 0) → MeantAtEntry (model.folder old) image → Kept P ending accepted answered image
-  kept-entry P old ending accepted answered image stands none meant =
+  kept-entry : (P : Contents → Type 0) (old : D) (accepted : List Command) (image : Image) → Stands old P
+      → MeantAtEntry (model.folder old) image → Kept P accepted 0 image
+  kept-entry P old accepted image stands meant =
       let entry = stands meant.entry meant.is in record {
         kept = [];
-        of = record { count = 0; are = refl; all_answered = none };
+        of = record { count = 0; are = refl; all_answered = omega arith };
         from = entry.0;
         holds = entry.1;
         to = entry.0;
@@ -107,73 +132,74 @@ module _ {D : Type 0} (model : DiskModel D)
 
   -- a call that accepts nothing
   kept-unchanged : (P : Contents → Type 0) (old new : D) (ending : Ending) (image : Image) → Stands old P
-      → LeavesOnly model old new (MeantAtEntry (model.folder old)) → MayLeave model ending old new image
-      → Kept P ending [] 0 image
+      → LeavesOnly model old new (MeantAtEntry (model.folder old)) → MayLeave model ending [] old new image
+      → Kept P [] 0 image
   kept-unchanged P old new returned image stands leaves is =
-      kept-entry P old returned [] 0 image stands (λ _. omega arith)
-      (leaves.each image (counts new (model.moment old) image leaves.later is))
-  kept-unchanged P old new cut_off image stands leaves is =
-      kept-entry P old cut_off [] 0 image stands (none-owed 0 0) (leaves.each image is)
+      kept-entry P old [] image stands (leaves.each image (counts new (model.moment old) image leaves.later is))
+  kept-unchanged P old new (cut_off noted) image stands leaves is = kept-entry P old [] image stands (leaves.each image is)
 
   -- a session
-  kept-session : (P : Contents → Type 0) (io : Streams) (grouping : Grouping) (old new : D)
+  kept-session : (P : Contents → Type 0) (io : Streams) (handings : Handings) (grouping : Grouping) (old new : D)
       (result : Result Tally SessionFault) (ending : Ending) (image : Image) → Stands old P
-      → (keeps : KeepsAnswered model io grouping old new result) → MayLeave model ending old new image
-      → Kept P ending keeps.work.accepted keeps.work.answered image
-  kept-session P io grouping old new result returned image stands keeps is =
+      → (keeps : KeepsAnswered model io handings grouping old new result)
+      → MayLeave model ending (taken_in handings) old new image
+      → Kept P keeps.work.accepted (answered_of model handings ending keeps.work) image
+  kept-session P io handings grouping old new result returned image stands keeps is =
+      kept-prefix P keeps.start.state keeps.work.accepted keeps.work.answered image
+      (reads P old keeps.start.state stands keeps.opens.means) (keeps.returned image is)
+  kept-session P io handings grouping old new result (cut_off noted) image stands keeps is =
       let s = keeps.start.state in
-      let least = keeps.returned image is in
-      kept-prefix P returned s keeps.work.accepted keeps.work.answered image (reads P old s stands keeps.opens.means)
-      (record { count = least.count; state = least.state; leads = least.leads; means = least.means }) (λ _. least.enough)
-  kept-session P io grouping old new result cut_off image stands keeps is =
-      let s = keeps.start.state in
-      ⊎_elim
-      (λ was. kept-entry P old cut_off keeps.work.accepted keeps.work.answered image stands
-      (none-owed keeps.work.answered 0) (keeps.while_opening.each image was))
-      (λ now. kept-prefix P cut_off s keeps.work.accepted keeps.work.answered image
-      (reads P old s stands keeps.opens.means) now (none-owed keeps.work.answered now.count))
-      (keeps.once_open.before (model.moment old) image keeps.while_opening.later is)
+      let held = reads P old s stands keeps.opens.means in
+      let none = within-none io grouping result keeps.start (bytes_under (model.folder keeps.opened) Store) keeps.work keeps.answers in
+      subst (λ (n : ℕ). Kept P keeps.work.accepted (keeps.work.within n) image) (omega arith)
+      (since-some model new 0 (taken_in handings) (λ bytes image. Kept P keeps.work.accepted (keeps.work.within bytes) image)
+      (model.moment old) noted
+      (λ image is. subst (λ (n : ℕ). Kept P keeps.work.accepted n image) (sym none) (⊎_elim
+      (λ was. kept-entry P old keeps.work.accepted image stands (keeps.while_opening.each image was))
+      (λ now. kept-prefix P s keeps.work.accepted 0 image held (at-least-none s keeps.work.accepted image now))
+      (keeps.once_open.before (model.moment old) image keeps.while_opening.later is)))
+      (since-weaker model new 0 (taken_in handings) _ _
+      (λ bytes image some. kept-prefix P s keeps.work.accepted (keeps.work.within bytes) image held some) keeps.cut_off)
+      image is)
 
   -- a change
   kept-change : (P : Contents → Type 0) (change : Change) (old new : D) (is_done : Bool) (ending : Ending) (image : Image) → Stands old P
-      → (keeps : KeepsChange model old change new is_done) → MayLeave model ending old new image
-      → Kept P ending keeps.accepted (if is_done then length keeps.accepted else 0) image
+      → (keeps : KeepsChange model old change new is_done) → MayLeave model ending [] old new image
+      → Kept P keeps.accepted (if_returned ending (if is_done then length keeps.accepted else 0)) image
   kept-change P change old new is_done returned image stands keeps is =
-      let least = keeps.returned image is in
-      kept-prefix P returned keeps.start keeps.accepted (if is_done then length keeps.accepted else 0) image
-      (reads P old keeps.start stands keeps.means)
-      (record { count = least.count; state = least.state; leads = least.leads; means = least.means }) (λ _. least.enough)
-  kept-change P change old new is_done cut_off image stands keeps is =
-      let owed = if is_done then length keeps.accepted else 0 in
+      kept-prefix P keeps.start keeps.accepted (if is_done then length keeps.accepted else 0) image
+      (reads P old keeps.start stands keeps.means) (keeps.returned image is)
+  kept-change P change old new is_done (cut_off noted) image stands keeps is =
       ⊎_elim
-      (λ was. kept-entry P old cut_off keeps.accepted owed image stands (none-owed owed 0) (keeps.while_opening.each image was))
-      (λ now. kept-prefix P cut_off keeps.start keeps.accepted owed image
-      (reads P old keeps.start stands keeps.means) now (none-owed owed now.count))
+      (λ was. kept-entry P old keeps.accepted image stands (keeps.while_opening.each image was))
+      (λ now. kept-prefix P keeps.start keeps.accepted 0 image (reads P old keeps.start stands keeps.means)
+      (at-least-none keeps.start keeps.accepted image now))
       (keeps.once_open.before (model.moment old) image keeps.while_opening.later is)
 
   -- any call
   kept-call : (P : Contents → Type 0) (ending : Ending) (call : Call model) (image : Image) → Stands (disk_before model call) P
-      → MayLeave model ending (disk_before model call) (disk_behind model call) image
-      → Kept P ending (accepted model call) (answered model call) image
-  kept-call P ending (running io grouping old (Ok (new, tally)) keeps) image stands is =
-      kept-session P io grouping old new (Ok tally) ending image stands keeps is
-  kept-call P ending (running io grouping old (Err (new, Session fault)) keeps) image stands is =
-      kept-session P io grouping old new (Err fault) ending image stands keeps is
-  kept-call P ending (running io grouping old (Err (new, InFolder fault)) leaves) image stands is =
+      → MayLeave model ending (noted_in model call) (disk_before model call) (disk_behind model call) image
+      → Kept P (accepted model call) (answered model ending call) image
+  kept-call P ending (running io handings grouping old (Ok (new, tally)) keeps) image stands is =
+      kept-session P io handings grouping old new (Ok tally) ending image stands keeps is
+  kept-call P ending (running io handings grouping old (Err (new, Session fault)) keeps) image stands is =
+      kept-session P io handings grouping old new (Err fault) ending image stands keeps is
+  kept-call P ending (running io handings grouping old (Err (new, InFolder fault)) leaves) image stands is =
       kept-unchanged P old new ending image stands leaves is
-  kept-call P ending (running io grouping old (Err (new, Open fault)) leaves) image stands is =
+  kept-call P ending (running io handings grouping old (Err (new, Open fault)) leaves) image stands is =
       kept-unchanged P old new ending image stands leaves is
-  kept-call P ending (running io grouping old (Err (new, OnCondition fault)) leaves) image stands is =
+  kept-call P ending (running io handings grouping old (Err (new, OnCondition fault)) leaves) image stands is =
       kept-unchanged P old new ending image stands leaves is
-  kept-call P ending (running io grouping old (Err (new, Export fault)) leaves) image stands is =
+  kept-call P ending (running io handings grouping old (Err (new, Export fault)) leaves) image stands is =
       kept-unchanged P old new ending image stands leaves is
-  kept-call P ending (running io grouping old (Err (new, Refused fault)) leaves) image stands is =
+  kept-call P ending (running io handings grouping old (Err (new, Refused fault)) leaves) image stands is =
       kept-unchanged P old new ending image stands leaves is
-  kept-call P ending (running io grouping old (Err (new, StoreExists)) leaves) image stands is =
+  kept-call P ending (running io handings grouping old (Err (new, StoreExists)) leaves) image stands is =
       kept-unchanged P old new ending image stands leaves is
   kept-call P ending (changing change old (Ok new) keeps) image stands is = kept-change P change old new true ending image stands keeps is
   kept-call P ending (changing change old (Err (new, Refused fault)) keeps) image stands is =
-      kept-change P change old new false ending image stands keeps is
+      subst (λ (n : ℕ). Kept P keeps.accepted n image) (none-returned ending)
+      (kept-change P change old new false ending image stands keeps is)
   kept-call P ending (changing change old (Err (new, InFolder fault)) leaves) image stands is =
       kept-unchanged P old new ending image stands leaves is
   kept-call P ending (changing change old (Err (new, Open fault)) leaves) image stands is =
@@ -225,9 +251,10 @@ module _ {D : Type 0} (model : DiskModel D)
   kept-calls (event ∷ events) P first last stands (same, next, follows, further) image is =
       let stood = subst (λ (disk : D). Stands disk P) (sym same) stands in
       let came = λ (image : Image) (is : IsImage (model.folder next) image). kept-call P event.ending event.call image stood
-      (subst (λ (disk : D). MayLeave model event.ending disk (disk_behind model event.call) image) (sym same) (follows image is)) in
+      (subst (λ (disk : D). MayLeave model event.ending (noted_in model event.call) disk (disk_behind model event.call) image) (sym same)
+      (follows image is)) in
       let Reached : Contents → Type 0 = λ to. (kept : List Command)
-      × KeptOf event.ending (accepted model event.call) (answered model event.call) kept
+      × KeptOf (accepted model event.call) (answered model event.ending event.call) kept
       × (from : Contents) × P from × (after from kept ≡ Ok to) in
       let rest = kept-calls events Reached next last
       (λ image is. let k = came image is in (k.to, (k.kept, k.of, k.from, k.holds, k.leads), k.means)) further image is in

@@ -14,7 +14,7 @@ use Rattle.conf_store.proofs.MeaningLemmas.{after-done}
 use Rattle.conf_store.proofs.StepLemmas.{StepsNeedRoom, accepted-anyway}
 use Rattle.conf_tools.specs.{Stores.OpensOn, declared.changes.Change.Change}
 use Rattle.conf_tools.specs.Changes.{KeepsChange, Makes, MeansOneOf, Performs, RefusesChange}
-use Rattle.conf_tools.specs.declared.changes.Change.TheVariants.{Import, Perform, Copy, Rename, Checkpoint}
+use Rattle.conf_tools.specs.declared.changes.Change.TheVariants.{Import, Perform, Copy, Rename, Edit, Checkpoint}
 
 -- ---- which commands a change performs
 
@@ -51,6 +51,11 @@ made-led room old new (Rename name to) made = record {
   of = (made.command, made.of, refl);
   leads = accepted-leads room (journal_length old) old.state new.state made.command made.accepts.step;
 }
+made-led room old new (Edit name edit) made = record {
+  commands = made.command ∷ [];
+  of = (made.command, made.of, refl);
+  leads = accepted-leads room (journal_length old) old.state new.state made.command made.accepts.step;
+}
 made-led room old new Checkpoint made = record { commands = []; of = refl; leads = ap Ok (sym made.0) }
 
 -- a change in which the device failed
@@ -72,6 +77,11 @@ device-led room old new (Copy name to) refuses = record {
   leads = accepted-leads room (journal_length old) old.state new.state refuses.command refuses.refuses;
 }
 device-led room old new (Rename name to) refuses = record {
+  commands = refuses.command ∷ [];
+  of = (refuses.command, refuses.of, refl);
+  leads = accepted-leads room (journal_length old) old.state new.state refuses.command refuses.refuses;
+}
+device-led room old new (Edit name edit) refuses = record {
   commands = refuses.command ∷ [];
   of = (refuses.command, refuses.of, refl);
   leads = accepted-leads room (journal_length old) old.state new.state refuses.command refuses.refuses;

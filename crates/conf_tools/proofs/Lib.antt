@@ -7,6 +7,7 @@ pub mod TailLemmas
 pub mod CallLemmas
 pub mod ExportLemmas
 pub mod ChangeLemmas
+mod EditLemmas
 pub mod ReadLemmas
 pub mod FoundLemmas
 pub mod DroppedLemmas

@@ -1,11 +1,14 @@
 -- What a session leaves of the disk of the store that was opened for it.
 use Rattle.std.proofs.Common.{◌≡◌, ◌≢◌, ◌≤◌, ◌⊎◌, ◌↔◌, ℕ, Bool, true, false, List, [], ◌∷◌, ◌++◌, ap, inl, inr, length, refl, sym, ◌∙◌}
-use Rattle.std.proofs.Common.{subst}
+use Rattle.std.proofs.Common.{arith, subst}
 use Rattle.std.specs.Prelude.{Option, None, Result, Ok, Err, IsErrOf}
 use Rattle.conf_tools.proofs.Prelude.{false≢true, bytes_under, DiskModel, Store, HasFailed, staged_text, StoreView, failed-later}
 use Rattle.conf_tools.proofs.Prelude.{AllAreAcknowledged, Stored, accepted_commands, file_after_all, AfterAtLeast, Runs, stored_of}
 use Rattle.conf_tools.proofs.Prelude.{SessionFault, Tally, Streams}
-use Rattle.conf_session.specs.Groups.{AreDue, RunsGrouped, Turn, acknowledged_turns, all_asked, files_after_turns, turns_accepted}
+use Rattle.conf_session.specs.Handings.{Handings, accepted_within, taken_in}
+use Rattle.conf_session.proofs.HandedLemmas.{since-weaker}
+use Rattle.conf_session.specs.Groups.{turns_within, AreDue, RunsGrouped, Turn, acknowledged_turns, all_asked, files_after_turns}
+use Rattle.conf_session.specs.Groups.{turns_accepted}
 use Rattle.conf_session.specs.declared.groups.Checkpoints.{Checkpoints}
 use Rattle.conf_session.specs.declared.groups.Checkpoints.TheVariants.{After, Asked}
 use Rattle.conf_session.specs.declared.fault.SessionFault.TheVariants.{Device, Reopen}
@@ -29,7 +32,7 @@ all-acknowledged : (now : Stored) (turns : List Turn) → acknowledged_turns now
 all-acknowledged now [] = refl
 all-acknowledged now (turn ∷ turns) = refl
 
-module _ {D : Type 0} (model : DiskModel D) (io : Streams)
+module _ {D : Type 0} (model : DiskModel D) (io : Streams) (handings : Handings)
     (old : D) (store new : StoreView D) (result : Result Tally SessionFault) (opens : OpensOn model old store) where
   -- what `store.yaml` reads as when the store is open
   abbrev file : Option (List ℕ)
@@ -52,11 +55,12 @@ module _ {D : Type 0} (model : DiskModel D) (io : Streams)
 
   -- ---- each command by itself
 
-  module _ (runs : Runs model io store new result) where
+  module _ (runs : Runs model io handings store new result) where
     abbrev each-work : Work
     each-work = record {
       accepted = accepted_commands (stored_of store) runs.performed;
       answered = length (accepted_commands (stored_of store) runs.answered);
+      within = accepted_within (stored_of store) runs.performed;
       file = file_after_all file (stored_of store) runs.performed;
     }
 
@@ -76,7 +80,7 @@ module _ {D : Type 0} (model : DiskModel D) (io : Streams)
       cause = failed-since says;
     }
 
-    each-kept : AllAreAcknowledged → model.honest → KeepsAnswered model io Single old new.disk result
+    each-kept : AllAreAcknowledged → model.honest → KeepsAnswered model io handings Single old new.disk result
     each-kept all h = record {
       start = stored_of store;
       opened = store.disk;
@@ -86,6 +90,14 @@ module _ {D : Type 0} (model : DiskModel D) (io : Streams)
       nothing_waits = opens.flushed h;
       while_opening = opens.at_any_moment h;
       once_open = runs.any_moment h opens.no_reopen store.state [] (opens.flushed h);
+      handed = runs.handed;
+      cut_off = since-weaker model new.disk 0 (taken_in handings) _ _ (λ bytes image some. record {
+        count = some.count;
+        enough = (let enough = some.enough in omega (arith, enough));
+        state = some.state;
+        leads = some.leads;
+        means = some.means;
+      }) (runs.cut_off h opens.no_reopen store.state [] (opens.flushed h));
       returned = λ image is. subst (λ n. AfterAtLeast store.state n each-work.accepted image)
           (all.accepted (stored_of store) runs.answered)
           (runs.kept h opens.no_reopen store.state [] (opens.flushed h) image is);
@@ -93,7 +105,7 @@ module _ {D : Type 0} (model : DiskModel D) (io : Streams)
 
   -- ---- in groups
 
-  module _ (checkpoints : Checkpoints) (runs : RunsGrouped model io checkpoints store new result) where
+  module _ (checkpoints : Checkpoints) (runs : RunsGrouped model io handings checkpoints store new result) where
     abbrev turns : List Turn
     turns = runs.answered ++ all_asked runs.unanswered
 
@@ -104,6 +116,7 @@ module _ {D : Type 0} (model : DiskModel D) (io : Streams)
     groups-work = record {
       accepted = turns_accepted (stored_of store) turns;
       answered = length (turns_accepted (stored_of store) runs.answered);
+      within = turns_within (stored_of store) turns;
       file = file-after None;
     }
 
@@ -137,7 +150,7 @@ module _ {D : Type 0} (model : DiskModel D) (io : Streams)
       cause = failed-since says;
     }
 
-    groups-kept : model.honest → KeepsAnswered model io (Grouped checkpoints) old new.disk result
+    groups-kept : model.honest → KeepsAnswered model io handings (Grouped checkpoints) old new.disk result
     groups-kept h = record {
       start = stored_of store;
       opened = store.disk;
@@ -147,6 +160,14 @@ module _ {D : Type 0} (model : DiskModel D) (io : Streams)
       nothing_waits = opens.flushed h;
       while_opening = opens.at_any_moment h;
       once_open = runs.any_moment h opens.no_reopen store.state [] (opens.flushed h);
+      handed = runs.handed;
+      cut_off = since-weaker model new.disk 0 (taken_in handings) _ _ (λ bytes image some. record {
+        count = some.count;
+        enough = (let enough = some.enough in omega (arith, enough));
+        state = some.state;
+        leads = some.leads;
+        means = some.means;
+      }) (runs.cut_off h opens.no_reopen store.state [] (opens.flushed h));
       returned = λ image is. subst (λ n. AfterAtLeast store.state n groups-work.accepted image)
           (all-acknowledged (stored_of store) runs.answered)
           (runs.kept h opens.no_reopen store.state [] (opens.flushed h) image is);
@@ -155,26 +176,26 @@ module _ {D : Type 0} (model : DiskModel D) (io : Streams)
   -- ---- either
 
   -- what was answered, and what `store.yaml` reads as
-  pub answers-on : (grouping : Grouping) → SessionRuns model io grouping store new result
+  pub answers-on : (grouping : Grouping) → SessionRuns model io handings grouping store new result
       → SaysFaults → AnswersOn model io grouping old new.disk result
   answers-on Single runs says = each-on runs says
   answers-on (Grouped checkpoints) runs says = groups-on checkpoints runs says
 
   -- what a crash leaves: opening first, and then the session, at whose start nothing waits
-  pub keeps-answered : (grouping : Grouping) → SessionRuns model io grouping store new result
-      → AllAreAcknowledged → model.honest → KeepsAnswered model io grouping old new.disk result
+  pub keeps-answered : (grouping : Grouping) → SessionRuns model io handings grouping store new result
+      → AllAreAcknowledged → model.honest → KeepsAnswered model io handings grouping old new.disk result
   keeps-answered Single runs all h = each-kept runs all h
   keeps-answered (Grouped checkpoints) runs all h = groups-kept checkpoints runs h
 
 -- the same of what a tool hands back
-module _ {D : Type 0} (model : DiskModel D) (io : Streams) (grouping : Grouping) (old new : D) where
+module _ {D : Type 0} (model : DiskModel D) (io : Streams) (handings : Handings) (grouping : Grouping) (old new : D) where
   pub runs-after : (ended : Result Tally SessionFault) → AnswersOn model io grouping old new ended
       → RunsOn model io grouping old (after_session new ended)
   runs-after (Ok tally) answers = answers
   runs-after (Err fault) answers = answers
 
-  pub survives-after : (ended : Result Tally SessionFault) → KeepsAnswered model io grouping old new ended
-      → SurvivesCrashes model io grouping old (after_session new ended)
+  pub survives-after : (ended : Result Tally SessionFault) → KeepsAnswered model io handings grouping old new ended
+      → SurvivesCrashes model io handings grouping old (after_session new ended)
   survives-after (Ok tally) keeps = keeps
   survives-after (Err fault) keeps = keeps
 

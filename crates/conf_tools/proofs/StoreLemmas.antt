@@ -8,7 +8,7 @@ use Rattle.conf_files.specs.declared.replace.ReplaceFault.{ReplaceFault}
 use Rattle.conf_history.specs.declared.fault.HistoryFault.TheVariants as history
 use Rattle.conf_words.specs.declared.invocation.{Comments.Comments, Formatting.Formatting, Invocation.Invocation}
 use Rattle.conf_words.specs.declared.invocation.Formatting.TheVariants as formatting
-use Rattle.conf_words.specs.declared.invocation.Invocation.TheVariants.{Init, Import, Set, Delete, Copy, Rename}
+use Rattle.conf_words.specs.declared.invocation.Invocation.TheVariants.{Init, Import, Set, Delete, Copy, Rename, Move}
 use Rattle.conf_words.specs.declared.invocation.Invocation.TheVariants.{Batch, Checkpoint, Run, Export, Names, Get, Exists}
 use Rattle.conf_words.specs.declared.invocation.Invocation.TheVariants.{Log, Verify, Salvage, Backup, Format, Check}
 use Rattle.conf_words.specs.declared.invocation.LogForm.{LogForm as AskedLog}
@@ -194,10 +194,11 @@ module _ {W D F P : Type 0} (world : WorldModel W D F P) (disk : DiskModel D) (r
       → DoesOnStores world disk remaining invocation old new end
   on-stores (Init folder) old new end does = does
   on-stores (Import folder name file root absent conditions reporting) old new end does = does
-  on-stores (Set folder name pointer value conditions reporting) old new end does = does
+  on-stores (Set folder name pointer value placing conditions reporting) old new end does = does
   on-stores (Delete folder name pointer conditions) old new end does = does
   on-stores (Copy folder name to conditions) old new end does = does
   on-stores (Rename folder name to conditions) old new end does = does
+  on-stores (Move folder name from to conditions) old new end does = does
   on-stores (Batch folder file count reporting) old new end does = does
   on-stores (Checkpoint folder) old new end does = does
   on-stores (Run folder grouping) old new end does = does

@@ -16,7 +16,8 @@ use Rattle.conf_store.specs.Imports.{AppendsImport, Imports, RefusesImport}
 use Rattle.conf_tools.specs.declared.stores.StoreToolFault.TheVariants.{Condition as OnCondition}
 use Rattle.conf_tools.specs.{declared.changes.Change.Change, declared.stores.StoreToolFault.StoreToolFault}
 use Rattle.conf_tools.specs.Stores.{CannotOpen, OpensOn}
-use Rattle.conf_tools.specs.declared.changes.Change.TheVariants.{Import, Perform, Copy, Rename, Checkpoint}
+use Rattle.conf_tools.specs.{Edits.LacksEdit, Edits.edits, declared.edits.TreeEdit.TreeEdit}
+use Rattle.conf_tools.specs.declared.changes.Change.TheVariants.{Import, Perform, Copy, Rename, Edit, Checkpoint}
 use Rattle.conf_tools.specs.declared.stores.StoreToolFault.TheVariants.{Open, Refused, StoreExists}
 use Rattle.conf_store.specs.declared.fault.OpenFault.TheVariants as OpenFaults
 
@@ -44,8 +45,8 @@ pub record IsMadeOf (s : Contents) (name : List ℕ) (makes : Tree → GivenComm
 abbrev pub LacksTree : Contents → List ℕ → StoreFault → Type 0
 LacksTree s name fault = (fault ≡ OutOfMemory) ⊎ (tree_named s name ≡ Err fault)
 
--- what a change performs on a state: the command of an import, of an edit, of a copy or of a rename; a checkpoint
--- performs none
+-- what a change performs on a state: a command, or that of an import, of a copy, of a rename or of an edit; a
+-- checkpoint performs none
 abbrev pub Performs : Contents → Change → List GivenCommand → Type 0
 Performs s (Import name text) commands =
     (tree : Tree) × IsRead text.now config_limits tree × (commands ≡ single (import_as (text_of name) tree) ∷ [])
@@ -54,6 +55,9 @@ Performs s (Copy name to) commands =
     (command : GivenCommand) × IsMadeOf s (text_of name) (copies (text_of to)) command × (commands ≡ command ∷ [])
 Performs s (Rename name to) commands =
     (command : GivenCommand) × IsMadeOf s (text_of name) (renames (text_of name) (text_of to)) command
+    × (commands ≡ command ∷ [])
+Performs s (Edit name edit) commands =
+    (command : GivenCommand) × IsMadeOf s (text_of name) (edits (text_of name) edit) command
     × (commands ≡ command ∷ [])
 Performs s Checkpoint commands = commands ≡ []
 
@@ -81,12 +85,20 @@ module _ {D : Type 0} (old : StoreView D) where
   RefusesOf name makes new Device = RefusesMade name makes new Device
   RefusesOf name makes new fault = (tree_named old.state name ≡ Err fault) ⊎ RefusesMade name makes new fault
 
+  -- The same of an edit of the tree, which may have no value to set, too.
+  abbrev pub RefusesEdit : List ℕ → TreeEdit → StoreView D → StoreFault → Type 0
+  RefusesEdit name edit new Reopen = Unit {0}
+  RefusesEdit name edit new OutOfMemory = Unit {0}
+  RefusesEdit name edit new Device = RefusesMade name (edits name edit) new Device
+  RefusesEdit name edit new fault = LacksEdit old.state name edit fault ⊎ RefusesMade name (edits name edit) new fault
+
 -- The change was made: its command was accepted, or the file is as short as a base of the state.
 abbrev pub Makes : {D : Type 0} → StoreView D → Change → StoreView D → Type 0
 Makes old (Import name text) new = Imports old (text_of name) text.now new
 Makes old (Perform command) new = Accepts old (command_of command) new
 Makes old (Copy name to) new = MakesOf old (text_of name) (copies (text_of to)) new
 Makes old (Rename name to) new = MakesOf old (text_of name) (renames (text_of name) (text_of to)) new
+Makes old (Edit name edit) new = MakesOf old (text_of name) (edits (text_of name) edit) new
 Makes old Checkpoint new = (new.state ≡ old.state) × (new.size ≡ length (base_bytes old.state))
 
 -- Why the change was refused.
@@ -96,6 +108,7 @@ RefusesChange old (Perform command) new fault = RefusesCommand old (command_of c
 RefusesChange old (Copy name to) new fault = RefusesOf old (text_of name) (copies (text_of to)) new fault
 RefusesChange old (Rename name to) new fault =
     RefusesOf old (text_of name) (renames (text_of name) (text_of to)) new fault
+RefusesChange old (Edit name edit) new fault = RefusesEdit old (text_of name) edit new fault
 RefusesChange old Checkpoint new fault =
     (new.state ≡ old.state) × ((fault ≡ Reopen) ⊎ (fault ≡ Device) ⊎ (fault ≡ OutOfMemory))
 
@@ -114,6 +127,8 @@ ReadsChanged old (Perform command) before after = AppendsRecord old (command_of 
 ReadsChanged old (Copy name to) before after = AppendsMade old (text_of name) (copies (text_of to)) before after
 ReadsChanged old (Rename name to) before after =
     AppendsMade old (text_of name) (renames (text_of name) (text_of to)) before after
+ReadsChanged old (Edit name edit) before after =
+    AppendsMade old (text_of name) (edits (text_of name) edit) before after
 ReadsChanged old Checkpoint before after = after ≡ Some (base_bytes old.state)
 
 -- the image means the state before a call, or the one after it

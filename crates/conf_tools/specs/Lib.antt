@@ -5,6 +5,7 @@ pub mod Statuses
 pub mod Tools
 pub mod FileTexts
 pub mod Stores
+pub mod Edits
 pub mod Changes
 pub mod Tails
 pub mod ProgramCalls

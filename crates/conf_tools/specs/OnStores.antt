@@ -3,11 +3,12 @@
 use Rattle.std.specs.Prelude.{◌≡◌, ◌⊎◌, ℕ, List, [], Option, Result, Ok, Err}
 use Rattle.conf_files.specs.declared.create.NewFileFault.{NewFileFault}
 use Rattle.conf_tools.specs.Prelude.{DiskModel, LeavesOnly, MeantAtEntry, FolderFault, Invocation, ReplaceFault}
-use Rattle.conf_tools.specs.Prelude.{Init, Import, Set, Delete, Copy, Rename, Batch, Checkpoint, Run, Export, Salvage, Backup}
+use Rattle.conf_tools.specs.Prelude.{Init, Import, Set, Delete, Copy, Rename, Move, Batch, Checkpoint, Run, Export}
+use Rattle.conf_tools.specs.Prelude.{Salvage, Backup}
 use Rattle.conf_tools.specs.{Backups.BacksUpStore, EndOfRun.EndOfRun, Keeping.SalvagesTo, Outcomes.status_of_ending}
 use Rattle.conf_tools.specs.Performs.{Batches, ChangesByWords, Imports, Sets, access_of, grouping_of}
 use Rattle.conf_tools.specs.StoreWords.{ChangesInFolder, Inits, RunsOnFolder}
-use Rattle.conf_tools.specs.TextWords.{IsCopy, IsDelete, IsRename}
+use Rattle.conf_tools.specs.TextWords.{IsCopy, IsDelete, IsMove, IsRename}
 use Rattle.conf_tools.specs.{Worlds.Around, Worlds.LeavesStreams, Worlds.WorldModel, declared.program.Status.Status}
 use Rattle.conf_tools.specs.declared.world.Access.TheVariants.{Changing, Reading}
 use Rattle.conf_tools.specs.declared.changes.Change.TheVariants as change
@@ -50,9 +51,9 @@ module _ {W D F P : Type 0} (world : WorldModel W D F P) (disk : DiskModel D) (r
       Inits world disk folder.now old.world new.world ending × LeavesStreams old new
   DoesOnStores (Import folder name file root absent conditions reporting) old new ending =
       Imports world disk remaining root (access_of absent) folder.now name.now file.now conditions old new ending
-  DoesOnStores (Set folder name pointer value conditions reporting) old new ending =
-      Sets world disk remaining folder.now name.now pointer.now value conditions old.world new.world old.input new.input
-      ending × (new.output ≡ old.output)
+  DoesOnStores (Set folder name pointer value placing conditions reporting) old new ending =
+      Sets world disk remaining folder.now name.now pointer.now value placing conditions old.world new.world
+      old.input new.input ending × (new.output ≡ old.output)
   DoesOnStores (Delete folder name pointer conditions) old new ending =
       ChangesByWords world disk (IsDelete name.now pointer.now) conditions folder.now name.now pointer.now
       old.world new.world ending × LeavesStreams old new
@@ -62,6 +63,9 @@ module _ {W D F P : Type 0} (world : WorldModel W D F P) (disk : DiskModel D) (r
   DoesOnStores (Rename folder name to conditions) old new ending =
       ChangesByWords world disk (IsRename name.now to.now) conditions folder.now to.now [] old.world new.world ending
       × LeavesStreams old new
+  DoesOnStores (Move folder name from to conditions) old new ending =
+      ChangesByWords world disk (IsMove name.now from.now to.now) conditions folder.now name.now to.now
+      old.world new.world ending × LeavesStreams old new
   DoesOnStores (Batch folder file count reporting) old new ending =
       Batches world disk remaining folder.now file.now count old new ending
   DoesOnStores (Checkpoint folder) old new ending =

@@ -1,8 +1,8 @@
 -- How a run of the program ends, and what is told of it.
 use Rattle.std.specs.Prelude.{◌≡◌, ◌⊎◌, ℕ, List, Option, Result, Ok, Err, codes, string_bytes}
-use Rattle.conf_tools.specs.Prelude.{Tally, Invocation, Init, Import, Set, Delete, Copy, Rename, Batch, Checkpoint, Run}
-use Rattle.conf_tools.specs.Prelude.{Export, Names, Get, Exists, Log, Verify, Salvage, Backup, Format, Check, Unparsed}
-use Rattle.conf_tools.specs.Prelude.{Shown, Wrong}
+use Rattle.conf_tools.specs.Prelude.{Tally, Invocation, Init, Import, Set, Delete, Copy, Rename, Move, Batch}
+use Rattle.conf_tools.specs.Prelude.{Checkpoint, Run, Export, Names, Get, Exists, Log, Verify, Salvage, Backup, Format}
+use Rattle.conf_tools.specs.Prelude.{Check, Unparsed, Shown, Wrong}
 use Rattle.conf_words.specs.declared.unparsed.Unparsed.TheVariants.{OutOfMemory as NoMemory}
 use Rattle.conf_tools.specs.{Dropped.TellsDropped, Exports.TellsExport, Listening.fault_line}
 use Rattle.conf_tools.specs.{ReadingStatuses.status_of_reading, Refused.TellsFault, Styles.TellsLeftOut}
@@ -138,10 +138,11 @@ module _ {E : Type 0} (hears : E → List ℕ → E → Type 0) where
   abbrev pub Leaves : Invocation → E → Ending → E → Type 0
   Leaves (Init folder) old ending new = LeavesOpened old ending new
   Leaves (Import folder name file root absent conditions reporting) old ending new = LeavesImport old ending new
-  Leaves (Set folder name pointer value conditions reporting) old ending new = LeavesSet old ending new
+  Leaves (Set folder name pointer value placing conditions reporting) old ending new = LeavesSet old ending new
   Leaves (Delete folder name pointer conditions) old ending new = LeavesOpened old ending new
   Leaves (Copy folder name to conditions) old ending new = LeavesOpened old ending new
   Leaves (Rename folder name to conditions) old ending new = LeavesOpened old ending new
+  Leaves (Move folder name from to conditions) old ending new = LeavesOpened old ending new
   Leaves (Batch folder file count reporting) old ending new = LeavesBatch old ending new
   Leaves (Checkpoint folder) old ending new = LeavesOpened old ending new
   Leaves (Run folder grouping) old ending new = IsUntold ending × TellsSession hears old new

@@ -1,14 +1,17 @@
 -- What the program does for an invocation, with the world around it, its input and its output, and how it ends.
 use Rattle.std.specs.Prelude.{◌≡◌, ℕ, Bool, List, [], ◌∷◌, map, Option, Some, None, Result, Ok, Err, codes}
+use Rattle.conf_session.specs.Handings.{Handing}
 use Rattle.conf_tools.specs.Prelude.{chars, DiskModel, After, Asked, Comments, Conditions, Invocation}
-use Rattle.conf_tools.specs.Prelude.{Init, Import, Set, Delete, Copy, Rename, Batch, Checkpoint, Run, Export, Names}
-use Rattle.conf_tools.specs.Prelude.{Get, Exists, Log, Verify, Salvage, Backup, Format, Check, Style, Unparsed, Value}
+use Rattle.conf_tools.specs.Prelude.{Init, Import, Set, Delete, Copy, Rename, Move, Batch, Checkpoint, Run, Export, Names}
+use Rattle.conf_tools.specs.Prelude.{Get, Exists, Log, Verify, Salvage, Backup, Format, Check, Placing, Style, Unparsed}
+use Rattle.conf_tools.specs.Prelude.{Value}
 use Rattle.conf_words.specs.declared.invocation.Grouping.{Grouping as AskedGrouping}
 use Rattle.conf_words.specs.declared.invocation.{MissingStore.MissingStore, Root.Root}
 use Rattle.conf_words.specs.declared.invocation.Formatting.{Formatting}
 use Rattle.conf_tools.specs.Batches.{IsBatch, counted_alone}
 use Rattle.conf_tools.specs.{Asking.AskedConditions, Asking.AsksFor, Backups.BacksUpStore, Keeping.SalvagesTo}
 use Rattle.conf_tools.specs.{Keeping.Verifies, LogWords.Logs, LogWords.commands_of, Tools.IsTaken}
+use Rattle.conf_tools.specs.Edits.{placed_or_not}
 use Rattle.conf_tools.specs.{Endings.EndsTold, Endings.EndsWith, Endings.ending_of_import, Outcomes.Tells}
 use Rattle.conf_tools.specs.{Outcomes.TellsUnparsed, Outcomes.status_of_ending, Statuses.ShowsUnparsed, Statuses.code_of}
 use Rattle.conf_tools.specs.declared.outcome.Ending.{Ending}
@@ -22,8 +25,8 @@ use Rattle.conf_tools.specs.{declared.world.Access.TheVariants.Changing, declare
 use Rattle.conf_tools.specs.StoreWords.{ChangesInFolder, ExportsFromFolder, Inits, MakesChange, Reads, RunsOnFolder}
 use Rattle.conf_tools.specs.StoreWords.{SaysNames, SaysPresence, SaysValues}
 use Rattle.conf_tools.specs.Reads.{pointers_of}
-use Rattle.conf_tools.specs.TextWords.{ChecksRead, FormatsFile, FormatsRead, IsCopy, IsDelete, IsImport, IsRename}
-use Rattle.conf_tools.specs.TextWords.{IsSet, ReportsOnAll, RestylesAll, TakesText}
+use Rattle.conf_tools.specs.TextWords.{ChecksRead, FormatsFile, FormatsRead, IsCopy, IsDelete, IsImport, IsMove}
+use Rattle.conf_tools.specs.TextWords.{IsRename, IsSet, ReportsOnAll, RestylesAll, TakesText}
 use Rattle.conf_words.specs.declared.invocation.Formatting.TheVariants as formatting
 use Rattle.conf_words.specs.declared.invocation.Grouping.TheVariants as asked
 use Rattle.conf_words.specs.declared.invocation.MissingStore.TheVariants as missing
@@ -42,7 +45,17 @@ abbrev pub output_of : Invocation → Option (List ℕ) → Option (List ℕ) �
 output_of (Run folder grouping) written taken = taken
 output_of invocation written taken = written
 
+-- what is noted of the answers that the output took: a session alone hands it some
+abbrev pub noted_of : Invocation → List Handing → List Handing
+noted_of (Run folder grouping) handings = handings
+noted_of invocation handings = []
+
 -- the same of words, which may ask for nothing
+abbrev pub noted_of_words : Result Invocation Unparsed → List Handing → List Handing
+noted_of_words (Ok invocation) handings = noted_of invocation handings
+noted_of_words (Err unparsed) handings = []
+
+-- the output of words, which may ask for nothing
 abbrev pub output_of_words : Result Invocation Unparsed → Option (List ℕ) → Option (List ℕ) → Option (List ℕ)
 output_of_words (Ok invocation) written taken = output_of invocation written taken
 output_of_words (Err unparsed) written taken = written
@@ -106,16 +119,16 @@ module _ {W D F P : Type 0} (world : WorldModel W D F P) (disk : DiskModel D) (r
     pub imports : ImportsRead world disk wanted root access folder name read seen new.world ending
     pub output : new.output ≡ old.output
 
-  -- `set`: the value is read of a file or of the input, if the words say so, and then the change is made
-  pub record Sets (folder name pointer : List ℕ) (value : Value) (wanted : Conditions) (old new : W)
+  -- `set`: the value is read of a file or of the input, if the words say so, and then the change is made that puts it so
+  pub record Sets (folder name pointer : List ℕ) (value : Value) (placing : Placing) (wanted : Conditions) (old new : W)
       (given left : Option (List ℕ)) (ending : Ending) : Type 0 where
     pub change : Result Change ToolFault
     pub seen : W
     pub is : IsSet world remaining name pointer value change old seen given left
-    pub changes : ChangesAt world disk wanted Changing folder name pointer change seen new ending
+    pub changes : ChangesAt world disk wanted Changing folder name pointer (placed_or_not placing change) seen new ending
 
 module _ {W D F P : Type 0} (world : WorldModel W D F P) (disk : DiskModel D) where
-  -- `delete`, `copy` and `rename`: the change is as `Is` says
+  -- `delete`, `copy`, `rename` and `move`: the change is as `Is` says
   pub record ChangesByWords (Is : Result Change ToolFault → Type 0) (wanted : Conditions) (folder name path : List ℕ)
       (old new : W) (ending : Ending) : Type 0 where
     pub change : Result Change ToolFault
@@ -184,9 +197,9 @@ module _ {W D F P : Type 0} (world : WorldModel W D F P) (disk : DiskModel D) (r
       Inits world disk folder.now old.world new.world ending × LeavesStreams old new
   Does (Import folder name file root absent conditions reporting) old new ending =
       Imports world disk remaining root (access_of absent) folder.now name.now file.now conditions old new ending
-  Does (Set folder name pointer value conditions reporting) old new ending =
-      Sets world disk remaining folder.now name.now pointer.now value conditions old.world new.world old.input new.input
-      ending × (new.output ≡ old.output)
+  Does (Set folder name pointer value placing conditions reporting) old new ending =
+      Sets world disk remaining folder.now name.now pointer.now value placing conditions old.world new.world
+      old.input new.input ending × (new.output ≡ old.output)
   Does (Delete folder name pointer conditions) old new ending =
       ChangesByWords world disk (IsDelete name.now pointer.now) conditions folder.now name.now pointer.now
       old.world new.world ending × LeavesStreams old new
@@ -196,6 +209,9 @@ module _ {W D F P : Type 0} (world : WorldModel W D F P) (disk : DiskModel D) (r
   Does (Rename folder name to conditions) old new ending =
       ChangesByWords world disk (IsRename name.now to.now) conditions folder.now to.now [] old.world new.world ending
       × LeavesStreams old new
+  Does (Move folder name from to conditions) old new ending =
+      ChangesByWords world disk (IsMove name.now from.now to.now) conditions folder.now name.now to.now
+      old.world new.world ending × LeavesStreams old new
   Does (Batch folder file count reporting) old new ending =
       Batches world disk remaining folder.now file.now count old new ending
   Does (Checkpoint folder) old new ending =

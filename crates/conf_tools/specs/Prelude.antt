@@ -42,11 +42,12 @@ pub use Rattle.conf_store.specs.declared.fault.OpenFault.{OpenFault}
 pub use Rattle.conf_words.specs.declared.invocation.Comments.{Comments}
 pub use Rattle.conf_words.specs.declared.invocation.Conditions.{Conditions}
 pub use Rattle.conf_words.specs.declared.invocation.Invocation.{Invocation}
-pub use Rattle.conf_words.specs.declared.invocation.Invocation.TheVariants.{Init, Import, Set, Delete, Copy, Rename}
+pub use Rattle.conf_words.specs.declared.invocation.Invocation.TheVariants.{Init, Import, Set, Delete, Copy, Rename, Move}
 pub use Rattle.conf_words.specs.declared.invocation.Invocation.TheVariants.{Batch, Checkpoint, Run, Export, Names, Get, Exists}
 pub use Rattle.conf_words.specs.declared.invocation.Invocation.TheVariants.{Log, Verify, Salvage, Backup, Format, Check}
 pub use Rattle.conf_words.specs.declared.invocation.MissingValue.{MissingValue}
 pub use Rattle.conf_words.specs.declared.invocation.NamesForm.{NamesForm}
+pub use Rattle.conf_words.specs.declared.invocation.Placing.{Placing}
 pub use Rattle.conf_words.specs.declared.invocation.Reporting.{Reporting}
 pub use Rattle.conf_words.specs.declared.invocation.Style.{Style}
 pub use Rattle.conf_words.specs.declared.invocation.TreeForm.{TreeForm}

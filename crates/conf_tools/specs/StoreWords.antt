@@ -3,6 +3,7 @@ use Rattle.std.specs.Prelude.{◌≡◌, ◌⊎◌, ℕ, Bool, List, Option, Som
 use Rattle.std.specs.Prelude.{string_bytes}
 use Rattle.conf_tools.specs.Prelude.{Global, chars, Appends, DiskModel, LeavesOnly, FolderFault, HistoryFault}
 use Rattle.conf_tools.specs.Prelude.{NotAStore, SalvageFault, LogRequest, Findings, Tally, MeantAtEntry, MissingValue}
+use Rattle.conf_session.specs.Handings.{handings_of}
 use Rattle.conf_tools.specs.Prelude.{NamesForm, TreeForm, ValueForm, streams_of}
 use Rattle.conf_history.specs.Logs.{FailsToLog, LogsAll}
 use Rattle.conf_history.specs.Salvages.{LeavesOldOrSaved, RefusesSalvage, Saves, disk_of}
@@ -121,7 +122,8 @@ module _ {W D F P : Type 0} (world : WorldModel W D F P) (disk : DiskModel D) wh
     pub ends : ending ≡ ending_at_end result
     pub runs : RunsOn disk (streams_of old.input new.input old.output new.output) grouping first result
     pub survives : disk.honest
-        → SurvivesCrashes disk (streams_of old.input new.input old.output new.output) grouping first result
+        → SurvivesCrashes disk (streams_of old.input new.input old.output new.output)
+        (handings_of old.handings new.handings) grouping first result
 
   -- the disk was not handed out, and nothing was read or written
   pub record CannotRun (folder : List ℕ) (old new : Around W) (ending : Ending) : Type 0 where

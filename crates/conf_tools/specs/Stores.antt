@@ -8,17 +8,20 @@ use Rattle.conf_tools.specs.Prelude.{file_after_all, AfterAtLeast, Ends, Runs, s
 use Rattle.conf_tools.specs.Prelude.{Tally, Streams}
 use Rattle.conf_session.specs.Requests.{Request}
 use Rattle.conf_session.specs.Groups.{AreDue, GroupedEnds, RunsGrouped, Turn, all_asked, files_after_turns, requests_of, turns_accepted}
+use Rattle.conf_session.specs.Groups.{turns_within}
+use Rattle.conf_session.specs.Handings.{Handings, HoldsSince, accepted_within, taken_in}
 use Rattle.conf_tools.specs.{declared.stores.Grouping.Grouping, declared.stores.StoreToolFault.StoreToolFault}
 use Rattle.conf_tools.specs.declared.stores.Grouping.TheVariants.{Single, Grouped}
 use Rattle.conf_tools.specs.declared.stores.StoreToolFault.TheVariants.{Open, Session}
 use Rattle.conf_store.specs.declared.fault.OpenFault.TheVariants as OpenFaults
 use Rattle.conf_session.specs.declared.fault.SessionFault.TheVariants as SessionFaults
 
--- What a session made of its input: the commands that it accepted, how many of these it answered (the first ones), and
--- what it left of `store.yaml`.
+-- What a session made of its input: the commands that it accepted, how many of these it answered (the first ones), how
+-- many are answered within so many bytes of its output, and what it left of `store.yaml`.
 pub record Work : Type 0 where
   pub accepted : List Command
   pub answered : ℕ
+  pub within : ℕ → ℕ
   pub file : Option (List ℕ)
 
 -- A session that answers each command by itself ended so. Each accepted command appends its record to the file, and
@@ -31,6 +34,7 @@ pub record AnswersEach (io : Streams) (start : Stored) (file : Option (List ℕ)
   pub does : work ≡ record {
     accepted = accepted_commands start performed;
     answered = length (accepted_commands start answered);
+    within = accepted_within start performed;
     file = file_after_all file start performed;
   }
 
@@ -45,6 +49,7 @@ pub record AnswersGroups (io : Streams) (start : Stored) (file : Option (List �
   pub does : work ≡ record {
     accepted = turns_accepted start (answered ++ all_asked unanswered);
     answered = length (turns_accepted start answered);
+    within = turns_within start (answered ++ all_asked unanswered);
     file = (files_after_turns (record { store = file; staged = None }) start (answered ++ all_asked unanswered)).store;
   }
 
@@ -119,12 +124,12 @@ WasOpened result = Unit {0}
 -- ---- a session on a disk
 
 -- A session from one value of a store to the next, as the call for its grouping says.
-abbrev pub SessionRuns : {D : Type 0} → DiskModel D → Streams → Grouping → StoreView D → StoreView D
+abbrev pub SessionRuns : {D : Type 0} → DiskModel D → Streams → Handings → Grouping → StoreView D → StoreView D
     → Result Tally SessionFault → Type 0
-SessionRuns model io Single old new result =
-    Runs model io old new result
-SessionRuns model io (Grouped checkpoints) old new result =
-    RunsGrouped model io checkpoints old new result
+SessionRuns model io handings Single old new result =
+    Runs model io handings old new result
+SessionRuns model io handings (Grouped checkpoints) old new result =
+    RunsGrouped model io handings checkpoints old new result
 
 -- A session ran on the store that opening made of the disk, whose `store.yaml` read as `file` then. It ended by Device
 -- only where the device failed during the call.
@@ -164,10 +169,10 @@ RunsOn model io grouping old (Err (new, fault)) = ⊥
 
 -- What a session on a store promises. `opened` is the disk once the store is open, where nothing waits. Until then a
 -- crash leaves what the disk might have left before the call; from then on, the state after a prefix of the accepted
--- commands, from the state that `store.yaml` meant. Once the call has returned, that prefix has every command whose
--- answer was written.
+-- commands, from the state that `store.yaml` meant. Once bytes were handed out, that prefix has every command whose answer
+-- they begin, and once the call has returned, every command whose answer was written.
 pub record KeepsAnswered {D : Type 0} (model : DiskModel D)
-    (io : Streams) (grouping : Grouping) (old new : D)
+    (io : Streams) (handings : Handings) (grouping : Grouping) (old new : D)
     (result : Result Tally SessionFault) : Type 0 where
   pub start : Stored
   pub opened : D
@@ -178,15 +183,18 @@ pub record KeepsAnswered {D : Type 0} (model : DiskModel D)
   pub nothing_waits : HasFlushed (model.folder opened) start.state [] start.state
   pub while_opening : LeavesOnly model old opened (MeantAtEntry (model.folder old))
   pub once_open : LeavesOnly model opened new (MeansPrefix start.state work.accepted)
+  pub handed : handings.after ≡ handings.before ++ taken_in handings
+  pub cut_off : HoldsSince model new 0 (taken_in handings)
+      (λ bytes image. AfterAtLeast start.state (work.within bytes) work.accepted image)
   pub returned : (image : Image) → IsImage (model.folder new) image
       → AfterAtLeast start.state work.answered work.accepted image
 
 -- the same of a call that may not have opened the store
-abbrev pub SurvivesCrashes : {D : Type 0} → DiskModel D → Streams → Grouping → D
+abbrev pub SurvivesCrashes : {D : Type 0} → DiskModel D → Streams → Handings → Grouping → D
     → Result (D × Tally) (D × StoreToolFault) → Type 0
-SurvivesCrashes model io grouping old (Ok (new, tally)) =
-    KeepsAnswered model io grouping old new (Ok tally)
-SurvivesCrashes model io grouping old (Err (new, Session fault)) =
-    KeepsAnswered model io grouping old new (Err fault)
-SurvivesCrashes model io grouping old (Err (new, fault)) =
+SurvivesCrashes model io handings grouping old (Ok (new, tally)) =
+    KeepsAnswered model io handings grouping old new (Ok tally)
+SurvivesCrashes model io handings grouping old (Err (new, Session fault)) =
+    KeepsAnswered model io handings grouping old new (Err fault)
+SurvivesCrashes model io handings grouping old (Err (new, fault)) =
     LeavesOnly model old new (MeantAtEntry (model.folder old))

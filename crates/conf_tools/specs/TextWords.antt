@@ -22,7 +22,8 @@ use Rattle.conf_tools.specs.Styles.{IsStyled}
 use Rattle.conf_tools.specs.Statuses.{status_of, worst}
 use Rattle.conf_tools.specs.Tools.{Checks, Formats, IsReport, IsTaken, Stops, Taken}
 use Rattle.conf_tools.specs.Worlds.{Around, WorldModel}
-use Rattle.conf_tools.specs.declared.changes.Change.TheVariants.{Import, Perform, Copy, Rename}
+use Rattle.conf_tools.specs.declared.changes.Change.TheVariants.{Import, Perform, Copy, Rename, Edit}
+use Rattle.conf_tools.specs.declared.edits.TreeEdit.TheVariants.{Move}
 use Rattle.conf_tools.specs.declared.file_texts.Restyled.TheVariants.{Same, Changed}
 use Rattle.conf_tools.specs.declared.file_words.Report.TheVariants.{Findings, Name}
 use Rattle.conf_tools.specs.declared.program.Status.TheVariants.{Done, Found, Device}
@@ -209,11 +210,19 @@ IsRename name to (Ok (Rename kept other)) = (text_of kept ≡ chars name) × (te
 IsRename name to (Ok change) = ⊥
 IsRename name to (Err fault) = fault ≡ Read OutOfMemory
 
+-- the change moves what is at a pointer of the configuration under a name to another pointer; or memory ran out
+abbrev pub IsMove : List ℕ → List ℕ → List ℕ → Result Change ToolFault → Type 0
+IsMove name from to (Ok (Edit kept (Move first last))) =
+    (text_of kept ≡ chars name) × (text_of first ≡ chars from) × (text_of last ≡ chars to)
+IsMove name from to (Ok change) = ⊥
+IsMove name from to (Err fault) = fault ≡ Read OutOfMemory
+
 -- the change alters what is under a name, at a pointer; or memory ran out
 abbrev pub IsAlteration : Alteration → List ℕ → List ℕ → Result Change ToolFault → Type 0
 IsAlteration alteration.Delete name pointer = IsDelete name pointer
 IsAlteration (alteration.Copy from) name pointer = IsCopy from.now name
 IsAlteration (alteration.Rename from) name pointer = IsRename from.now name
+IsAlteration (alteration.Move from) name pointer = IsMove name from.now pointer
 
 -- ---- texts in a style, and findings
 

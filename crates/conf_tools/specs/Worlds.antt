@@ -1,6 +1,7 @@
 -- What is around the program, by what contracts see of it.
-use Rattle.std.specs.Prelude.{◌≡◌, ℕ, Bool, List, Option, Result}
+use Rattle.std.specs.Prelude.{◌≡◌, ℕ, Bool, List, [], Option, Result}
 use Rattle.conf_files.specs.declared.create.NewFileFault.{NewFileFault}
+use Rattle.conf_session.specs.Handings.{Handing}
 use Rattle.conf_tools.specs.Prelude.{ReplaceFault, FolderFault}
 use Rattle.conf_tools.specs.declared.world.Access.{Access}
 
@@ -26,15 +27,21 @@ pub record WorldModel (W D F P : Type 0) : Type 1 where
   -- a file of these bytes was put in a place
   pub replaced : P → List ℕ → W → Result (Unit {0}) ReplaceFault → W → Type 0
 
--- The world at one moment, with what the program's input still gives and what its output holds. Of a stream whose bytes
--- are not known nothing is said.
+-- The world at one moment, with what the program's input still gives, what its output holds, and what its output noted
+-- of the answers that it took. Of a stream whose bytes are not known nothing is said.
 pub record Around (W : Type 0) : Type 0 where
   pub world : W
   pub input : Option (List ℕ)
   pub output : Option (List ℕ)
+  pub handings : List Handing
 
+abbrev pub around_noting : {W : Type 0} → W → Option (List ℕ) → Option (List ℕ) → List Handing → Around W
+around_noting world input output handings =
+    record { world = world; input = input; output = output; handings = handings }
+
+-- the same, where nothing is noted
 abbrev pub around : {W : Type 0} → W → Option (List ℕ) → Option (List ℕ) → Around W
-around world input output = record { world = world; input = input; output = output }
+around world input output = around_noting world input output []
 
 -- nothing was read from the input, or written to the output
 pub record LeavesStreams {W : Type 0} (old new : Around W) : Type 0 where

@@ -16,6 +16,7 @@ ghost use Rattle.conf_tools.specs.declared.outcome.Ending.TheVariants.{Of};
 
 use crate::asking::conditions_at;
 use crate::changes::{Change, change_store, make_store};
+use crate::edits::{TreeEdit, placed};
 use crate::file_words::{read_named, tell_cause, tell_cause_of};
 use crate::listener::Listener;
 use crate::outcome::{Ending, Outcome};
@@ -26,7 +27,7 @@ use crate::texts::{MOST_INPUT, ToolFault, read_text};
 use crate::world::{Access, World};
 use conf_conditions::Condition;
 use conf_state::{Command, StoreFault};
-use conf_words::{Conditions, MissingStore, Reporting, Root, STANDARD_INPUT, Value};
+use conf_words::{Conditions, MissingStore, Placing, Reporting, Root, STANDARD_INPUT, Value};
 use std::alloc::{AllocError, Global};
 use std::io::Read;
 use yaml_tree::{Config, Limits, ReadFault, Text, Tree, read_one};
@@ -64,6 +65,15 @@ pub(crate) struct Target<'w> {
     pub(crate) conditions: Conditions<'w>,
 }
 
+/// The value that a word sets at a place, and how.
+#[derive(Clone, Copy)]
+pub(crate) struct Put<'w> {
+    /// The value.
+    pub(crate) value: Value<'w>,
+    /// How it is put at the place.
+    pub(crate) placing: Placing,
+}
+
 /// What the bytes of a value are.
 #[derive(Clone, Copy)]
 pub(crate) enum Meaning {
@@ -93,6 +103,8 @@ pub(crate) enum Alteration<'w> {
     Copy { from: &'w str },
     /// The configuration under another name gets the name of the place.
     Rename { from: &'w str },
+    /// What is at another JSON Pointer of the configuration is moved there.
+    Move { from: &'w str },
 }
 
 /// The pointer to a whole configuration.
@@ -300,18 +312,19 @@ pub(crate) fn set_at<A: World, R: Read, E: Listener>(
     world: &mut A,
     reporter: Reporter,
     place: Target<'_>,
-    value: Value<'_>,
+    put: Put<'_>,
     input: &mut R,
     errors: &mut E,
 ) -> Ending<'static>
     ensures sets { Sets A.model A.Disk.model A.File.remaining place.entry.folder.now place.entry.name.now
-        place.entry.pointer.now value.entry place.entry.conditions world.old world.new
-        (R.remaining input.old) (R.remaining input.new) result }
+        place.entry.pointer.now put.entry.value put.entry.placing place.entry.conditions
+        world.old world.new (R.remaining input.old) (R.remaining input.new) result }
     ensures leaves { LeavesSet E.hears errors.old result errors.new }
 {
-    match set_of(world, reporter, place, value, input, errors) {
-        Ok(change) => {
+    match set_of(world, reporter, place, put.value, input, errors) {
+        Ok(set) => {
             let access = Access::Changing;
+            let change = placed(put.placing, set);
             Ending::Of(change_if(world, reporter.alloc, access, place, change, errors))
         }
         Err(fault) => Ending::ToldFault(fault),
@@ -573,6 +586,13 @@ fn alter_change(
         Alteration::Rename { from } => Ok(Change::Rename {
             name: String::from_str(alloc, from)?,
             to: String::from_str(alloc, name)?,
+        }),
+        Alteration::Move { from } => Ok(Change::Edit {
+            name: String::from_str(alloc, name)?,
+            edit: TreeEdit::Move {
+                from: String::from_str(alloc, from)?,
+                to: String::from_str(alloc, pointer)?,
+            },
         }),
     }
 }

@@ -10,6 +10,7 @@ ghost use Rattle.conf_tools.specs.Exports.{disk_handed_back};
 ghost use Rattle.conf_tools.specs.Stores.{WasOpened};
 
 use crate::dropped::open_told;
+use crate::edits::{TreeEdit, edit_command};
 use crate::listener::Listener;
 use crate::stores::StoreToolFault;
 use conf_conditions::{Condition, check};
@@ -31,6 +32,8 @@ pub enum Change<'t> {
     /// Gives the configuration under `name` the name `to`, in place of one that is there: a batch that deletes it and
     /// then imports it. Where the two names are one, it is an import, so that the configuration keeps its place.
     Rename { name: String, to: String },
+    /// Makes an edit of the configuration under `name`.
+    Edit { name: String, edit: TreeEdit },
     /// Makes the file as short as a base of the state, as [`Store::checkpoint`].
     Checkpoint,
 }
@@ -38,8 +41,9 @@ pub enum Change<'t> {
 /// Makes a change of an open store.
 ///
 /// # Errors
-/// Those of the call of the store. For a copy or a rename `BadName` and `NoConfig` also if there is no configuration to
-/// copy. Each but `Device` leaves the store and the disk as they were.
+/// Those of the call of the store. For a copy, a rename or an edit `BadName` and `NoConfig` also if there is no
+/// configuration to take; for an edit `TooDeep` and `ConfigLarge` also if no configuration has the value to set. Each
+/// but `Device` leaves the store and the disk as they were.
 fn make<D: Disk>(alloc: Global, store: &mut Store<D>, change: Change<'_>) -> Result<(), StoreFault>
     ensures reopen { IsErrOf result StoreFault.Reopen ↔ (store.old.reopen ≡ true) }
     ensures ok { OnOk result (Makes store.old change.entry store.new) }
@@ -73,6 +77,10 @@ fn make<D: Disk>(alloc: Global, store: &mut Store<D>, change: Change<'_>) -> Res
             Err(fault) => Err(fault),
         },
         Change::Rename { name, to } => match rename_command(alloc, store, name, to) {
+            Ok(command) => perform(store, command),
+            Err(fault) => Err(fault),
+        },
+        Change::Edit { name, edit } => match edit_command(alloc, store, name, edit) {
             Ok(command) => perform(store, command),
             Err(fault) => Err(fault),
         },

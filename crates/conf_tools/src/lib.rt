@@ -17,6 +17,7 @@ mod batch_words;
 mod change_words;
 mod changes;
 mod dropped;
+mod edits;
 mod exports;
 mod fault_names;
 mod file_texts;
@@ -47,6 +48,7 @@ mod world;
 
 pub use changes::{Change, change_store, make_store};
 pub use conf_conditions::ConditionFault;
+pub use edits::TreeEdit;
 pub use exports::export_text;
 pub use file_texts::{Restyled, check_file, list_changed, restyle};
 pub use file_words::Report;

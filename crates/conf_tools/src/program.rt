@@ -5,18 +5,19 @@ ghost use Rattle.conf_tools.specs.Endings.{ending_at_end};
 ghost use Rattle.conf_tools.specs.Exports.{TellsExport, disk_back};
 ghost use Rattle.conf_tools.specs.Outcomes.{EndsWriting, Leaves, RefusesWords, TellsNoMemory, TellsSession, TellsShown, TellsUnparsed, TellsUnperformed};
 ghost use Rattle.conf_tools.specs.OnStores.{PerformsOnStores};
-ghost use Rattle.conf_tools.specs.Performs.{Does, DoesWords, EndsProcess, RunsTo, grouping_of, output_of, output_of_words};
+ghost use Rattle.conf_tools.specs.Performs.{Does, DoesWords, EndsProcess, RunsTo, grouping_of, noted_of, noted_of_words, output_of, output_of_words};
 ghost use Rattle.conf_tools.specs.Refused.{IsReporting};
 ghost use Rattle.conf_tools.specs.Statuses.{ShowsText, ShowsUnparsed, code_of, status_of, status_of_store};
 ghost use Rattle.conf_tools.specs.StoreWords.{ExportsFromFolder, RunsOnFolder, WritesFound, WritesWhole};
 ghost use Rattle.conf_tools.specs.Telling.{TellsOf, TellsOfRun, TellsOfWords, TellsRun};
-ghost use Rattle.conf_tools.specs.Worlds.{around};
+ghost use Rattle.conf_tools.specs.Worlds.{around_noting};
 ghost use Rattle.conf_tools.specs.declared.outcome.Ending.TheVariants.{Of};
 
 use crate::backups::back_up_folder;
 use crate::batch_words::{Batch, batch_text};
 use crate::change_words::{
-    Alteration, Import, Target, WHOLE, alter, change_in_folder, import_text, init_folder, set_at,
+    Alteration, Import, Put, Target, WHOLE, alter, change_in_folder, import_text, init_folder,
+    set_at,
 };
 use crate::changes::Change;
 use crate::exports::export_text;
@@ -108,23 +109,29 @@ pub fn perform<A: World, R: Read, W: Write + AnswerSink<A::Disk>, E: Listener>(
     errors: &mut E,
 ) -> Status
     ensures runs { RunsTo A.model A.Disk.model A.File.remaining E.hears invocation.entry
-        (around world.old (R.remaining input.old.inner)
-        (output_of invocation.entry (W.contents output.old) (W.taken output.old)))
-        (around world.new (R.remaining input.new.inner)
-        (output_of invocation.entry (W.contents output.new) (W.taken output.new)))
+        (around_noting world.old (R.remaining input.old.inner)
+        (output_of invocation.entry (W.contents output.old) (W.taken output.old))
+        (noted_of invocation.entry (W.handings output.old)))
+        (around_noting world.new (R.remaining input.new.inner)
+        (output_of invocation.entry (W.contents output.new) (W.taken output.new))
+        (noted_of invocation.entry (W.handings output.new)))
         errors.old errors.new result }
     ensures tells { TellsOfRun A.model A.Disk.model A.File.remaining E.hears
         invocation.entry input.new.tail
-        (around world.old (R.remaining input.old.inner)
-        (output_of invocation.entry (W.contents output.old) (W.taken output.old)))
-        (around world.new (R.remaining input.new.inner)
-        (output_of invocation.entry (W.contents output.new) (W.taken output.new)))
+        (around_noting world.old (R.remaining input.old.inner)
+        (output_of invocation.entry (W.contents output.old) (W.taken output.old))
+        (noted_of invocation.entry (W.handings output.old)))
+        (around_noting world.new (R.remaining input.new.inner)
+        (output_of invocation.entry (W.contents output.new) (W.taken output.new))
+        (noted_of invocation.entry (W.handings output.new)))
         errors.old errors.new (code_of result) }
     ensures stores { PerformsOnStores A.model A.Disk.model A.File.remaining invocation.entry
-        (around world.old (R.remaining input.old.inner)
-        (output_of invocation.entry (W.contents output.old) (W.taken output.old)))
-        (around world.new (R.remaining input.new.inner)
-        (output_of invocation.entry (W.contents output.new) (W.taken output.new))) result }
+        (around_noting world.old (R.remaining input.old.inner)
+        (output_of invocation.entry (W.contents output.old) (W.taken output.old))
+        (noted_of invocation.entry (W.handings output.old)))
+        (around_noting world.new (R.remaining input.new.inner)
+        (output_of invocation.entry (W.contents output.new) (W.taken output.new))
+        (noted_of invocation.entry (W.handings output.new))) result }
 {
     let sought = Sought::of(&invocation, world.reporting());
     let ending = perform_word(world, alloc, invocation, input, output, errors);
@@ -145,17 +152,21 @@ pub fn run_program<A: World, R: Read, W: Write + AnswerSink<A::Disk>, E: Listene
     errors: &mut E,
 ) -> ExitCode
     ensures ends { EndsProcess A.model A.Disk.model A.File.remaining E.hears asked.entry
-        (around world.old (R.remaining input.old.inner)
-        (output_of_words asked.entry (W.contents output.old) (W.taken output.old)))
-        (around world.new (R.remaining input.new.inner)
-        (output_of_words asked.entry (W.contents output.new) (W.taken output.new)))
+        (around_noting world.old (R.remaining input.old.inner)
+        (output_of_words asked.entry (W.contents output.old) (W.taken output.old))
+        (noted_of_words asked.entry (W.handings output.old)))
+        (around_noting world.new (R.remaining input.new.inner)
+        (output_of_words asked.entry (W.contents output.new) (W.taken output.new))
+        (noted_of_words asked.entry (W.handings output.new)))
         errors.old errors.new (exit_status result) }
     ensures tells { TellsOfWords A.model A.Disk.model A.File.remaining E.hears
         asked.entry input.new.tail
-        (around world.old (R.remaining input.old.inner)
-        (output_of_words asked.entry (W.contents output.old) (W.taken output.old)))
-        (around world.new (R.remaining input.new.inner)
-        (output_of_words asked.entry (W.contents output.new) (W.taken output.new)))
+        (around_noting world.old (R.remaining input.old.inner)
+        (output_of_words asked.entry (W.contents output.old) (W.taken output.old))
+        (noted_of_words asked.entry (W.handings output.old)))
+        (around_noting world.new (R.remaining input.new.inner)
+        (output_of_words asked.entry (W.contents output.new) (W.taken output.new))
+        (noted_of_words asked.entry (W.handings output.new)))
         errors.old errors.new (exit_status result) }
 {
     let status = do_words(world, alloc, asked, input, output, errors);
@@ -172,17 +183,21 @@ fn do_words<A: World, R: Read, W: Write + AnswerSink<A::Disk>, E: Listener>(
     errors: &mut E,
 ) -> Status
     ensures does { DoesWords A.model A.Disk.model A.File.remaining E.hears asked.entry
-        (around world.old (R.remaining input.old.inner)
-        (output_of_words asked.entry (W.contents output.old) (W.taken output.old)))
-        (around world.new (R.remaining input.new.inner)
-        (output_of_words asked.entry (W.contents output.new) (W.taken output.new)))
+        (around_noting world.old (R.remaining input.old.inner)
+        (output_of_words asked.entry (W.contents output.old) (W.taken output.old))
+        (noted_of_words asked.entry (W.handings output.old)))
+        (around_noting world.new (R.remaining input.new.inner)
+        (output_of_words asked.entry (W.contents output.new) (W.taken output.new))
+        (noted_of_words asked.entry (W.handings output.new)))
         errors.old errors.new result }
     ensures tells { TellsOfWords A.model A.Disk.model A.File.remaining E.hears
         asked.entry input.new.tail
-        (around world.old (R.remaining input.old.inner)
-        (output_of_words asked.entry (W.contents output.old) (W.taken output.old)))
-        (around world.new (R.remaining input.new.inner)
-        (output_of_words asked.entry (W.contents output.new) (W.taken output.new)))
+        (around_noting world.old (R.remaining input.old.inner)
+        (output_of_words asked.entry (W.contents output.old) (W.taken output.old))
+        (noted_of_words asked.entry (W.handings output.old)))
+        (around_noting world.new (R.remaining input.new.inner)
+        (output_of_words asked.entry (W.contents output.new) (W.taken output.new))
+        (noted_of_words asked.entry (W.handings output.new)))
         errors.old errors.new (code_of result) }
 {
     match asked {
@@ -213,17 +228,21 @@ fn perform_word<'w, A: World, R: Read, W: Write + AnswerSink<A::Disk>, E: Listen
     errors: &mut E,
 ) -> Ending<'w>
     ensures does { Does A.model A.Disk.model A.File.remaining invocation.entry
-        (around world.old (R.remaining input.old.inner)
-        (output_of invocation.entry (W.contents output.old) (W.taken output.old)))
-        (around world.new (R.remaining input.new.inner)
-        (output_of invocation.entry (W.contents output.new) (W.taken output.new))) result }
+        (around_noting world.old (R.remaining input.old.inner)
+        (output_of invocation.entry (W.contents output.old) (W.taken output.old))
+        (noted_of invocation.entry (W.handings output.old)))
+        (around_noting world.new (R.remaining input.new.inner)
+        (output_of invocation.entry (W.contents output.new) (W.taken output.new))
+        (noted_of invocation.entry (W.handings output.new))) result }
     ensures leaves { Leaves E.hears invocation.entry errors.old result errors.new }
     ensures tells { TellsOf A.model A.Disk.model A.File.remaining E.hears
         invocation.entry input.new.tail
-        (around world.old (R.remaining input.old.inner)
-        (output_of invocation.entry (W.contents output.old) (W.taken output.old)))
-        (around world.new (R.remaining input.new.inner)
-        (output_of invocation.entry (W.contents output.new) (W.taken output.new)))
+        (around_noting world.old (R.remaining input.old.inner)
+        (output_of invocation.entry (W.contents output.old) (W.taken output.old))
+        (noted_of invocation.entry (W.handings output.old)))
+        (around_noting world.new (R.remaining input.new.inner)
+        (output_of invocation.entry (W.contents output.new) (W.taken output.new))
+        (noted_of invocation.entry (W.handings output.new)))
         errors.old errors.new result }
 {
     match invocation {
@@ -254,6 +273,7 @@ fn perform_word<'w, A: World, R: Read, W: Write + AnswerSink<A::Disk>, E: Listen
             name,
             pointer,
             value,
+            placing,
             conditions,
             reporting,
         } => {
@@ -264,7 +284,8 @@ fn perform_word<'w, A: World, R: Read, W: Write + AnswerSink<A::Disk>, E: Listen
                 pointer,
                 conditions,
             };
-            set_at(world, reporter, place, value, input, errors)
+            let put = Put { value, placing };
+            set_at(world, reporter, place, put, input, errors)
         }
         Invocation::Delete {
             folder,
@@ -309,6 +330,22 @@ fn perform_word<'w, A: World, R: Read, W: Write + AnswerSink<A::Disk>, E: Listen
                 conditions,
             };
             let asked = Alteration::Rename { from: name };
+            Ending::Of(alter(world, alloc, place, asked, errors))
+        }
+        Invocation::Move {
+            folder,
+            name,
+            from,
+            to,
+            conditions,
+        } => {
+            let place = Target {
+                folder,
+                name,
+                pointer: to,
+                conditions,
+            };
+            let asked = Alteration::Move { from };
             Ending::Of(alter(world, alloc, place, asked, errors))
         }
         Invocation::Batch {
@@ -439,13 +476,17 @@ fn run_folder<A: World, R: Read, S: AnswerSink<A::Disk>, E: Listener>(
     errors: &mut E,
 ) -> Outcome<'static>
     ensures runs { RunsOnFolder A.model A.Disk.model folder.now grouping
-        (around world.old (R.remaining input.old.inner) (S.taken output.old))
-        (around world.new (R.remaining input.new.inner) (S.taken output.new))
+        (around_noting world.old (R.remaining input.old.inner)
+        (S.taken output.old) (S.handings output.old))
+        (around_noting world.new (R.remaining input.new.inner)
+        (S.taken output.new) (S.handings output.new))
         (Of result) }
     ensures told { TellsSession E.hears errors.old errors.new }
     ensures tells { TellsRun A.model A.Disk.model E.hears folder.now grouping input.new.tail
-        (around world.old (R.remaining input.old.inner) (S.taken output.old))
-        (around world.new (R.remaining input.new.inner) (S.taken output.new))
+        (around_noting world.old (R.remaining input.old.inner)
+        (S.taken output.old) (S.handings output.old))
+        (around_noting world.new (R.remaining input.new.inner)
+        (S.taken output.new) (S.handings output.new))
         errors.old errors.new (Of result) }
 {
     match world.open(alloc, Access::Making, folder) {

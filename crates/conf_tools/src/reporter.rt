@@ -17,6 +17,9 @@ use yaml_tree::{Limits, ReadFault};
 const KEYS_OF_EDITS: &str =
     "compare the keys of each edit, and their order, with `confstore help batch`";
 
+/// What to do about a JSON text with comments.
+const COMMENTED_JSON: &str = "JSON has no comments: `confstorectl import --from json5` reads them";
+
 /// Where a text comes from, as a line on standard error names it.
 #[derive(Clone, Copy)]
 pub(crate) enum Origin<'f> {
@@ -226,7 +229,7 @@ impl Reporter {
                 Report {
                     place: refusal.place,
                     shown: format!(in self.alloc; "{brief}").ok(),
-                    remedy: remedy_of(&refusal),
+                    remedy: remedy_of(&refusal, text),
                 }
             }
             Err(_) => Report {
@@ -357,10 +360,24 @@ fn more_of<'s>(shown: &'s Option<String>, name: &str) -> &'s str {
     }
 }
 
-/// What to do about a refusal, if it doesn't say so itself.
-fn remedy_of(refusal: &Refusal) -> &'static str {
+/// What to do about the refusal of a text, if it doesn't say so itself.
+fn remedy_of(refusal: &Refusal, text: &[u8]) -> &'static str {
+    if is_commented_json(text) {
+        return COMMENTED_JSON;
+    }
     match &refusal.detail {
         Detail::Hint(_) => "",
         _ => remedy(refusal.fault),
     }
+}
+
+/// Whether a text looks like JSON with comments: it begins with a bracket, and in it `//` or `/*` is behind a blank.
+fn is_commented_json(text: &[u8]) -> bool {
+    let text = text.trim_ascii_start();
+    matches!(text.first(), Some(b'{' | b'[')) && text.windows(3).any(begins_comment)
+}
+
+/// Whether three bytes are a blank and the beginning of a comment.
+fn begins_comment(bytes: &[u8]) -> bool {
+    matches!(bytes, [blank, b'/', b'/' | b'*'] if blank.is_ascii_whitespace())
 }

@@ -30,7 +30,8 @@ impl<'w> Sought<'w> {
         match *invocation {
             Invocation::Import { folder, name, .. }
             | Invocation::Copy { folder, name, .. }
-            | Invocation::Rename { folder, name, .. } => Sought::at(folder, name, ""),
+            | Invocation::Rename { folder, name, .. }
+            | Invocation::Move { folder, name, .. } => Sought::at(folder, name, ""),
             Invocation::Set {
                 folder,
                 name,

@@ -1,5 +1,6 @@
 // Sessions on a store, over any disk, reader and writer.
 ghost use Rattle.std.specs.Prelude.{◌≡◌, ◌≤◌, ◌⊎◌, ◌↔◌, true, IsErrOf};
+ghost use Rattle.conf_session.specs.Handings.{handings_of};
 ghost use Rattle.conf_tools.specs.Prelude.{HasFailed, store_file, store_note, streams_of};
 ghost use Rattle.conf_tools.specs.Dropped.{HasNoRest, TellsDropped, TellsDroppedOf};
 ghost use Rattle.conf_tools.specs.Stores.{RunsOn, SessionRuns, SurvivesCrashes, WasOpened, after_session};
@@ -91,6 +92,7 @@ fn run_session<D: Disk, R: Read, S: AnswerSink<D>>(
 ) -> Result<Tally, SessionFault>
     ensures runs { SessionRuns D.model (streams_of (R.remaining reader.old)
         (R.remaining reader.new) (S.taken sink.old) (S.taken sink.new))
+        (handings_of (S.handings sink.old) (S.handings sink.new))
         grouping store.old store.new result }
     ensures reopen { IsErrOf result SessionFault.Reopen ↔ (store.old.reopen ≡ true) }
     ensures device { (store.new.reopen ≡ true)
@@ -132,7 +134,7 @@ pub fn run_store<D: Disk + Drop, R: Read, S: AnswerSink<D>, E: Listener>(
     // No crash loses a command that was answered, or keeps one that was not accepted.
     ensures crashes { D.model.honest → SurvivesCrashes D.model (streams_of (R.remaining reader.old)
         (R.remaining reader.new) (S.taken sink.old) (S.taken sink.new))
-        grouping disk result }
+        (handings_of (S.handings sink.old) (S.handings sink.new)) grouping disk result }
     ensures told { TellsDropped E.hears errors.old errors.new }
     ensures untold { WasOpened result ⊎ (errors.new ≡ errors.old) }
     // The line says how many bytes followed the last whole record of the file.

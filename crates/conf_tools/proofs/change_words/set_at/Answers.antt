@@ -1,14 +1,24 @@
 -- The change was made ready, and made.
-use Rattle.std.proofs.Common.{refl}
-use Rattle.std.specs.Prelude.{Ok, Err}
+use Rattle.std.proofs.Common.{refl, sym, subst}
+use Rattle.std.specs.Prelude.{Result, Ok, Err}
+use Rattle.conf_tools.specs.{Performs.ChangesAt, declared.changes.Change.Change, declared.texts.ToolFault.ToolFault}
+use Rattle.conf_tools.specs.declared.outcome.Ending.TheVariants.{Of, ToldFault}
+use Rattle.conf_tools.specs.declared.world.Access.TheVariants.{Changing}
+use Rattle.conf_tools.specs.Performs.{ChangesIf}
+use Rattle.conf_tools.proofs.EditLemmas.{placed-err, placed-ok}
 use Rattle.conf_tools.proofs.change_words.set_at.Goals as goal
 
 pub returns-in-Ok-clause-sets : goal.returns-in-Ok-clause-sets
 returns-in-Ok-clause-sets g c = record {
-  change = Ok c.in-Ok.change;
+  change = Ok c.in-Ok.set;
   seen = c.set_of.new.world;
   is = c.in-Ok.ensures.sets;
-  changes = c.change_if.ensures.makes;
+  changes = subst (λ (r : Result Change ToolFault). ChangesAt g.A.World.model g.A.Disk.Disk.model c.args.place.conditions Changing
+      c.args.place.folder.now c.args.place.name.now c.args.place.pointer.now r c.set_of.new.world c.change_if.new.world
+      (Of c.change_if.result)) (sym (placed-ok c.args.put.placing c.in-Ok.set))
+      (subst (λ (change : Change). ChangesIf g.A.World.model g.A.Disk.Disk.model c.args.place.conditions Changing
+      c.args.place.folder.now c.args.place.name.now c.args.place.pointer.now change c.set_of.new.world c.change_if.new.world
+      (Of c.change_if.result)) c.placed-change.ensures c.change_if.ensures.makes);
 }
 
 pub returns-in-Ok-clause-leaves : goal.returns-in-Ok-clause-leaves
@@ -19,7 +29,9 @@ returns-in-Err-clause-sets g c = record {
   change = Err c.in-Err.fault;
   seen = c.set_of.new.world;
   is = c.in-Err.ensures.sets;
-  changes = (refl, refl);
+  changes = subst (λ (r : Result Change ToolFault). ChangesAt g.A.World.model g.A.Disk.Disk.model c.args.place.conditions Changing
+      c.args.place.folder.now c.args.place.name.now c.args.place.pointer.now r c.set_of.new.world c.set_of.new.world
+      (ToldFault c.in-Err.fault)) (sym (placed-err c.args.put.placing c.in-Err.fault)) (refl, refl);
 }
 
 pub returns-in-Err-clause-leaves : goal.returns-in-Err-clause-leaves

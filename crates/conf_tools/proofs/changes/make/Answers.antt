@@ -40,3 +40,13 @@ returns-in-Ok-rename_command-clause-reads g c h on = rw (c.in-Rename.is)
       appends = appends;
     })
     (c.perform-in-Ok-rename_command.ensures.reads h on))
+
+pub returns-in-Ok-edit_command-clause-reads : goal.returns-in-Ok-edit_command-clause-reads
+returns-in-Ok-edit_command-clause-reads g c h on = rw (c.in-Edit.is)
+    (on_ok_weaker c.perform-in-Ok-edit_command.result
+    (λ appends. record {
+      command = command_of c.in-Ok-edit_command.command;
+      of = c.in-Ok-edit_command.ensures.ok;
+      appends = appends;
+    })
+    (c.perform-in-Ok-edit_command.ensures.reads h on))
