@@ -4,8 +4,8 @@
 - **Words.** Each row of `lib/ctl_rows.py` is done four times, on stores of their own: by confstore, by confstorectl
   without a server, through the socket of `clients/serve.py`, and through a node of a replicated store. The status, the
   output, the name of the fault and the other lines on standard error are those of confstore, and in the end so is the
-  store's file, byte by byte. (A node's store has its own marks, and a node takes neither a checkpoint nor the words that
-  look into the file.) A folder without a store gets none.
+  store's file, byte by byte. Some outputs were worked out by hand. (A node's store has its own marks, and a node takes
+  neither a checkpoint nor the words that look into the file.) A folder without a store gets none.
 - **The table of words** of confstorectl has the words, arguments and options that the help of confstore has.
 - **Streams** that are closed, full, or that nobody reads, and a terminal, where more is said of a refused text.
 - **Waiting** for a store that is locked, and for a server that is not there; and which socket is taken. In a copy of a
@@ -173,8 +173,9 @@ def done(words: Sequence[str], given: bytes = b"", **more: Any) -> Done:
     """A program that is run to its end."""
     environment = {**ENVIRONMENT, **more.pop("environment", {})}
     ended = subprocess.run(
-        list(words), input=given, capture_output=True, check=False, env=environment, timeout=PATIENCE, **more
-    )
+        list(words), input=given, capture_output=True, check=False, env=environment,
+        timeout=more.pop("timeout", PATIENCE), **more,
+    )  # fmt: skip
     return Done(ended.returncode, ended.stdout, ended.stderr.decode())
 
 
@@ -226,7 +227,7 @@ class Side:
 
 def do_forked(todo: Sequence[tuple[list[str], bytes]]) -> list[Done]:
     """What becomes of words of confstorectl."""
-    driven = done([sys.executable, "-c", DRIVER], pickle.dumps(todo))
+    driven = done([sys.executable, "-c", DRIVER], pickle.dumps(todo), timeout=max(PATIENCE, len(todo)))
     if driven.status:
         raise RuntimeError(driven.errors)
     return [Done(*result) for result in pickle.loads(driven.output)]
@@ -254,6 +255,8 @@ def compare(side: Side, model: Side, rows: Sequence[Row], failures: Failures) ->
         name = f"{side.name}: {' '.join(row.words)[:80]}"
         failures.expect(f"{name}: status", found.status, wanted.status)
         failures.expect(f"{name}: output", found.output, wanted.output)
+        if row.output is not None:
+            failures.expect(f"{name}: output by hand", found.output, row.output)
         told, of_model = without_sentences(found.told("confstorectl")), without_sentences(wanted.told("confstore"))
         if row.words[0] == "batch":  # confstorectl names what an edit is refused for, and the program the file, too
             told, of_model = [named(line) for line in told], [named(line) for line in of_model]

@@ -290,14 +290,22 @@ def typical_texts(user: User) -> None:
 
 
 def missing_parents(user: User) -> None:
-    user.does("confstorectl set s web /tls/server/cert /etc/cert.pem --parents")
-    user.does("confstorectl set s new /a/b c --parents")
-    assert user.value("/tls") == {"server": {"cert": "/etc/cert.pem"}} and user.value("", "new") == {"a": {"b": "c"}}
+    user.does("confstore set s web /tls/server/cert /etc/cert.pem --parents")
+    user.does("confstorectl set s web /log/file/name n --parents")
+    assert user.value("/tls") == {"server": {"cert": "/etc/cert.pem"}} and user.value("/log") == {"file": {"name": "n"}}
+    user.is_refused("confstorectl set s new /a/b c --parents", "NoConfig")
 
 
 def into_a_list(user: User) -> None:
-    user.does("confstorectl set s web /hosts/1 between --insert")
-    assert user.value("/hosts") == ["a", "between", "b"]
+    user.does("confstore set s web /hosts/1 between --insert; confstorectl set s web /hosts/0 first --insert")
+    assert user.value("/hosts") == ["first", "a", "between", "b"]
+
+
+def to_another_key(user: User) -> None:
+    """A value gets another key, in one command."""
+    user.does("confstore move s web /port /number; confstorectl move s web /hosts/0 /hosts/-")
+    assert user.value("") == {"hosts": ["b", "a"], "number": "80"}
+    user.is_refused("confstore move s web /hosts/0 /number --if-absent", "Unmet")
 
 
 def dry_run(user: User) -> None:
@@ -347,8 +355,9 @@ TASKS = [
     Task("variables for sh", "`confstorectl get --env`, `render`, `| sh`", environment),
     Task("validate before a change", "`confstorectl --check COMMAND`", validate),
     Task("a dry run", "`confstorectl .. --dry-run`", dry_run),
-    Task("a new key below a missing parent", "`confstorectl set --parents`", missing_parents),
-    Task("put into the middle of a list", "`confstorectl set --insert`", into_a_list),
+    Task("a new key below a missing parent", "`set --parents`", missing_parents),
+    Task("put into the middle of a list", "`set --insert`", into_a_list),
+    Task("another key for a value", "`move`", to_another_key),
     Task("a command for each change", "`confstorectl watch .. -- COMMAND`", notify),
     Task("a folder of 163 files", "`confstorectl import --dir`", folder_of_files),
     Task("edit in $EDITOR", "`confstorectl edit`", editor),

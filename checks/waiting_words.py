@@ -53,6 +53,7 @@ LOCKING: list[Sequence[str]] = [
     ("delete", "FOLDER", "web"),
     ("copy", "FOLDER", "web", "mail", "--replace"),
     ("rename", "FOLDER", "web", "mail"),
+    ("move", "FOLDER", "web", "/port", "/number"),
     ("checkpoint", "FOLDER"),
     ("run", "FOLDER"),
     ("export", "FOLDER", "web"),

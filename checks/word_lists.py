@@ -26,10 +26,11 @@ from lib.store_runs import PROGRAM, need_program
 OPTIONS = {
     "init": "wait=",
     "import": "init any-root explain if-value= if-absent if-count= wait=",
-    "set": "yaml file= whole explain if-value= if-absent if-count= wait=",
+    "set": "yaml file= parents insert whole explain if-value= if-absent if-count= wait=",
     "delete": "whole if-value= if-absent if-count= wait=",
     "copy": "replace if-value= if-absent if-count= wait=",
     "rename": "if-value= if-absent if-count= wait=",
+    "move": "if-value= if-absent if-count= wait=",
     "checkpoint": "wait=",
     "run": "group checkpoint-after= wait=",
     "export": "json plain wait=",
@@ -44,7 +45,18 @@ OPTIONS = {
     "format": "in-place drop-comments keep-comments check explain",
     "check": "keep-comments explain",
 }
-PLACES = {"import": 3, "set": 4, "delete": 3, "copy": 3, "rename": 3, "export": 2, "get": 3, "keys": 3, "exists": 3}
+PLACES = {
+    "import": 3,
+    "set": 4,
+    "delete": 3,
+    "copy": 3,
+    "rename": 3,
+    "move": 4,
+    "export": 2,
+    "get": 3,
+    "keys": 3,
+    "exists": 3,
+}
 ALL = sorted({option for options in OPTIONS.values() for option in options.split()})
 USUAL = ["store", "web", "/port", "80", "x", "y"]
 TEXTS = ["store", "web", "/port", "", "-", "a=b", "=", "80", "x y", "\u00e9", "help", "get", "\u202e", "\\"]

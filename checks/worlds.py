@@ -30,7 +30,7 @@ from typing import Any
 from lib.answers import answers_in, is_right
 from lib.command_line import number_given
 from lib.store_runs import Failures, need_program, program_of
-from lib.trees import Configs, Document, Refused, as_json, performed
+from lib.trees import NUMBER, Configs, Document, Refused, as_json, performed, steps_of, value_at
 
 PROBE = program_of("world_probe")
 # How many lists there are, and the seed that they are made from, if no others are given.
@@ -45,6 +45,7 @@ HANGS = 100
 FOLDERS = ("s", "t")
 NAMES = ("a", "b", "c", "Bad")
 PATHS = ("/k", "/l", "/l/-", "/l/0", "/l/7", "/k/x", "no")
+DEEP = ("/k/x/y", "/m/n/0", "/l/0/k", "/l/7/k", "/k", "no/k")
 VALUES: tuple[Any, ...] = ("x", "80", {"k": "v", "l": ["m", "n"]}, [], "", {"k": ["v"]}, {"l": ["m"]})
 
 # An answer to words: the status, what is printed, and perhaps what is said on standard error.
@@ -109,7 +110,7 @@ class World:
         """A random word. The world is then the one after it."""
         kinds = {
             self.init: 2, self.imported: 4, self.edit: 6, self.moved: 3, self.listed: 3, self.checkpoint: 1,
-            self.session: 5, self.backup: 2,
+            self.session: 5, self.backup: 2, self.taken: 3, self.inserted: 2, self.with_parents: 2,
         }  # fmt: skip
         makes: Callable[[str], Word] = self.init
         if self.folders:
@@ -168,6 +169,50 @@ class World:
         put: Document = {"import": to, "text": json.dumps(as_json(state.configs[name]))}
         taken: Document = {"delete": name, "path": ""}
         return self.changed(words, folder, [put] if kind == "copy" else [taken, put])
+
+    def taken(self, folder: str) -> Word:
+        """A move of a value to another place of its configuration."""
+        name, source, target = self.chance.choice(NAMES), self.chance.choice(PATHS), self.chance.choice(PATHS)
+        words = ["move", folder, name, source, target]
+        value = self.value(folder, name, source)
+        if value is None:
+            return self.refused(words, folder)
+        put: Document = {"set": name, "path": target, "value": value}
+        return self.changed(words, folder, [put] if source == target else [{"delete": name, "path": source}, put])
+
+    def inserted(self, folder: str) -> Word:
+        """A set before an element of a list, or one as any other where there is no list."""
+        name, path, value = self.chance.choice(NAMES), self.chance.choice(PATHS), self.chance.choice(VALUES)
+        above, _, step = path.rpartition("/")
+        around, edit = self.value(folder, name, above), {"set": name, "path": path, "value": value}
+        if isinstance(around, list) and (step == "-" or NUMBER.fullmatch(step)):
+            at = len(around) if step == "-" else int(step)
+            if at <= len(around):
+                edit = {"set": name, "path": above, "value": [*around[:at], value, *around[at:]]}
+        return self.changed(["set", folder, name, path, json.dumps(value), "--yaml", "--insert"], folder, [edit])
+
+    def with_parents(self, folder: str) -> Word:
+        """A set with the mappings that are missing on the way: it is made where the first one is missing."""
+        name, path, value = self.chance.choice(NAMES), self.chance.choice(DEEP), self.chance.choice(VALUES)
+        words = ["set", folder, name, path, json.dumps(value), "--yaml", "--parents"]
+        above = ""
+        for step in path.split("/")[1:] if path[0] == "/" else ():
+            around = self.value(folder, name, above)
+            above += f"/{step}"
+            if isinstance(around, dict) and step not in around:
+                rest = steps_of(path[len(above) :])
+                nested = functools.reduce(lambda inner, key: {key: inner}, reversed(rest), value)
+                return self.changed(words, folder, [{"set": name, "path": above, "value": nested}])
+        return self.changed(words, folder, [{"set": name, "path": path, "value": value}])
+
+    def value(self, folder: str, name: str, path: str) -> Any:
+        """What is at a place of the store in a folder as a value of JSON; `None` if nothing is."""
+        state = self.folders.get(folder)
+        try:
+            tree = None if state is None else value_at(state.configs, name, path)
+        except Refused:
+            return None
+        return None if tree is None else as_json(tree)
 
     def listed(self, folder: str) -> Word:
         """Some edits or none in a list, perhaps with the count as its condition."""

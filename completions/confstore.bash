@@ -1,6 +1,6 @@
 # Completion of confstore for bash: `source` it, or put it as `confstore` where bash-completion looks for such files.
 
-_confstore_words='init import set delete copy rename batch checkpoint run export names get keys exists log verify salvage backup format check help'
+_confstore_words='init import set delete copy rename move batch checkpoint run export names get keys exists log verify salvage backup format check help'
 
 _confstore_options() {
     local conditions='--if-value --if-absent --if-count'
@@ -8,10 +8,10 @@ _confstore_options() {
     init | checkpoint) echo '--wait --help' ;;
     run) echo '--group --checkpoint-after --wait --help' ;;
     import) echo "--init --any-root --explain $conditions --wait --help" ;;
-    set) echo "--yaml --file --whole --explain $conditions --wait --help" ;;
+    set) echo "--yaml --file --parents --insert --whole --explain $conditions --wait --help" ;;
     delete) echo "--whole $conditions --wait --help" ;;
     copy) echo "--replace $conditions --wait --help" ;;
-    rename) echo "$conditions --wait --help" ;;
+    rename | move) echo "$conditions --wait --help" ;;
     batch) echo '--explain --if-count --wait --help' ;;
     export) echo '--json --plain --wait --help' ;;
     names) echo '--json --at --help' ;;
@@ -72,7 +72,7 @@ _confstore() {
         compopt -o filenames
         mapfile -t COMPREPLY < <(compgen -f -- "$current")
         ;;
-    export:1 | import:1 | set:1 | delete:1 | copy:1 | copy:2 | rename:1 | rename:2 | get:1 | keys:1 | exists:1 | log:1)
+    export:1 | import:1 | set:1 | delete:1 | copy:1 | copy:2 | rename:1 | rename:2 | move:1 | get:1 | keys:1 | exists:1 | log:1)
         mapfile -t COMPREPLY < <(compgen -W "$(_confstore_names "$folder")" -- "$current")
         ;;
     *:0 | salvage:1 | backup:1)

@@ -1,9 +1,9 @@
 # Completion of confstore for fish: put it into a folder of `fish_complete_path`.
 
-set -l stores run export import set delete copy rename batch checkpoint init names get keys exists log verify salvage backup
-set -l named export import set delete copy rename get keys exists log
-set -l conditional import set delete copy rename
-set -l locking init import set delete copy rename batch checkpoint run export
+set -l stores run export import set delete copy rename move batch checkpoint init names get keys exists log verify salvage backup
+set -l named export import set delete copy rename move get keys exists log
+set -l conditional import set delete copy rename move
+set -l locking init import set delete copy rename move batch checkpoint run export
 
 # The words after the subcommand that are no options and no option's value.
 function __confstore_places
@@ -54,6 +54,7 @@ complete -c confstore -n __fish_use_subcommand -a set -d 'Set the value at a poi
 complete -c confstore -n __fish_use_subcommand -a delete -d 'Take out a value, or a configuration'
 complete -c confstore -n __fish_use_subcommand -a copy -d 'Put a copy of a configuration under another name'
 complete -c confstore -n __fish_use_subcommand -a rename -d 'Give a configuration another name'
+complete -c confstore -n __fish_use_subcommand -a move -d 'Move a value to another pointer'
 complete -c confstore -n __fish_use_subcommand -a batch -d 'Make all edits that a text lists, or none'
 complete -c confstore -n __fish_use_subcommand -a checkpoint -d 'Make the store file as short as its state'
 complete -c confstore -n __fish_use_subcommand -a init -d 'Make an empty store'
@@ -74,6 +75,8 @@ complete -c confstore -n '__fish_seen_subcommand_from import' -l init -d 'Make a
 complete -c confstore -n '__fish_seen_subcommand_from import' -l any-root -d 'Take one value alone, too'
 complete -c confstore -n '__fish_seen_subcommand_from set' -l yaml -d 'Read the value as a text'
 complete -c confstore -n '__fish_seen_subcommand_from set' -l file -r -F -d 'Take the text of a file'
+complete -c confstore -n '__fish_seen_subcommand_from set' -l parents -d 'Make mappings that are missing'
+complete -c confstore -n '__fish_seen_subcommand_from set' -l insert -d 'Insert before an element'
 complete -c confstore -n "__fish_seen_subcommand_from $conditional" -l if-value -x -d 'Change only if this text is there'
 complete -c confstore -n "__fish_seen_subcommand_from $conditional" -l if-absent -d 'Change only if nothing is there'
 complete -c confstore -n "__fish_seen_subcommand_from batch $conditional" -l if-count -x -d 'Change only after so many commands'

@@ -2,7 +2,7 @@
 # files.
 # python/pages_of_confstorectl.py makes this file of the table of words.
 
-_confstorectl_words='import set delete copy rename edit batch undo rollback sync checkpoint export names keys get exists render log diff page verify watch init run backup salvage format check help'
+_confstorectl_words='import set delete copy rename move edit batch undo rollback sync checkpoint export names keys get exists render log diff page verify watch init run backup salvage format check help'
 
 _confstorectl_options() {
     case $1 in
@@ -11,6 +11,7 @@ _confstorectl_options() {
     delete) echo '--whole --if-value --if-absent --if-count --check --dry-run --socket --wait --help' ;;
     copy) echo '--replace --if-value --if-absent --if-count --check --dry-run --socket --wait --help' ;;
     rename) echo '--if-value --if-absent --if-count --check --dry-run --socket --wait --help' ;;
+    move) echo '--if-value --if-absent --if-count --check --dry-run --socket --wait --help' ;;
     edit) echo '--check --socket --wait --help' ;;
     batch) echo '--explain --if-count --check --dry-run --socket --wait --help' ;;
     undo) echo '--if-count --check --dry-run --socket --wait --help' ;;
@@ -78,7 +79,7 @@ _confstorectl() {
         compopt -o filenames
         mapfile -t COMPREPLY < <(compgen -f -- "$current")
         ;;
-    import:1 | set:1 | delete:1 | copy:1 | rename:1 | edit:1 | undo:2 | rollback:1 | export:1 | keys:1 | get:1 | exists:1 | log:1 | diff:1 | watch:1 | copy:2 | rename:2)
+    import:1 | set:1 | delete:1 | copy:1 | rename:1 | move:1 | edit:1 | undo:2 | rollback:1 | export:1 | keys:1 | get:1 | exists:1 | log:1 | diff:1 | watch:1 | copy:2 | rename:2 | move:3)
         mapfile -t COMPREPLY < <(compgen -W "$(_confstorectl_names "$folder")" -- "$current")
         ;;
     *:0 | backup:1 | salvage:1 | sync:1)

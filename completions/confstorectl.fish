@@ -52,6 +52,8 @@ complete -c confstorectl -n '__confstorectl_at -1' \
     -a copy -d 'Puts a copy of a configuration under another name'
 complete -c confstorectl -n '__confstorectl_at -1' -a rename -d 'Gives a configuration another name'
 complete -c confstorectl -n '__confstorectl_at -1' \
+    -a move -d 'Moves what is at a JSON Pointer of a configuration to another place of it'
+complete -c confstorectl -n '__confstorectl_at -1' \
     -a edit -d 'Opens a configuration in an editor, and imports what is saved'
 complete -c confstorectl -n '__confstorectl_at -1' -a batch -d 'Makes all edits of a list, or none of them'
 complete -c confstorectl -n '__confstorectl_at -1' -a undo -d 'Takes back what commands have changed'
@@ -133,9 +135,9 @@ complete -c confstorectl -n '__confstorectl_is set' -l whole \
 complete -c confstorectl -n '__confstorectl_is set' -l explain \
     -d 'Shows the line at fault of a refused text, and says what to do'
 complete -c confstorectl -n '__confstorectl_is set' -l parents \
-    -d 'Makes what is missing above the pointer, too, and the configuration'
+    -d 'Makes the mappings that are missing on the way'
 complete -c confstorectl -n '__confstorectl_is set' -l insert \
-    -d 'Puts the value before the element of a list at the pointer, and replaces none'
+    -d 'Inserts the value before the element at an index of a list'
 complete -c confstorectl -n '__confstorectl_is set' -l if-value -x \
     -d 'Changes the store only if this text is at the place that is changed'
 complete -c confstorectl -n '__confstorectl_is set' -l if-absent \
@@ -179,6 +181,16 @@ complete -c confstorectl -n '__confstorectl_is rename' -l if-count -x \
 complete -c confstorectl -n '__confstorectl_is rename' -l check -x \
     -d 'Makes the change only if COMMAND, of a shell, takes the text that comes of it'
 complete -c confstorectl -n '__confstorectl_is rename' -l dry-run \
+    -d 'Writes what would change, as `diff -u` does, and changes nothing'
+complete -c confstorectl -n '__confstorectl_is move' -l if-value -x \
+    -d 'Changes the store only if this text is at the place that is changed'
+complete -c confstorectl -n '__confstorectl_is move' -l if-absent \
+    -d 'Changes the store only if nothing is at the place that is changed'
+complete -c confstorectl -n '__confstorectl_is move' -l if-count -x \
+    -d 'Changes the store only if it has accepted N commands'
+complete -c confstorectl -n '__confstorectl_is move' -l check -x \
+    -d 'Makes the change only if COMMAND, of a shell, takes the text that comes of it'
+complete -c confstorectl -n '__confstorectl_is move' -l dry-run \
     -d 'Writes what would change, as `diff -u` does, and changes nothing'
 complete -c confstorectl -n '__confstorectl_is edit' -l check -x \
     -d 'Makes the change only if COMMAND, of a shell, takes the text that comes of it'
@@ -293,7 +305,7 @@ complete -c confstorectl -n '__confstorectl_is check' -l keep-comments \
     -d 'Keeps the comments of each text; of `check`, wants them so'
 complete -c confstorectl -n '__confstorectl_is check' -l explain \
     -d 'Shows the line at fault of a refused text, and says what to do'
-complete -c confstorectl -n '__confstorectl_at 0 import set delete copy rename edit batch undo rollback sync checkpoint export names keys get exists render log diff page verify watch init run backup salvage' \
+complete -c confstorectl -n '__confstorectl_at 0 import set delete copy rename move edit batch undo rollback sync checkpoint export names keys get exists render log diff page verify watch init run backup salvage' \
     -a '(__fish_complete_directories)'
 complete -c confstorectl -n '__confstorectl_at 1 backup salvage' -a '(__fish_complete_directories)'
 complete -c confstorectl -n '__confstorectl_at 1 sync' -a '(__fish_complete_directories)'
@@ -302,9 +314,10 @@ complete -c confstorectl -n '__confstorectl_at 1 batch' -F
 complete -c confstorectl -n '__confstorectl_is format' -F
 complete -c confstorectl -n '__confstorectl_is check' -F
 complete -c confstorectl -n '__confstorectl_at 1 render' -F
-complete -c confstorectl -n '__confstorectl_at 1 import set delete copy rename edit rollback export keys get exists log diff watch' \
+complete -c confstorectl -n '__confstorectl_at 1 import set delete copy rename move edit rollback export keys get exists log diff watch' \
     -a '(__confstorectl_names)'
 complete -c confstorectl -n '__confstorectl_at 2 undo' -a '(__confstorectl_names)'
 complete -c confstorectl -n '__confstorectl_at 2 copy rename' -a '(__confstorectl_names)'
+complete -c confstorectl -n '__confstorectl_at 3 move' -a '(__confstorectl_names)'
 complete -c confstorectl -n '__confstorectl_at 0 help' \
-    -a 'import set delete copy rename edit batch undo rollback sync checkpoint export names keys get exists render log diff page verify watch init run backup salvage format check'
+    -a 'import set delete copy rename move edit batch undo rollback sync checkpoint export names keys get exists render log diff page verify watch init run backup salvage format check'

@@ -5,18 +5,19 @@
 
 from __future__ import annotations
 
-from typing import NamedTuple
+from typing import NamedTuple, Optional
 
 
 class Row(NamedTuple):
-    """The words of a program, and what it reads."""
+    """The words of a program, what it reads, and what it has to write, where that was worked out by hand."""
 
     words: tuple[str, ...]
     given: bytes = b""
+    output: Optional[bytes] = None
 
 
-def row(line: str, given: bytes = b"") -> Row:
-    return Row(tuple(line.split()), given)
+def row(line: str, given: bytes = b"", output: Optional[bytes] = None) -> Row:
+    return Row(tuple(line.split()), given, output)
 
 
 def exact(*words: str, given: bytes = b"") -> Row:
@@ -283,10 +284,112 @@ CONDITIONAL_ROWS = [
     row("names STORE"),
     row("get STORE text"),
     row("copy STORE text app"),
+    row("import STORE app", b"port: 80\nhttp: {a: b}\ntags: [x, y]\n"),
+    row("move STORE app /port /http/port"),
+    row("move STORE app /port /http/port"),
+    row("move STORE app /tags/0 /tags/-"),
+    row("move STORE app /tags /tags"),
+    row("move STORE app /tags /tags/0"),
+    row("move STORE app /tags/0 /http/a --if-absent"),
+    row("move STORE app /tags/0 /http/a --if-value b"),
+    row("move STORE app /tags/0 /a --if-count 1"),
+    row("move STORE app /tags/x /a"),
+    row("move STORE app port /a"),
+    row("move STORE app /port port"),
+    row("move STORE none /a /b"),
+    row("move STORE No /a /b"),
+    row("move STORE app /a"),
+    row("get STORE app --json"),
+]
+
+# Where `set --parents` and `set --insert` put a value, and what they refuse.
+PLACING_ROWS = [
+    row("import STORE site", b"port: 80\nhosts: [a, c]\ntls: {key: k}\na/b: {}\n"),
+    row("set STORE site /tls/cert c --parents"),
+    row("set STORE site /log/file/name n --parents"),
+    row("set STORE site /a~1b/c~0d/e x --parents"),
+    row("set STORE site /users/-/0/name u --parents"),
+    row("set STORE site /hosts/- d --parents"),
+    row("set STORE site /hosts/1 b --parents"),
+    row("get STORE site --json", output=(
+        b'{"port":"80","hosts":["a","b","d"],"tls":{"key":"k","cert":"c"},"a/b":{"c~d":{"e":"x"}},'
+        b'"log":{"file":{"name":"n"}},"users":{"-":{"0":{"name":"u"}}}}\n'
+    )),
+    row("set STORE site /hosts/-/x y --parents"),
+    row("set STORE site /hosts/3/x y --parents"),
+    row("set STORE site /hosts/x/y z --parents"),
+    row("set STORE site /port/x y --parents"),
+    row("set STORE site /port/x/y z --parents"),
+    row("set STORE site a/b c --parents"),
+    row("set STORE site /a/~ c --parents"),
+    row("set STORE none /a b --parents"),
+    row("set STORE none a/b c --parents"),
+    row("set STORE No /a b --parents"),
+    row("set STORE site /b/c [a --parents --yaml"),
+    row(f"set STORE site /deep{'/a' * 126} c --parents"),
+    row(f"set STORE site /deep{'/a' * 126}/b/c d --parents"),
+    row(f"set STORE site /deeper{'/a' * 127} c --parents"),
+    row(f"set STORE site /deeper{'/a' * 150} c --parents"),
+    row("delete STORE site /deep"),
+    exact("set", "STORE", "site", "", "c", "--parents"),
+    exact("set", "STORE", "site", "", "c", "--parents", "--whole"),
+    row("set STORE site /a b --parents --insert"),
+    row("delete STORE site /a --parents"),
+    row("set STORE site /b/c d --parents --if-absent"),
+    row("set STORE site /b/c e --parents --if-absent"),
+    row("set STORE site /b/c e --parents --if-value d"),
+    row("set STORE site /b/d/e f --parents --if-value d"),
+    row("set STORE site /b/d/e f --parents --if-count 0"),
+    row("set STORE none /a b --parents --if-count 0"),
+    row("set STORE none /a b --parents --if-absent"),
+    row("set STORE No /a b --parents --if-absent"),
+    row("set STORE site a/b c --parents --if-absent"),
+    exact("set", "STORE", "site", "/c/d", "[x, {y: z}]", "--parents", "--yaml"),
+    row("set STORE site /c/e/f --parents --file -", b"two\nlines\n"),
+    row("get STORE site /b --json", output=b'{"c":"e"}\n'),
+    row("get STORE site /c --json", output=b'{"d":["x",{"y":"z"}],"e":{"f":"two\\nlines\\n"}}\n'),
+    row("set STORE site /hosts/0 first --insert"),
+    row("set STORE site /hosts/2 third --insert"),
+    row("set STORE site /hosts/5 sixth --insert"),
+    row("set STORE site /hosts/- last --insert"),
+    row("get STORE site /hosts --json", output=b'["first","a","third","b","d","sixth","last"]\n'),
+    row("set STORE site /hosts/8 b --insert"),
+    row(f"set STORE site /hosts/{'9' * 5_000} b --insert"),
+    row(f"set STORE site /hosts/{'9' * 5_000}/x b --insert"),
+    row("set STORE site /hosts/01 b --insert"),
+    row("set STORE site /hosts/x b --insert"),
+    row("set STORE site /hosts/0/0 b --insert"),
+    row("set STORE site /port/0 b --insert"),
+    row("set STORE site /none/0 b --insert"),
+    row("set STORE site hosts/0 b --insert"),
+    row("set STORE none /0 b --insert"),
+    row("set STORE No /0 b --insert"),
+    row("set STORE site /hosts/0 [a --insert --yaml"),
+    exact("set", "STORE", "site", "/hosts/0", f"{'[' * 128}{']' * 128}", "--insert", "--yaml"),
+    exact("set", "STORE", "site", "", "c", "--insert"),
+    exact("set", "STORE", "site", "", "c", "--insert", "--whole"),
+    row("set STORE site /tls/0 zero --insert"),
+    row("set STORE site /tls/cert d --insert"),
+    row("get STORE site /tls --json", output=b'{"key":"k","cert":"d","0":"zero"}\n'),
+    exact("set", "STORE", "site", "/hosts", "[a, b]", "--yaml"),
+    row("set STORE site /hosts/0 x --insert --if-absent"),
+    row("set STORE site /hosts/0 x --insert --if-value b"),
+    row("set STORE site /hosts/0 x --insert --if-value a"),
+    row("set STORE site /hosts/- y --insert --if-absent"),
+    row("set STORE site /hosts/0 z --insert --if-count 0"),
+    row("set STORE none /0 z --insert --if-count 0"),
+    exact("set", "STORE", "site", "/hosts/1", "{x: [y]}", "--insert", "--yaml"),
+    exact("set", "STORE", "site", "/hosts/1/x/0", "a b", "--insert"),
+    row("get STORE site /hosts --json", output=b'["x",{"x":["a b","y"]},"a","b","y"]\n'),
+    row("import STORE list", b"[b]"),
+    row("set STORE list /0 a --insert"),
+    row("set STORE list /2/a c --insert"),
+    row("set STORE list /0/a c --parents"),
+    row("get STORE list --json", output=b'["a","b"]\n'),
 ]
 
 # What a node answers as a session does.
-NODE_ROWS = [*PLAIN_ROWS, *CONDITIONAL_ROWS]
+NODE_ROWS = [*PLAIN_ROWS, *CONDITIONAL_ROWS, *PLACING_ROWS]
 
 # All of them, and what only a session takes, or what only the file of a store says.
 ROWS = [
@@ -335,6 +438,8 @@ ROWS = [
     row("exists TOP/empty web"),
     row("exists TOP/none web"),
     row("copy TOP/empty web other"),
+    row("set TOP/empty web /a/b c --parents"),
+    row("set TOP/none web /0 c --insert"),
     row("set TOP/empty web /port 80 --if-absent"),
     row("init STORE-new"),
     row("init STORE-new"),

@@ -12,10 +12,10 @@ from lib.store_runs import TOP
 
 sys.path.insert(0, os.path.join(TOP, "python"))
 
-from confstore.ctl_words import ALL, EDITS, ENVIRONMENT, EXPORT, FOREIGN, PLANNED, SHAPED, WORDS  # noqa: E402
+from confstore.ctl_words import ALL, EDITS, ENVIRONMENT, EXPORT, FOREIGN, PLANNED, WORDS  # noqa: E402
 
 # The options of words of confstore that it does not have, and the argument that one of them makes needless.
-ALONE = (*FOREIGN, *PLANNED, *SHAPED, EDITS, ALL, ENVIRONMENT)
+ALONE = (*FOREIGN, *PLANNED, EDITS, ALL, ENVIRONMENT)
 NEEDED = {(EXPORT.name, "NAME")}
 
 # A row of the help of a word: an argument, or an option, and a row of the words in the help of all.

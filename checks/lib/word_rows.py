@@ -31,6 +31,11 @@ DELETE = record(2, b'delete: web\npath: "/tls"\n')
 IMPORT = record(2, b"import: mail\ntree:\n  a: b\n")
 COPY = record(2, b"import: mail\ntree:\n" + indented(TEXT, 2))
 RENAME = record(2, b'batch:\n  - delete: web\n    path: ""\n  - import: mail\n    tree:\n' + indented(TEXT, 6))
+MOVE = record(
+    2, b'batch:\n  - delete: web\n    path: "/port"\n  - set: web\n    path: "/number"\n    value: "8080"\n'
+)
+PARENTS = record(2, b'set: web\npath: "/a"\nvalue:\n  b: c\n')
+INSERT = record(2, b'set: web\npath: "/tls"\nvalue:\n  - a\n  - b\n  - "no"\n')
 
 
 @dataclass(frozen=True)
@@ -92,6 +97,9 @@ WORDS = [
     Word("copy S web mail", store=STORE + COPY),
     Word("copy S web mail --replace", store=STORE + COPY),
     Word("rename S web mail", store=STORE + RENAME),
+    Word("move S web /port /number", store=STORE + MOVE),
+    Word("set S web /a/b c --parents", store=STORE + PARENTS),
+    Word("set S web /tls/1 b --insert", store=STORE + INSERT),
     Word("checkpoint S", store=BASE),
     Word("run S", b'---\nok: "2"\n...\n', store=STORE + SET, input=b"---\nset: web\npath: /port\nvalue: 81\n...\n"),
     Word("init NEW", made={"NEW/store.yaml": EMPTY}),

@@ -30,6 +30,7 @@ TYPE_CHECKING = False  # `typing` takes as long to import as all of this
 if TYPE_CHECKING:
     from collections.abc import Callable, Sequence
 
+    from .ctl_changes import Ask
     from .ctl_sockets import Command
 
 # How many seconds lie between two tries of a word.
@@ -153,10 +154,8 @@ class Work:
         from .ctl_sockets import Connection, answer_of
 
         with Connection(place) as connection:
-            if self.asked.word in MOVING:
-                from .ctl_changes import move
-
-                move(self.asked, lambda command: answer_of(connection.ask(command), command, program_if_any()))
+            if self.asked.word in MOVING or self._is_placed:
+                self._change_read(lambda command: answer_of(connection.ask(command), command, program_if_any()))
                 connection.finish()
                 return 0
             answer = connection.ask(self.command)
@@ -167,6 +166,23 @@ class Work:
             return self._without(fault)
         write(output_of(self.asked, reply))
         return 0
+
+    @property
+    def _is_placed(self) -> bool:
+        """Whether what is there says where a value is set."""
+        return any(self.asked.has(option) for option in SHAPED)
+
+    def _change_read(self, ask: Ask) -> None:
+        """Makes a change that depends on what is there."""
+        from .ctl_changes import change_read, moving
+
+        if not self._is_placed:
+            change_read(self.asked, lambda tree: moving(self.asked, tree), ask)
+            return
+        from .ctl_placing import placed
+
+        value = self.command["value"]
+        change_read(self.asked, lambda tree: placed(self.asked, value, tree), ask)
 
     def _without(self, fault: Fault) -> int:
         """The status where the server refused the command, as where nothing is at the place. Raises the `Fault` where
@@ -236,7 +252,7 @@ def composed_of(asked: Asked) -> Callable[[Asked], int] | None:
         module, _, function = name.partition(".")
         does: Callable[[Asked], int] = getattr(import_module(f".{module}", __package__), function)
         return does
-    return plan_and_do if any(asked.has(option) for option in (*PLANNED, *SHAPED, EDITS)) else None
+    return plan_and_do if any(asked.has(option) for option in (*PLANNED, EDITS)) else None
 
 
 def plan_and_do(asked: Asked) -> int:

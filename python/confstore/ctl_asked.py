@@ -4,7 +4,7 @@ from __future__ import annotations
 
 from .ctl_faults import Fault, shown
 from .ctl_words import ALL, AT, COMMON, DEFAULT, DIFF, EDITS, ENVIRONMENT, EXPORT, FORMAT, FROM_FILE, GET, HELP, HIDE
-from .ctl_words import IF_ABSENT, IF_VALUE, IN_PLACE, INSERT, JSON, LINES, LOG, NO_NEWLINE, OF_FILES, OTHER_NAMES
+from .ctl_words import IF_ABSENT, IF_VALUE, IN_PLACE, INSERT, JSON, LINES, LOG, MOVE, NO_NEWLINE, OF_FILES, OTHER_NAMES
 from .ctl_words import PAGE, PARENTS, PLAIN, RAW, RENDER, ROLLBACK, SET, SETTLE, SINCE, SOCKET, TO_NUMBER, UNDO, VALUES
 from .ctl_words import VERSION, WAIT, WHOLE, WORDS, YAML_RECORDS, YAML_VALUE, Option, Word
 
@@ -35,6 +35,8 @@ _EXCLUDING = (
     (JSON, PLAIN),
     (VALUES, YAML_RECORDS),
     (PARENTS, INSERT),
+    (WHOLE, PARENTS),
+    (WHOLE, INSERT),
     (FORMAT, EDITS),
     (ENVIRONMENT, RAW),
     (ENVIRONMENT, JSON),
@@ -276,7 +278,9 @@ def _check_options(word: Word, options: dict[str, str]) -> None:
 
 def _check_pointer(asked: Asked) -> None:
     """Raises `WrongWords` for an empty pointer of a change without the option that allows it, so that a variable of a
-    shell that is not set removes nothing, and for that option with another pointer."""
+    shell that is not set removes nothing, and for that option with another pointer. A move has no such option."""
+    if asked.word is MOVE and not (asked.arguments["FROM"] and asked.arguments["TO"]):
+        raise wrong("FROM and TO may not be empty", MOVE)
     pointer = asked.arguments.get("POINTER")
     if WHOLE not in asked.word.options or pointer is None:
         return

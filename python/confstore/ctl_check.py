@@ -11,15 +11,15 @@ import time
 from typing import Callable, Dict, Iterator, List, Mapping, NamedTuple, Optional, Sequence
 
 from .commands import is_name, put_of
-from .conditions import Absent, Condition, Test, move_of, under
+from .conditions import Absent, Condition, Test, under
 from .ctl_asked import Asked
-from .ctl_changes import hold
+from .ctl_changes import hold, moving
 from .ctl_exchange import Exchange
 from .ctl_faults import Fault, TextFault, shown
 from .ctl_program import program, run
 from .ctl_sockets import PATIENCE, Command, SessionReply, answer_of
 from .ctl_streams import write, write_error
-from .ctl_words import CHECK, DRY_RUN, MOVING, PLANNED, SHAPED
+from .ctl_words import CHECK, DRY_RUN, MOVE, MOVING, PLANNED, SHAPED
 from .differences import are_same
 from .pieces import Cutter
 from .style import Tree, document, to_text
@@ -134,6 +134,8 @@ def _plan_of(asked: Asked, command: Command) -> Plan:
         def plan_of_place(exchange: Exchange) -> Planned:
             name = asked.arguments["NAME"]
             tree = exchange.tree(name)
+            if tree is None:
+                raise Fault("NoConfig")
             return Planned(placed(asked, command["value"], tree), {name: tree})
 
         return plan_of_place
@@ -146,9 +148,9 @@ def _plan_of(asked: Asked, command: Command) -> Plan:
         if tree is None:
             raise Fault("NoConfig")
         trees: Dict[str, Optional[Tree]] = {source: tree}
-        if target != source:
+        if asked.word is not MOVE and target != source:
             trees[target] = exchange.tree(target)
-        return Planned(move_of(asked.word.name, source, target, tree), trees)
+        return Planned(moving(asked, tree), trees)
 
     return plan
 

@@ -1,60 +1,78 @@
-"""`--parents` and `--insert` of confstorectl's `set`: the change that they are for a configuration as it is."""
+"""`--parents` and `--insert` of confstorectl's `set`: the plain set that each is for a configuration as it is.
+
+They mean what they mean for the program, which does them itself where there is no server.
+"""
 
 from __future__ import annotations
 
-from typing import Optional, Sequence
+from typing import Optional, Sequence, Tuple
 
-from .commands import is_pointer, put_of, set_of
+from .commands import is_pointer, set_of
 from .ctl_asked import Asked
 from .ctl_faults import Fault
 from .ctl_sockets import Command
 from .ctl_words import PARENTS
-from .pointers import INDEX, below, pointer_of, steps_of, value_at
+from .pointers import below, index_in, pointer_of, steps_of, value_at
 from .style import Tree
 
 # The step behind the last element of a list.
 BEHIND = "-"
 
+# How deep a configuration may be.
+DEEPEST = 128
 
-def placed(asked: Asked, value: Tree, tree: Optional[Tree]) -> Command:
+# The steps to a place, and the value that is set there.
+Placed = Tuple[Sequence[str], Tree]
+
+
+def placed(asked: Asked, value: Tree, tree: Tree) -> Command:
     """The command that puts a value where a `set` with one of these options says, into the configuration that is this
-    tree, or None where there is none. What it can't do is asked all the same, and refused by its name."""
+    tree. What it can't do is asked all the same, and refused by its name; but what is too deep may be so for a command,
+    too, and is a `Fault` here."""
     name, pointer = asked.arguments["NAME"], asked.arguments["POINTER"]
     if not is_pointer(pointer):
         return set_of(name, pointer, value)
     steps = steps_of(pointer)
-    if asked.has(PARENTS):
-        return _with_parents(name, steps, value, tree)
-    return _inserted(name, steps, value, tree)
+    above, whole = _with_parents(steps, value, tree) if asked.has(PARENTS) else _inserted(steps, value, tree)
+    if len(above) < len(steps) and len(steps) + _depth_of(value) > DEEPEST:
+        raise Fault("TooDeep")
+    return set_of(name, pointer_of(above), whole)
 
 
-def _with_parents(name: str, steps: Sequence[str], value: Tree, tree: Optional[Tree]) -> Command:
-    """Sets the value below what is missing above it, at the first step that leads to nothing."""
-    if tree is None:
-        return put_of(name, _nested(steps, value))
+def _depth_of(tree: Tree) -> int:
+    """How deep a tree is: a text is 1 deep, and a collection 1 deeper than what is in it."""
+    inner = tree.values() if isinstance(tree, dict) else tree if isinstance(tree, list) else ()
+    return 1 + max(map(_depth_of, inner), default=0)
+
+
+def _with_parents(steps: Sequence[str], value: Tree, tree: Tree) -> Placed:
+    """Where a mapping lacks the key of a step, the set is there, and each step behind it is the only key of a new
+    mapping, as it is. Else it is the plain set."""
     for number, step in enumerate(steps, 1):
         inner = below(tree, step)
-        if inner is None:
-            return set_of(name, pointer_of(steps[:number]), _nested(steps[number:], value))
-        tree = inner
-    return set_of(name, pointer_of(steps), value)
+        if inner is not None:
+            tree = inner
+        elif isinstance(tree, dict):
+            return steps[:number], _nested(steps[number:], value)
+        else:
+            break
+    return steps, value
 
 
-def _inserted(name: str, steps: Sequence[str], value: Tree, tree: Optional[Tree]) -> Command:
-    """Sets the list anew, with the value before the element at the last step. A new last element is only put there."""
-    around, step = value_at(tree, steps[:-1]), steps[-1] if steps else ""
-    if around is not None and not (isinstance(around, list) and steps):
-        raise Fault("NoSuchPlace", "what is above the pointer is no list")
-    if around is None or not INDEX.fullmatch(step):
-        return set_of(name, pointer_of(steps), value)
-    above, index = pointer_of(steps[:-1]), int(step)
-    if index < len(around):
-        return set_of(name, above, [*around[:index], value, *around[index:]])
-    return set_of(name, f"{above}/{BEHIND if index == len(around) else step}", value)
-
-
-def _nested(steps: Sequence[str], tree: Tree) -> Tree:
-    """A tree inside mappings, and lists where a step is `-`, one for each step."""
-    for step in reversed(steps):
-        tree = [tree] if step == BEHIND else {step: tree}
+def _nested(keys: Sequence[str], tree: Tree) -> Tree:
+    """A tree inside mappings of one key each."""
+    for key in reversed(keys):
+        tree = {key: tree}
     return tree
+
+
+def _inserted(steps: Sequence[str], value: Tree, tree: Tree) -> Placed:
+    """Where the last step is a place of a list, the set is of the whole list, with the value there, as by the operation
+    `add` of RFC 6902 (4.1). Else it is the plain set."""
+    around = value_at(tree, steps[:-1])
+    if not (steps and isinstance(around, list)):
+        return steps, value
+    place = len(around) if steps[-1] == BEHIND else index_in(steps[-1], len(around) + 1)
+    if place is None:
+        return steps, value
+    return steps[:-1], [*around[:place], value, *around[place:]]

@@ -68,8 +68,8 @@ SPLIT = Option("--split", "Imports each document of a YAML text; {n} in NAME sta
 DIR = Option("--dir", "Imports each file of the folder DIR; {file} in NAME stands for its name", "DIR")
 CHECK = Option("--check", "Makes the change only if COMMAND, of a shell, takes the text that comes of it", "COMMAND")
 DRY_RUN = Option("--dry-run", "Writes what would change, as `diff -u` does, and changes nothing")
-PARENTS = Option("--parents", "Makes what is missing above the pointer, too, and the configuration")
-INSERT = Option("--insert", "Puts the value before the element of a list at the pointer, and replaces none")
+PARENTS = Option("--parents", "Makes the mappings that are missing on the way")
+INSERT = Option("--insert", "Inserts the value before the element at an index of a list")
 IF_VALUE = Option("--if-value", "Changes the store only if this text is at the place that is changed", "TEXT")
 IF_ABSENT = Option("--if-absent", "Changes the store only if nothing is at the place that is changed")
 IF_COUNT = Option("--if-count", "Changes the store only if it has accepted N commands", "N")
@@ -98,9 +98,11 @@ REPLACE = Option("--replace", "Replaces a configuration that has the name TO")
 # Those of each word that changes what is at one place.
 CONDITIONS = (IF_VALUE, IF_ABSENT, IF_COUNT)
 
-# Those of the words that change a configuration, which confstore does not have; and those of `set`.
+# Those of the words that change a configuration, which confstore does not have.
 CHECKED = (CHECK,)
 PLANNED = (CHECK, DRY_RUN)
+
+# Those of `set` for which what is there says where the value is set.
 SHAPED = (PARENTS, INSERT)
 
 # Those of the words that tell what changed, or that change something back.
@@ -140,6 +142,8 @@ POINTERS = Argument(
 WHOLE_POINTER = Argument("POINTER", "A JSON Pointer, as /port; the whole configuration if it is left out", True)
 VALUE = Argument("VALUE", "The value; after `--` if it begins with `-` and is no number", True)
 TO = Argument("TO", "The other name; after `--` if it begins with `-`")
+FROM_POINTER = Argument("FROM", "A JSON Pointer to what is moved, as /port")
+TO_POINTER = Argument("TO", "A JSON Pointer to where it is put, as /http/port")
 FILE = Argument("FILE", "The file of the text; standard input if it is left out or `-`", True)
 TEMPLATE = Argument("TEMPLATE", "The file of the template; standard input for `-`")
 NEW = Argument("NEW", "The folder of the new store")
@@ -192,11 +196,12 @@ SET = Word(
         " line feed at their end; they have to be UTF-8. The pointer \"\" needs `--whole`: it stands for the whole"
         " configuration."
         " The step `-` stands for the place behind the last element of a list. Nothing is printed where it is done.",
+        "The mapping or the list that the place is in has to be there (NoSuchPlace). With `--parents`, mappings are made"
+        " where a step of the pointer finds no member; a new configuration is not made. With `--insert`, the pointer"
+        " ends with the index of an element: the value comes before it, and the elements from there on move back by"
+        " one. The index may be the length of the list, or `-` for that. Through a socket both are tried again where"
+        " somebody changes the configuration meanwhile.",
         "If a condition does not hold, nothing changes (Unmet).",
-        "With `--parents` the mappings that are missing above the pointer are made, lists where a step is `-`, and the"
-        " configuration if none has the name. With `--insert` the value gets the place of an element of a list, and"
-        " those from there on move by one; the list is set anew. Both are tried again where somebody changes the"
-        " configuration meanwhile.",
     ),
     (
         "confstorectl set store web /port 80",
@@ -252,6 +257,23 @@ RENAME = Word(
     (
         "confstorectl rename store web site",
         "confstorectl rename store web site --if-absent",
+    ),
+)
+MOVE = Word(
+    "move",
+    "Moves what is at a JSON Pointer of a configuration to another place of it",
+    (*CONDITIONS, *PLANNED),
+    (FOLDER, NAME, FROM_POINTER, TO_POINTER),
+    (
+        "What is at FROM is deleted, and then set at TO, in place of what is there, unless `--if-absent` is given. The"
+        " steps of TO are taken once FROM is deleted: behind an element of a list that is moved, indexes are one less."
+        " The mapping or the list that TO is in has to be there (NoSuchPlace), and it may not be in FROM. All of it is"
+        " done or nothing, in one command. Nothing is printed where it is done. If a condition does not hold, nothing"
+        " changes (Unmet); `--if-value` and `--if-absent` look at TO, before anything is deleted.",
+    ),
+    (
+        "confstorectl move store web /port /http/port",
+        "confstorectl move store web /tags/0 /tags/-",
     ),
 )
 EDIT = Word(
@@ -627,8 +649,8 @@ CHECK_TEXT = Word(
     common=(HELP,),
 )
 
-CHANGING = (IMPORT, SET, DELETE, COPY, RENAME, EDIT, BATCH, UNDO, ROLLBACK, SYNC, CHECKPOINT)
-MOVING = (COPY, RENAME)
+CHANGING = (IMPORT, SET, DELETE, COPY, RENAME, MOVE, EDIT, BATCH, UNDO, ROLLBACK, SYNC, CHECKPOINT)
+MOVING = (COPY, RENAME, MOVE)
 READING = (EXPORT, NAMES, KEYS, GET, EXISTS, RENDER)
 LOOKING_BACK = (LOG, DIFF, PAGE, VERIFY, WATCH)
 

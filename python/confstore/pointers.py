@@ -7,7 +7,7 @@ from typing import List, Optional, Sequence
 
 from .style import Tree
 
-INDEX = re.compile(r"0|[1-9][0-9]*")
+_INDEX = re.compile(r"0|[1-9][0-9]*")
 
 
 def steps_of(pointer: str) -> List[str]:
@@ -20,12 +20,20 @@ def pointer_of(steps: Sequence[str]) -> str:
     return "".join("/" + step.replace("~", "~0").replace("/", "~1") for step in steps)
 
 
+def index_in(step: str, count: int) -> Optional[int]:
+    """The index that a step is, or None if it is none that is less than this count. It may have any number of digits."""
+    if not _INDEX.fullmatch(step) or len(step) > len(str(count)):
+        return None
+    index = int(step)
+    return index if index < count else None
+
+
 def below(tree: Tree, step: str) -> Optional[Tree]:
     """What a step leads to, or None."""
     if isinstance(tree, dict):
         return tree.get(step)
-    if isinstance(tree, list) and INDEX.fullmatch(step) and int(step) < len(tree):
-        return tree[int(step)]
+    if isinstance(tree, list) and (index := index_in(step, len(tree))) is not None:
+        return tree[index]
     return None
 
 

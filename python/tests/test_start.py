@@ -74,6 +74,7 @@ class Starts(StoreTest):
         rows = [
             (("get", self.folder, "web", "/port", "--raw"), "80\n"), (("exists", self.folder, "web"), ""),
             (("set", self.folder, "web", "/port", "81"), ""), (("names", self.folder), "web\n"),
+            (("set", self.folder, "web", "/tls/key", "k", "--parents"), ""),
             (("log", self.folder, "--at", "1"), "1 import web\n"), (("delete", self.folder, "web", "/port"), ""),
         ]  # fmt: skip
         for words, output in rows:
