@@ -22,5 +22,6 @@ pub mod HandedLemmas
 pub mod TendLemmas
 pub mod GatherLemmas
 pub mod RoundLemmas
+pub mod PerformedLemmas
 pub mod GroupLemmas
 pub mod SessionLemmas

@@ -12,7 +12,8 @@ use Rattle.conf_session.specs.Groups.{acknowledged_turns, all_asked, asked, file
 use Rattle.conf_session.specs.Handings.{Handing, accepted_within, handings_of, taken_in}
 use Rattle.conf_session.specs.Groups.{GroupedEnds, RunsBy, turns_within, turns_accepted, turns_output, turns_refused}
 use Rattle.conf_session.specs.declared.groups.Grouping.TheVariants.{Each, Read}
-use Rattle.conf_session.proofs.GroupLemmas.{AreSingle, HasPerformed, Session, performed-files, performed-stored, session-grouped}
+use Rattle.conf_session.proofs.GroupLemmas.{AreSingle, Session, session-grouped}
+use Rattle.conf_session.proofs.PerformedLemmas.{HasPerformed, performed-files, performed-stored}
 use Rattle.conf_session.proofs.HandedLemmas.{asked-within, handed-after, handed-since, since-weaker}
 use Rattle.conf_session.proofs.PassedLemmas.{none-waits}
 use Rattle.conf_session.proofs.TurnLemmas.{asked-accepted, asked-files, asked-joined, asked-output, asked-refused, asked-requests}

@@ -6,7 +6,8 @@ use Rattle.conf_session.specs.{declared.groups.Checkpoints.Checkpoints, Gatherin
 use Rattle.conf_session.specs.Input.{bytes_read}
 use Rattle.conf_session.proofs.ReadLemmas.{longer-piece, none-unwritten, room-none, room-read, at-piece, at-end}
 use Rattle.conf_session.proofs.GroupLemmas.{reopens, groups-none, groups-more, groups-tended, ends-well, ends-in_input}
-use Rattle.conf_session.proofs.GroupLemmas.{ends-failing, ends-tending, means-prefixes, performed-sound, sent-so-far, started}
+use Rattle.conf_session.proofs.GroupLemmas.{ends-failing, ends-tending, means-prefixes, sent-so-far, started}
+use Rattle.conf_session.proofs.PerformedLemmas.{performed-sound}
 use Rattle.conf_session.proofs.GroupLemmas.{starts-failing, starts-without-memory}
 use Rattle.conf_session.proofs.SessionLemmas.{runs-by}
 use Rattle.conf_session.proofs.groups.run_groups.Goals as goal
