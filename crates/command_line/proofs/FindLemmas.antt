@@ -1,7 +1,6 @@
 -- The first of a list that passes a test, sought from the front.
 use Rattle.std.proofs.Common.{◌≡◌, ℕ, ◌+◌, ◌<◌, Bool, true, false, List, length, drop, get_or, map, sym, ap, ◌∙◌}
-use Rattle.std.specs.Prelude.{find, Option, Some, cond}
-use Rattle.std.proofs.lemmas.List.{at_drop_more}
+use Rattle.std.{proofs.lemmas.List.at_drop_more, specs.Prelude.{find, Option, Some, cond}}
 
 -- it passes
 pub found : {X : Type 0} (p : X → Bool) (xs : List X) (i : ℕ) (d : X) → i < length xs → p (get_or xs i d) ≡ true

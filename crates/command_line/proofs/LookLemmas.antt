@@ -1,8 +1,7 @@
 -- What a word looks like, by what std's searches in it say.
 use Rattle.std.proofs.Common.{◌≡◌, ◌≢◌, ℕ, suc, ◌<◌, Bool, true, false, List, [], ◌∷◌, ◌++◌, length, get_or, refl, sym, ap, ◌∙◌, arith}
-use Rattle.std.specs.Prelude.{Option, Some, None, ◌==◌, if◌then◌else◌, option_map, MatchOption}
+use Rattle.std.{proofs.lemmas.Bool.Decides.nat_tests, specs.Prelude.{Option, Some, None, ◌==◌, if◌then◌else◌, option_map, MatchOption}}
 use Rattle.std.specs.Borrow.{Bor}
-use Rattle.std.proofs.lemmas.Bool.Decides.{nat_tests}
 use Rattle.command_line.specs.Looks.{after_dash, before_byte, behind_byte}
 
 -- a first `-` that was cut off, or isn't there

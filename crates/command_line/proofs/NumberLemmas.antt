@@ -1,10 +1,7 @@
 -- The number that a text is, by what std's reading of it says.
 use Rattle.std.proofs.Common.{◌≡◌, ℕ, ◌<◌, Bool, true, false, List, [], ◌∷◌, length, refl, sym, ap, ◌∙◌, arith}
-use Rattle.std.specs.Prelude.{Some, None, ◌==◌, ◌&&◌, nat_lt, not, if◌then◌else◌}
-use Rattle.std.specs.List.{list_all}
-use Rattle.std.specs.Char.{digit_value}
-use Rattle.std.specs.Str.Parse.{AllDigits, IsNumeral, digits_value}
-use Rattle.std.proofs.lemmas.Bool.Decides.{nat_tests}
+use Rattle.std.{proofs.lemmas.Bool.Decides.nat_tests, specs.{Prelude.{Some, None, ◌==◌, ◌&&◌, nat_lt, not, if◌then◌else◌}, List.list_all}}
+use Rattle.std.specs.{Char.digit_value, Str.Parse.{AllDigits, IsNumeral, digits_value}}
 use Rattle.command_line.specs.Numbers.{is_numeral, number_below}
 
 -- whether all are digits

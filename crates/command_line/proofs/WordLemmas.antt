@@ -1,20 +1,11 @@
 -- Words and letters, one after the other.
-use Rattle.std.proofs.Common.{◌≡◌, ◌⊎◌, inl, inr, ℕ, ◌+◌, ◌<◌, ◌≤◌, List, [], ◌∷◌, length, drop}
-use Rattle.std.proofs.Common.{get_or, map, refl, sym, ap, ◌∙◌, Bool, false, string_bytes, Global}
-use Rattle.std.specs.Prelude.{Option, Some, None, Result, Ok, Err, is_some, option_map}
-use Rattle.std.specs.Borrow.{Bor}
-use Rattle.std.specs.declared.string.String.{String as StringOf}
-use Rattle.std.proofs.lemmas.List.{at_drop_more, at_drop_all}
-use Rattle.command_line.specs.Matches.{Given}
-use Rattle.command_line.specs.Numbers.{goes_on, part_after}
-use Rattle.command_line.specs.Rows.{Row, row_of}
-use Rattle.command_line.specs.Words.{Reading, checked, read_word, read_words, take_letter, take_letters, unless_wrong, wrong_of}
-use Rattle.command_line.specs.declared.argument.Argument.{Argument}
-use Rattle.command_line.specs.declared.argument.Form.TheVariants.{Required}
-use Rattle.command_line.specs.declared.argument.Relation.TheVariants.{Free}
-use Rattle.command_line.specs.declared.numbers.Part.{Part}
-use Rattle.command_line.specs.declared.refusal.Refusal.{Refusal}
-use Rattle.command_line.specs.declared.refusal.Refusal.TheVariants.{OutOfMemory}
+use Rattle.std.proofs.Common.{◌≡◌, ◌⊎◌, inl, inr, ℕ, ◌+◌, ◌<◌, ◌≤◌, List, [], ◌∷◌, length, drop, get_or, map, refl, sym, ap, ◌∙◌, Bool}
+use Rattle.std.{proofs.{Common.{false, string_bytes, Global}, lemmas.List.{at_drop_more, at_drop_all}}, specs.Prelude.{Option, Some, None}}
+use Rattle.std.specs.{Prelude.{Result, Ok, Err, is_some, option_map}, Borrow.Bor, declared.string.String.String as StringOf}
+use Rattle.command_line.specs.{Matches.Given, Numbers.{goes_on, part_after}, Rows.{Row, row_of}, Words.{Reading, checked, read_word}}
+use Rattle.command_line.specs.{Words.{read_words, take_letter, take_letters, unless_wrong, wrong_of}, declared.argument.Argument.Argument}
+use Rattle.command_line.specs.declared.{argument.{Form.TheVariants.Required, Relation.TheVariants.Free}, numbers.Part.Part}
+use Rattle.command_line.specs.declared.refusal.Refusal.{Refusal, TheVariants.OutOfMemory}
 
 abbrev pub String : Type 0
 String = StringOf Global

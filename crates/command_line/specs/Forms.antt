@@ -1,8 +1,7 @@
 -- How arguments are given.
-use Rattle.std.specs.Prelude.{ℕ, ◌==◌, ◌&&◌, nat_le, not, Bool, true, false, List, Option, Some, None}
-use Rattle.std.specs.Str.{bytes_eq}
-use Rattle.command_line.specs.Numbers.{number_of}
-use Rattle.command_line.specs.Rows.{Kind, Row, Required, Optional, OptionalText, Several, ShortFlag, Word, Words, Text, Number}
+use Rattle.std.specs.{Prelude.{ℕ, ◌==◌, ◌&&◌, nat_le, not, Bool, true, false, List, Option, Some, None}, Str.bytes_eq}
+use Rattle.command_line.specs.{Numbers.number_of, Rows.{Kind, Row, Required, Optional, OptionalText, Several, ShortFlag, Word, Words, Text}}
+use Rattle.command_line.specs.Rows.{Number}
 
 -- whether it is given by a word at a place
 abbrev pub is_place : Kind → Bool

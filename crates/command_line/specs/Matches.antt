@@ -1,12 +1,7 @@
 -- What words give arguments: the name of each and its text, in order. A flag has the empty text.
-use Rattle.std.specs.Prelude.{◌≡◌, ◌⊎◌, ℕ, ◌&&◌, not, Bool, if◌then◌else◌, List, [], ◌∷◌, ◌++◌, map, filter, find}
-use Rattle.std.specs.Prelude.{Option, option_map, option_and_then, Result, Ok, Err}
-use Rattle.std.specs.List.{list_any}
-use Rattle.std.specs.Str.{bytes_eq}
-use Rattle.command_line.specs.Forms.{fits, may_repeat}
-use Rattle.command_line.specs.Numbers.{number_of}
-use Rattle.command_line.specs.Rows.{Row}
-use Rattle.command_line.specs.declared.refusal.Refusal.{Refusal}
+use Rattle.std.specs.Prelude.{◌≡◌, ◌⊎◌, ℕ, ◌&&◌, not, Bool, if◌then◌else◌, List, [], ◌∷◌, ◌++◌, map, filter, find, Option, option_map}
+use Rattle.std.specs.{Prelude.{option_and_then, Result, Ok, Err}, List.list_any, Str.bytes_eq}
+use Rattle.command_line.specs.{Forms.{fits, may_repeat}, Numbers.number_of, Rows.Row, declared.refusal.Refusal.Refusal}
 use Rattle.command_line.specs.declared.refusal.Refusal.TheVariants.{GivenTwice, NotANumber, OutOfMemory}
 
 abbrev pub Given : Type 0

@@ -1,11 +1,7 @@
 -- Numbers in words.
-use Rattle.std.specs.Prelude.{ℕ, ◌^◌, ◌==◌, ◌&&◌, ◌||◌, nat_le, nat_lt, not, Bool, true, false, if◌then◌else◌}
-use Rattle.std.specs.Prelude.{List, [], ◌∷◌, length, Option, Some, None}
-use Rattle.std.specs.List.{list_all}
-use Rattle.std.specs.Char.{digit_value}
-use Rattle.std.specs.Str.Parse.{digits_value, without_leading_plus}
-use Rattle.command_line.specs.declared.numbers.Part.{Part}
-use Rattle.command_line.specs.declared.numbers.Part.TheVariants.{Start, Whole, Fraction, Letter, Exponent}
+use Rattle.std.specs.Prelude.{ℕ, ◌^◌, ◌==◌, ◌&&◌, ◌||◌, nat_le, nat_lt, not, Bool, true, false, if◌then◌else◌, List, [], ◌∷◌, length}
+use Rattle.std.specs.{Prelude.{Option, Some, None}, List.list_all, Char.digit_value, Str.Parse.{digits_value, without_leading_plus}}
+use Rattle.command_line.specs.declared.numbers.Part.{Part, TheVariants.{Start, Whole, Fraction, Letter, Exponent}}
 
 -- whether a text is one digit or more
 abbrev pub is_numeral : List ℕ → Bool

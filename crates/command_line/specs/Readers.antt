@@ -1,10 +1,6 @@
 -- What a reader has read, and what it gives in the end.
 use Rattle.std.specs.Prelude.{◌≡◌, ◌⊎◌, option_map, Result, Ok, Err}
-use Rattle.command_line.specs.Matches.{Given}
-use Rattle.command_line.specs.Rows.{row_of}
-use Rattle.command_line.specs.Words.{Reading}
-use Rattle.command_line.specs.declared.reader.Reader.{Reader}
-use Rattle.command_line.specs.declared.refusal.Refusal.{Refusal}
+use Rattle.command_line.specs.{Matches.Given, Rows.row_of, Words.Reading, declared.{reader.Reader.Reader, refusal.Refusal.Refusal}}
 use Rattle.command_line.specs.declared.refusal.Refusal.TheVariants.{OutOfMemory}
 
 abbrev pub reading_of : Reader → Reading

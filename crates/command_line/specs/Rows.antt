@@ -1,9 +1,7 @@
 -- Arguments without what a help says of them. How words are read depends on nothing else.
 use Rattle.std.specs.Prelude.{ℕ, List, map}
-use Rattle.command_line.specs.declared.argument.Argument.{Argument}
-use Rattle.command_line.specs.declared.argument.Form.{Form}
+use Rattle.command_line.specs.declared.argument.{Argument.Argument, Form.Form, Relation.Relation}
 use Rattle.command_line.specs.declared.argument.Form.TheVariants as form
-use Rattle.command_line.specs.declared.argument.Relation.{Relation}
 use Rattle.command_line.specs.declared.argument.Relation.TheVariants as relation
 
 -- how an argument is given

@@ -1,16 +1,11 @@
 -- What words give the arguments of a table.
-use Rattle.std.specs.Prelude.{ℕ, ◌==◌, ◌&&◌, ◌||◌, not, Bool, true, false, if◌then◌else◌, List, [], ◌∷◌, find}
-use Rattle.std.specs.Prelude.{Option, Some, None, is_some, Result, Ok, Err, codes}
-use Rattle.std.specs.List.{list_any}
-use Rattle.std.specs.Str.{bytes_eq, chars}
-use Rattle.command_line.specs.Forms.{has_letter, is_option_of, is_place, may_be_negative, may_repeat, takes_text}
-use Rattle.command_line.specs.Looks.{after_dashes, letters_of, name_in, text_in}
-use Rattle.command_line.specs.Matches.{Given, give, has}
-use Rattle.command_line.specs.Numbers.{is_decimal}
-use Rattle.command_line.specs.Rows.{Row, Kind, Tie, Required, Free, Needs, Excludes, Replaces}
-use Rattle.command_line.specs.declared.refusal.Refusal.{Refusal}
-use Rattle.command_line.specs.declared.refusal.Refusal.TheVariants.{Help, UnknownOption, UnexpectedText, MissingText}
-use Rattle.command_line.specs.declared.refusal.Refusal.TheVariants.{UnexpectedWord, MissingArgument, Conflict}
+use Rattle.std.specs.Prelude.{ℕ, ◌==◌, ◌&&◌, ◌||◌, not, Bool, true, false, if◌then◌else◌, List, [], ◌∷◌, find, Option, Some, None, is_some}
+use Rattle.std.specs.{Prelude.{Result, Ok, Err, codes}, List.list_any, Str.{bytes_eq, chars}}
+use Rattle.command_line.specs.{Forms.{has_letter, is_option_of, is_place, may_be_negative, may_repeat, takes_text}, Looks.after_dashes}
+use Rattle.command_line.specs.{Looks.{letters_of, name_in, text_in}, Matches.{Given, give, has}, Numbers.is_decimal, Rows.{Row, Kind, Tie}}
+use Rattle.command_line.specs.{Rows.{Required, Free, Needs, Excludes, Replaces}, declared.refusal.Refusal.{Refusal, TheVariants.Help}}
+use Rattle.command_line.specs.declared.refusal.Refusal.TheVariants.{UnknownOption, UnexpectedText, MissingText, UnexpectedWord}
+use Rattle.command_line.specs.declared.refusal.Refusal.TheVariants.{MissingArgument, Conflict}
 
 -- What was read so far: what is given, the option whose text the next word is, and whether `--` was read.
 pub record Reading : Type 0 where

@@ -1,18 +1,12 @@
 -- Texts without whitespace at their ends.
-use Rattle.std.proofs.Common.{◌≡◌, ◌<◌, refl, sym, ◌∙◌, ap, subst, arith, append_assoc, get_or, length, take, drop}
-use Rattle.std.proofs.Common.{⊎_elim}
+use Rattle.std.proofs.Common.{◌≡◌, ◌<◌, refl, sym, ◌∙◌, ap, subst, arith, append_assoc, get_or, length, take, drop, ⊎_elim}
+use Rattle.std.proofs.{Math.Utf8.encode, lemmas.Bool.{and_parts, and_from, cases_lt, false≢true, Decides.nat_tests}}
+use Rattle.std.proofs.lemmas.{List.{take-append-drop, get_or-take, get_or-drop, length-take-le, length-drop}, Str.chars-append}
+use Rattle.std.proofs.lemmas.Str.{encodes-chars, encode_ascii, IsUtf8-take, IsUtf8-drop, IsCharBoundary-before_ascii, IsCharBoundary-end}
 use Rattle.std.specs.Prelude.{ℕ, ◌+◌, ◌-◌, Bool, true, false, List, [], ◌∷◌, ◌++◌, encode_utf8_all, slice_index, slice_range, if◌then◌else◌}
-use Rattle.std.specs.List.{list_all}
-use Rattle.std.specs.Str.{IsUtf8, IsCharBoundary, chars}
-use Rattle.std.proofs.Math.Utf8.{encode}
-use Rattle.std.proofs.lemmas.Bool.{and_parts, and_from, cases_lt, false≢true}
-use Rattle.std.proofs.lemmas.Bool.Decides.{nat_tests}
-use Rattle.std.proofs.lemmas.List.{take-append-drop, get_or-take, get_or-drop, length-take-le, length-drop}
-use Rattle.std.proofs.lemmas.Str.{chars-append, encodes-chars, encode_ascii, IsUtf8-take, IsUtf8-drop}
-use Rattle.std.proofs.lemmas.Str.{IsCharBoundary-before_ascii, IsCharBoundary-end}
-use Rattle.yaml_chars.proofs.Runs.{blind-white, test-chars}
-use Rattle.yaml_chars.specs.Classes.{white, nb}
-use Rattle.comments_kept.specs.Blanks.{AreWhite, IsWhiteRun, before_trimmed, trimmed}
+use Rattle.std.specs.{List.list_all, Str.{IsUtf8, IsCharBoundary, chars}}
+use Rattle.{yaml_chars.{proofs.Runs.{blind-white, test-chars}, specs.Classes.{white, nb}}, comments_kept.specs.Blanks.AreWhite}
+use Rattle.comments_kept.specs.Blanks.{IsWhiteRun, before_trimmed, trimmed}
 
 -- ---- characters
 

@@ -1,19 +1,10 @@
 -- The comments that were found, as texts.
-use Rattle.std.proofs.Common.{◌≡◌, ◌≤◌, refl, sym, ◌∙◌, ap, arith, ⊎_elim, get_or}
-use Rattle.std.specs.Prelude.{ℕ, ◌+◌, ◌⊎◌, true, List, [], ◌∷◌, encode_utf8_all, map, slice_index}
-use Rattle.std.specs.List.{list_all}
-use Rattle.std.specs.Str.{chars}
-use Rattle.std.proofs.Math.Utf8.{scalar, scalars}
-use Rattle.std.proofs.lemmas.Bool.{and_parts, and_from, cases_lt}
-use Rattle.std.proofs.lemmas.Bool.Decides.{nat_tests}
-use Rattle.std.proofs.lemmas.Str.{chars-encodes}
-use Rattle.yaml_chars.specs.Classes.{nb}
-use Rattle.yaml_grammar.specs.Events.{Event}
-use Rattle.yaml_comments.specs.declared.find.Comment.{Comment}
-use Rattle.yaml_comments.specs.Comments.{AreComments, IsNext, comment_at}
-use Rattle.yaml_comments.specs.Found.{place_of, places_of}
-use Rattle.comments_kept.specs.Keeping.{AreTexts, texts_at, without_white}
-use Rattle.comments_kept.proofs.BlankEnds.{trimmed_lines}
+use Rattle.std.proofs.{Common.{◌≡◌, ◌≤◌, refl, sym, ◌∙◌, ap, arith, ⊎_elim, get_or}, Math.Utf8.{scalar, scalars}, lemmas.Bool.and_parts}
+use Rattle.std.{proofs.lemmas.{Bool.{and_from, cases_lt, Decides.nat_tests}, Str.chars-encodes}, specs.Prelude.{ℕ, ◌+◌, ◌⊎◌, true, List}}
+use Rattle.std.specs.{Prelude.{[], ◌∷◌, encode_utf8_all, map, slice_index}, List.list_all, Str.chars}
+use Rattle.{yaml_chars.specs.Classes.nb, yaml_grammar.specs.Events.Event, yaml_comments.specs.declared.find.Comment.Comment}
+use Rattle.yaml_comments.specs.{Comments.{AreComments, IsNext, comment_at}, Found.{place_of, places_of}}
+use Rattle.comments_kept.{specs.Keeping.{AreTexts, texts_at, without_white}, proofs.BlankEnds.trimmed_lines}
 
 -- ---- what may be in a comment is a character
 

@@ -1,32 +1,18 @@
 -- The text that was written gives the same tree and has the same comments.
-use Rattle.std.proofs.Common.{◌≡◌, ◌≤◌, refl, sym, ◌∙◌, ap, subst, arith, length, inr}
-use Rattle.std.specs.Prelude.{ℕ, Bool, true, false, MatchBool, nat_eq, List, [], encode_utf8_all, map}
-use Rattle.std.specs.List.{list_all}
-use Rattle.std.specs.Str.{IsUtf8, chars}
-use Rattle.std.proofs.lemmas.Str.{chars_from_encodes}
-use Rattle.yaml_chars.specs.Classes.{nb}
-use Rattle.yaml_docs.proofs.TextPlaces.{byte_len-chars}
-use Rattle.yaml_grammar.specs.Reads.{Limits, Good, Gives, Reads}
-use Rattle.yaml_grammar.specs.Style.{style_text}
-use Rattle.yaml_grammar.specs.Texts.{byte_len}
-use Rattle.yaml_grammar.specs.Trees.{Tree}
-use Rattle.yaml_tree.specs.Reading.{IsRead}
-use Rattle.yaml_commented.specs.Commented.{commented_text}
-use Rattle.yaml_commented.specs.CommentedLaws.{CommentedReads, BareIsStyle}
-use Rattle.yaml_grammar.specs.Events.{Event}
-use Rattle.yaml_comments.specs.declared.find.Comment.{Comment}
-use Rattle.yaml_comments.specs.Found.{places_of}
-use Rattle.yaml_comments.specs.Comments.{HasComments, AreComments, comment_at}
-use Rattle.yaml_comments.specs.CommentLaws.{CommentedComments, CommentsOnce, CommentsOnLines, AreOnLines}
-use Rattle.comments_kept.specs.declared.weaver.Placed.{Placed}
-use Rattle.comments_kept.specs.Keeping.{with_bytes, GivesSameTree, HasSameComments, IsStyledIfBare, AreTexts, texts_at}
-use Rattle.comments_kept.specs.Keeping.{HasNoBlankLine, without_white, IsWritten, Writes, IsStyledWithComments, Changes}
-use Rattle.comments_kept.specs.Keeping.{IsSettled}
+use Rattle.std.{proofs.{Common.{◌≡◌, ◌≤◌, refl, sym, ◌∙◌, ap, subst, arith, length, inr}, lemmas.Str.chars_from_encodes}, specs.Prelude.ℕ}
+use Rattle.std.specs.{Prelude.{Bool, true, false, MatchBool, nat_eq, List, [], encode_utf8_all, map}, List.list_all, Str.{IsUtf8, chars}}
 use Rattle.std.specs.Cmp.Lexicographic.{same_text, other_text}
+use Rattle.{yaml_chars.specs.Classes.nb, yaml_docs.proofs.TextPlaces.byte_len-chars, yaml_grammar.specs.Reads.{Limits, Good, Gives, Reads}}
+use Rattle.{yaml_grammar.specs.{Style.style_text, Texts.byte_len, Trees.Tree, Events.Event}, yaml_tree.specs.Reading.IsRead}
+use Rattle.yaml_commented.specs.{Commented.commented_text, CommentedLaws.{CommentedReads, BareIsStyle}}
+use Rattle.yaml_comments.specs.{declared.find.Comment.Comment, Found.places_of, Comments.{HasComments, AreComments, comment_at}}
+use Rattle.yaml_comments.specs.CommentLaws.{CommentedComments, CommentsOnce, CommentsOnLines, AreOnLines}
+use Rattle.comments_kept.specs.{declared.weaver.Placed.Placed, Keeping.{with_bytes, GivesSameTree, HasSameComments, IsStyledIfBare}}
+use Rattle.comments_kept.specs.Keeping.{AreTexts, texts_at, HasNoBlankLine, without_white, IsWritten, Writes, IsStyledWithComments, Changes}
+use Rattle.comments_kept.specs.Keeping.{IsSettled}
 use lib.Pointwise.{pointwise}
-use Rattle.comments_kept.specs.Places.{marks_of}
-use Rattle.comments_kept.specs.Weaving.{IsWoven, texts_of}
-use Rattle.comments_kept.proofs.FoundTexts.{are_texts, lines_at, none_found, written_at}
+use Rattle.comments_kept.{specs.{Places.marks_of, Weaving.{IsWoven, texts_of}}, proofs.FoundTexts.{are_texts, lines_at, none_found}}
+use Rattle.comments_kept.proofs.FoundTexts.{written_at}
 
 module _ (bytes text : List ℕ) (limits : Limits) (t : Tree) (kept : List Placed) (w : IsWoven t kept text)
     (read : IsRead bytes limits t) where

@@ -1,32 +1,19 @@
 -- Ends of lines, and lines of their own.
-use Rattle.std.proofs.Common.{◌≡◌, ◌≤◌, ◌<◌, refl, sym, ◌∙◌, ap, ap₂, subst, append_assoc, get_or, length, arith}
-use Rattle.std.proofs.Common.{⊎_elim, inl, inr, Bor}
-use Rattle.std.specs.Prelude.{ℕ, ◌+◌, min, Bool, false, true, List, [], ◌∷◌, ◌++◌, Option, Some, None, codes, encode_utf8_all}
-use Rattle.std.specs.Prelude.{string_bytes, drop, flat_map}
-use Rattle.std.specs.List.{list_all}
-use Rattle.std.specs.Str.{chars}
-use Rattle.std.proofs.lemmas.Bool.{and_parts, and_from, le-leb}
-use Rattle.yaml_writer.specs.Encoded.{encoded_both, encoded_none}
-use Rattle.yaml_chars.specs.Classes.{nb}
-use Rattle.yaml_data.proofs.ListLemmas.{drop_item}
-use Rattle.yaml_writer.proofs.Prelude.{drop_all}
-use Rattle.yaml_grammar.specs.Texts.{spaces}
-use Rattle.yaml_commented.specs.Trails.{Extra, comment_line, Trail, IsBare, behind_comments, extra_comments, end_text, extras_text}
-use Rattle.yaml_commented.specs.Trails.{extra_text, trail_comments, trail_text}
-use Rattle.yaml_commented.specs.Commented.{next_trail, later_trails}
-use Rattle.yaml_commented.specs.TrailsFit.{behind_fits, extra_fits, starts_low, starts_filled, trail_fits}
-use Rattle.comments_kept.specs.declared.weaver.Kept.{Kept}
-use Rattle.comments_kept.specs.declared.weaver.Kept.TheVariants.{EmptyLine, Comment}
-use Rattle.comments_kept.specs.declared.weaver.Placed.{Placed}
-use Rattle.comments_kept.specs.declared.weaver.Weaver.{Weaver}
-use Rattle.comments_kept.specs.Weaving.{kept_texts, texts_of, left, extra_of, IsComment, StartsFilled, Woven, Wrote, WroteEnd}
-use Rattle.comments_kept.specs.Weaving.{WroteLines, WroteFilledLines, HasSkipped, WovenEnd}
-use Rattle.comments_kept.specs.Weaving.{left_marks, coming, StartsBehind, StartsElsewhere}
-use Rattle.comments_kept.specs.Places.{Mark, mark_of, marks_of, kept_text}
-use Rattle.comments_kept.specs.Laid.{Below, freely, next, trail_at, filled_if}
-use Rattle.comments_kept.specs.Laid.{marks_to, marks_after, filled_from, line_of, lines_of, behind_of, after_behind}
-use Rattle.comments_kept.proofs.Weaving.{first_none, last_none, texts-append, both_on_lines, wrote_both, kept, coming_by}
-use Rattle.comments_kept.proofs.Marks.{IsLater, later_to, later_after, behind_here, first_to, first_after, first_from, filled_same}
+use Rattle.std.proofs.Common.{◌≡◌, ◌≤◌, ◌<◌, refl, sym, ◌∙◌, ap, ap₂, subst, append_assoc, get_or, length, arith, ⊎_elim, inl, inr, Bor}
+use Rattle.std.{proofs.lemmas.Bool.{and_parts, and_from, le-leb}, specs.Prelude.{ℕ, ◌+◌, min, Bool, false, true, List, [], ◌∷◌, ◌++◌}}
+use Rattle.std.specs.{Prelude.{Option, Some, None, codes, encode_utf8_all, string_bytes, drop, flat_map}, List.list_all, Str.chars}
+use Rattle.{yaml_writer.{specs.Encoded.{encoded_both, encoded_none}, proofs.Prelude.drop_all}, yaml_chars.specs.Classes.nb}
+use Rattle.{yaml_data.proofs.ListLemmas.drop_item, yaml_grammar.specs.Texts.spaces, yaml_commented.specs.Trails.{Extra, comment_line}}
+use Rattle.yaml_commented.specs.Trails.{Trail, IsBare, behind_comments, extra_comments, end_text, extras_text, extra_text, trail_comments}
+use Rattle.yaml_commented.specs.{Trails.trail_text, Commented.{next_trail, later_trails}, TrailsFit.{behind_fits, extra_fits, starts_low}}
+use Rattle.{yaml_commented.specs.TrailsFit.{starts_filled, trail_fits}, comments_kept.specs.declared.weaver.Kept.Kept}
+use Rattle.comments_kept.specs.{declared.weaver.{Kept.TheVariants.{EmptyLine, Comment}, Placed.Placed, Weaver.Weaver}, Weaving.kept_texts}
+use Rattle.comments_kept.specs.Weaving.{texts_of, left, extra_of, IsComment, StartsFilled, Woven, Wrote, WroteEnd, WroteLines}
+use Rattle.comments_kept.specs.Weaving.{WroteFilledLines, HasSkipped, WovenEnd, left_marks, coming, StartsBehind, StartsElsewhere}
+use Rattle.comments_kept.specs.{Places.{Mark, mark_of, marks_of, kept_text}, Laid.{Below, freely, next, trail_at, filled_if, marks_to}}
+use Rattle.comments_kept.{specs.Laid.{marks_after, filled_from, line_of, lines_of, behind_of, after_behind}, proofs.Weaving.first_none}
+use Rattle.comments_kept.proofs.{Weaving.{last_none, texts-append, both_on_lines, wrote_both, kept, coming_by}, Marks.{IsLater, later_to}}
+use Rattle.comments_kept.proofs.Marks.{later_after, behind_here, first_to, first_after, first_from, filled_same}
 
 -- the first of what was left was taken, and this was written
 pub record Began (w b : Weaver) (cs : List ℕ) : Type 0 where

@@ -1,12 +1,8 @@
 -- What is to come at a place.
-use Rattle.std.proofs.Common.{◌≡◌, ◌≤◌, ◌<◌, refl, ◌∙◌, ap, ⊎_elim}
-use Rattle.std.specs.Prelude.{ℕ, ◌==◌, Bool, true, false, not, ◌&&◌, nat_le, List, [], ◌∷◌, Some, None, if◌then◌else◌}
-use Rattle.std.proofs.lemmas.Bool.{eq-eqb, le-leb, lt-leb}
-use Rattle.comments_kept.specs.declared.weaver.Kept.{Kept}
-use Rattle.comments_kept.specs.declared.weaver.Kept.TheVariants.{EmptyLine, Comment}
-use Rattle.comments_kept.specs.declared.weaver.Placed.{Placed}
-use Rattle.comments_kept.specs.Places.{Mark, mark_of, marks_of, kept_text}
-use Rattle.comments_kept.specs.Laid.{marks_to, marks_after, filled_from, is_empty, behind_of, after_behind}
+use Rattle.std.{proofs.{Common.{◌≡◌, ◌≤◌, ◌<◌, refl, ◌∙◌, ap, ⊎_elim}, lemmas.Bool.{eq-eqb, le-leb, lt-leb}}, specs.Prelude.{ℕ, ◌==◌, Bool}}
+use Rattle.std.specs.Prelude.{true, false, not, ◌&&◌, nat_le, List, [], ◌∷◌, Some, None, if◌then◌else◌}
+use Rattle.comments_kept.specs.{declared.weaver.{Kept.{Kept, TheVariants.{EmptyLine, Comment}}, Placed.Placed}, Places.{Mark, mark_of}}
+use Rattle.comments_kept.specs.{Places.{marks_of, kept_text}, Laid.{marks_to, marks_after, filled_from, is_empty, behind_of, after_behind}}
 use Rattle.comments_kept.specs.Weaving.{IsComment, StartsFilled}
 
 -- a choice by a test

@@ -1,19 +1,10 @@
 -- Bytes have one list of comments at one list of places, and so one text.
-use Rattle.std.proofs.Common.{◌≡◌, refl, sym, ◌∙◌, ap, ap₂, subst, arith, ⊎_elim, length, encode_utf8_all}
-use Rattle.std.specs.Prelude.{ℕ, ◌<◌, ◌⊎◌, List, [], ◌∷◌, slice_index}
-use Rattle.std.specs.Str.{chars}
-use Rattle.std.proofs.lemmas.Bool.{cases_lt}
-use Rattle.yaml_grammar.specs.Events.{Event}
-use Rattle.yaml_grammar.specs.Reads.{CanRead, Limits}
-use Rattle.yaml_grammar.specs.Trees.{Tree}
-use Rattle.yaml_tree.proofs.GivenLemmas.{given_one}
-use Rattle.yaml_comments.specs.declared.find.Comment.{Comment}
-use Rattle.yaml_comments.specs.Outside.{IsLineEnd}
-use Rattle.yaml_comments.specs.Comments.{Place, IsNext, AreComments}
-use Rattle.yaml_comments.specs.Found.{place_of, places_of}
-use Rattle.comments_kept.specs.Keeping.{Keeps, Plans, Writes}
-use Rattle.comments_kept.specs.Laid.{woven_text}
-use Rattle.comments_kept.specs.Places.{Mark, marks}
+use Rattle.std.proofs.{Common.{◌≡◌, refl, sym, ◌∙◌, ap, ap₂, subst, arith, ⊎_elim, length, encode_utf8_all}, lemmas.Bool.cases_lt}
+use Rattle.std.specs.{Prelude.{ℕ, ◌<◌, ◌⊎◌, List, [], ◌∷◌, slice_index}, Str.chars}
+use Rattle.{yaml_grammar.specs.{Events.Event, Reads.{CanRead, Limits}, Trees.Tree}, yaml_tree.proofs.GivenLemmas.given_one}
+use Rattle.yaml_comments.specs.{declared.find.Comment.Comment, Outside.IsLineEnd, Comments.{Place, IsNext, AreComments}, Found.place_of}
+use Rattle.{yaml_comments.specs.Found.places_of, comments_kept.specs.{Keeping.{Keeps, Plans, Writes}, Laid.woven_text, Places.Mark}}
+use Rattle.comments_kept.specs.Places.{marks}
 
 -- a line that ends at the later of two places does not end at the earlier one
 end_kept : (bytes : List ℕ) (from to a b : ℕ) → IsLineEnd bytes from to a → IsLineEnd bytes from to b → a < b → ⊥

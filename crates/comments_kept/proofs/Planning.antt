@@ -1,10 +1,6 @@
 -- What is kept, with one more part.
-use Rattle.std.proofs.Common.{◌≡◌, ap, ◌∙◌, append-nil, Bor}
-use Rattle.std.specs.Prelude.{ℕ, List, [], ◌∷◌, ◌++◌}
-use Rattle.std.specs.Str.{chars}
-use Rattle.comments_kept.specs.declared.weaver.Kept.TheVariants.{EmptyLine, Comment}
-use Rattle.comments_kept.specs.declared.weaver.Placed.{Placed}
-use Rattle.comments_kept.specs.Weaving.{kept_texts, texts_of}
+use Rattle.std.{proofs.Common.{◌≡◌, ap, ◌∙◌, append-nil, Bor}, specs.{Prelude.{ℕ, List, [], ◌∷◌, ◌++◌}, Str.chars}}
+use Rattle.comments_kept.specs.{declared.weaver.{Kept.TheVariants.{EmptyLine, Comment}, Placed.Placed}, Weaving.{kept_texts, texts_of}}
 use Rattle.comments_kept.proofs.Weaving.{texts-append}
 
 -- a comment is one more

@@ -1,8 +1,6 @@
 -- Ranges of lists.
-use Rattle.std.proofs.Common.{◌≡◌, refl, ap, ◌∙◌, arith, get_or, take, drop, length, ⊎_elim}
-use Rattle.std.specs.Prelude.{ℕ, zero, suc, ◌+◌, ◌-◌, ◌<◌, ◌≤◌, min, List, [], ◌∷◌, slice_range}
-use Rattle.std.proofs.lemmas.List.{drop_more, drop_all}
-use Rattle.std.proofs.lemmas.Bool.{cases_lt}
+use Rattle.std.proofs.{Common.{◌≡◌, refl, ap, ◌∙◌, arith, get_or, take, drop, length, ⊎_elim}, lemmas.List.{drop_more, drop_all}}
+use Rattle.std.{proofs.lemmas.Bool.cases_lt, specs.Prelude.{ℕ, zero, suc, ◌+◌, ◌-◌, ◌<◌, ◌≤◌, min, List, [], ◌∷◌, slice_range}}
 
 -- what is taken of a list with a first element
 take_first : {X : Type 0} (x : X) (xs : List X) (n m : ℕ) → n ≡ m + 1 → take n (x ∷ xs) ≡ x ∷ take m xs

@@ -1,28 +1,19 @@
 -- Scalars and keys, written with comments.
-use Rattle.std.proofs.Common.{◌≡◌, refl, sym, ◌∙◌, ap, ap₂, subst, arith}
+use Rattle.std.proofs.{Common.{◌≡◌, refl, sym, ◌∙◌, ap, ap₂, subst, arith}, lemmas.Bool.{and_from, or_left, or_right, false≢true, lt-leb}}
 use Rattle.std.specs.Prelude.{ℕ, zero, suc, ◌+◌, Bool, true, false, not, ◌||◌, nat_le, if◌then◌else◌, List, [], ◌∷◌, ◌++◌, codes}
 use Rattle.std.specs.Prelude.{string_bytes, encode_utf8_all}
-use Rattle.std.proofs.lemmas.Bool.{and_from, or_left, or_right, false≢true, lt-leb}
-use Rattle.yaml_writer.specs.Encoded.{encoded_both}
-use Rattle.yaml_writer.specs.ScalarStyles.{literal_style, value_style}
-use Rattle.yaml_writer.specs.declared.scalar_style.ScalarStyle.{ScalarStyle}
-use Rattle.yaml_writer.specs.declared.scalar_style.ScalarStyle.TheVariants.{Plain, Double, LiteralStrip, LiteralClip, LiteralKeep}
-use Rattle.yaml_grammar.specs.Texts.{spaces}
+use Rattle.yaml_writer.specs.{Encoded.encoded_both, ScalarStyles.{literal_style, value_style}}
+use Rattle.yaml_writer.specs.declared.scalar_style.ScalarStyle.{ScalarStyle, TheVariants.{Plain, Double, LiteralStrip, LiteralClip}}
+use Rattle.{yaml_writer.specs.declared.scalar_style.ScalarStyle.TheVariants.LiteralKeep, yaml_grammar.specs.Texts.spaces}
 use Rattle.yaml_grammar.specs.Style.{plain_in_style, literal_in_style, in_double_quotes, literal_mark, feeds_at_end, literal_lines}
-use Rattle.yaml_grammar.specs.Style.{key_text, long_key}
-use Rattle.yaml_commented.specs.Trails.{Trail, trail_text, end_text, extras_text}
-use Rattle.yaml_commented.specs.Commented.{next_trail, later_trails, scalar_with}
-use Rattle.yaml_commented.specs.TrailsFit.{trail_fits, scalar_trail_fits, literal_trail_fits, starts_filled, starts_low}
-use Rattle.comments_kept.specs.declared.weaver.Weaver.{Weaver}
-use Rattle.comments_kept.specs.Weaving.{Woven, Wrote, WroteEnd, WroteLines, WroteFilledLines, WroteLiteral, WovenEnd}
-use Rattle.comments_kept.specs.Weaving.{WovenLine, WovenScalar, WovenKey}
-use Rattle.comments_kept.specs.Weaving.{left_marks, coming, WroteBelow}
-use Rattle.comments_kept.specs.Places.{Mark}
-use Rattle.comments_kept.specs.Laid.{Below, freely, below_literal, filled_if, filled_from, trail_at, next}
-use Rattle.comments_kept.specs.Laid.{ends_blank}
-use Rattle.comments_kept.proofs.Weaving.{both, said, plain, line, wrote_both, kept, coming_kept}
-use Rattle.comments_kept.proofs.LineEnds.{trail_woven, written, written_laid, written_used, written_taken, written_texts}
-use Rattle.comments_kept.proofs.LineEnds.{written_fits, written_bare}
+use Rattle.{yaml_grammar.specs.Style.{key_text, long_key}, yaml_commented.specs.Trails.{Trail, trail_text, end_text, extras_text}}
+use Rattle.yaml_commented.specs.{Commented.{next_trail, later_trails, scalar_with}, TrailsFit.{trail_fits, scalar_trail_fits}}
+use Rattle.yaml_commented.specs.TrailsFit.{literal_trail_fits, starts_filled, starts_low}
+use Rattle.comments_kept.specs.{declared.weaver.Weaver.Weaver, Weaving.{Woven, Wrote, WroteEnd, WroteLines, WroteFilledLines, WroteLiteral}}
+use Rattle.comments_kept.specs.{Weaving.{WovenEnd, WovenLine, WovenScalar, WovenKey, left_marks, coming, WroteBelow}, Places.Mark}
+use Rattle.comments_kept.specs.Laid.{Below, freely, below_literal, filled_if, filled_from, trail_at, next, ends_blank}
+use Rattle.comments_kept.proofs.{Weaving.{both, said, plain, line, wrote_both, kept, coming_kept}, LineEnds.{trail_woven, written}}
+use Rattle.comments_kept.proofs.LineEnds.{written_laid, written_used, written_taken, written_texts, written_fits, written_bare}
 
 -- ---- what a style says of a text
 

@@ -1,21 +1,15 @@
 -- The parts of a tree, written with comments.
-use Rattle.std.proofs.Common.{◌≡◌, refl, ap, arith}
-use Rattle.std.specs.Prelude.{ℕ, ◌+◌, true, List, [], ◌∷◌, ◌++◌, codes, length}
-use Rattle.yaml_data.specs.Seen.{Pair, elements_of, members_of}
+use Rattle.std.{proofs.Common.{◌≡◌, refl, ap, arith}, specs.Prelude.{ℕ, ◌+◌, true, List, [], ◌∷◌, ◌++◌, codes, length}}
+use Rattle.{yaml_data.specs.Seen.{Pair, elements_of, members_of}, yaml_grammar.specs.{Texts.spaces, Trees.{Tree, text, sequence, mapping}}}
+use Rattle.{yaml_grammar.specs.Trees.{Elements, no_element, element, Members, no_member, member}, yaml_commented.specs.Trails.Trail}
+use Rattle.yaml_commented.specs.{Trails.trail_text, Commented.{next_trail, later_trails, after_key, after_tree, after_value}}
+use Rattle.yaml_commented.specs.Commented.{after_elements, after_members, scalar_with, key_with, element_with, value_with, elements_with}
+use Rattle.yaml_commented.specs.{Commented.{members_with, tree_with}, TrailsFit.{trail_fits, scalar_trail_fits, key_trail_fits}}
+use Rattle.yaml_commented.specs.TrailsFit.{ElementFits, ValueFits, ElementsFit, MembersFit, TreeFits}
+use Rattle.comments_kept.specs.{declared.weaver.Weaver.Weaver, Weaving.{Woven, Wrote, WovenEnd, WovenLine, WovenScalar, WovenKey}}
+use Rattle.comments_kept.specs.Weaving.{WovenElement, WovenValue, WovenElements, WovenMembers, WovenTop, elements_led, members_led}
+use Rattle.comments_kept.{specs.Laid.{freely, below_element, below_tree, below_value}, proofs.Weaving.{both, said, plain, nothing}}
 use Rattle.yaml_data.specs.declared.tree.Tree as declared
-use Rattle.yaml_grammar.specs.Texts.{spaces}
-use Rattle.yaml_grammar.specs.Trees.{Tree, text, sequence, mapping, Elements, no_element, element, Members, no_member, member}
-use Rattle.yaml_commented.specs.Trails.{Trail, trail_text}
-use Rattle.yaml_commented.specs.Commented.{next_trail, later_trails, after_key, after_tree, after_value, after_elements}
-use Rattle.yaml_commented.specs.Commented.{after_members, scalar_with, key_with, element_with, value_with, elements_with}
-use Rattle.yaml_commented.specs.Commented.{members_with, tree_with}
-use Rattle.yaml_commented.specs.TrailsFit.{trail_fits, scalar_trail_fits, key_trail_fits, ElementFits, ValueFits}
-use Rattle.yaml_commented.specs.TrailsFit.{ElementsFit, MembersFit, TreeFits}
-use Rattle.comments_kept.specs.declared.weaver.Weaver.{Weaver}
-use Rattle.comments_kept.specs.Weaving.{Woven, Wrote, WovenEnd, WovenLine, WovenScalar, WovenKey, WovenElement}
-use Rattle.comments_kept.specs.Weaving.{WovenValue, WovenElements, WovenMembers, WovenTop, elements_led, members_led}
-use Rattle.comments_kept.specs.Laid.{freely, below_element, below_tree, below_value}
-use Rattle.comments_kept.proofs.Weaving.{both, said, plain, nothing}
 
 -- ---- elements
 

@@ -1,21 +1,11 @@
 -- Steps of the writing, one after another.
-use Rattle.std.proofs.Common.{◌≡◌, refl, sym, ◌∙◌, ap, ap₂, subst, append_assoc}
-use Rattle.std.specs.Prelude.{ℕ, true, List, [], ◌∷◌, ◌++◌, encode_utf8_all, string_bytes, flat_map, drop}
-use Rattle.std.specs.List.{list_all}
-use Rattle.std.proofs.lemmas.List.Folds.{list_all-append}
-use Rattle.std.proofs.lemmas.Bool.{and_parts}
-use Rattle.yaml_writer.specs.Encoded.{encoded_both, encoded_none}
-use Rattle.yaml_chars.specs.Classes.{nb}
-use Rattle.yaml_commented.specs.Trails.{Trail, trail_comments, trail_text}
-use Rattle.yaml_commented.specs.Commented.{next_trail, later_trails}
-use Rattle.yaml_commented.specs.TrailsFit.{trail_fits}
-use Rattle.std.proofs.Common.{Bor}
-use Rattle.comments_kept.specs.declared.weaver.Placed.{Placed}
-use Rattle.comments_kept.specs.declared.weaver.Weaver.{Weaver}
-use Rattle.comments_kept.specs.Weaving.{kept_texts, texts_of, left, AreTrails, Woven, Wrote, WovenEnd, WovenLine}
-use Rattle.comments_kept.specs.Weaving.{left_marks, coming}
-use Rattle.comments_kept.specs.Places.{Mark, marks_of}
-use Rattle.comments_kept.specs.Laid.{Below, Coming, next, trail_at, trails_at, behind_all}
+use Rattle.std.proofs.{Common.{◌≡◌, refl, sym, ◌∙◌, ap, ap₂, subst, append_assoc, Bor}, lemmas.{List.Folds.list_all-append, Bool.and_parts}}
+use Rattle.std.specs.{Prelude.{ℕ, true, List, [], ◌∷◌, ◌++◌, encode_utf8_all, string_bytes, flat_map, drop}, List.list_all}
+use Rattle.{yaml_writer.specs.Encoded.{encoded_both, encoded_none}, yaml_chars.specs.Classes.nb, yaml_commented.specs.Trails.Trail}
+use Rattle.yaml_commented.specs.{Trails.{trail_comments, trail_text}, Commented.{next_trail, later_trails}, TrailsFit.trail_fits}
+use Rattle.comments_kept.specs.{declared.weaver.{Placed.Placed, Weaver.Weaver}, Weaving.{kept_texts, texts_of, left, AreTrails, Woven}}
+use Rattle.comments_kept.specs.{Weaving.{Wrote, WovenEnd, WovenLine, left_marks, coming}, Places.{Mark, marks_of}, Laid.{Below, Coming}}
+use Rattle.comments_kept.specs.Laid.{next, trail_at, trails_at, behind_all}
 
 -- nothing is put before nothing
 pub first_none : {A : Type 0} → (xs ys : List A) → xs ++ ys ≡ [] → xs ≡ []

@@ -1,20 +1,11 @@
 -- The whole text of a tree, written with comments.
-use Rattle.std.proofs.Common.{◌≡◌, sym, ◌∙◌, ap, ap₂, append-nil, arith}
-use Rattle.std.specs.Prelude.{true, List, [], ◌∷◌, ◌++◌, ◌<◌, string_bytes, encode_utf8_all, ℕ, zero, suc, drop, length}
-use Rattle.std.specs.List.{list_all}
-use Rattle.yaml_chars.specs.Classes.{nb}
-use Rattle.yaml_writer.specs.Encoded.{encoded_both}
-use Rattle.yaml_grammar.specs.Trees.{Tree}
-use Rattle.yaml_commented.specs.Trails.{Trail, extras_text}
-use Rattle.yaml_commented.specs.Commented.{tree_with, after_tree, commented_text}
-use Rattle.yaml_commented.specs.TrailsFit.{TreeFits}
-use Rattle.comments_kept.specs.declared.weaver.Weaver.{Weaver}
-use Rattle.comments_kept.specs.Weaving.{left, texts_of, AreTrails, WroteLines, WovenTop, IsWoven}
-use Rattle.comments_kept.specs.Weaving.{left_marks, coming}
-use Rattle.comments_kept.specs.declared.weaver.Placed.{Placed}
-use Rattle.comments_kept.specs.Places.{Mark, marks_of}
-use Rattle.comments_kept.specs.Laid.{marks_to, marks_after, filled_from, lines_of, lead_of, behind_lead, trails_at, below_tree}
-use Rattle.comments_kept.specs.Laid.{Coming, behind_all, left_over}
+use Rattle.std.{proofs.Common.{◌≡◌, sym, ◌∙◌, ap, ap₂, append-nil, arith}, specs.Prelude.{true, List, [], ◌∷◌, ◌++◌, ◌<◌, string_bytes}}
+use Rattle.std.specs.{Prelude.{encode_utf8_all, ℕ, zero, suc, drop, length}, List.list_all}
+use Rattle.{yaml_chars.specs.Classes.nb, yaml_writer.specs.Encoded.encoded_both, yaml_grammar.specs.Trees.Tree}
+use Rattle.yaml_commented.specs.{Trails.{Trail, extras_text}, Commented.{tree_with, after_tree, commented_text}, TrailsFit.TreeFits}
+use Rattle.comments_kept.specs.{declared.weaver.{Weaver.Weaver, Placed.Placed}, Weaving.{left, texts_of, AreTrails, WroteLines, WovenTop}}
+use Rattle.comments_kept.specs.{Weaving.{IsWoven, left_marks, coming}, Places.{Mark, marks_of}, Laid.{marks_to, marks_after, filled_from}}
+use Rattle.comments_kept.specs.Laid.{lines_of, lead_of, behind_lead, trails_at, below_tree, Coming, behind_all, left_over}
 use Rattle.comments_kept.proofs.Weaving.{first_none, last_none, texts-append, both_on_lines, coming_by}
 
 -- some is left of a list

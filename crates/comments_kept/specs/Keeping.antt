@@ -1,26 +1,11 @@
 -- A text that is formatted with its comments.
-use Rattle.std.specs.Prelude.{◌≡◌, ◌⊎◌, ℕ, ◌+◌, ◌≤◌, List, [], ◌∷◌, length, map, encode_utf8_all}
-use Rattle.std.specs.Str.{IsUtf8, chars}
-use Rattle.yaml_grammar.specs.Reads.{Limits}
-use Rattle.yaml_grammar.specs.Style.{style_text}
-use Rattle.yaml_grammar.specs.Trees.{Tree}
-use Rattle.yaml_grammar.specs.Events.{Event}
-use Rattle.yaml_grammar.specs.Reads.{Reads}
-use Rattle.yaml_tree.specs.Reading.{IsRead, Refuses}
-use Rattle.yaml_commented.specs.Trails.{Extra, Trail}
-use Rattle.yaml_commented.specs.Commented.{commented_text}
-use Rattle.yaml_commented.specs.TrailsFit.{Fits}
-use Rattle.yaml_comments.specs.declared.find.Comment.{Comment}
-use Rattle.yaml_comments.specs.Comments.{HasComments, AreComments, comment_at}
-use Rattle.yaml_comments.specs.Found.{place_of, places_of}
-use Rattle.comments_kept.specs.declared.fault.KeepFault.{KeepFault}
-use Rattle.comments_kept.specs.declared.fault.KeepFault.TheVariants.{Read, Unsettled}
-use Rattle.comments_kept.specs.declared.weaver.Placed.{Placed}
-use Rattle.comments_kept.specs.Places.{Mark, marks, marks_of}
-use Rattle.comments_kept.specs.Laid.{left_over, woven_text}
-use Rattle.comments_kept.specs.Weaving.{IsWoven, texts_of}
-use Rattle.yaml_docs.specs.Reading.{RefusesBytes}
-use Rattle.comments_kept.specs.Blanks.{HasBlankLine, trimmed}
+use Rattle.std.specs.{Prelude.{◌≡◌, ◌⊎◌, ℕ, ◌+◌, ◌≤◌, List, [], ◌∷◌, length, map, encode_utf8_all}, Str.{IsUtf8, chars}}
+use Rattle.{yaml_grammar.specs.{Reads.{Limits, Reads}, Style.style_text, Trees.Tree, Events.Event}, yaml_tree.specs.Reading.IsRead}
+use Rattle.{yaml_tree.specs.Reading.Refuses, yaml_commented.specs.{Trails.{Extra, Trail}, Commented.commented_text, TrailsFit.Fits}}
+use Rattle.yaml_comments.specs.{declared.find.Comment.Comment, Comments.{HasComments, AreComments, comment_at}, Found.{place_of, places_of}}
+use Rattle.comments_kept.specs.{declared.{fault.KeepFault.{KeepFault, TheVariants.{Read, Unsettled}}, weaver.Placed.Placed}, Places.Mark}
+use Rattle.comments_kept.specs.{Places.{marks, marks_of}, Laid.{left_over, woven_text}, Weaving.{IsWoven, texts_of}, Blanks.HasBlankLine}
+use Rattle.{comments_kept.specs.Blanks.trimmed, yaml_docs.specs.Reading.RefusesBytes}
 
 -- the limits with another one of the length of the text
 abbrev pub with_bytes : Limits → ℕ → Limits

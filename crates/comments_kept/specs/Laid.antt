@@ -1,12 +1,10 @@
 -- What is kept, laid between the lines of a tree in the one style: the trail behind each line.
-use Rattle.std.specs.Prelude.{ℕ, ◌+◌, ◌==◌, Bool, true, false, not, ◌&&◌, nat_le, min, List, [], ◌∷◌, ◌++◌}
-use Rattle.std.specs.Prelude.{◌||◌, Option, Some, None, encode_utf8_all, if◌then◌else◌}
-use Rattle.yaml_grammar.specs.Style.{plain_in_style, literal_in_style, feeds_at_end, long_key}
-use Rattle.yaml_grammar.specs.Trees.{Tree, text, sequence, mapping, Elements, no_element, element, Members, no_member, member}
-use Rattle.yaml_commented.specs.Trails.{Extra, empty_line, comment_line, Trail}
-use Rattle.yaml_commented.specs.Commented.{commented_text}
-use Rattle.comments_kept.specs.declared.scalars.Line.{Line}
-use Rattle.comments_kept.specs.Places.{Mark}
+use Rattle.std.specs.Prelude.{ℕ, ◌+◌, ◌==◌, Bool, true, false, not, ◌&&◌, nat_le, min, List, [], ◌∷◌, ◌++◌, ◌||◌, Option, Some, None}
+use Rattle.std.specs.Prelude.{encode_utf8_all, if◌then◌else◌}
+use Rattle.yaml_grammar.specs.{Style.{plain_in_style, literal_in_style, feeds_at_end, long_key}, Trees.{Tree, text, sequence, mapping}}
+use Rattle.{yaml_grammar.specs.Trees.{Elements, no_element, element, Members, no_member, member}, yaml_commented.specs.Trails.Extra}
+use Rattle.yaml_commented.specs.{Trails.{empty_line, comment_line, Trail}, Commented.commented_text}
+use Rattle.comments_kept.specs.{declared.scalars.Line.Line, Places.Mark}
 
 -- ---- below a line of the tree
 

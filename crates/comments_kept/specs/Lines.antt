@@ -1,16 +1,11 @@
 -- The lines of a tree in the one style, without the bodies of literals, and where each begins and ends in the text that
 -- the tree was read from. They are found by going through the events of the text. Places are bytes from 0.
-use Rattle.std.specs.Prelude.{◌≡◌, ℕ, ◌+◌, ◌-◌, ◌==◌, Bool, true, false, not, ◌&&◌, ◌||◌, List, [], ◌∷◌, ◌++◌}
-use Rattle.std.specs.Prelude.{Option, Some, None, length, slice_get, slice_index, if◌then◌else◌}
-use Rattle.yaml_grammar.specs.Events.{Event, document_start, document_end, seq_start, seq_end, map_start, map_end}
-use Rattle.yaml_grammar.specs.Events.{scalar_event, Style, plain_style, single_style, double_style, literal_style}
-use Rattle.yaml_grammar.specs.Events.{folded_style, omitted_style}
-use Rattle.yaml_grammar.specs.Style.{long_key}
-use Rattle.comments_kept.specs.declared.rows.Row.{Row}
-use Rattle.comments_kept.specs.declared.rows.Collection.{Collection}
-use Rattle.comments_kept.specs.declared.rows.Begun.{Begun}
-use Rattle.comments_kept.specs.declared.rows.Rows.{Rows}
-use Rattle.comments_kept.specs.Signs.{next_sign, after_sign, colon_at, after_header, start_of_content, line_start}
+use Rattle.std.specs.Prelude.{◌≡◌, ℕ, ◌+◌, ◌-◌, ◌==◌, Bool, true, false, not, ◌&&◌, ◌||◌, List, [], ◌∷◌, ◌++◌, Option, Some, None, length}
+use Rattle.std.specs.Prelude.{slice_get, slice_index, if◌then◌else◌}
+use Rattle.yaml_grammar.specs.Events.{Event, document_start, document_end, seq_start, seq_end, map_start, map_end, scalar_event, Style}
+use Rattle.yaml_grammar.specs.{Events.{plain_style, single_style, double_style, literal_style, folded_style, omitted_style}, Style.long_key}
+use Rattle.comments_kept.specs.{declared.rows.{Row.Row, Collection.Collection, Begun.Begun, Rows.Rows}, Signs.{next_sign, after_sign}}
+use Rattle.comments_kept.specs.Signs.{colon_at, after_header, start_of_content, line_start}
 
 -- what is known behind some events
 pub record Reading : Type 0 where

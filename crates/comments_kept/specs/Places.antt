@@ -1,20 +1,12 @@
 -- Where the comments and empty lines of a text are written: the rule. Lines are those of the tree in the one style,
 -- counted from 0, and each ends in the text where its last token ends.
-use Rattle.std.specs.Prelude.{ℕ, zero, suc, ◌+◌, ◌-◌, ◌*◌, Bool, true, false, ◌&&◌, nat_lt, nat_le, max, List, [], ◌∷◌, ◌++◌}
-use Rattle.std.specs.Prelude.{Option, Some, None, length, map, drop, slice_get, slice_range, if◌then◌else◌}
-use Rattle.std.specs.Str.{chars}
-use Rattle.yaml_grammar.specs.Events.{Event}
-use Rattle.yaml_comments.specs.declared.find.Comment.{Comment}
-use Rattle.yaml_comments.specs.Comments.{comment_at}
-use Rattle.yaml_comments.specs.Found.{place_of}
-use Rattle.comments_kept.specs.declared.rows.Row.{Row}
-use Rattle.comments_kept.specs.declared.rows.Collection.{Collection}
-use Rattle.comments_kept.specs.declared.weaver.Kept as code
-use Rattle.comments_kept.specs.declared.weaver.Kept.TheVariants.{EmptyLine, Comment as KeptComment}
-use Rattle.comments_kept.specs.declared.weaver.Placed.{Placed}
-use Rattle.comments_kept.specs.Blanks.{trimmed}
-use Rattle.comments_kept.specs.Signs.{line_start, is_first, is_below_blank_line}
+use Rattle.std.specs.Prelude.{ℕ, zero, suc, ◌+◌, ◌-◌, ◌*◌, Bool, true, false, ◌&&◌, nat_lt, nat_le, max, List, [], ◌∷◌, ◌++◌, Option, Some}
+use Rattle.std.specs.{Prelude.{None, length, map, drop, slice_get, slice_range, if◌then◌else◌}, Str.chars}
+use Rattle.{yaml_grammar.specs.Events.Event, yaml_comments.specs.{declared.find.Comment.Comment, Comments.comment_at, Found.place_of}}
+use Rattle.comments_kept.specs.declared.{rows.{Row.Row, Collection.Collection}, weaver.Kept.TheVariants.{EmptyLine, Comment as KeptComment}}
+use Rattle.comments_kept.specs.{declared.weaver.Placed.Placed, Blanks.trimmed, Signs.{line_start, is_first, is_below_blank_line}}
 use Rattle.comments_kept.specs.Lines.{held, reading}
+use Rattle.comments_kept.specs.declared.weaver.Kept as code
 
 -- What is kept: a comment by what is written behind its `#`, or an empty line. Place 2n is above line n, on lines of
 -- their own, and place 2n + 1 is behind it.

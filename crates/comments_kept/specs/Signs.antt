@@ -1,6 +1,6 @@
 -- Signs of a text between its scalars. Places are bytes from 0, and a byte behind the text is 0.
-use Rattle.std.specs.Prelude.{ℕ, zero, suc, ◌+◌, ◌==◌, Bool, true, false, not, ◌&&◌, ◌||◌, nat_lt, nat_le, List, [], ◌∷◌}
-use Rattle.std.specs.Prelude.{length, drop, slice_index, if◌then◌else◌, ◌-◌, min, Option, Some, None}
+use Rattle.std.specs.Prelude.{ℕ, zero, suc, ◌+◌, ◌==◌, Bool, true, false, not, ◌&&◌, ◌||◌, nat_lt, nat_le, List, [], ◌∷◌, length, drop}
+use Rattle.std.specs.Prelude.{slice_index, if◌then◌else◌, ◌-◌, min, Option, Some, None}
 use Rattle.yaml_chars.specs.Classes.{white, line_break}
 
 -- a byte that is no sign: whitespace, a break or a comma

@@ -1,47 +1,17 @@
 -- A tree's text that is woven with comments and empty lines: what a step of the writing adds, and what it takes.
-use Rattle.std.specs.Prelude.{
-  ◌≡◌,
-  ◌⊎◌,
-  ◌<◌,
-  Bool,
-  true,
-  false,
-  ℕ,
-  ◌+◌,
-  List,
-  [],
-  ◌∷◌,
-  ◌++◌,
-  Option,
-  Some,
-  None,
-  codes,
-  encode_utf8_all,
-  string_bytes,
-}
-use Rattle.std.specs.Prelude.{flat_map, drop, length}
-use Rattle.std.proofs.Common.{get_or}
-use Rattle.std.specs.List.{AllByRecursion, list_all}
-use Rattle.std.specs.Str.{chars}
-use Rattle.yaml_chars.specs.Classes.{nb}
-use Rattle.yaml_grammar.specs.Style.{literal_mark, feeds_at_end, literal_lines}
-use Rattle.yaml_grammar.specs.Texts.{spaces}
-use Rattle.yaml_grammar.specs.Trees.{Tree, Elements, no_element, element, Members, no_member, member}
-use Rattle.yaml_commented.specs.Trails.{Extra, empty_line, comment_line, Trail, IsBare, trail_comments, trail_text, extra_text}
-use Rattle.yaml_commented.specs.Trails.{extras_text, extras_comments, behind_comments, end_text}
-use Rattle.yaml_commented.specs.Commented.{next_trail, later_trails, after_key, after_tree, after_value, after_elements}
-use Rattle.yaml_commented.specs.Commented.{after_members, scalar_with, key_with, element_with, value_with, elements_with}
-use Rattle.yaml_commented.specs.Commented.{members_with, tree_with, commented_text}
-use Rattle.yaml_commented.specs.TrailsFit.{trail_fits, scalar_trail_fits, key_trail_fits, ElementFits, ValueFits}
-use Rattle.yaml_commented.specs.TrailsFit.{ElementsFit, MembersFit, TreeFits, Fits, starts_low, starts_filled, extra_fits}
-use Rattle.yaml_comments.specs.CommentLaws.{comments_of}
-use Rattle.comments_kept.specs.declared.weaver.Kept.{Kept}
-use Rattle.comments_kept.specs.declared.weaver.Kept.TheVariants.{EmptyLine, Comment}
-use Rattle.comments_kept.specs.declared.weaver.Placed.{Placed}
-use Rattle.comments_kept.specs.declared.weaver.Weaver.{Weaver}
-use Rattle.comments_kept.specs.Places.{Mark, marks_of, kept_text}
-use Rattle.comments_kept.specs.Laid.{Below, freely, below_scalar, below_key, below_element, below_value, below_elements}
-use Rattle.comments_kept.specs.Laid.{below_members, below_tree, marks_to, marks_after, filled_from, lines_of, behind_of}
+use Rattle.std.specs.Prelude.{◌≡◌, ◌⊎◌, ◌<◌, Bool, true, false, ℕ, ◌+◌, List, [], ◌∷◌, ◌++◌, Option, Some, None, codes, encode_utf8_all}
+use Rattle.std.{specs.{Prelude.{string_bytes, flat_map, drop, length}, List.{AllByRecursion, list_all}, Str.chars}, proofs.Common.get_or}
+use Rattle.{yaml_chars.specs.Classes.nb, yaml_grammar.specs.{Style.{literal_mark, feeds_at_end, literal_lines}, Texts.spaces, Trees.Tree}}
+use Rattle.{yaml_grammar.specs.Trees.{Elements, no_element, element, Members, no_member, member}, yaml_commented.specs.Trails.Extra}
+use Rattle.yaml_commented.specs.Trails.{empty_line, comment_line, Trail, IsBare, trail_comments, trail_text, extra_text, extras_text}
+use Rattle.yaml_commented.specs.{Trails.{extras_comments, behind_comments, end_text}, Commented.{next_trail, later_trails, after_key}}
+use Rattle.yaml_commented.specs.Commented.{after_tree, after_value, after_elements, after_members, scalar_with, key_with, element_with}
+use Rattle.yaml_commented.specs.{Commented.{value_with, elements_with, members_with, tree_with, commented_text}, TrailsFit.trail_fits}
+use Rattle.yaml_commented.specs.TrailsFit.{scalar_trail_fits, key_trail_fits, ElementFits, ValueFits, ElementsFit, MembersFit, TreeFits}
+use Rattle.{yaml_commented.specs.TrailsFit.{Fits, starts_low, starts_filled, extra_fits}, yaml_comments.specs.CommentLaws.comments_of}
+use Rattle.comments_kept.specs.{declared.weaver.{Kept.{Kept, TheVariants.{EmptyLine, Comment}}, Placed.Placed, Weaver.Weaver}, Places.Mark}
+use Rattle.comments_kept.specs.{Places.{marks_of, kept_text}, Laid.{Below, freely, below_scalar, below_key, below_element, below_value}}
+use Rattle.comments_kept.specs.Laid.{below_elements, below_members, below_tree, marks_to, marks_after, filled_from, lines_of, behind_of}
 use Rattle.comments_kept.specs.Laid.{after_behind, Coming, trails_at, behind_all, left_over, woven_text}
 
 -- the comment of what is kept, by what is behind its `#`

@@ -1,10 +1,8 @@
 -- A pair more at the end of a mapping, and one less.
-use Rattle.std.proofs.Common.{◌≡◌, ℕ, ◌+◌, List, [], ◌∷◌, ◌++◌, length, refl, sym, ap, ◌∙◌}
+use Rattle.std.proofs.{Common.{◌≡◌, ℕ, ◌+◌, List, [], ◌∷◌, ◌++◌, length, refl, sym, ap, ◌∙◌}, lemmas.List.nil_from_length}
 use Rattle.std.specs.Prelude.{Option, Some, None, option_to_list, MatchOption}
-use Rattle.std.proofs.lemmas.List.{nil_from_length}
 use Rattle.conf_about.proofs.Prelude.{chars, join_members, members_of-append, Pair, members_of, tree_of, text_bytes, Tree, text, sequence}
-use Rattle.conf_about.proofs.Prelude.{mapping, Members, no_member, member}
-use Rattle.conf_about.specs.AboutWords.{members_with, with_pair}
+use Rattle.conf_about.{proofs.Prelude.{mapping, Members, no_member, member}, specs.AboutWords.{members_with, with_pair}}
 
 join-one : (ms : Members) (key value : List ℕ) → join_members ms (member key (text value) no_member) ≡ members_with ms key value
 join-one no_member key value = refl

@@ -1,13 +1,11 @@
 -- A tree of texts has no fault exactly if it is an about.
-use Rattle.std.proofs.Common.{◌≡◌, ℕ, ◌≤◌, Bool, true, false, not, List, [], ◌∷◌, length, refl, ap, subst, ◌∙◌, arith}
-use Rattle.std.specs.Prelude.{◌==◌, nat_lt, if◌then◌else◌, Option, Some, None}
-use Rattle.conf_about.proofs.Prelude.{eqb-false, ne_eqb, ltb-false, le-ltb, keys_differ, values_distinct}
-use Rattle.conf_about.proofs.Prelude.{style_text, byte_len, is_empty, Tree, text, sequence, mapping, Members, no_member, member}
-use Rattle.conf_about.proofs.Prelude.{members_depth, IsTextTree}
-use Rattle.conf_about.specs.declared.fault.AboutFault.{AboutFault}
-use Rattle.conf_about.specs.declared.fault.AboutFault.TheVariants.{NoMapping, NoText, NoKey, LongKey, TooMany, Twice, TooLarge}
-use Rattle.conf_about.specs.Abouts.{key_limit, pair_limit, style_limit, ArePairs, pair_count, IsAbout, is_text, pair_fault, first_of}
-use Rattle.conf_about.specs.Abouts.{pairs_fault, whole_fault, fault_of}
+use Rattle.std.{proofs.Common.{◌≡◌, ℕ, ◌≤◌, Bool, true, false, not, List, [], ◌∷◌, length, refl, ap, subst, ◌∙◌, arith}, specs.Prelude.◌==◌}
+use Rattle.std.specs.Prelude.{nat_lt, if◌then◌else◌, Option, Some, None}
+use Rattle.conf_about.proofs.Prelude.{eqb-false, ne_eqb, ltb-false, le-ltb, keys_differ, values_distinct, style_text, byte_len, is_empty}
+use Rattle.conf_about.proofs.Prelude.{Tree, text, sequence, mapping, Members, no_member, member, members_depth, IsTextTree}
+use Rattle.conf_about.specs.declared.fault.AboutFault.{AboutFault, TheVariants.{NoMapping, NoText, NoKey, LongKey, TooMany, Twice}}
+use Rattle.conf_about.specs.{declared.fault.AboutFault.TheVariants.TooLarge, Abouts.{key_limit, pair_limit, style_limit, ArePairs}}
+use Rattle.conf_about.specs.Abouts.{pair_count, IsAbout, is_text, pair_fault, first_of, pairs_fault, whole_fault, fault_of}
 
 -- ---- the tests of a pair
 

@@ -1,14 +1,10 @@
 -- Pairs of the code, and the members that they are.
 use Rattle.std.proofs.Common.{◌≡◌, ℕ, suc, ◌+◌, ◌≤◌, ◌<◌, Bool, ◌||◌, List, [], ◌∷◌, length, get_or, drop, refl, sym, ap, ◌∙◌, arith}
-use Rattle.std.specs.Prelude.{nat_eq, Option, Some, None, option_and_then, Result, Ok, Err}
-use Rattle.std.proofs.lemmas.Str.{len_utf8_bounds}
-use Rattle.yaml_writer.proofs.ByteLemmas.{byte_len-encoded}
-use Rattle.conf_about.proofs.Prelude.{nat_tests, at_drop_more, chars, bytes_eq, encodes-chars, IsUtf8, IsUtf8-text_bytes}
-use Rattle.conf_about.proofs.Prelude.{same_key, byte_len}
-use Rattle.conf_about.proofs.Prelude.{is_empty, text_bytes, Pair, members_of, has_key, same_text, Tree}
-use Rattle.tree_path.specs.Paths.{child, present, value_of}
-use Rattle.tree_path.specs.declared.place.Miss.{Miss}
-use Rattle.conf_about.specs.Abouts.{IsAbout, pair_count, text_in, text_under}
+use Rattle.std.{proofs.lemmas.Str.len_utf8_bounds, specs.Prelude.{nat_eq, Option, Some, None, option_and_then, Result, Ok, Err}}
+use Rattle.{yaml_writer.proofs.ByteLemmas.byte_len-encoded, conf_about.proofs.Prelude.{nat_tests, at_drop_more, chars, bytes_eq}}
+use Rattle.conf_about.proofs.Prelude.{encodes-chars, IsUtf8, IsUtf8-text_bytes, same_key, byte_len, is_empty, text_bytes, Pair, members_of}
+use Rattle.conf_about.{proofs.Prelude.{has_key, same_text, Tree}, specs.Abouts.{IsAbout, pair_count, text_in, text_under}}
+use Rattle.tree_path.specs.{Paths.{child, present, value_of}, declared.place.Miss.Miss}
 
 -- a text has no byte exactly if it has no character
 pub bytes-empty : (bs : List ℕ) → IsUtf8 bs → nat_eq (length bs) 0 ≡ is_empty (chars bs)

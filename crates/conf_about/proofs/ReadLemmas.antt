@@ -1,14 +1,10 @@
 -- The text of an about is read back.
-use Rattle.std.proofs.Common.{◌≡◌, ℕ, ◌≤◌, true, List, [], ◌∷◌, refl, sym, ap, subst, ◌∙◌, arith}
-use Rattle.std.specs.Prelude.{encode_utf8_all}
+use Rattle.std.{proofs.Common.{◌≡◌, ℕ, ◌≤◌, true, List, [], ◌∷◌, refl, sym, ap, subst, ◌∙◌, arith}, specs.Prelude.encode_utf8_all}
 use lib.Utf8.{scalar}
-use Rattle.yaml_recognizers.specs.StyleLaws.{StyleReads}
-use Rattle.conf_about.proofs.Prelude.{and_parts, and_from, nat_tests, chars-encodes, list_all, all_scalars, code_point}
-use Rattle.conf_about.proofs.Prelude.{members_distinct-parts, keys_differ, values_distinct, Limits, Good, Gives, style_text, byte_len}
-use Rattle.conf_about.proofs.Prelude.{IsText, Tree, depth, distinct, IsRead}
-use Rattle.conf_about.specs.Abouts.{IsAbout}
-use Rattle.conf_about.specs.ReadBack.{AdmitsAbouts, AboutsAreRead}
-use Rattle.conf_about.proofs.FaultLemmas.{pairs-shallow, pairs-distinct}
+use Rattle.{yaml_recognizers.specs.StyleLaws.StyleReads, conf_about.proofs.Prelude.{and_parts, and_from, nat_tests, chars-encodes}}
+use Rattle.conf_about.proofs.Prelude.{list_all, all_scalars, code_point, members_distinct-parts, keys_differ, values_distinct, Limits, Good}
+use Rattle.conf_about.proofs.{Prelude.{Gives, style_text, byte_len, IsText, Tree, depth, distinct, IsRead}, FaultLemmas.pairs-shallow}
+use Rattle.conf_about.{proofs.FaultLemmas.pairs-distinct, specs.{Abouts.IsAbout, ReadBack.{AdmitsAbouts, AboutsAreRead}}}
 
 text-scalars : (cs : List ℕ) → IsText cs → all_scalars cs ≡ true
 text-scalars [] is = refl

@@ -1,15 +1,12 @@
 -- What words say, one after another.
-use Rattle.std.proofs.Common.{◌≡◌, ℕ, zero, suc, ◌+◌, ◌<◌, ◌≤◌, Bool, List, [], ◌∷◌, ◌++◌, length, get_or, take, drop, map, refl}
-use Rattle.std.proofs.Common.{sym, ap, ap₂, subst, ◌∙◌, arith}
-use Rattle.std.specs.Prelude.{◌==◌, if◌then◌else◌, Option, Some, None, option_map, option_and_then}
-use Rattle.std.specs.Borrow.{Bor}
+use Rattle.std.proofs.Common.{◌≡◌, ℕ, zero, suc, ◌+◌, ◌<◌, ◌≤◌, Bool, List, [], ◌∷◌, ◌++◌, length, get_or, take, drop, map, refl, sym, ap}
+use Rattle.std.{proofs.Common.{ap₂, subst, ◌∙◌, arith}, specs.Prelude.{◌==◌, if◌then◌else◌, Option, Some, None, option_map}}
+use Rattle.std.specs.{Prelude.option_and_then, Borrow.Bor}
 use Rattle.conf_about.proofs.Prelude.{at_drop_more, at_drop_all, chars-append, chars-IsAscii, chars_from_encodes, IsUtf8-from_ascii}
-use Rattle.conf_about.proofs.Prelude.{IsCharBoundary, IsCharBoundary-at_seam, IsUtf8-append, IsUtf8-drop, IsUtf8-take}
-use Rattle.conf_about.proofs.Prelude.{NoCharPasses, NonePass, chars, IsAscii, IsUtf8}
-use Rattle.conf_about.proofs.Prelude.{join_members, members_of-append, Pair, members_of, tree_of, text_bytes, Tree, text, Members}
-use Rattle.conf_about.proofs.Prelude.{no_member}
-use Rattle.conf_about.proofs.Prelude.{member}
-use Rattle.conf_about.specs.AboutWords.{equals_sign, pair_in, members_in}
+use Rattle.conf_about.proofs.Prelude.{IsCharBoundary, IsCharBoundary-at_seam, IsUtf8-append, IsUtf8-drop, IsUtf8-take, NoCharPasses}
+use Rattle.conf_about.proofs.Prelude.{NonePass, chars, IsAscii, IsUtf8, join_members, members_of-append, Pair, members_of, tree_of}
+use Rattle.conf_about.{proofs.Prelude.{text_bytes, Tree, text, Members, no_member, member}, specs.AboutWords.{equals_sign, pair_in}}
+use Rattle.conf_about.specs.AboutWords.{members_in}
 
 -- ---- a word
 

@@ -1,9 +1,7 @@
 -- What words `KEY=TEXT` say.
 use Rattle.std.specs.Prelude.{ℕ, ◌==◌, if◌then◌else◌, List, [], ◌∷◌, Option, Some, None, option_map, option_and_then}
-use Rattle.conf_about.specs.Prelude.{Tree, text, sequence, mapping, Members, no_member, member}
-use Rattle.conf_about.specs.declared.fault.AboutFault.{AboutFault}
-use Rattle.conf_about.specs.declared.fault.AboutFault.TheVariants.{NoKey}
-use Rattle.conf_about.specs.Abouts.{fault_of}
+use Rattle.conf_about.specs.{Prelude.{Tree, text, sequence, mapping, Members, no_member, member}, declared.fault.AboutFault.AboutFault}
+use Rattle.conf_about.specs.{declared.fault.AboutFault.TheVariants.NoKey, Abouts.fault_of}
 
 -- the code point of `=`
 abbrev pub equals_sign : ℕ

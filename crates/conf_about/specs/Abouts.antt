@@ -1,10 +1,9 @@
 -- What an about is, and why a tree is none.
-use Rattle.std.specs.Prelude.{◌≡◌, ℕ, suc, ◌≤◌, ◌==◌, nat_lt, not, Bool, true, false, if◌then◌else◌, IsTrue, List, [], ◌∷◌, length}
-use Rattle.std.specs.Prelude.{Option, Some, None, option_and_then}
-use Rattle.conf_about.specs.Prelude.{style_text, byte_len, is_empty, Tree, text, sequence, mapping, Members, no_member, member}
-use Rattle.conf_about.specs.Prelude.{IsTextTree, keys_differ, value_of}
-use Rattle.conf_about.specs.declared.fault.AboutFault.{AboutFault}
-use Rattle.conf_about.specs.declared.fault.AboutFault.TheVariants.{NoMapping, NoText, NoKey, LongKey, TooMany, Twice, TooLarge}
+use Rattle.std.specs.Prelude.{◌≡◌, ℕ, suc, ◌≤◌, ◌==◌, nat_lt, not, Bool, true, false, if◌then◌else◌, IsTrue, List, [], ◌∷◌, length, Option}
+use Rattle.std.specs.Prelude.{Some, None, option_and_then}
+use Rattle.conf_about.specs.Prelude.{style_text, byte_len, is_empty, Tree, text, sequence, mapping, Members, no_member, member, IsTextTree}
+use Rattle.conf_about.specs.{Prelude.{keys_differ, value_of}, declared.fault.AboutFault.{AboutFault, TheVariants.{NoMapping, NoText}}}
+use Rattle.conf_about.specs.declared.fault.AboutFault.TheVariants.{NoKey, LongKey, TooMany, Twice, TooLarge}
 
 -- ---- the limits
 

@@ -1,8 +1,6 @@
 -- The text of an about in the one style is read back, as a statement.
 use Rattle.std.specs.Prelude.{◌≡◌, ◌≤◌, encode_utf8_all}
-use Rattle.conf_about.specs.Prelude.{style_text, Tree, Limits}
-use Rattle.yaml_tree.specs.Reading.{IsRead}
-use Rattle.conf_about.specs.Abouts.{IsAbout, style_limit}
+use Rattle.{conf_about.specs.{Prelude.{style_text, Tree, Limits}, Abouts.{IsAbout, style_limit}}, yaml_tree.specs.Reading.IsRead}
 
 -- limits that every about keeps, as those of a configuration are
 pub record AdmitsAbouts (limits : Limits) : Type 0 where

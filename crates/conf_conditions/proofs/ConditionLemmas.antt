@@ -1,17 +1,12 @@
 -- What is computed of conditions, and what they say.
 use Rattle.std.proofs.Common.{◌≡◌, ◌⊎◌, inl, inr, ⊎_elim, ℕ, Bool, true, false, List, [], ◌∷◌, Some, None, refl, sym, ap, subst, ◌∙◌}
-use Rattle.std.proofs.lemmas.Bool.{eqb-true, eqb-false, eq-eqb, false≢true}
-use Rattle.std.specs.Prelude.{◌==◌, if◌then◌else◌, Option, is_none, Result, Ok, Err}
-use Rattle.yaml_grammar.specs.Trees.{Tree}
-use Rattle.json_pointer.specs.Pointers.{path_of}
-use Rattle.json_pointer.specs.declared.fault.PathFault.{PathFault}
-use Rattle.conf_state.specs.Names.{good_name}
-use Rattle.conf_state.specs.States.{Contents}
-use Rattle.conf_conditions.specs.Conditions.{Condition, test_at, absent_at, count_is, value_in, found_by, found_at}
-use Rattle.conf_conditions.specs.Conditions.{unless_met, unless_found, is_value, fault_of, first_of, first_fault}
-use Rattle.conf_conditions.specs.Conditions.{IsPlace, Holds, AllHold, IsNoPlace, Fails, FailsFirst}
-use Rattle.conf_conditions.specs.declared.fault.ConditionFault.{ConditionFault}
-use Rattle.conf_conditions.specs.declared.fault.ConditionFault.TheVariants.{Unmet, BadName, Path, OutOfMemory}
+use Rattle.std.{proofs.lemmas.Bool.{eqb-true, eqb-false, eq-eqb, false≢true}, specs.Prelude.{◌==◌, if◌then◌else◌, Option, is_none, Result}}
+use Rattle.std.specs.Prelude.{Ok, Err}
+use Rattle.{yaml_grammar.specs.Trees.Tree, json_pointer.specs.{Pointers.path_of, declared.fault.PathFault.PathFault}}
+use Rattle.{conf_state.specs.{Names.good_name, States.Contents}, conf_conditions.specs.Conditions.{Condition, test_at, absent_at, count_is}}
+use Rattle.conf_conditions.specs.Conditions.{value_in, found_by, found_at, unless_met, unless_found, is_value, fault_of, first_of}
+use Rattle.conf_conditions.specs.Conditions.{first_fault, IsPlace, Holds, AllHold, IsNoPlace, Fails, FailsFirst}
+use Rattle.conf_conditions.specs.declared.fault.ConditionFault.{ConditionFault, TheVariants.{Unmet, BadName, Path, OutOfMemory}}
 use Rattle.conf_conditions.proofs.SameLemmas.{same_tree-true, same_tree-self}
 
 -- ---- one test

@@ -1,14 +1,10 @@
 -- Trees that are compared: place by place, and that the comparison is equality.
-use Rattle.std.proofs.Common.{◌≡◌, suc, Bool, true, false, ◌&&◌, List, [], ◌∷◌, length, refl, ap, ap₂, ◌∙◌}
-use Rattle.std.proofs.lemmas.Bool.{and_parts, and_from}
-use Rattle.std.specs.Str.{chars}
-use Rattle.yaml_grammar.specs.Texts.{same_text}
-use Rattle.yaml_grammar.specs.Trees as grammar
-use Rattle.yaml_data.specs.Seen.{Pair, tree_of, elements_of, members_of}
-use Rattle.yaml_data.specs.TextBytes.{text_bytes}
-use Rattle.yaml_data.specs.declared.tree.Tree.{Tree}
-use Rattle.yaml_data.proofs.CharacterLemmas.{same_text-true, same_text-self}
+use Rattle.std.proofs.{Common.{◌≡◌, suc, Bool, true, false, ◌&&◌, List, [], ◌∷◌, length, refl, ap, ap₂, ◌∙◌}, lemmas.Bool.and_parts}
+use Rattle.std.{proofs.lemmas.Bool.and_from, specs.Str.chars}
+use Rattle.{yaml_grammar.specs.Texts.same_text, yaml_data.specs.{Seen.{Pair, tree_of, elements_of, members_of}, TextBytes.text_bytes}}
+use Rattle.yaml_data.{specs.declared.tree.Tree.Tree, proofs.CharacterLemmas.{same_text-true, same_text-self}}
 use Rattle.conf_conditions.specs.SameTrees.{same_tree, same_elements, same_members}
+use Rattle.yaml_grammar.specs.Trees as grammar
 
 -- ---- lists that are not as long as one another
 

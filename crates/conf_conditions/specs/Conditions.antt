@@ -1,20 +1,12 @@
 -- Conditions on a store's state: what each means, and the fault of the first that does not hold.
-use Rattle.std.specs.Prelude.{◌≡◌, ◌≢◌, ℕ, Bool, true, false, ◌==◌, if◌then◌else◌, List, [], ◌∷◌, ◌++◌, map, Option}
-use Rattle.std.specs.Prelude.{Some, None, is_none, option_and_then, Result, Ok, Err}
-use Rattle.std.specs.Result.{result_ok}
-use Rattle.yaml_grammar.specs.Trees.{Tree}
-use Rattle.yaml_data.specs.Seen.{tree_of}
-use Rattle.json_pointer.specs.Pointers.{path_of}
-use Rattle.json_pointer.specs.declared.fault.PathFault.{PathFault}
-use Rattle.tree_path.specs.Paths.{at}
-use Rattle.conf_state.specs.Commands.{text_of}
-use Rattle.conf_state.specs.Names.{good_name}
-use Rattle.conf_state.specs.States.{Contents, config_named}
-use Rattle.conf_conditions.specs.SameTrees.{same_tree}
+use Rattle.std.specs.Prelude.{◌≡◌, ◌≢◌, ℕ, Bool, true, false, ◌==◌, if◌then◌else◌, List, [], ◌∷◌, ◌++◌, map, Option, Some, None, is_none}
+use Rattle.std.specs.{Prelude.{option_and_then, Result, Ok, Err}, Result.result_ok}
+use Rattle.{yaml_grammar.specs.Trees.Tree, yaml_data.specs.Seen.tree_of, json_pointer.specs.Pointers.path_of}
+use Rattle.{json_pointer.specs.declared.fault.PathFault.PathFault, tree_path.specs.Paths.at, conf_state.specs.Commands.text_of}
+use Rattle.{conf_state.specs.{Names.good_name, States.{Contents, config_named}}, conf_conditions.specs.SameTrees.same_tree}
+use Rattle.conf_conditions.specs.declared.fault.ConditionFault.{ConditionFault, TheVariants.{Unmet, BadName, Path, OutOfMemory}}
 use Rattle.conf_conditions.specs.declared.condition.Condition as code
 use Rattle.conf_conditions.specs.declared.condition.Condition.TheVariants as conditions
-use Rattle.conf_conditions.specs.declared.fault.ConditionFault.{ConditionFault}
-use Rattle.conf_conditions.specs.declared.fault.ConditionFault.TheVariants.{Unmet, BadName, Path, OutOfMemory}
 
 -- the value at a place is this tree; nothing is at a place; so many commands were accepted
 pub data Condition : Type 0 where

@@ -1,7 +1,7 @@
 -- Whether two trees are equal, as it is computed.
 use Rattle.std.specs.Prelude.{Bool, true, false, ◌&&◌}
-use Rattle.yaml_grammar.specs.Texts.{same_text}
-use Rattle.yaml_grammar.specs.Trees.{Tree, text, sequence, mapping, Elements, no_element, element, Members, no_member, member}
+use Rattle.yaml_grammar.specs.{Texts.same_text, Trees.{Tree, text, sequence, mapping, Elements, no_element, element, Members, no_member}}
+use Rattle.yaml_grammar.specs.Trees.{member}
 
 abbrev mutual
   -- the two trees are equal

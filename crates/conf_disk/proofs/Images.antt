@@ -1,21 +1,15 @@
 -- What each call makes of the images.
 use Rattle.std.proofs.Common.{◌≡◌, ◌⊎◌, inl, inr, ⊎_elim, ℕ, zero, suc, ◌-◌, ◌≤◌, List, [], ◌∷◌, ◌++◌, length, get_or, set, take, drop}
-use Rattle.std.proofs.Common.{Option, Some, None, Contains, Result, Ok, Err, Bool, true, false, not, ◌&&◌, ◌||◌}
-use Rattle.std.proofs.Common.{refl, sym, ◌∙◌, ap, subst, arith, append_assoc}
-use Rattle.std.proofs.Common.{take-append-drop}
-use Rattle.std.proofs.lemmas.List.{get_or-set_same, get_or-set_other, set_past, take_all, drop_all}
-use Rattle.std.proofs.lemmas.List.{get_or_append_left, get_or_past, get_or-append_right}
-use Rattle.std.proofs.lemmas.List.Elements.{Contains-append_left, Contains-append_right, Contains-append_cases}
-use Rattle.std.proofs.lemmas.Bool.{cases_eq, cases_lt}
-use Rattle.conf_disk.specs.{Image.Image, Image.IsImage, Image.IsTorn, Image.IsTornAt, Image.IsWorn, declared.disk.DiskFault.DiskFault}
-use Rattle.conf_disk.specs.Folder.{Stage, File, empty_file, Folder, stages, under, Step, CreateNext, Append, Sync, RenameNext, RemoveNext}
-use Rattle.conf_disk.specs.Folder.{SyncFolder, with_file, with_pending, synced_whole, synced_first, after_create, after_rename}
-use Rattle.conf_disk.specs.Folder.{after_remove, after_append, after, after_part, Performs}
-use Rattle.conf_disk.specs.Folder.{with_notes, noted_by_append, noted_at, noted_behind}
-use Rattle.conf_disk.specs.Folder.{is_place, noted_but, after_failed_rename, several_waited}
-use Rattle.conf_disk.specs.declared.disk.Name.{Name}
-use Rattle.conf_disk.specs.declared.disk.Name.TheVariants.{Store, Next}
-use Rattle.conf_disk.proofs.Worn.{IsWorn-more, IsWorn-behind, IsWorn-first}
+use Rattle.std.proofs.Common.{Option, Some, None, Contains, Result, Ok, Err, Bool, true, false, not, ◌&&◌, ◌||◌, refl, sym, ◌∙◌, ap, subst}
+use Rattle.std.proofs.{Common.{arith, append_assoc, take-append-drop}, lemmas.List.{get_or-set_same, get_or-set_other, set_past, take_all}}
+use Rattle.std.proofs.lemmas.List.{drop_all, get_or_append_left, get_or_past, get_or-append_right, Elements.Contains-append_left}
+use Rattle.std.proofs.lemmas.{List.Elements.{Contains-append_right, Contains-append_cases}, Bool.{cases_eq, cases_lt}}
+use Rattle.conf_disk.specs.{Image.{Image, IsImage, IsTorn, IsTornAt, IsWorn}, declared.disk.{DiskFault.DiskFault, Name.Name}}
+use Rattle.conf_disk.specs.{declared.disk.Name.TheVariants.{Store, Next}, Folder.{Stage, File, empty_file, Folder, stages, under, Step}}
+use Rattle.conf_disk.specs.Folder.{CreateNext, Append, Sync, RenameNext, RemoveNext, SyncFolder, with_file, with_pending, synced_whole}
+use Rattle.conf_disk.specs.Folder.{synced_first, after_create, after_rename, after_remove, after_append, after, after_part, Performs}
+use Rattle.conf_disk.specs.Folder.{with_notes, noted_by_append, noted_at, noted_behind, is_place, noted_but, after_failed_rename}
+use Rattle.conf_disk.{specs.Folder.several_waited, proofs.Worn.{IsWorn-more, IsWorn-behind, IsWorn-first}}
 
 -- whatever the one file may be torn into, the other may be too
 abbrev pub TearsInto : File → File → Type 0

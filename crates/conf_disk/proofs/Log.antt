@@ -1,12 +1,9 @@
 -- One step more after a list of them.
 use Rattle.std.proofs.Common.{◌≡◌, ◌⊎◌, inl, inr, ⊎_elim, ℕ, zero, suc, ◌+◌, ◌≤◌, ◌<◌, List, [], ◌∷◌, ◌++◌, length, take, slice_get, Option}
-use Rattle.std.proofs.Common.{Some, refl, sym, ◌∙◌, ap, subst, arith, length-append}
-use Rattle.std.proofs.lemmas.List.{take_all, take-append-le}
+use Rattle.std.proofs.{Common.{Some, refl, sym, ◌∙◌, ap, subst, arith, length-append}, lemmas.List.{take_all, take-append-le}}
 use Rattle.std.proofs.lemmas.Bool.{cases_lt, cases_eq}
-use Rattle.conf_disk.specs.{Image.Image, Image.IsImage, LogLaws.folder_at-length, LogLaws.left_now, Moments.Elapses}
-use Rattle.conf_disk.specs.Folder.{Folder, Step, after, after_part}
-use Rattle.conf_disk.specs.Log.{folder_after, folder_within, folder_at, IsLeftSince}
-use Rattle.conf_disk.proofs.Images.{after_part-cases}
+use Rattle.conf_disk.specs.{Image.{Image, IsImage}, LogLaws.{folder_at-length, left_now}, Moments.Elapses, Folder.{Folder, Step, after}}
+use Rattle.conf_disk.{specs.{Folder.after_part, Log.{folder_after, folder_within, folder_at, IsLeftSince}}, proofs.Images.after_part-cases}
 
 folder_after-push : (steps : List Step) (step : Step) (folder : Folder)
     → folder_after (steps ++ step ∷ []) folder ≡ after step (folder_after steps folder)

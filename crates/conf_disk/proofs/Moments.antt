@@ -1,9 +1,7 @@
 -- What a stop during a run of calls leaves.
 use Rattle.std.proofs.Common.{◌≤◌, ◌⊎◌, inl, inr, ⊎_elim, ◌≡◌, ℕ, Result, subst, arith}
-use Rattle.conf_disk.specs.{Folder.Folder, Folder.Step, Folder.after, Folder.Performs}
-use Rattle.conf_disk.specs.{Image.Image, Image.IsImage, Models.DiskModel, Moments.Elapses}
-use Rattle.conf_disk.specs.{Moments.LeavesOnly, declared.disk.DiskFault.DiskFault}
-use Rattle.conf_disk.proofs.Images.{Performs-cases}
+use Rattle.conf_disk.specs.{Folder.{Folder, Step, after, Performs}, Image.{Image, IsImage}, Models.DiskModel, Moments.{Elapses, LeavesOnly}}
+use Rattle.conf_disk.{specs.declared.disk.DiskFault.DiskFault, proofs.Images.Performs-cases}
 
 -- no call
 pub LeavesOnly-start : {D : Type 0} (model : DiskModel D) (old : D) (P : Image → Type 0)

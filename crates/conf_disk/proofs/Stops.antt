@@ -1,16 +1,11 @@
 -- The cuts of a stage and its images; what a crash leaves.
 use Rattle.std.proofs.Common.{◌≡◌, ◌↔◌, ℕ, zero, suc, ◌+◌, ◌≤◌, List, [], ◌∷◌, ◌++◌, length, get_or, take, replicate, Option, Some, None}
 use Rattle.std.proofs.Common.{Contains, slice_get, Bool, true, false, ◌&&◌, ◌||◌, if◌then◌else◌, refl, sym, ◌∙◌, ap, subst, arith}
-use Rattle.std.proofs.Common.{append_assoc}
-use Rattle.std.proofs.lemmas.List.{append-nil}
-use Rattle.std.proofs.lemmas.List.Elements.{Contains-append_right}
-use Rattle.std.proofs.lemmas.Bool.{le-leb, leb-true}
+use Rattle.std.proofs.{Common.append_assoc, lemmas.{List.{append-nil, Elements.Contains-append_right}, Bool.{le-leb, leb-true}}}
 use Rattle.std.proofs.lemmas.Option.{slice_get-get_or, slice_get_within, get_or_from_slice_get}
-use Rattle.conf_disk.specs.Folder.{File, empty_file, file_bytes, Stage, Folder, stages, bytes_at, with_notes}
-use Rattle.conf_disk.specs.Image.{Image, IsImage, IsTorn, IsTornAt, IsLater, image_now, folder_of_image, folder_with, folder_with_files}
-use Rattle.conf_disk.specs.Image.{fits_at, torn_bytes, torn_at, with_zeros, IsWorn, Places, image_of_stage}
-use Rattle.conf_disk.specs.Laws.{IsCutTo}
-use Rattle.conf_disk.specs.declared.cuts.Cuts.{Cuts}
+use Rattle.conf_disk.specs.{Folder.{File, empty_file, file_bytes, Stage, Folder, stages, bytes_at, with_notes}, Image.{Image, IsImage}}
+use Rattle.conf_disk.specs.Image.{IsTorn, IsTornAt, IsLater, image_now, folder_of_image, folder_with, folder_with_files, fits_at}
+use Rattle.conf_disk.specs.{Image.{torn_bytes, torn_at, with_zeros, IsWorn, Places, image_of_stage}, Laws.IsCutTo, declared.cuts.Cuts.Cuts}
 use Rattle.conf_disk.proofs.Worn.{IsWorn-whole, IsWorn-none, IsWorn-prefix, IsWorn-zeros, IsWorn-holed}
 
 -- a prefix of the pending bytes with zeros after it

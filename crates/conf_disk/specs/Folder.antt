@@ -1,9 +1,8 @@
 -- A folder of two names: its files, its stages, and what each call makes of it.
-use Rattle.std.specs.Prelude.{◌≡◌, ℕ, zero, suc, ◌≤◌, ◌<◌, List, [], ◌∷◌, ◌++◌, length, get_or, take, drop, set, Option}
-use Rattle.std.specs.Prelude.{Some, None, IsSome, Result, MatchResult, Bool, true, false, not, ◌&&◌, ◌||◌, ◌==◌}
-use Rattle.conf_disk.specs.{declared.disk.Name.Name, declared.disk.Content.Content, declared.disk.DiskFault.DiskFault}
-use Rattle.conf_disk.specs.declared.disk.Name.TheVariants.{Store, Next}
-use Rattle.conf_disk.specs.declared.disk.Content.TheVariants.{Missing, Bytes, TooLong}
+use Rattle.std.specs.Prelude.{◌≡◌, ℕ, zero, suc, ◌≤◌, ◌<◌, List, [], ◌∷◌, ◌++◌, length, get_or, take, drop, set, Option, Some, None, IsSome}
+use Rattle.std.specs.Prelude.{Result, MatchResult, Bool, true, false, not, ◌&&◌, ◌||◌, ◌==◌}
+use Rattle.conf_disk.specs.declared.disk.{Name.{Name, TheVariants.{Store, Next}}, Content.{Content, TheVariants.{Missing, Bytes, TooLong}}}
+use Rattle.conf_disk.specs.declared.disk.DiskFault.{DiskFault}
 
 -- A file's bytes: those that a crash leaves, then those that were appended since the last sync (pending).
 pub record File : Type 0 where

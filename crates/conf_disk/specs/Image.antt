@@ -1,11 +1,8 @@
 -- What a crash may leave of a folder.
-use Rattle.std.specs.Prelude.{◌≡◌, ◌≢◌, ◌⊎◌, ℕ, ◌+◌, ◌<◌, List, [], ◌∷◌, ◌++◌, length, get_or, set, slice_get, take}
-use Rattle.std.specs.Prelude.{replicate, Contains, All, Bool, false, Option, Some, None, if◌then◌else◌, ◌&&◌, ◌||◌}
-use Rattle.std.specs.Prelude.{◌==◌, nat_le}
-use Rattle.conf_disk.specs.declared.disk.Name.TheVariants.{Store, Next}
-use Rattle.conf_disk.specs.declared.cuts.Cuts.{Cuts}
-use Rattle.conf_disk.specs.declared.cuts.Holes.{Holes}
-use Rattle.conf_disk.specs.Folder.{Stage, File, empty_file, Folder, stages, bytes_under, several_waited, with_notes}
+use Rattle.std.specs.Prelude.{◌≡◌, ◌≢◌, ◌⊎◌, ℕ, ◌+◌, ◌<◌, List, [], ◌∷◌, ◌++◌, length, get_or, set, slice_get, take, replicate, Contains}
+use Rattle.std.specs.Prelude.{All, Bool, false, Option, Some, None, if◌then◌else◌, ◌&&◌, ◌||◌, ◌==◌, nat_le}
+use Rattle.conf_disk.specs.{declared.{disk.Name.TheVariants.{Store, Next}, cuts.{Cuts.Cuts, Holes.Holes}}, Folder.{Stage, File, empty_file}}
+use Rattle.conf_disk.specs.Folder.{Folder, stages, bytes_under, several_waited, with_notes}
 
 -- the bytes of the two files after a crash, and whether it is noted that several appends to `store.yaml` may have waited
 -- for one sync

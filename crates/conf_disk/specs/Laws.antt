@@ -1,8 +1,7 @@
 -- Facts about the model that hold of every folder.
 use Rattle.std.specs.Prelude.{◌≡◌, ◌⊎◌, ◌↔◌, ◌+◌, ◌≤◌, ℕ, length, Bool, Some}
-use Rattle.conf_disk.specs.Folder.{File, Folder, Step, after, after_part}
-use Rattle.conf_disk.specs.Image.{Image, IsImage, IsTorn, IsLater, torn_bytes, image_now, folder_of_image, Places, holed_image_at}
-use Rattle.conf_disk.specs.declared.cuts.Cuts.{Cuts}
+use Rattle.conf_disk.specs.{Folder.{File, Folder, Step, after, after_part}, Image.{Image, IsImage, IsTorn, IsLater, torn_bytes, image_now}}
+use Rattle.conf_disk.specs.{Image.{folder_of_image, Places, holed_image_at}, declared.cuts.Cuts.Cuts}
 
 -- a stage, cuts, the places of zeros, and whether the note is kept: such a choice leaves this image
 pub record IsCutTo (folder : Folder) (image : Image) : Type 0 where

@@ -1,7 +1,6 @@
 -- The folder after a list of steps, and what a crash on the way leaves.
 use Rattle.std.specs.Prelude.{ℕ, ◌≤◌, List, [], ◌∷◌, length, slice_get, take, Option, Some, None}
-use Rattle.conf_disk.specs.Folder.{Folder, Step, after, after_part}
-use Rattle.conf_disk.specs.Image.{Image, IsImage}
+use Rattle.conf_disk.specs.{Folder.{Folder, Step, after, after_part}, Image.{Image, IsImage}}
 
 -- the folder after these steps, from the first to the last
 abbrev pub folder_after : List Step → Folder → Folder

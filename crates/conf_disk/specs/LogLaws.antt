@@ -1,15 +1,11 @@
 -- What the trait asks of a disk that keeps a list of its steps: the images of now, and that its folder is whole.
-use Rattle.std.specs.Prelude.{◌≡◌, ℕ, ◌+◌, ◌≤◌, List, [], ◌∷◌, ◌++◌, length, take, Option, Some, None}
-use Rattle.std.proofs.Common.{refl, sym, ◌∙◌, ap, subst, arith, length-append}
-use Rattle.std.proofs.lemmas.List.{take_all, length-set}
-use Rattle.std.proofs.lemmas.List.Elements.{All-weaker, All-contains, All-push, All-nil, Contains-append_right}
-use Rattle.std.proofs.lemmas.Option.{slice_get_past}
-use Rattle.conf_disk.specs.Folder.{Stage, File, empty_file, Folder, stages, under, Step, CreateNext}
-use Rattle.conf_disk.specs.Folder.{Append, Sync, RenameNext, RemoveNext, SyncFolder, after, with_file, with_stage}
-use Rattle.conf_disk.specs.Folder.{after_create, after_rename, after_remove}
-use Rattle.conf_disk.specs.Image.{Image, IsImage, IsMade, IsApartFrom, IsStage, IsWhole, synced_file, folder_with, folder_with_files}
-use Rattle.conf_disk.specs.Image.{folder_of_image}
-use Rattle.conf_disk.specs.Log.{folder_after, folder_within, folder_at, IsLeftSince}
+use Rattle.std.{specs.Prelude.{◌≡◌, ℕ, ◌+◌, ◌≤◌, List, [], ◌∷◌, ◌++◌, length, take, Option, Some, None}, proofs.Common.{refl, sym, ◌∙◌, ap}}
+use Rattle.std.proofs.{Common.{subst, arith, length-append}, lemmas.List.{take_all, length-set, Elements.{All-weaker, All-contains}}}
+use Rattle.std.proofs.lemmas.{List.Elements.{All-push, All-nil, Contains-append_right}, Option.slice_get_past}
+use Rattle.conf_disk.specs.Folder.{Stage, File, empty_file, Folder, stages, under, Step, CreateNext, Append, Sync, RenameNext, RemoveNext}
+use Rattle.conf_disk.specs.{Folder.{SyncFolder, after, with_file, with_stage, after_create, after_rename, after_remove}, Image.Image}
+use Rattle.conf_disk.specs.Image.{IsImage, IsMade, IsApartFrom, IsStage, IsWhole, synced_file, folder_with, folder_with_files}
+use Rattle.conf_disk.specs.{Image.folder_of_image, Log.{folder_after, folder_within, folder_at, IsLeftSince}}
 
 -- when all steps are done, the folder is the one after them
 pub folder_at-length : (start : Folder) (steps : List Step) (part : ℕ)

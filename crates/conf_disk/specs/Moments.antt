@@ -1,8 +1,7 @@
 -- What the calls of a disk do to the moments at which it may crash, and to the number of its failures.
 use Rattle.std.specs.Prelude.{◌≡◌, ◌≢◌, ◌⊎◌, ℕ, ◌≤◌, ◌<◌, Result, Err, IsErrOf, OnOk}
-use Rattle.conf_disk.specs.{Folder.Step, Folder.Performs, Image.Image, Image.IsImage, Models.DiskModel}
-use Rattle.conf_disk.specs.{declared.disk.DiskFault.DiskFault, declared.disk.Content.Content, declared.disk.Name.Name}
-use Rattle.conf_disk.specs.{declared.disk.DiskFault.TheVariants.Device, declared.disk.DiskFault.TheVariants.OutOfMemory}
+use Rattle.conf_disk.specs.{Folder.{Step, Performs}, Image.{Image, IsImage}, Models.DiskModel, declared.disk.DiskFault.DiskFault}
+use Rattle.conf_disk.specs.declared.disk.{DiskFault.TheVariants.{Device, OutOfMemory}, Content.Content, Name.Name}
 
 -- the greatest number of failures that is counted
 abbrev pub greatest : ℕ

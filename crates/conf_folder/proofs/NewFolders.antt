@@ -1,13 +1,9 @@
 -- The calls that make a folder, one after the other.
-use Rattle.std.specs.Prelude.{Result, Ok, Err}
-use Rattle.std.proofs.Common.{◌≡◌, ◌⊎◌, ℕ, zero, suc, [], ◌∷◌, Bool, true, false}
-use Rattle.std.proofs.Common.{refl, sym, ◌∙◌, ap, subst, arith, inl, inr, ⊎_elim}
-use Rattle.std.proofs.lemmas.List.Elements.{Contains-append_cases, Contains-append_right}
-use Rattle.conf_system.proofs.Torn.{the_only}
-use Rattle.conf_folder.specs.NewFolders.{Leads, Nothing, New, Machine, Make, Remove, SyncParent, stages, with_now, after, failing, left}
-use Rattle.conf_folder.specs.NewFolders.{CrashLeaves, FolderModel, Passes, Goes, GoesMaking, IsAsBeforeOrNew, Makes}
-use Rattle.conf_folder.specs.declared.calls.FolderMaking.{FolderMaking}
-use Rattle.conf_folder.specs.declared.calls.FolderMaking.TheVariants.{Made, Exists}
+use Rattle.std.{specs.Prelude.{Result, Ok, Err}, proofs.Common.{◌≡◌, ◌⊎◌, ℕ, zero, suc, [], ◌∷◌, Bool, true, false, refl, sym, ◌∙◌, ap}}
+use Rattle.std.proofs.{Common.{subst, arith, inl, inr, ⊎_elim}, lemmas.List.Elements.{Contains-append_cases, Contains-append_right}}
+use Rattle.{conf_system.proofs.Torn.the_only, conf_folder.specs.NewFolders.{Leads, Nothing, New, Machine, Make, Remove, SyncParent, stages}}
+use Rattle.conf_folder.specs.NewFolders.{with_now, after, failing, left, CrashLeaves, FolderModel, Passes, Goes, GoesMaking}
+use Rattle.conf_folder.specs.{NewFolders.{IsAsBeforeOrNew, Makes}, declared.calls.FolderMaking.{FolderMaking, TheVariants.{Made, Exists}}}
 
 -- ---- which calls leave it so
 

@@ -1,6 +1,6 @@
 -- A folder that is made at a path, as the kernel and the device hold its name.
-use Rattle.std.specs.Prelude.{◌≡◌, ◌≢◌, ◌⊎◌, ◌≤◌, ℕ, zero, suc, List, [], ◌∷◌, ◌++◌, Contains, Bool, true, false}
-use Rattle.std.specs.Prelude.{Result, MatchResult, IfOk, OnErr}
+use Rattle.std.specs.Prelude.{◌≡◌, ◌≢◌, ◌⊎◌, ◌≤◌, ℕ, zero, suc, List, [], ◌∷◌, ◌++◌, Contains, Bool, true, false, Result, MatchResult, IfOk}
+use Rattle.std.specs.Prelude.{OnErr}
 use Rattle.conf_folder.specs.declared.calls.FolderMaking.{FolderMaking}
 use Rattle.conf_folder.specs.declared.calls.FolderMaking.TheVariants as making
 

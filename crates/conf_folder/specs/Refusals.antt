@@ -1,6 +1,5 @@
 -- Why a run doesn't hold its locks.
-use Rattle.conf_locks.specs.declared.taking.NotTaken.{NotTaken}
-use Rattle.conf_locks.specs.declared.taking.NotTaken.TheVariants.{Locked, Failed}
+use Rattle.conf_locks.specs.declared.taking.NotTaken.{NotTaken, TheVariants.{Locked, Failed}}
 
 -- another run holds a lock
 abbrev pub IsLocked : NotTaken → Type 0

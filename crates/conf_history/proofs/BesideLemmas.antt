@@ -1,15 +1,12 @@
 -- A prefix of the bytes of a store's file.
 use Rattle.std.proofs.Common.{◌≡◌, inl, inr, ⊎_elim, refl, sym, ◌∙◌, ap, subst, arith, ◌<◌, ◌≤◌, append_assoc, take-append-drop}
-use Rattle.std.proofs.Common.{length-append, length-take}
-use Rattle.std.specs.Prelude.{ℕ, ◌+◌, ◌-◌, zero, suc, List, [], ◌∷◌, ◌++◌, length, take, drop, replicate}
+use Rattle.std.{proofs.{Common.{length-append, length-take}, lemmas.Bool.cases_lt}, specs.Prelude.{ℕ, ◌+◌, ◌-◌, zero, suc, List, [], ◌∷◌}}
+use Rattle.std.specs.Prelude.{◌++◌, length, take, drop, replicate}
 use Rattle.conf_history.proofs.Prelude.{All, concat, All-nil, All-cons, All-head, All-tail, ClosesAt, ClosesOnce, Pieces, File, Command}
 use Rattle.conf_history.proofs.Prelude.{RecordsTear, TornRecords, records_bytes, record_pieces, AreRecords, after-prefix, IsNoRecord}
 use Rattle.conf_history.proofs.Prelude.{StartsWithHole, HolesMean, length-replicate, no-others, pieces-joined, pieces-mean-more}
-use Rattle.conf_history.proofs.Prelude.{records-prefix}
-use Rattle.std.proofs.lemmas.Bool.{cases_lt}
-use Rattle.yaml_docs.proofs.ClosingLines.{lies_within}
-use Rattle.yaml_docs.proofs.CutLines.{closes-longer, closes-shorter}
-use Rattle.conf_history.specs.Beside.{PrefixesAreRead, AppendedRecordsAreRead, WornRecordsAreRead}
+use Rattle.conf_history.{proofs.Prelude.records-prefix, specs.Beside.{PrefixesAreRead, AppendedRecordsAreRead, WornRecordsAreRead}}
+use Rattle.yaml_docs.proofs.{ClosingLines.lies_within, CutLines.{closes-longer, closes-shorter}}
 
 take-beyond : (k : ℕ) (xs ys : List ℕ) → take (length xs + k) (xs ++ ys) ≡ xs ++ take k ys
 take-beyond k [] ys = let none : 0 + k ≡ k = omega arith in ap (λ n. take n ys) none

@@ -1,13 +1,11 @@
 -- A store with the base and the records of another one: what was read, what was made of it, and what a crash leaves.
-use Rattle.std.proofs.Common.{◌≡◌, ◌⊎◌, inl, inr, ⊎_elim, refl, sym, ◌∙◌, ap, subst, arith, length-append}
-use Rattle.std.specs.Prelude.{ℕ, Bool, List, [], ◌++◌, length, Option, Some, None, ◌≤◌}
+use Rattle.std.{proofs.Common.{◌≡◌, ◌⊎◌, inl, inr, ⊎_elim, refl, sym, ◌∙◌, ap, subst, arith, length-append}, specs.Prelude.{ℕ, Bool, List}}
+use Rattle.std.specs.Prelude.{[], ◌++◌, length, Option, Some, None, ◌≤◌}
 use Rattle.conf_history.proofs.Prelude.{concat, Consumes-whole, append-nil, piece_or_rest, Folder, DiskModel, LeavesOnly-weaker, IsStoreOf}
 use Rattle.conf_history.proofs.Prelude.{LeavesStoreOr, Command, Contents, FileMeans, no_closing, no-others, concat-append, All-nil}
-use Rattle.conf_history.proofs.Prelude.{IsNoRecord, Means, store_limit}
-use Rattle.conf_history.specs.{Walks.ArePerformed, Walks.Ends, Walks.Walked, declared.fault.SalvageFault.SalvageFault}
+use Rattle.conf_history.{proofs.{Prelude.{IsNoRecord, Means, store_limit}, WalkLemmas.end-read}, specs.Walks.{ArePerformed, Ends, Walked}}
+use Rattle.conf_history.specs.declared.fault.SalvageFault.{SalvageFault, TheVariants.{History, StoreExists, Device, OutOfMemory}}
 use Rattle.conf_history.specs.Copies.{BacksUp, CopiesPieces, CreatesFile, IsCopied, LeavesOldOrCopy, ReadsCopy, RefusesBackup, RefusesFile}
-use Rattle.conf_history.specs.declared.fault.SalvageFault.TheVariants.{History, StoreExists, Device, OutOfMemory}
-use Rattle.conf_history.proofs.WalkLemmas.{end-read}
 
 -- the pieces that were performed mean the state
 copy-means : (s : Contents) (pieces : List (List ℕ)) (start : Contents) (commands : List Command) (copy : List ℕ)

@@ -1,9 +1,6 @@
 -- Texts of ASCII, by a test that computes.
-use Rattle.std.proofs.Common.{◌≡◌, ◌<◌, nat_lt, arith}
-use Rattle.std.specs.Prelude.{ℕ, true, List}
-use Rattle.conf_history.proofs.Prelude.{list_all, IsUtf8, IsUtf8-from_ascii}
-use Rattle.std.proofs.lemmas.Bool.Decides.{nat_tests}
-use Rattle.yaml_data.proofs.CharacterLemmas.{every-IsAscii}
+use Rattle.std.{proofs.{Common.{◌≡◌, ◌<◌, nat_lt, arith}, lemmas.Bool.Decides.nat_tests}, specs.Prelude.{ℕ, true, List}}
+use Rattle.{conf_history.proofs.Prelude.{list_all, IsUtf8, IsUtf8-from_ascii}, yaml_data.proofs.CharacterLemmas.every-IsAscii}
 
 pub ascii-text : (cs : List ℕ) → list_all (λ c. nat_lt c 128) cs ≡ true → IsUtf8 cs
 ascii-text cs e = IsUtf8-from_ascii cs (every-IsAscii (λ c. nat_lt c 128) below cs e)

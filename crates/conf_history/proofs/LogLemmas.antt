@@ -1,15 +1,14 @@
 -- The log: what is written so far, and how writing it ends.
-use Rattle.std.proofs.Common.{◌≡◌, inl, inr, refl, sym, ◌∙◌, ap, subst, arith, ◌<◌, append_assoc}
-use Rattle.std.specs.Prelude.{ℕ, ◌+◌, Bool, List, [], ◌∷◌, ◌++◌, length, take, Option, Some, None, IfSome}
+use Rattle.std.{proofs.Common.{◌≡◌, inl, inr, refl, sym, ◌∙◌, ap, subst, arith, ◌<◌, append_assoc}, specs.Prelude.{ℕ, ◌+◌, Bool, List, []}}
+use Rattle.std.specs.Prelude.{◌∷◌, ◌++◌, length, take, Option, Some, None, IfSome}
 use Rattle.conf_history.proofs.Prelude.{All, concat, Appends, Appends-nil, Appends-trans, Consumes-whole, append-nil, ClosesOnce}
 use Rattle.conf_history.proofs.Prelude.{SomePieces, ahead, piece_or_rest, Command, Contents, after-count, AreRecords, All-nil, IsNoRecord}
-use Rattle.conf_history.specs.{declared.log.LogRequest.LogRequest, declared.fault.HistoryFault.HistoryFault}
-use Rattle.conf_history.specs.Histories.{RefusesReading, RefusesSurvey}
+use Rattle.conf_history.{proofs.WalkLemmas.{known, some-map, begins-with, end-read, between-read}, specs.declared.log.LogRequest.LogRequest}
+use Rattle.conf_history.specs.declared.fault.HistoryFault.{HistoryFault, TheVariants.{Input, Output, NotAStore, Damaged, NoSuchCommand}}
+use Rattle.conf_history.specs.{declared.fault.HistoryFault.TheVariants.OutOfMemory, Histories.{RefusesReading, RefusesSurvey}}
 use Rattle.conf_history.specs.Logs.{entry_bytes, log_bytes, log_of_pieces, BeginsLog, IsWholeLog, LogsAll, LogsBefore, CutsLog, StopsLog}
-use Rattle.conf_history.specs.Walks.{HasRead, ArePerformed, ComesAfter, Ends, Fails, IsBetween}
-use Rattle.conf_history.specs.Walks.{IsAtEndOf, IsTornBehind, RefusesStart, Walked}
-use Rattle.conf_history.specs.declared.fault.HistoryFault.TheVariants.{Input, Output, NotAStore, Damaged, NoSuchCommand, OutOfMemory}
-use Rattle.conf_history.proofs.WalkLemmas.{known, some-map, begins-with, end-read, between-read}
+use Rattle.conf_history.specs.Walks.{HasRead, ArePerformed, ComesAfter, Ends, Fails, IsBetween, IsAtEndOf, IsTornBehind, RefusesStart}
+use Rattle.conf_history.specs.Walks.{Walked}
 
 some-both : (given : Option (List ℕ)) (P Q R : List ℕ → Type 0) → ((bytes : List ℕ) → P bytes → Q bytes → R bytes)
     → IfSome given P → IfSome given Q → IfSome given R

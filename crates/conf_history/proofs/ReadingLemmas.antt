@@ -1,26 +1,16 @@
 -- A walk up to a number: how it goes on, and each way in which it ends.
-use Rattle.std.proofs.Common.{◌≡◌, ◌≢◌, inl, inr, refl, sym, ◌∙◌, ap, subst, arith, ◌<◌, ◌≤◌, length-append}
-use Rattle.std.specs.Prelude.{ℕ, ◌+◌, ◌-◌, Bool, true, List, [], ◌∷◌, ◌++◌, length, Option, Some, None, Ok, IfSome}
-use Rattle.conf_history.proofs.Prelude.{Means, NoZeroByte, concat, ClosesOnce, Enough, SomePieces}
-use Rattle.conf_history.proofs.Prelude.{Command, Contents, IsState, ahead, piece_or_rest}
-use Rattle.conf_history.proofs.Prelude.{step-one, store_limit}
-use Rattle.yaml_docs.specs.declared.pieces.Pieces.{Pieces as Reading}
-use Rattle.conf_history.specs.Histories.{HoldsAt, IsBadAt, ReadsState, RefusesReading, RefusesSurvey}
-use Rattle.conf_history.specs.Following.{Follow}
-use Rattle.conf_history.specs.declared.following.{BadKind.TheVariants.Torn, BadKind.TheVariants.Unexpected, Following.Following}
-use Rattle.conf_history.specs.declared.place.BadPiece.{BadPiece}
-use Rattle.conf_history.specs.Walks.{ComesAfter, Ends, Fails, end_at_bad}
-use Rattle.conf_history.specs.declared.following.BadKind.{BadKind}
-use Rattle.conf_history.specs.Histories.{IsOfKind}
-use Rattle.std.specs.Prelude.{IfErr, false}
-use Rattle.conf_history.proofs.Prelude.{IsNoRecord, zero-no-record}
-use Rattle.conf_history.specs.Walks.{AfterGoing, Goes, HasEnded, IsAtEndOf, IsAtPiece, IsBetween, IsOn, LacksPiece, Performs, RefusesPiece}
-use Rattle.conf_history.specs.Walks.{RefusesStart, Stops, Walked}
-use Rattle.conf_history.specs.declared.fault.HistoryFault.{HistoryFault}
-use Rattle.conf_history.specs.declared.fault.HistoryFault.TheVariants.{Input, Output, NotAStore, Damaged, NoSuchCommand, OutOfMemory}
-use Rattle.conf_history.proofs.WalkLemmas.{bad-followed, torn-followed, torn-means}
-use Rattle.conf_history.proofs.WalkLemmas.{any-bytes, some-map, concat-last, closed-some, end-means, end-read, between-read}
-use Rattle.conf_history.proofs.WalkLemmas.{performs-on, up-to}
+use Rattle.std.{proofs.Common.{◌≡◌, ◌≢◌, inl, inr, refl, sym, ◌∙◌, ap, subst, arith, ◌<◌, ◌≤◌, length-append}, specs.Prelude.{ℕ, ◌+◌, ◌-◌}}
+use Rattle.std.specs.Prelude.{Bool, true, List, [], ◌∷◌, ◌++◌, length, Option, Some, None, Ok, IfSome, IfErr, false}
+use Rattle.conf_history.proofs.Prelude.{Means, NoZeroByte, concat, ClosesOnce, Enough, SomePieces, Command, Contents, IsState, ahead}
+use Rattle.conf_history.proofs.{Prelude.{piece_or_rest, step-one, store_limit, IsNoRecord, zero-no-record}, WalkLemmas.bad-followed}
+use Rattle.conf_history.proofs.WalkLemmas.{torn-followed, torn-means, any-bytes, some-map, concat-last, closed-some, end-means, end-read}
+use Rattle.conf_history.{proofs.WalkLemmas.{between-read, performs-on, up-to}, specs.Histories.{HoldsAt, IsBadAt, ReadsState}}
+use Rattle.conf_history.specs.{Histories.{RefusesReading, RefusesSurvey, IsOfKind}, Following.Follow, declared.following.BadKind.BadKind}
+use Rattle.conf_history.specs.declared.{following.{BadKind.TheVariants.{Torn, Unexpected}, Following.Following}, place.BadPiece.BadPiece}
+use Rattle.conf_history.specs.declared.fault.HistoryFault.{HistoryFault, TheVariants.{Input, Output, NotAStore, Damaged, NoSuchCommand}}
+use Rattle.conf_history.specs.{declared.fault.HistoryFault.TheVariants.OutOfMemory, Walks.{ComesAfter, Ends, Fails, end_at_bad, AfterGoing}}
+use Rattle.conf_history.specs.Walks.{Goes, HasEnded, IsAtEndOf, IsAtPiece, IsBetween, IsOn, LacksPiece, Performs, RefusesPiece}
+use Rattle.{conf_history.specs.Walks.{RefusesStart, Stops, Walked}, yaml_docs.specs.declared.pieces.Pieces.Pieces as Reading}
 
 -- a number that is not passed and not reached, if there is one, is greater
 below-number : (at : Option ℕ) (count : ℕ) → (at ≢ Some count) → IfSome at (λ number. count ≤ number)

@@ -1,9 +1,8 @@
 -- What a crash leaves while a store is saved.
-use Rattle.std.proofs.Common.{◌≡◌, ◌⊎◌, inl, inr, ⊎_elim}
-use Rattle.std.specs.Prelude.{Bool, List, Option, Some, ℕ}
-use Rattle.conf_history.proofs.Prelude.{DiskModel, LeavesOnly-weaker, IsStoreOf, LeavesStoreOr, Contents}
+use Rattle.std.{proofs.Common.{◌≡◌, ◌⊎◌, inl, inr, ⊎_elim}, specs.Prelude.{Bool, List, Option, Some, ℕ}}
+use Rattle.conf_history.{proofs.Prelude.{DiskModel, LeavesOnly-weaker, IsStoreOf, LeavesStoreOr, Contents}, specs.Histories.ReadsSurvey}
+use Rattle.conf_history.specs.{Salvages.{IsSaved, LeavesOldOrSaved}, declared.survey.Findings.Findings}
 use Rattle.conf_state.specs.BaseTexts.{base_bytes}
-use Rattle.conf_history.specs.{Histories.ReadsSurvey, Salvages.IsSaved, Salvages.LeavesOldOrSaved, declared.survey.Findings.Findings}
 
 -- a store was made of what was found
 pub made-leaves : {D : Type 0} (several : Bool) (model : DiskModel D) (given left : Option (List ℕ)) (old new : D) (s : Contents)

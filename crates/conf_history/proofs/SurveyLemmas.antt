@@ -1,19 +1,17 @@
 -- A survey: what was gone past after a bad piece, and what was found.
 use Rattle.std.proofs.Common.{◌≡◌, ◌⊎◌, inl, inr, refl, sym, ◌∙◌, ap, subst, arith, ◌<◌, ◌≤◌, append_assoc, length-append, length-take}
-use Rattle.std.proofs.lemmas.List.Elements.{Contains-append_left, Contains-append_right}
-use Rattle.conf_history.proofs.Prelude.{IsAnyRecord, IsKept, IsNoRecord, MayBeDropped, no_zero}
-use Rattle.std.specs.Prelude.{Bool, true, false, ℕ, ◌+◌, ◌-◌, suc, List, [], ◌∷◌, ◌++◌, length, drop, Option, Some, None, IfSome}
-use Rattle.conf_history.proofs.Prelude.{All, concat, Consumes, Consumes-nil, Consumes-trans, Consumes-whole, append-nil}
-use Rattle.conf_history.proofs.Prelude.{All-nil, All-push, ClosesOnce, AdvancesToPiece, IsSound, ahead}
-use Rattle.conf_history.proofs.Prelude.{bytes_read, piece_or_rest, store_limit, Command, Contents, IsState, after-count, AreRecords}
+use Rattle.std.{proofs.lemmas.List.Elements.{Contains-append_left, Contains-append_right}, specs.Prelude.{Bool, true, false, ℕ, ◌+◌, ◌-◌}}
+use Rattle.std.specs.Prelude.{suc, List, [], ◌∷◌, ◌++◌, length, drop, Option, Some, None, IfSome}
+use Rattle.conf_history.proofs.Prelude.{IsAnyRecord, IsKept, IsNoRecord, MayBeDropped, no_zero, All, concat, Consumes, Consumes-nil}
+use Rattle.conf_history.proofs.Prelude.{Consumes-trans, Consumes-whole, append-nil, All-nil, All-push, ClosesOnce, AdvancesToPiece, IsSound}
+use Rattle.conf_history.proofs.Prelude.{ahead, bytes_read, piece_or_rest, store_limit, Command, Contents, IsState, after-count, AreRecords}
+use Rattle.conf_history.{proofs.WalkLemmas.{moved, closed-some, some-map, all-read, cut-followed, bad-is}, specs.BadPieces.zeros_of}
+use Rattle.conf_history.specs.{Following.Follow, Histories.{IsOfKind, IsSurvey, ReadsSurvey, RefusesSurvey}}
+use Rattle.conf_history.specs.declared.{place.BadPiece.BadPiece, following.{BadKind.TheVariants.{Torn, Unexpected}, Following.Following}}
+use Rattle.conf_history.specs.declared.fault.HistoryFault.{HistoryFault, TheVariants.{Input, Output, NotAStore, Damaged, NoSuchCommand}}
+use Rattle.conf_history.specs.{declared.{fault.HistoryFault.TheVariants.OutOfMemory, survey.{Bad.Bad, Findings.Findings}}, Walks.IsAtPiece}
+use Rattle.conf_history.specs.Walks.{IsAtEndOf, IsBadHere, ArePerformed, RefusesStart, Stops, Walked}
 use Rattle.yaml_docs.specs.declared.pieces.Pieces.{Pieces as Reading}
-use Rattle.conf_history.specs.{BadPieces.zeros_of, Following.Follow, Histories.IsOfKind, declared.place.BadPiece.BadPiece}
-use Rattle.conf_history.specs.declared.following.{BadKind.TheVariants.Torn, BadKind.TheVariants.Unexpected, Following.Following}
-use Rattle.conf_history.specs.{declared.fault.HistoryFault.HistoryFault, declared.survey.Bad.Bad, declared.survey.Findings.Findings}
-use Rattle.conf_history.specs.Histories.{IsSurvey, ReadsSurvey, RefusesSurvey}
-use Rattle.conf_history.specs.Walks.{IsAtPiece, IsAtEndOf, IsBadHere, ArePerformed, RefusesStart, Stops, Walked}
-use Rattle.conf_history.specs.declared.fault.HistoryFault.TheVariants.{Input, Output, NotAStore, Damaged, NoSuchCommand, OutOfMemory}
-use Rattle.conf_history.proofs.WalkLemmas.{moved, closed-some, some-map, all-read, cut-followed, bad-is}
 
 -- ---- going past pieces
 

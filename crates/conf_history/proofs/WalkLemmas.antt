@@ -1,24 +1,19 @@
 -- The walk over a store's file: what each call makes of what was read, and what the bytes of the file are then.
 use Rattle.std.proofs.Common.{◌≡◌, inl, inr, ⊎_elim, refl, sym, ◌∙◌, ap, subst, arith, ◌<◌, append_assoc, length-append}
-use Rattle.std.specs.Prelude.{ℕ, ◌+◌, Bool, true, false, List, [], ◌∷◌, ◌++◌, length, ◌==◌, cond, Option, Some, None, Result, Ok, Err}
-use Rattle.std.specs.Prelude.{IfSome}
+use Rattle.std.{proofs.lemmas.List.Sums.{sum_by-append, count_by-le-length}, specs.Prelude.{ℕ, ◌+◌, Bool, true, false, List, [], ◌∷◌, ◌++◌}}
+use Rattle.std.specs.Prelude.{length, ◌==◌, cond, Option, Some, None, Result, Ok, Err, IfSome}
 use Rattle.conf_history.proofs.Prelude.{All, concat, Consumes, Consumes-trans, Consumes-whole, append-nil, concat-append, All-nil, All-cons}
 use Rattle.conf_history.proofs.Prelude.{All-push, ClosesOnce, Pieces, SomePieces, Advances, AdvancesToPiece, AdvancesToEnd, FindsTooLong}
 use Rattle.conf_history.proofs.Prelude.{FindsInputLong, IsSound, ahead, bytes_read, input_limit, piece_limit, piece_or_rest, store_limit}
 use Rattle.conf_history.proofs.Prelude.{Command, Contents, after-count, IsBase, IsNoBase, AreRecords, Means, RefusesRecord, RecordFault}
 use Rattle.conf_history.proofs.Prelude.{pieces-joined, no_closing, no-others, records-joined, after-joined, after-done, zero-no-record}
-use Rattle.conf_history.proofs.Prelude.{All-append, IsNoRecord, NoZeroByte}
-use Rattle.std.proofs.lemmas.List.Sums.{sum_by-append, count_by-le-length}
-use Rattle.yaml_chars.specs.Signs.{line_feed}
-use Rattle.yaml_docs.specs.declared.pieces.Pieces.{Pieces as Reading}
-use Rattle.yaml_docs.specs.declared.pieces.PiecesFault.{PiecesFault}
-use Rattle.conf_history.specs.{BadPieces.IsBadPiece, Following.Follow, Histories.IsOfKind, Walks.IsTornBehind}
-use Rattle.conf_history.specs.declared.following.{BadKind.TheVariants.Torn, BadKind.TheVariants.Unexpected, Following.Following}
-use Rattle.conf_history.specs.{BadPieces.line_feeds, declared.place.BadPiece.BadPiece, declared.place.Place.Place}
-use Rattle.conf_history.specs.Faults.{fault_here, fault_of_pieces}
-use Rattle.conf_history.specs.Histories.{MeansUpTo, IsBadAt, StartsAfter, IsNoStore, RefusesSurvey, ReadsAtMost}
-use Rattle.conf_history.specs.Walks.{IsBetween, IsAtPiece, IsAtEndOf, Performs, IsBadHere, RefusesPiece, HasRoom, AfterAdvance, HasLimits}
-use Rattle.conf_history.specs.Walks.{LacksPiece, Walked}
+use Rattle.conf_history.{proofs.Prelude.{All-append, IsNoRecord, NoZeroByte}, specs.{BadPieces.{IsBadPiece, line_feeds}, Following.Follow}}
+use Rattle.conf_history.specs.Histories.{IsOfKind, MeansUpTo, IsBadAt, StartsAfter, IsNoStore, RefusesSurvey, ReadsAtMost}
+use Rattle.conf_history.specs.Walks.{IsTornBehind, IsBetween, IsAtPiece, IsAtEndOf, Performs, IsBadHere, RefusesPiece, HasRoom}
+use Rattle.conf_history.specs.{Walks.{AfterAdvance, HasLimits, LacksPiece, Walked}, declared.following.BadKind.TheVariants.Torn}
+use Rattle.conf_history.specs.declared.{following.{BadKind.TheVariants.Unexpected, Following.Following}, place.BadPiece.BadPiece}
+use Rattle.{conf_history.specs.{declared.place.Place.Place, Faults.{fault_here, fault_of_pieces}}, yaml_chars.specs.Signs.line_feed}
+use Rattle.yaml_docs.specs.declared.pieces.{Pieces.Pieces as Reading, PiecesFault.PiecesFault}
 use Rattle.yaml_docs.specs.declared.pieces.PiecesFault.TheVariants as fault
 use Rattle.conf_store.specs.declared.records.RecordFault.TheVariants as record_fault
 

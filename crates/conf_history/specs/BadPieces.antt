@@ -1,9 +1,8 @@
 -- Where the first bad piece of a store's file begins, where its zeros are, and why it is no next record.
 use Rattle.std.specs.Prelude.{◌≡◌, ℕ, ◌+◌, List, [], ◌∷◌, length, count_by, ◌==◌, Option, Some, None}
-use Rattle.conf_history.specs.Prelude.{concat, Contents, IsWhy}
-use Rattle.memchr.specs.Find.{is_byte, places}
+use Rattle.conf_history.specs.{Prelude.{concat, Contents, IsWhy}, declared.place.{BadPiece.BadPiece, Zeros.Zeros}}
 use Rattle.yaml_chars.specs.Signs.{line_feed}
-use Rattle.conf_history.specs.{declared.place.BadPiece.BadPiece, declared.place.Zeros.Zeros}
+use Rattle.memchr.specs.Find.{is_byte, places}
 
 -- how many line feeds the bytes have
 abbrev pub line_feeds : List ℕ → ℕ

@@ -1,8 +1,6 @@
 -- The configurations of a base.
 use Rattle.std.specs.Prelude.{List}
-use Rattle.conf_history.specs.Prelude.{Entry}
-use Rattle.conf_history.specs.declared.base.Base.{Base}
-use Rattle.conf_history.specs.declared.base.Base.TheVariants.{Written, Spelled}
+use Rattle.conf_history.specs.{Prelude.Entry, declared.base.Base.{Base, TheVariants.{Written, Spelled}}}
 
 abbrev pub configs_of : Base → List Entry
 configs_of (Written base) = base.configs

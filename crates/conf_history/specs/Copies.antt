@@ -1,10 +1,8 @@
 -- A store's base and records as they stand in its file, in a new store, and why there is none.
 use Rattle.std.specs.Prelude.{◌≡◌, ◌≢◌, ◌⊎◌, ℕ, Bool, List, ◌++◌, Option, Some, None, Result, Ok, Err, IfSome}
-use Rattle.conf_history.specs.Prelude.{IsAtEnd, concat, Pieces, Folder, bytes_under, Image, IsImage, image_now}
-use Rattle.conf_history.specs.Prelude.{DiskModel, LeavesOnly, Store, IsStoreOf, store_limit, Contents, AllImagesMean}
-use Rattle.conf_history.specs.Prelude.{MayBeDropped, Means, PiecesMean, StartsWithHole}
-use Rattle.conf_history.specs.Histories.{ReadsAtMost, RefusesReading}
-use Rattle.conf_history.specs.declared.fault.SalvageFault.{SalvageFault}
+use Rattle.conf_history.specs.Prelude.{IsAtEnd, concat, Pieces, Folder, bytes_under, Image, IsImage, image_now, DiskModel, LeavesOnly}
+use Rattle.conf_history.specs.Prelude.{Store, IsStoreOf, store_limit, Contents, AllImagesMean, MayBeDropped, Means, PiecesMean}
+use Rattle.conf_history.specs.{Prelude.StartsWithHole, Histories.{ReadsAtMost, RefusesReading}, declared.fault.SalvageFault.SalvageFault}
 use Rattle.conf_history.specs.declared.fault.SalvageFault.TheVariants.{History, StoreExists, Device, OutOfMemory}
 
 -- The bytes are a base and records, which mean `s`, other pieces that a crash may have left, and a rest that isn't

@@ -1,9 +1,8 @@
 -- The faults of a file, by what they come from.
 use Rattle.std.specs.Prelude.{◌+◌}
-use Rattle.yaml_docs.specs.declared.pieces.PiecesFault.{PiecesFault}
-use Rattle.conf_store.specs.declared.records.RecordFault.{RecordFault}
-use Rattle.conf_history.specs.{declared.place.Place.Place, declared.fault.HistoryFault.HistoryFault}
-use Rattle.conf_history.specs.declared.fault.HistoryFault.TheVariants.{Input, NotAStore, Damaged, OutOfMemory}
+use Rattle.{yaml_docs.specs.declared.pieces.PiecesFault.PiecesFault, conf_store.specs.declared.records.RecordFault.RecordFault}
+use Rattle.conf_history.specs.declared.{place.Place.Place, fault.HistoryFault.{HistoryFault, TheVariants.{Input, NotAStore, Damaged}}}
+use Rattle.conf_history.specs.declared.fault.HistoryFault.TheVariants.{OutOfMemory}
 use Rattle.yaml_docs.specs.declared.pieces.PiecesFault.TheVariants as pieces
 use Rattle.conf_store.specs.declared.records.RecordFault.TheVariants as records
 

@@ -1,10 +1,9 @@
 -- What follows a bad piece.
 use Rattle.std.specs.Prelude.{◌≡◌, ◌≤◌, ℕ, Bool, if◌then◌else◌, List, ◌++◌, length, Option, Result, Ok, Err, IfSome}
 use Rattle.conf_history.specs.Prelude.{All, concat, Consumes, IsAtEnd, ClosesOnce, Unclosed, piece_or_rest, store_limit}
+use Rattle.conf_history.specs.declared.{fault.HistoryFault.HistoryFault, following.{Following.Following, BadKind.TheVariants.Torn}}
+use Rattle.conf_history.specs.{declared.following.BadKind.TheVariants.Unexpected, Histories.{IsOfKind, RefusesSurvey}}
 use Rattle.yaml_docs.specs.declared.pieces.Pieces.{Pieces}
-use Rattle.conf_history.specs.{declared.fault.HistoryFault.HistoryFault, declared.following.Following.Following}
-use Rattle.conf_history.specs.Histories.{IsOfKind, RefusesSurvey}
-use Rattle.conf_history.specs.declared.following.BadKind.TheVariants.{Torn, Unexpected}
 
 -- so many pieces, behind a piece of which it is known whether no crash left it
 abbrev pub following_of : ℕ → Bool → Following

@@ -1,14 +1,10 @@
 -- What the bytes of a store's file hold: at each command, and before a bad piece.
 use Rattle.std.specs.Prelude.{◌≡◌, ◌<◌, ◌≤◌, ◌⊎◌, ℕ, suc, Bool, false, List, [], ◌∷◌, ◌++◌, length, Option, Some, None, IfSome}
-use Rattle.conf_history.specs.Prelude.{concat, Consumes, IsAtEnd, Pieces, store_limit, Contents, IsState, IsBase, PiecesMean}
-use Rattle.conf_history.specs.Prelude.{Means, HasNoBase, IsKept, MayBeDropped, no_zero}
-use Rattle.conf_history.specs.{BadPieces.IsBadPiece, BadPieces.zeros_of, declared.place.BadPiece.BadPiece}
-use Rattle.conf_history.specs.{declared.fault.HistoryFault.HistoryFault, declared.following.BadKind.BadKind}
-use Rattle.conf_history.specs.{declared.following.BadKind.TheVariants.Torn, declared.following.BadKind.TheVariants.Unexpected}
-use Rattle.conf_history.specs.declared.survey.Bad.{Bad}
-use Rattle.conf_history.specs.{declared.survey.Findings.Findings}
-use Rattle.conf_history.specs.declared.fault.HistoryFault.TheVariants.{Input, Output, NotAStore, Damaged, NoSuchCommand}
-use Rattle.conf_history.specs.declared.fault.HistoryFault.TheVariants.{OutOfMemory}
+use Rattle.conf_history.specs.Prelude.{concat, Consumes, IsAtEnd, Pieces, store_limit, Contents, IsState, IsBase, PiecesMean, Means}
+use Rattle.conf_history.specs.{Prelude.{HasNoBase, IsKept, MayBeDropped, no_zero}, BadPieces.{IsBadPiece, zeros_of}}
+use Rattle.conf_history.specs.declared.{place.BadPiece.BadPiece, fault.HistoryFault.{HistoryFault, TheVariants.{Input, Output, NotAStore}}}
+use Rattle.conf_history.specs.declared.{fault.HistoryFault.TheVariants.{Damaged, NoSuchCommand, OutOfMemory}, following.BadKind.BadKind}
+use Rattle.conf_history.specs.declared.{following.BadKind.TheVariants.{Torn, Unexpected}, survey.{Bad.Bad, Findings.Findings}}
 
 -- The first pieces of the bytes are a base and the records up to the one with this number, and mean `s`.
 pub record MeansUpTo (bytes : List ℕ) (number : ℕ) (s : Contents) : Type 0 where

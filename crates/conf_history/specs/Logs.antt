@@ -1,22 +1,15 @@
 -- The log of a store's file: a line for each command that is asked for, without its values, with them, or with them but for
 -- what is hidden; or the records as they stand.
-use Rattle.std.specs.Prelude.{◌≡◌, ◌<◌, ◌⊎◌, ℕ, ◌+◌, nat_le, Bool, true, false, ◌||◌, ◌&&◌, if◌then◌else◌, List, [], ◌∷◌, ◌++◌}
-use Rattle.std.specs.Prelude.{length, take, codes, decimal, encode_utf8_all, String, string_bytes, Option, Some, None, IfSome}
-use Rattle.conf_history.specs.Prelude.{MayBeDropped, StartsWithHole, Appends, Keeps, Pieces, in_double_quotes, store_limit, Edit}
-use Rattle.conf_history.specs.Prelude.{import_as, set_at, delete_at, Command, single, batch, Contents, PiecesMean, chars}
-use Rattle.conf_history.specs.Prelude.{name_of, same_text}
-use Rattle.std.specs.declared.alloc.Global.{Global}
-use Rattle.yaml_grammar.specs.Trees.{Tree}
-use Rattle.yaml_forms.specs.Json.{json_text}
-use Rattle.conf_history.specs.{declared.fault.HistoryFault.HistoryFault, declared.line.LineForm.LineForm}
-use Rattle.conf_history.specs.{declared.log.LogForm.LogForm, declared.log.LogRequest.LogRequest}
-use Rattle.std.specs.Borrow.{Bor}
-use Rattle.conf_history.specs.Histories.{ReadsAtMost, RefusesReading}
-use Rattle.conf_history.specs.declared.fault.HistoryFault.TheVariants.{Output, Damaged, OutOfMemory}
-use Rattle.conf_history.specs.declared.line.LineForm.TheVariants.{Names, Values, Hiding}
-use Rattle.json_pointer.specs.Pointers.{path_of}
-use Rattle.tree_hidden.specs.{Hidden.shown_at, Tokens.paths_of}
-use Rattle.conf_history.specs.declared.log.LogForm.TheVariants.{Lines, Records}
+use Rattle.std.specs.Prelude.{◌≡◌, ◌<◌, ◌⊎◌, ℕ, ◌+◌, nat_le, Bool, true, false, ◌||◌, ◌&&◌, if◌then◌else◌, List, [], ◌∷◌, ◌++◌, length}
+use Rattle.std.specs.Prelude.{take, codes, decimal, encode_utf8_all, String, string_bytes, Option, Some, None, IfSome}
+use Rattle.std.specs.{declared.alloc.Global.Global, Borrow.Bor}
+use Rattle.conf_history.specs.Prelude.{MayBeDropped, StartsWithHole, Appends, Keeps, Pieces, in_double_quotes, store_limit, Edit, import_as}
+use Rattle.conf_history.specs.Prelude.{set_at, delete_at, Command, single, batch, Contents, PiecesMean, chars, name_of, same_text}
+use Rattle.conf_history.specs.declared.fault.HistoryFault.{HistoryFault, TheVariants.{Output, Damaged, OutOfMemory}}
+use Rattle.conf_history.specs.declared.{line.LineForm.{LineForm, TheVariants.{Names, Values, Hiding}}, log.LogForm.LogForm}
+use Rattle.conf_history.specs.{declared.log.{LogForm.TheVariants.{Lines, Records}, LogRequest.LogRequest}, Histories.ReadsAtMost}
+use Rattle.{conf_history.specs.Histories.RefusesReading, yaml_grammar.specs.Trees.Tree, yaml_forms.specs.Json.json_text}
+use Rattle.{json_pointer.specs.Pointers.path_of, tree_hidden.specs.{Hidden.shown_at, Tokens.paths_of}}
 
 -- a space and the JSON text of a value that an edit puts at the place of a pointer, where the line shows it; without what is
 -- hidden, if it hides anything

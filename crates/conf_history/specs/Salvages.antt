@@ -1,13 +1,9 @@
 -- What is saved from a store's file, and why nothing is.
 use Rattle.std.specs.Prelude.{◌≡◌, ◌⊎◌, ℕ, Bool, List, Option, Some, None, Result, Ok, Err, IfSome}
-use Rattle.conf_history.specs.Prelude.{Folder, bytes_under, DiskModel, LeavesOnly, Store, IsStoreOf, Contents}
-use Rattle.conf_history.specs.Prelude.{AllImagesMean}
-use Rattle.conf_state.specs.BaseTexts.{base_bytes}
-use Rattle.conf_store.specs.Creates.{RefusesCreation}
-use Rattle.conf_store.specs.declared.creating.CreateFault.{CreateFault}
-use Rattle.conf_history.specs.{declared.fault.SalvageFault.SalvageFault, declared.survey.Findings.Findings}
-use Rattle.conf_history.specs.Histories.{ReadsSurvey, RefusesSurvey}
-use Rattle.conf_history.specs.declared.fault.SalvageFault.TheVariants.{History, StoreExists, Device, OutOfMemory}
+use Rattle.conf_history.specs.Prelude.{Folder, bytes_under, DiskModel, LeavesOnly, Store, IsStoreOf, Contents, AllImagesMean}
+use Rattle.conf_history.specs.declared.fault.SalvageFault.{SalvageFault, TheVariants.{History, StoreExists, Device, OutOfMemory}}
+use Rattle.conf_history.specs.{declared.survey.Findings.Findings, Histories.{ReadsSurvey, RefusesSurvey}}
+use Rattle.{conf_state.specs.BaseTexts.base_bytes, conf_store.specs.{Creates.RefusesCreation, declared.creating.CreateFault.CreateFault}}
 use Rattle.conf_store.specs.declared.creating.CreateFault.TheVariants as create
 
 -- A new store was made where there was none. It has the state that stands before the first bad piece of what was read,

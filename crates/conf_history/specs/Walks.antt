@@ -1,17 +1,13 @@
 -- A walk over the pieces of a store's file, between two calls.
-use Rattle.std.specs.Prelude.{◌≡◌, ◌+◌, ◌≤◌, ◌<◌, ◌⊎◌, ℕ, Bool, true, false, List, [], ◌∷◌, ◌++◌, length, Option, Some}
-use Rattle.std.specs.Prelude.{None, Result, Ok, Err, IfSome}
-use Rattle.conf_history.specs.Prelude.{All, concat, Consumes, IsAtEnd, ClosesOnce, Unclosed, IsSound, ahead, bytes_read}
-use Rattle.conf_history.specs.Prelude.{piece_or_rest, store_limit, Command, Contents, step, Enough, IsBase, IsNoBase}
-use Rattle.conf_history.specs.Prelude.{IsRecord, MayBeDropped, PiecesMean, IsWhy, StartsWithHole}
-use Rattle.yaml_docs.specs.declared.pieces.Pieces.{Pieces}
-use Rattle.conf_history.specs.{BadPieces.line_feeds, declared.place.BadPiece.BadPiece}
-use Rattle.conf_history.specs.{declared.fault.HistoryFault.HistoryFault, declared.place.Place.Place}
-use Rattle.conf_history.specs.{declared.walk.Walk.Walk, declared.following.BadKind.BadKind}
-use Rattle.conf_history.specs.declared.following.BadKind.TheVariants.{Torn, Unexpected}
-use Rattle.conf_history.specs.Histories.{IsNoStore, RefusesReading, RefusesSurvey, StartsAfter}
+use Rattle.std.specs.Prelude.{◌≡◌, ◌+◌, ◌≤◌, ◌<◌, ◌⊎◌, ℕ, Bool, true, false, List, [], ◌∷◌, ◌++◌, length, Option, Some, None, Result, Ok}
+use Rattle.std.specs.Prelude.{Err, IfSome}
+use Rattle.conf_history.specs.Prelude.{All, concat, Consumes, IsAtEnd, ClosesOnce, Unclosed, IsSound, ahead, bytes_read, piece_or_rest}
+use Rattle.conf_history.specs.Prelude.{store_limit, Command, Contents, step, Enough, IsBase, IsNoBase, IsRecord, MayBeDropped, PiecesMean}
+use Rattle.conf_history.specs.{Prelude.{IsWhy, StartsWithHole}, BadPieces.line_feeds, declared.place.{BadPiece.BadPiece, Place.Place}}
+use Rattle.conf_history.specs.declared.fault.HistoryFault.{HistoryFault, TheVariants.{Damaged, NoSuchCommand, OutOfMemory}}
+use Rattle.conf_history.specs.{declared.{walk.Walk.Walk, following.BadKind.{BadKind, TheVariants.{Torn, Unexpected}}}, Histories.IsNoStore}
+use Rattle.{conf_history.specs.Histories.{RefusesReading, RefusesSurvey, StartsAfter}, yaml_docs.specs.declared.pieces.Pieces.Pieces}
 use Rattle.yaml_grammar.specs.Closings.{Pieces as Cut}
-use Rattle.conf_history.specs.declared.fault.HistoryFault.TheVariants.{Damaged, NoSuchCommand, OutOfMemory}
 
 -- the place is after these pieces
 pub record IsAfter (pieces : List (List ℕ)) (place : Place) : Type 0 where

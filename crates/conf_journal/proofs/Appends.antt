@@ -1,9 +1,9 @@
 -- What a crash during an append leaves, from the images that it leaves.
 use Rattle.std.proofs.Common.{◌⊎◌, inl, inr, ⊎_elim, ℕ, List, option_map}
-use Rattle.conf_journal.proofs.Prelude.{Append, after, with_pending, bytes_under, several_waited, IsImage, IsWhole}
-use Rattle.conf_journal.proofs.Prelude.{DiskModel, LeavesOnly, Store, LeavesOnly-weaker}
-use Rattle.conf_journal.specs.{Appends.LeavesAppended, Appends.several_after, Held.IsLeftNoted, Store.IsStoreOf, Store.IsTail}
-use Rattle.conf_journal.proofs.{Held.held-noted, Held.held-appended, Stores.appended_store-leaves, Stores.IsStoreOf-image}
+use Rattle.conf_journal.proofs.Prelude.{Append, after, with_pending, bytes_under, several_waited, IsImage, IsWhole, DiskModel, LeavesOnly}
+use Rattle.conf_journal.proofs.{Prelude.{Store, LeavesOnly-weaker}, Held.{held-noted, held-appended}, Stores.appended_store-leaves}
+use Rattle.conf_journal.{proofs.Stores.IsStoreOf-image, specs.{Appends.{LeavesAppended, several_after}, Held.IsLeftNoted, Store.IsStoreOf}}
+use Rattle.conf_journal.specs.Store.{IsTail}
 
 -- a run that leaves only images of the folder before an append to the store and after it leaves what an append may leave
 pub leaves-with_pending : {D : Type 0} (model : DiskModel D) (bytes : List ℕ) (old new : D) → IsWhole (model.folder old)

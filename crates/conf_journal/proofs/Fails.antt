@@ -1,7 +1,6 @@
 -- How a procedure fails that makes one call after another.
 use Rattle.std.proofs.Common.{◌≡◌, ℕ, Result, Ok, Err, sym, ◌∙◌, subst}
-use Rattle.conf_journal.proofs.Prelude.{DiskModel, CountsFailures, DiskFault}
-use Rattle.conf_journal.specs.Fails.{FailsAsCalls}
+use Rattle.conf_journal.{proofs.Prelude.{DiskModel, CountsFailures, DiskFault}, specs.Fails.FailsAsCalls}
 
 -- the failures of a first call that succeeds, and of what comes after it
 pub counts-then : {T U : Type 0} {old mid new : ℕ} {done : T} {result : Result U DiskFault}

@@ -1,15 +1,12 @@
 -- What a crash leaves of the file that is held under `store.yaml`, what it reads as, and what an append makes of it.
-use Rattle.std.proofs.Common.{◌≡◌, ℕ, List, [], ◌∷◌, length, get_or, Bool, false, ◌||◌, Option, Some, None}
-use Rattle.std.proofs.Common.{option_map, refl, sym, ◌∙◌, ap, subst}
-use Rattle.std.proofs.Math.Bool.{or-false, or-true}
-use Rattle.std.proofs.lemmas.Bool.{eq-eqb}
+use Rattle.std.proofs.Common.{◌≡◌, ℕ, List, [], ◌∷◌, length, get_or, Bool, false, ◌||◌, Option, Some, None, option_map, refl, sym, ◌∙◌, ap}
+use Rattle.std.proofs.{Common.subst, Math.Bool.{or-false, or-true}, lemmas.Bool.eq-eqb}
 use Rattle.conf_journal.proofs.Prelude.{append-nil, get_or-set_same, All-contains, File, empty_file, file_bytes, Stage, Folder, stages}
 use Rattle.conf_journal.proofs.Prelude.{Append, with_file, with_pending, after, bytes_at, bytes_under, Tells, Reads, Image, IsImage}
-use Rattle.conf_journal.proofs.Prelude.{IsTornAt, synced_file, IsMade, IsWhole, now_staged, Store, IsTorn-synced}
+use Rattle.conf_journal.proofs.Prelude.{IsTornAt, synced_file, IsMade, IsWhole, now_staged, Store, IsTorn-synced, several_waited}
+use Rattle.conf_journal.{proofs.Prelude.{with_notes, noted_by_append, noted_at, noted_behind}, specs.{Store.IsStoreOf, Held.file_at}}
+use Rattle.conf_journal.specs.{Held.{HoldsStore, IsLeftOf, IsLeftNoted, any_bytes}, Appends.several_after}
 use Rattle.conf_disk.specs.declared.disk.Content.TheVariants.{Missing}
-use Rattle.conf_journal.specs.{Store.IsStoreOf, Held.file_at, Held.HoldsStore, Held.IsLeftOf, Held.IsLeftNoted, Held.any_bytes}
-use Rattle.conf_journal.specs.Appends.{several_after}
-use Rattle.conf_journal.proofs.Prelude.{several_waited, with_notes, noted_by_append, noted_at, noted_behind}
 
 left_of_torn : (files : List File) (place : Option ℕ) (store : Option (List ℕ)) → IsTornAt files place store
     → IsLeftOf (file_at files place) store

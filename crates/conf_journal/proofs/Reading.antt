@@ -1,13 +1,11 @@
 -- What reads after a call.
-use Rattle.std.proofs.Common.{◌≡◌, inl, inr, ℕ, zero, suc, ◌<◌, List, ◌++◌, length, get_or, set, take, drop}
-use Rattle.std.proofs.Common.{Bool, Option, Some, None, Result, Ok}
-use Rattle.std.proofs.Common.{Err, OnOk, refl, sym, ◌∙◌, ap, append_assoc, take-append-drop}
+use Rattle.std.proofs.Common.{◌≡◌, inl, inr, ℕ, zero, suc, ◌<◌, List, ◌++◌, length, get_or, set, take, drop, Bool, Option, Some, None}
+use Rattle.std.proofs.Common.{Result, Ok, Err, OnOk, refl, sym, ◌∙◌, ap, append_assoc, take-append-drop}
 use Rattle.conf_journal.proofs.Prelude.{append-nil, get_or-set_same, get_or-set_other, File, empty_file, file_bytes, Folder, Step, Append}
 use Rattle.conf_journal.proofs.Prelude.{Sync, SyncFolder, with_file, with_pending, synced_whole, synced_first, after, after_part, Performs}
 use Rattle.conf_journal.proofs.Prelude.{bytes_at, bytes_under, under, Image, image_now, IsMade, IsApartFrom, IsWhole, now_staged, Name}
 use Rattle.conf_journal.proofs.Prelude.{Store, Next, DiskFault, get_or-set_cases, several_waited, with_notes, noted_by_append}
-use Rattle.conf_journal.specs.{Store.file_with_bytes, Store.ReadsAs, Appends.ReadsAppended}
-use Rattle.conf_journal.proofs.Held.{appended-noted}
+use Rattle.conf_journal.{proofs.Held.appended-noted, specs.{Store.{file_with_bytes, ReadsAs}, Appends.ReadsAppended}}
 
 -- a file with more pending bytes reads as its bytes and then those
 pub file_bytes-with_pending : (bytes : List ℕ) (file : File) → file_bytes (with_pending bytes file) ≡ file_bytes file ++ bytes

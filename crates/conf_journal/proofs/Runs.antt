@@ -1,9 +1,8 @@
 -- A run of steps on an honest disk: each is performed, or one fails and nothing more is done.
 use Rattle.std.proofs.Common.{◌≡◌, ◌⊎◌, inl, inr, ⊎_elim, List, [], ◌∷◌, ◌++◌, Result, refl, subst}
 use Rattle.conf_journal.proofs.Prelude.{Folder, Step, CreateNext, Append, Sync, RenameNext, RemoveNext, SyncFolder, after, Image, IsImage}
-use Rattle.conf_journal.proofs.Prelude.{TimeGoesOn, IsChange, LeavesOnly, Ghosts, DiskFault, Store, Next, Name}
-use Rattle.conf_journal.proofs.Prelude.{grown, grown-grows, after-grown}
-use Rattle.conf_journal.proofs.Prelude.{LeavesOnly-step, LeavesOnly-same, LeavesOnly-joined, LeavesOnly-weaker}
+use Rattle.conf_journal.proofs.Prelude.{TimeGoesOn, IsChange, LeavesOnly, Ghosts, DiskFault, Store, Next, Name, grown, grown-grows}
+use Rattle.conf_journal.proofs.Prelude.{after-grown, LeavesOnly-step, LeavesOnly-same, LeavesOnly-joined, LeavesOnly-weaker}
 use Rattle.conf_disk.specs.Log.{folder_after}
 
 -- an image of the folder before these steps, between two of them, or after them

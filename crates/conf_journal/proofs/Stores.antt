@@ -1,18 +1,16 @@
 -- What a crash may leave of `store.yaml` when a call changed something else, or appended to it.
-use Rattle.std.proofs.Common.{◌≡◌, ◌≢◌, ◌⊎◌, inl, inr, ⊎_elim, ℕ, ◌<◌, List, [], ◌∷◌, ◌++◌, length, get_or, set}
-use Rattle.std.proofs.Common.{Bool, false, not, ◌&&◌, Option}
-use Rattle.std.proofs.Common.{Some, None, Contains, IsSome, Result, Ok, Err, OnOk, refl, sym, ◌∙◌, ap, subst, arith}
+use Rattle.std.proofs.Common.{◌≡◌, ◌≢◌, ◌⊎◌, inl, inr, ⊎_elim, ℕ, ◌<◌, List, [], ◌∷◌, ◌++◌, length, get_or, set, Bool, false, not, ◌&&◌}
+use Rattle.std.proofs.Common.{Option, Some, None, Contains, IsSome, Result, Ok, Err, OnOk, refl, sym, ◌∙◌, ap, subst, arith}
+use Rattle.std.proofs.lemmas.Bool.{cases_eq, ne_eqb}
 use Rattle.conf_journal.proofs.Prelude.{append-nil, get_or-set_same, get_or-set_other, get_or_append_left, All-contains}
 use Rattle.conf_journal.proofs.Prelude.{Contains-append_right, Contains-append_cases, File, empty_file, file_bytes, Stage, Folder, stages}
 use Rattle.conf_journal.proofs.Prelude.{Step, CreateNext, Append, Sync, RenameNext, RemoveNext, SyncFolder, with_file, with_pending}
 use Rattle.conf_journal.proofs.Prelude.{synced_whole, after_remove, after_create, after_rename, after, Performs, bytes_at, bytes_under}
 use Rattle.conf_journal.proofs.Prelude.{under, Image, IsImage, IsTorn, IsTornAt, IsMade, IsApartFrom, IsStage, IsWhole, now_staged}
 use Rattle.conf_journal.proofs.Prelude.{after-whole, LeavesOnly, Ghosts, Name, Store, Next, DiskFault, after-grown, LeavesOnly-weaker}
-use Rattle.conf_journal.proofs.Prelude.{IsTornAt-whole, IsTorn-synced, only_stage}
-use Rattle.std.proofs.lemmas.Bool.{cases_eq, ne_eqb}
-use Rattle.conf_journal.proofs.Prelude.{with_notes, is_place, noted_at, noted_behind, noted_but, IsWorn}
+use Rattle.conf_journal.proofs.Prelude.{IsTornAt-whole, IsTorn-synced, only_stage, with_notes, is_place, noted_at, noted_behind, noted_but}
+use Rattle.conf_journal.proofs.{Prelude.IsWorn, Reading.synced-reads_same, Runs.{LeftDuring, SyncsLast, grown_after, grown-left}}
 use Rattle.conf_journal.specs.Store.{IsStoreOf, IsTail, IsSynced, IsSyncedAt, LeavesOldStore}
-use Rattle.conf_journal.proofs.{Reading.synced-reads_same, Runs.LeftDuring, Runs.SyncsLast, Runs.grown_after, Runs.grown-left}
 
 -- where no note is left, a place has none
 abbrev IsNotedAt : (Option ℕ → Bool) → Option ℕ → Image → Type 0

@@ -1,9 +1,8 @@
 -- What an append to `store.yaml` makes of what is read, and what a crash during it leaves.
 use Rattle.std.specs.Prelude.{◌⊎◌, ℕ, List, Bool, ◌||◌, Option, option_map}
-use Rattle.conf_journal.specs.Prelude.{File, Folder, Append, after, with_pending, several_waited, bytes_under, IsImage}
-use Rattle.conf_journal.specs.Prelude.{DiskModel, LeavesOnly, Store, Next}
-use Rattle.conf_journal.specs.{Held.HoldsStore, Held.IsLeftNoted, Held.file_at, Held.waits_in}
-use Rattle.conf_journal.specs.{Store.IsStoreOf, Store.IsTail, Store.IsSynced, Store.ReadsAs, Store.file_with_bytes}
+use Rattle.conf_journal.specs.Prelude.{File, Folder, Append, after, with_pending, several_waited, bytes_under, IsImage, DiskModel}
+use Rattle.conf_journal.specs.{Prelude.{LeavesOnly, Store, Next}, Held.{HoldsStore, IsLeftNoted, file_at, waits_in}, Store.IsStoreOf}
+use Rattle.conf_journal.specs.Store.{IsTail, IsSynced, ReadsAs, file_with_bytes}
 
 -- whether it is noted after an append to a file that several may have waited: it was, or bytes of the file are pending
 abbrev pub several_after : Bool → Option File → Bool

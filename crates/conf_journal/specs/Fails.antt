@@ -1,7 +1,6 @@
 -- How a procedure of several calls fails: as one call of the disk does.
 use Rattle.std.specs.Prelude.{◌≡◌, ◌≢◌, Result, Err}
-use Rattle.conf_journal.specs.Prelude.{DiskModel, CountsFailures, greatest}
-use Rattle.conf_disk.specs.declared.disk.DiskFault.{DiskFault}
+use Rattle.{conf_journal.specs.Prelude.{DiskModel, CountsFailures, greatest}, conf_disk.specs.declared.disk.DiskFault.DiskFault}
 use Rattle.conf_disk.specs.declared.disk.DiskFault.TheVariants.{OutOfMemory}
 
 -- Failures of the device are counted, and no procedure runs out of memory. A disk that has failed the greatest number

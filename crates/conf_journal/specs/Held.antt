@@ -1,9 +1,8 @@
 -- One file that is `store.yaml` in every stage.
 use Rattle.std.specs.Prelude.{◌≡◌, ℕ, List, [], ◌∷◌, get_or, All, Option, Some, None, option_map, Bool, true, false}
-use Rattle.conf_journal.specs.Prelude.{File, empty_file, Stage, Folder, stages, several_waited, bytes_under, Reads, Image, IsImage}
-use Rattle.conf_journal.specs.Prelude.{IsTorn, synced_file, Store, Next}
+use Rattle.conf_journal.specs.Prelude.{File, empty_file, Stage, Folder, stages, several_waited, bytes_under, Reads, Image, IsImage, IsTorn}
+use Rattle.conf_journal.specs.{Prelude.{synced_file, Store, Next}, Store.IsStoreOf}
 use Rattle.conf_disk.specs.declared.disk.Content.TheVariants.{Missing}
-use Rattle.conf_journal.specs.Store.{IsStoreOf}
 
 -- the file at a place among the folder's files, if a name has one
 abbrev pub file_at : List File → Option ℕ → Option File

@@ -1,8 +1,7 @@
 -- What a crash may leave under `store.yaml`, in plain words.
 use Rattle.std.specs.Prelude.{◌≡◌, ◌⊎◌, ℕ, List, [], ◌++◌, get_or, Bool, Option, Some, None, option_map}
-use Rattle.conf_journal.specs.Prelude.{File, empty_file, Folder, under, bytes_under, Image, IsImage, IsWorn, image_now}
-use Rattle.conf_journal.specs.Prelude.{DiskModel, LeavesOnly, Next}
-use Rattle.conf_disk.specs.declared.disk.Name.{Name}
+use Rattle.conf_journal.specs.Prelude.{File, empty_file, Folder, under, bytes_under, Image, IsImage, IsWorn, image_now, DiskModel}
+use Rattle.{conf_journal.specs.Prelude.{LeavesOnly, Next}, conf_disk.specs.declared.disk.Name.Name}
 
 -- the most bytes of `store.yaml`
 abbrev pub store_limit : ℕ

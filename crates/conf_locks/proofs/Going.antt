@@ -1,14 +1,8 @@
 -- What a run goes by after a call of it, before which others made any of theirs.
-use Rattle.std.specs.Prelude.{Result, Ok, Err}
-use Rattle.std.proofs.Common.{◌≡◌, ℕ, List, [], ◌∷◌, ◌++◌}
-use Rattle.std.proofs.Common.{⊎_elim, refl, sym, ◌∙◌, ap, subst}
-use Rattle.conf_locks.specs.declared.system.Locking.{Locking}
-use Rattle.conf_locks.specs.declared.system.Locking.TheVariants.{Taken, Held}
-use Rattle.conf_locks.specs.Locks.{Locks, Call, LockFile, ShareFolder, Make, Remove, Event, after, after_all}
-use Rattle.conf_locks.specs.Locks.{HoldsNone, AreMade, Others, Reaches}
-use Rattle.conf_locks.specs.Models.{LockModel, Goes, Asks, MayDo}
-use Rattle.conf_locks.specs.Taking.{Follows}
-use Rattle.conf_locks.proofs.Staying.{IsLeft, left, none-left}
+use Rattle.std.{specs.Prelude.{Result, Ok, Err}, proofs.Common.{◌≡◌, ℕ, List, [], ◌∷◌, ◌++◌, ⊎_elim, refl, sym, ◌∙◌, ap, subst}}
+use Rattle.conf_locks.specs.{declared.system.Locking.{Locking, TheVariants.{Taken, Held}}, Locks.{Locks, Call, LockFile, ShareFolder, Make}}
+use Rattle.conf_locks.specs.{Locks.{Remove, Event, after, after_all, HoldsNone, AreMade, Others, Reaches}, Models.{LockModel, Goes, Asks}}
+use Rattle.conf_locks.{specs.{Models.MayDo, Taking.Follows}, proofs.Staying.{IsLeft, left, none-left}}
 
 -- one list of calls and then another
 all-then : (events more : List Event) (locks : Locks) → after_all (events ++ more) locks ≡ after_all more (after_all events locks)

@@ -1,14 +1,9 @@
 -- What a run has on the way to its locks.
-use Rattle.std.specs.Prelude.{Result, Ok, IsSome}
-use Rattle.std.proofs.Common.{◌≡◌, ◌≢◌, ◌⊎◌, ℕ, Option, Some, None, Bool, true, false, inl, inr, ⊎_elim, refl, sym}
-use Rattle.std.proofs.Common.{◌∙◌, ap}
-use Rattle.conf_locks.specs.declared.system.Locking.{Locking}
-use Rattle.conf_locks.specs.declared.system.Locking.TheVariants.{Taken}
-use Rattle.conf_locks.specs.Locks.{Locks, LockFile, LockFolder, ShareFolder, Make, Remove, Mark, after, IsFree, HoldsNone}
-use Rattle.conf_locks.specs.Locks.{IsKeptOut, Others}
-use Rattle.conf_locks.specs.Models.{LockModel, Goes, MayAlways, Asks}
-use Rattle.conf_locks.specs.Taking.{HasTaken, HasMarked, HoldsFolder, HasOpened}
-use Rattle.conf_locks.proofs.Staying.{left, one-value, some-none, entry-same}
+use Rattle.std.{specs.Prelude.{Result, Ok, IsSome}, proofs.Common.{◌≡◌, ◌≢◌, ◌⊎◌, ℕ, Option, Some, None, Bool, true, false, inl, inr}}
+use Rattle.std.proofs.Common.{⊎_elim, refl, sym, ◌∙◌, ap}
+use Rattle.conf_locks.specs.{declared.system.Locking.{Locking, TheVariants.Taken}, Locks.{Locks, LockFile, LockFolder, ShareFolder, Make}}
+use Rattle.conf_locks.specs.{Locks.{Remove, Mark, after, IsFree, HoldsNone, IsKeptOut, Others}, Models.{LockModel, Goes, MayAlways, Asks}}
+use Rattle.conf_locks.{specs.Taking.{HasTaken, HasMarked, HoldsFolder, HasOpened}, proofs.Staying.{left, one-value, some-none, entry-same}}
 use Rattle.conf_locks.proofs.Going.{asked-taken, asks-file, asks-share, IsSteady, left-before}
 
 pub some-of : (o : Option ℕ) → IsSome o → (x : ℕ) × (o ≡ Some x)

@@ -1,10 +1,9 @@
 -- What calls of other runs leave to a run.
-use Rattle.std.proofs.Common.{◌≡◌, ◌≢◌, ℕ, List, [], ◌∷◌, Option, Some, None, Bool, true, false}
-use Rattle.std.proofs.Common.{if◌then◌else◌, inl, inr, ⊎_elim, refl, sym, ◌∙◌, ap, subst}
-use Rattle.std.proofs.lemmas.Bool.Decides.{eqb_tells}
-use Rattle.conf_locks.specs.Locks.{Locks, Call, LockFile, LockFolder, ShareFolder, Make, Remove, Mark, LetGoFile, LetGoFolder}
-use Rattle.conf_locks.specs.Locks.{LetGoShare, Event, with_entry, after, after_all, IsFree, MayBeCalled, Holds, HoldsNone, AreMade}
-use Rattle.conf_locks.specs.Locks.{AreOfOthers, AreKeptBy, keeps, Others}
+use Rattle.std.proofs.Common.{◌≡◌, ◌≢◌, ℕ, List, [], ◌∷◌, Option, Some, None, Bool, true, false, if◌then◌else◌, inl, inr, ⊎_elim, refl, sym}
+use Rattle.std.proofs.{Common.{◌∙◌, ap, subst}, lemmas.Bool.Decides.eqb_tells}
+use Rattle.conf_locks.specs.Locks.{Locks, Call, LockFile, LockFolder, ShareFolder, Make, Remove, Mark, LetGoFile, LetGoFolder, LetGoShare}
+use Rattle.conf_locks.specs.Locks.{Event, with_entry, after, after_all, IsFree, MayBeCalled, Holds, HoldsNone, AreMade, AreOfOthers}
+use Rattle.conf_locks.specs.Locks.{AreKeptBy, keeps, Others}
 
 pub entry-same : {X : Type 0} (key : ℕ) (value : X) (entries : ℕ → X) → with_entry key value entries key ≡ value
 entry-same {X} key value entries = elim (eqb_tells key key) [

@@ -1,16 +1,11 @@
 -- How the steps of a run that takes its locks compose.
-use Rattle.std.specs.Prelude.{Result, Ok, Err, IfOk, IsSome, IsErr, IsErrAnd}
-use Rattle.std.proofs.Common.{◌≡◌, ℕ, ◌+◌, Some, Bool, true, false, sym, ◌∙◌, ap, subst, arith}
-use Rattle.conf_locks.specs.declared.system.Making.{Making}
-use Rattle.conf_locks.specs.declared.system.Making.TheVariants.{Made, Exists}
-use Rattle.conf_locks.specs.declared.taking.NotTaken.{NotTaken}
-use Rattle.conf_locks.specs.declared.taking.NotTaken.TheVariants.{Locked, Failed}
-use Rattle.conf_locks.specs.declared.taking.Origin.{Origin}
-use Rattle.conf_locks.specs.Locks.{Locks}
-use Rattle.conf_locks.specs.Models.{LockModel, Goes, IsMade, made_count}
-use Rattle.conf_locks.specs.Taking.{Follows, Takes, IsToldBy, IsKeptOutAt, HoldsFolder, HasOpened, OpensOrMakes, HasMarked}
-use Rattle.conf_locks.proofs.Going.{reach-then, follows-then, goes-weaker, steady-make}
-use Rattle.conf_locks.proofs.Holding.{some-of, opened-made, opened-then, folder-kept}
+use Rattle.std.{specs.Prelude.{Result, Ok, Err, IfOk, IsSome, IsErr, IsErrAnd}, proofs.Common.{◌≡◌, ℕ, ◌+◌, Some, Bool, true, false, sym}}
+use Rattle.std.proofs.Common.{◌∙◌, ap, subst, arith}
+use Rattle.conf_locks.specs.declared.{system.Making.{Making, TheVariants.{Made, Exists}}, taking.NotTaken.{NotTaken, TheVariants.Locked}}
+use Rattle.conf_locks.specs.{declared.taking.{NotTaken.TheVariants.Failed, Origin.Origin}, Locks.Locks, Models.{LockModel, Goes, IsMade}}
+use Rattle.conf_locks.specs.{Models.made_count, Taking.{Follows, Takes, IsToldBy, IsKeptOutAt, HoldsFolder, HasOpened, OpensOrMakes}}
+use Rattle.conf_locks.{specs.Taking.HasMarked, proofs.{Going.{reach-then, follows-then, goes-weaker, steady-make}, Holding.some-of}}
+use Rattle.conf_locks.proofs.Holding.{opened-made, opened-then, folder-kept}
 
 pub if-err : {T E : Type 0} (result : Result T E) (P : T → Type 0) → IsErr result → IfOk result P
 if-err (Ok value) P failed = cc

@@ -1,15 +1,8 @@
 -- What a run tells of locks that it didn't get.
-use Rattle.std.specs.Prelude.{Result, Ok, Err, MatchResult}
-use Rattle.std.proofs.Common.{◌≡◌, ℕ, refl, ◌∙◌, subst}
-use Rattle.conf_locks.specs.declared.system.Locking.{Locking}
-use Rattle.conf_locks.specs.declared.system.Locking.TheVariants.{Taken, Held}
-use Rattle.conf_locks.specs.declared.taking.LockPlace.{LockPlace}
-use Rattle.conf_locks.specs.declared.taking.NotTaken.{NotTaken}
-use Rattle.conf_locks.specs.declared.taking.NotTaken.TheVariants.{Locked}
-use Rattle.conf_locks.specs.Locks.{Call, IsKeptOut}
-use Rattle.conf_locks.specs.Models.{LockModel, Goes, Asks}
-use Rattle.conf_locks.specs.Taking.{Follows, IsToldBy, IsKeptOutAt, taken_of}
-use Rattle.conf_locks.proofs.Going.{reach-then, reach-others}
+use Rattle.std.{specs.Prelude.{Result, Ok, Err, MatchResult}, proofs.Common.{◌≡◌, ℕ, refl, ◌∙◌, subst}}
+use Rattle.conf_locks.specs.declared.{system.Locking.{Locking, TheVariants.{Taken, Held}}, taking.{LockPlace.LockPlace, NotTaken.NotTaken}}
+use Rattle.conf_locks.specs.{declared.taking.NotTaken.TheVariants.Locked, Locks.{Call, IsKeptOut}, Models.{LockModel, Goes, Asks}}
+use Rattle.conf_locks.{specs.Taking.{Follows, IsToldBy, IsKeptOutAt, taken_of}, proofs.Going.{reach-then, reach-others}}
 
 -- the result of a call that was made in place of another
 pub blamed-ok : {T E F : Type 0} (made : Result T E) (value : T) (of : E → F) (P : T → Type 0) (Q : E → Type 0)

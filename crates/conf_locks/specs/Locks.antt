@@ -1,6 +1,5 @@
 -- The locks of one folder, which run holds which, and what a call of a run makes of them.
-use Rattle.std.specs.Prelude.{◌≡◌, ◌≢◌, ◌⊎◌, ℕ, List, [], ◌∷◌, Option, Some, None, IsSome, Bool, true, false}
-use Rattle.std.specs.Prelude.{if◌then◌else◌, ◌==◌}
+use Rattle.std.specs.Prelude.{◌≡◌, ◌≢◌, ◌⊎◌, ℕ, List, [], ◌∷◌, Option, Some, None, IsSome, Bool, true, false, if◌then◌else◌, ◌==◌}
 
 -- Which file `store.lock` is; which files are marked as those of a run; which run holds the lock of a file; which run holds
 -- that of the folder alone, and which runs share it. Files and runs go by numbers.

@@ -1,12 +1,8 @@
 -- A system with locks, by what contracts see of it, and how a call of it goes.
 use Rattle.std.specs.Prelude.{◌≡◌, ◌⊎◌, ℕ, Option, Some, None, IsSome, Result, MatchResult}
-use Rattle.conf_locks.specs.declared.system.Locking.{Locking}
-use Rattle.conf_locks.specs.declared.system.Locking.TheVariants.{Taken, Held}
-use Rattle.conf_locks.specs.declared.system.Making.{Making}
-use Rattle.conf_locks.specs.declared.system.Making.TheVariants.{Made, Exists}
-use Rattle.conf_locks.specs.declared.system.Opening.{Opening}
-use Rattle.conf_locks.specs.declared.system.Opening.TheVariants.{Opened, Missing, Refused}
-use Rattle.conf_locks.specs.Locks.{Locks, Call, Make, after, IsFree, IsKeptOut, MayBeCalled, Others, Reaches}
+use Rattle.conf_locks.specs.declared.system.{Locking.{Locking, TheVariants.{Taken, Held}}, Making.{Making, TheVariants.{Made, Exists}}}
+use Rattle.conf_locks.specs.{declared.system.Opening.{Opening, TheVariants.{Opened, Missing, Refused}}, Locks.{Locks, Call, Make, after}}
+use Rattle.conf_locks.specs.Locks.{IsFree, IsKeptOut, MayBeCalled, Others, Reaches}
 
 pub record LockModel (S : Type 0) : Type 1 where
   -- whether the system is one that the clauses speak of; no call changes it

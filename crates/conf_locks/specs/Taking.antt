@@ -1,15 +1,9 @@
 -- How a run takes its locks.
 use Rattle.std.specs.Prelude.{◌≡◌, ◌≢◌, ◌⊎◌, ℕ, Some, None, Result, Ok, Err, MatchResult, IfOk, false, true}
-use Rattle.conf_locks.specs.declared.system.Locking.{Locking}
-use Rattle.conf_locks.specs.declared.system.Locking.TheVariants.{Taken, Held}
-use Rattle.conf_locks.specs.declared.taking.LockPlace.{LockPlace}
-use Rattle.conf_locks.specs.declared.taking.LockPlace.TheVariants.{File, Folder}
-use Rattle.conf_locks.specs.declared.taking.NotTaken.{NotTaken}
-use Rattle.conf_locks.specs.declared.taking.NotTaken.TheVariants.{Locked, Failed}
-use Rattle.conf_locks.specs.declared.taking.Origin.{Origin}
-use Rattle.conf_locks.specs.declared.taking.Origin.TheVariants.{Made}
-use Rattle.conf_locks.specs.Locks.{Locks, LockFile, LockFolder, Remove, IsKeptOut, Holds, Reaches}
-use Rattle.conf_locks.specs.Models.{LockModel, MayAlways}
+use Rattle.conf_locks.specs.declared.{system.Locking.{Locking, TheVariants.{Taken, Held}}, taking.LockPlace.{LockPlace, TheVariants.File}}
+use Rattle.conf_locks.specs.declared.taking.{LockPlace.TheVariants.Folder, NotTaken.{NotTaken, TheVariants.{Locked, Failed}}, Origin.Origin}
+use Rattle.conf_locks.specs.{declared.taking.Origin.TheVariants.Made, Locks.{Locks, LockFile, LockFolder, Remove, IsKeptOut, Holds}}
+use Rattle.conf_locks.specs.{Locks.Reaches, Models.{LockModel, MayAlways}}
 
 -- a run holds the store by the file that it has open
 pub record HasTaken {S : Type 0} (model : LockModel S) (s : S) : Type 0 where

@@ -1,33 +1,19 @@
 -- An append by writes, as a step of a disk.
-use Rattle.std.specs.Prelude.{Result, Ok, Err, IsErr}
-use Rattle.std.proofs.Common.{◌≡◌, ◌⊎◌, ℕ, suc, ◌≤◌, List, [], ◌∷◌, ◌++◌, length, take, drop, map, get_or, Option, Some}
-use Rattle.std.proofs.Common.{None, Bool, true, false}
-use Rattle.std.proofs.Common.{not, ◌&&◌, ◌||◌, if◌then◌else◌, inl, inr, ⊎_elim, refl, sym, ◌∙◌, ap, subst, arith}
-use Rattle.std.proofs.Math.Seq.{take-length}
-use Rattle.std.proofs.lemmas.List.{take-take}
-use Rattle.conf_disk.specs.Folder.{Folder, File, Stage, noted_at, noted_behind}
+use Rattle.std.{specs.Prelude.{Result, Ok, Err, IsErr}, proofs.Common.{◌≡◌, ◌⊎◌, ℕ, suc, ◌≤◌, List, [], ◌∷◌, ◌++◌, length, take, drop, map}}
+use Rattle.std.proofs.Common.{get_or, Option, Some, None, Bool, true, false, not, ◌&&◌, ◌||◌, if◌then◌else◌, inl, inr, ⊎_elim, refl, sym}
+use Rattle.std.proofs.{Common.{◌∙◌, ap, subst, arith}, Math.Seq.take-length, lemmas.List.take-take}
+use Rattle.conf_disk.specs.{Folder.{Folder, File, Stage, noted_at, noted_behind}, Image.{Image, IsImage}, declared.disk.Name.Name}
+use Rattle.{conf_disk.proofs.Images.after_part-cases, conf_system.specs.declared.system.FileName.{FileName, TheVariants.{Store, Next}}}
+use Rattle.conf_system.specs.{declared.system.Note.Note, Machine.{Version, Machine, Write, after, empty_held, version_at, under}}
+use Rattle.conf_system.specs.Machine.{are_linked, with_now, with_pending, is_any, sure_count, file_of, notes_of, all_several}
+use Rattle.conf_system.specs.{Machine.noted_by_write, Folders.{MayAppend, folder_of, IsTold}, Models.{SystemModel, Wrote}}
+use Rattle.{conf_system.proofs.Steps.{file_at, store_write-appends, next_write-appends}, conf_protocol.specs.Keeps.{IsSafe, IsPlain}}
+use Rattle.conf_protocol.specs.{Keeps.{IsExact, is_so, several_after}, Moments.{Changes, Goes}, declared.run.Bytes.Bytes}
+use Rattle.conf_protocol.{specs.declared.run.Bytes.TheVariants.{OnDevice, Pending, Unsure}, proofs.Frames.{now-same, note-same}}
+use Rattle.conf_protocol.proofs.{Known.{and-second, place-itself, safe-off, nothing-pending}, Keeping.safe-wrote_next, Moving.Passes-weaker}
+use Rattle.conf_protocol.proofs.{Moving.may-end, Told.{told-wrote_next, told-wrote_store}}
 use Rattle.conf_disk.specs.Folder as disk
-use Rattle.conf_disk.specs.Image.{Image, IsImage}
-use Rattle.conf_disk.specs.declared.disk.Name.{Name}
 use Rattle.conf_disk.specs.declared.disk.Name.TheVariants as disk_name
-use Rattle.conf_disk.proofs.Images.{after_part-cases}
-use Rattle.conf_system.specs.declared.system.FileName.{FileName}
-use Rattle.conf_system.specs.declared.system.FileName.TheVariants.{Store, Next}
-use Rattle.conf_system.specs.declared.system.Note.{Note}
-use Rattle.conf_system.specs.Machine.{Version, Machine, Write, after, empty_held, version_at, under, are_linked, with_now, with_pending}
-use Rattle.conf_system.specs.Machine.{is_any, sure_count, file_of, notes_of, all_several, noted_by_write}
-use Rattle.conf_system.specs.Folders.{MayAppend, folder_of, IsTold}
-use Rattle.conf_system.proofs.Steps.{file_at, store_write-appends, next_write-appends}
-use Rattle.conf_system.specs.Models.{SystemModel, Wrote}
-use Rattle.conf_protocol.specs.Keeps.{IsSafe, IsPlain, IsExact, is_so, several_after}
-use Rattle.conf_protocol.specs.Moments.{Changes, Goes}
-use Rattle.conf_protocol.specs.declared.run.Bytes.{Bytes}
-use Rattle.conf_protocol.specs.declared.run.Bytes.TheVariants.{OnDevice, Pending, Unsure}
-use Rattle.conf_protocol.proofs.Frames.{now-same, note-same}
-use Rattle.conf_protocol.proofs.Known.{and-second, place-itself, safe-off, nothing-pending}
-use Rattle.conf_protocol.proofs.Keeping.{safe-wrote_next}
-use Rattle.conf_protocol.proofs.Moving.{Passes-weaker, may-end}
-use Rattle.conf_protocol.proofs.Told.{told-wrote_next, told-wrote_store}
 
 -- what a write makes of a machine is what an append makes of its folder
 pub record Appends (name : FileName) (to : Name) (m : Machine) : Type 0 where

@@ -1,28 +1,20 @@
 -- Each call of a system as a step of a disk.
-use Rattle.std.specs.Prelude.{option_map, is_some, IsSome}
-use Rattle.std.proofs.Common.{◌≡◌, ℕ, zero, suc, List, [], ◌∷◌, length, get_or, set, map, Option, Some, None, Bool, true, false, not}
-use Rattle.std.proofs.Common.{◌&&◌, refl, sym, ◌∙◌, ap, arith}
-use Rattle.std.proofs.lemmas.List.{set-get_or, map-set}
-use Rattle.conf_disk.specs.Folder.{File, empty_file}
+use Rattle.std.{specs.Prelude.{option_map, is_some, IsSome}, proofs.Common.{◌≡◌, ℕ, zero, suc, List, [], ◌∷◌, length, get_or, set, map}}
+use Rattle.std.proofs.{Common.{Option, Some, None, Bool, true, false, not, ◌&&◌, refl, sym, ◌∙◌, ap, arith}, lemmas.List.set-get_or}
+use Rattle.std.proofs.lemmas.List.{map-set}
+use Rattle.{conf_disk.specs.Folder.{File, empty_file}, conf_system.specs.declared.system.FileName.TheVariants.{Store, Next}}
+use Rattle.conf_system.specs.Machine.{Version, Held, Machine, empty_held, version_at, under, with_file, with_now, failed_sync, synced}
+use Rattle.conf_system.specs.Machine.{file_of, is_any, version_bytes, CreateNext, UnlinkNext, RenameNext, LinkNext, SyncFolder, Sync}
+use Rattle.conf_system.specs.{Machine.{MayBeCalled, are_linked, after, failing}, Crash.IsSound, Folders.{folder_of, stages_before}}
+use Rattle.conf_system.{specs.Folders.{stage_of, IsSure, IsTold}, proofs.Steps.{apart-same, linked-same, unlink-none, file_at}}
+use Rattle.conf_system.proofs.Steps.{create-steps, remove-steps, folder_sync-steps, sync-steps, next_sync-steps, rename-steps}
+use Rattle.{conf_system.proofs.Steps.{failed_rename-steps, link-steps, failed_link-steps}, conf_protocol.specs.Keeps.{is_so, IsPlain}}
+use Rattle.conf_protocol.specs.{Keeps.{IsSafe, IsExact}, declared.run.Bytes.{Bytes, TheVariants.{OnDevice, Pending, Unsure}}}
+use Rattle.conf_protocol.proofs.Known.{safe-off, safe-created, safe-unlinked, safe-settled, safe-next_changed, safe-store_changed}
+use Rattle.conf_protocol.proofs.{Known.{so-synced, so-failed}, Told.{told-staged, told-settled, told-changed, told-renamed, told-failed}}
+use Rattle.conf_protocol.proofs.{Told.{no-note, its-note}, Going.{IsStep, IsPart}}
 use Rattle.conf_disk.specs.Folder as disk
 use Rattle.conf_disk.specs.declared.disk.Name.TheVariants as disk_name
-use Rattle.conf_system.specs.declared.system.FileName.TheVariants.{Store, Next}
-use Rattle.conf_system.specs.Machine.{Version, Held, Machine, empty_held, version_at, under, with_file, with_now}
-use Rattle.conf_system.specs.Machine.{failed_sync, synced, file_of, is_any, version_bytes}
-use Rattle.conf_system.specs.Machine.{CreateNext, UnlinkNext, RenameNext, LinkNext, SyncFolder, Sync, MayBeCalled}
-use Rattle.conf_system.specs.Machine.{are_linked, after, failing}
-use Rattle.conf_system.specs.Crash.{IsSound}
-use Rattle.conf_system.specs.Folders.{folder_of, stages_before, stage_of, IsSure, IsTold}
-use Rattle.conf_system.proofs.Steps.{apart-same, linked-same, unlink-none, file_at, create-steps, remove-steps}
-use Rattle.conf_system.proofs.Steps.{folder_sync-steps, sync-steps, next_sync-steps, rename-steps}
-use Rattle.conf_system.proofs.Steps.{failed_rename-steps, link-steps, failed_link-steps}
-use Rattle.conf_protocol.specs.Keeps.{is_so, IsPlain, IsSafe, IsExact}
-use Rattle.conf_protocol.specs.declared.run.Bytes.{Bytes}
-use Rattle.conf_protocol.specs.declared.run.Bytes.TheVariants.{OnDevice, Pending, Unsure}
-use Rattle.conf_protocol.proofs.Known.{safe-off, safe-created, safe-unlinked, safe-settled, safe-next_changed, safe-store_changed}
-use Rattle.conf_protocol.proofs.Known.{so-synced, so-failed}
-use Rattle.conf_protocol.proofs.Told.{told-staged, told-settled, told-changed, told-renamed, told-failed, no-note, its-note}
-use Rattle.conf_protocol.proofs.Going.{IsStep, IsPart}
 
 pub none-left : {X : Type 0} (xs : List X) → length xs ≡ 0 → xs ≡ []
 none-left [] none = refl

@@ -1,34 +1,22 @@
 -- Calls that change nothing but the copy, and the placing of the copy.
-use Rattle.std.specs.Prelude.{Result, Ok, Err, option_map, is_some, IsSome}
-use Rattle.std.proofs.Common.{◌≡◌, ℕ, zero, suc, ◌+◌, min, List, [], ◌∷◌, ◌++◌, length, get_or, set, map, take, drop, Option, Some, None}
-use Rattle.std.proofs.Common.{true, false, refl, sym, ◌∙◌, ap, subst, arith, append-nil, length-append, take-append-drop}
-use Rattle.std.proofs.Math.Seq.{take-add, take-length}
-use Rattle.std.proofs.lemmas.List.{map-set, drop_all, get_or-set_same}
-use Rattle.conf_disk.specs.Folder.{File, Stage, synced_whole}
-use Rattle.conf_disk.specs.Folder as disk
-use Rattle.conf_disk.specs.Image.{IsMade}
-use Rattle.conf_disk.specs.declared.disk.Name.TheVariants as disk_name
-use Rattle.conf_system.specs.declared.system.Note.{Note}
-use Rattle.conf_system.specs.Crash.{IsSound}
-use Rattle.conf_system.specs.declared.system.FileName.TheVariants.{Store, Copy}
-use Rattle.conf_system.specs.Machine.{Version, Held, Machine, empty_held, version_bytes, version_at, file_of, cut_at}
-use Rattle.conf_system.specs.Machine.{sure_count, with_pending}
-use Rattle.conf_system.specs.Machine.{with_file, with_copy, replaced, settled, failed_sync, synced, under, are_linked, bytes_under}
-use Rattle.conf_system.specs.Machine.{Call, CreateCopy, UnlinkCopy, PlaceCopy, SyncFolder, Sync, Write, MayBeCalled, after, failing}
-use Rattle.conf_system.specs.Models.{SystemModel, Passes, Stays, Wrote}
-use Rattle.conf_system.specs.Models as system
-use Rattle.conf_system.specs.Folders.{folder_of, stages_before, stage_of, IsTold}
-use Rattle.conf_system.proofs.Steps.{file_at, settled-files}
-use Rattle.conf_protocol.specs.Keeps.{is_so, IsPlain}
-use Rattle.conf_protocol.specs.Moments.{Copies, Quiet}
-use Rattle.conf_protocol.specs.Copying.{HasCopy, IsKept, IsPlaced}
-use Rattle.conf_protocol.specs.declared.run.Bytes.TheVariants.{OnDevice}
-use Rattle.conf_protocol.proofs.Frames.{at-other, at-settled, now-same, noted-same, notes-same, note-same}
-use Rattle.conf_protocol.proofs.Frames.{plain-settled, made-store, one-alone}
-use Rattle.conf_protocol.proofs.Known.{safe-off}
-use Rattle.conf_protocol.proofs.Moving.{Passes-joined, Passes-weaker, Passes-none, Quiet-call, may-end}
-use Rattle.conf_protocol.proofs.Told.{told-changed}
+use Rattle.std.{specs.Prelude.{Result, Ok, Err, option_map, is_some, IsSome}, proofs.Common.{◌≡◌, ℕ, zero, suc, ◌+◌, min, List, [], ◌∷◌}}
+use Rattle.std.proofs.Common.{◌++◌, length, get_or, set, map, take, drop, Option, Some, None, true, false, refl, sym, ◌∙◌, ap, subst, arith}
+use Rattle.std.proofs.{Common.{append-nil, length-append, take-append-drop}, Math.Seq.{take-add, take-length}, lemmas.List.map-set}
+use Rattle.std.proofs.lemmas.List.{drop_all, get_or-set_same}
+use Rattle.{conf_disk.specs.{Folder.{File, Stage, synced_whole}, Image.IsMade}, conf_system.specs.declared.system.Note.Note}
+use Rattle.conf_system.specs.{declared.system.FileName.TheVariants.{Store, Copy}, Crash.IsSound, Machine.{Version, Held, Machine}}
+use Rattle.conf_system.specs.Machine.{empty_held, version_bytes, version_at, file_of, cut_at, sure_count, with_pending, with_file}
+use Rattle.conf_system.specs.Machine.{with_copy, replaced, settled, failed_sync, synced, under, are_linked, bytes_under, Call, CreateCopy}
+use Rattle.conf_system.specs.{Machine.{UnlinkCopy, PlaceCopy, SyncFolder, Sync, Write, MayBeCalled, after, failing}, Models.SystemModel}
+use Rattle.conf_system.{specs.{Models.{Passes, Stays, Wrote}, Folders.{folder_of, stages_before, stage_of, IsTold}}, proofs.Steps.file_at}
+use Rattle.{conf_system.proofs.Steps.settled-files, conf_protocol.specs.{Keeps.{is_so, IsPlain}, Moments.{Copies, Quiet}, Copying.HasCopy}}
+use Rattle.conf_protocol.{specs.{Copying.{IsKept, IsPlaced}, declared.run.Bytes.TheVariants.OnDevice}, proofs.Frames.{at-other, at-settled}}
+use Rattle.conf_protocol.proofs.{Frames.{now-same, noted-same, notes-same, note-same, plain-settled, made-store, one-alone}, Known.safe-off}
+use Rattle.conf_protocol.proofs.{Moving.{Passes-joined, Passes-weaker, Passes-none, Quiet-call, may-end}, Told.told-changed}
 use Rattle.conf_protocol.proofs.Calls.{none-left, same-file}
+use Rattle.conf_disk.specs.Folder as disk
+use Rattle.conf_disk.specs.declared.disk.Name.TheVariants as disk_name
+use Rattle.conf_system.specs.Models as system
 
 abbrev IsCopied : Machine → Machine → Type 0
 IsCopied old m = (copy : Option Version) × (m ≡ with_copy old copy)

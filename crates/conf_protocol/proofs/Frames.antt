@@ -1,16 +1,10 @@
 -- What each call makes of the files under the names.
-use Rattle.std.specs.Prelude.{option_map, Contains}
-use Rattle.std.proofs.Common.{◌≡◌, ◌≢◌, ℕ, zero, suc, ◌≤◌, List, [], ◌∷◌, ◌++◌, length, get_or, set, map, Option, Some, None, true, false}
-use Rattle.std.proofs.Common.{inl, inr, ⊎_elim, refl, sym, ◌∙◌, ap, arith}
-use Rattle.std.proofs.lemmas.Bool.{cases_eq, cases_lt}
-use Rattle.std.proofs.lemmas.Bool.Decides.{eqb_tells}
-use Rattle.std.proofs.lemmas.List.{get_or-set_same, get_or-set_other, set_past, get_or_append_left}
+use Rattle.std.{specs.Prelude.{option_map, Contains}, proofs.Common.{◌≡◌, ◌≢◌, ℕ, zero, suc, ◌≤◌, List, [], ◌∷◌, ◌++◌, length, get_or, set}}
+use Rattle.std.proofs.{Common.{map, Option, Some, None, true, false, inl, inr, ⊎_elim, refl, sym, ◌∙◌, ap, arith}, lemmas.Bool.cases_eq}
+use Rattle.std.proofs.lemmas.{Bool.{cases_lt, Decides.eqb_tells}, List.{get_or-set_same, get_or-set_other, set_past, get_or_append_left}}
 use Rattle.std.proofs.lemmas.List.Elements.{All-contains, Contains-append_right, Contains-push_cases}
-use Rattle.conf_disk.specs.Folder.{Stage}
-use Rattle.conf_disk.specs.Image.{IsMade}
-use Rattle.conf_system.specs.Machine.{Version, Held, Machine, empty_held, empty_version, version_at, stages, with_file}
-use Rattle.conf_system.specs.Machine.{with_now, are_linked, settled}
-use Rattle.conf_system.specs.Crash.{IsSound}
+use Rattle.{conf_disk.specs.{Folder.Stage, Image.IsMade}, conf_system.specs.Machine.{Version, Held, Machine, empty_held, empty_version}}
+use Rattle.conf_system.specs.{Machine.{version_at, stages, with_file, with_now, are_linked, settled}, Crash.IsSound}
 use Rattle.conf_protocol.specs.Keeps.{IsPlain, HasOneStore}
 
 -- the names that a sound machine has now lead to files

@@ -1,14 +1,9 @@
 -- How the calls of a run go, as steps of a disk.
-use Rattle.std.specs.Prelude.{Result, Ok, Err, IsErr}
-use Rattle.std.proofs.Common.{◌≡◌, ℕ, Bool, sym, ◌∙◌, ap, subst}
-use Rattle.conf_disk.specs.Folder.{Step, several_waited}
+use Rattle.std.{specs.Prelude.{Result, Ok, Err, IsErr}, proofs.Common.{◌≡◌, ℕ, Bool, sym, ◌∙◌, ap, subst}}
+use Rattle.{conf_disk.specs.Folder.{Step, several_waited}, conf_system.specs.{Machine.{Machine, Call, after, failing}, Models.SystemModel}}
+use Rattle.{conf_system.specs.{Models.Passes, Folders.{folder_of, IsTold}}, conf_protocol.specs.{Keeps.{IsSafe, IsExact}, Moments.Goes}}
+use Rattle.conf_protocol.{specs.Moments.{Quiet, Changes}, proofs.Moving.{Changes-call, Changes-then, Changes-before}}
 use Rattle.conf_disk.specs.Folder as disk
-use Rattle.conf_system.specs.Machine.{Machine, Call, after, failing}
-use Rattle.conf_system.specs.Models.{SystemModel, Passes}
-use Rattle.conf_system.specs.Folders.{folder_of, IsTold}
-use Rattle.conf_protocol.specs.Keeps.{IsSafe, IsExact}
-use Rattle.conf_protocol.specs.Moments.{Goes, Quiet, Changes}
-use Rattle.conf_protocol.proofs.Moving.{Changes-call, Changes-then, Changes-before}
 
 -- where nothing of the folder changes, what is said of the note stays exact
 pub exact-quiet : {S : Type 0} (model : SystemModel S) (several : Bool) (old new : S) → Quiet model old new

@@ -1,26 +1,16 @@
 -- What a run knows, once calls were made.
-use Rattle.std.specs.Prelude.{option_map}
-use Rattle.std.proofs.Common.{◌≡◌, ◌≢◌, ◌⊎◌, ℕ, zero, suc, List, [], ◌∷◌, Option, Some, None, Bool, true, false, inl}
-use Rattle.std.proofs.Common.{inr, refl, sym, ◌∙◌, ap, append-nil}
-use Rattle.conf_system.specs.declared.system.Note.{Note}
-use Rattle.conf_system.specs.declared.system.FileName.TheVariants.{Store, Next}
-use Rattle.conf_system.specs.Machine.{Version, Machine, under, with_now, with_version, with_pending, synced}
-use Rattle.conf_system.specs.Machine.{failed_sync, are_linked, is_any, notes_of, all_several}
-use Rattle.conf_system.specs.Machine.{CreateNext, UnlinkNext, SyncFolder, Sync, Write, after, failing}
-use Rattle.conf_system.specs.Crash.{IsSound}
-use Rattle.conf_system.specs.Folders.{folder_of}
-use Rattle.conf_system.proofs.Steps.{apart-same}
-use Rattle.conf_protocol.specs.Keeps.{IsSafe, NoteIs, Knows, is_so, may_change, is_kept, bytes_after, several_after}
-use Rattle.conf_protocol.specs.declared.run.Bytes.{Bytes}
-use Rattle.conf_protocol.specs.declared.run.Bytes.TheVariants.{OnDevice, Pending, Unsure}
-use Rattle.conf_protocol.specs.declared.run.Names.{Names}
-use Rattle.conf_protocol.specs.declared.run.Names.TheVariants.{Settled, Broken}
-use Rattle.conf_protocol.specs.Copying.{IsKept}
-use Rattle.conf_protocol.proofs.Frames.{note-same}
-use Rattle.conf_protocol.proofs.Known.{safe-off, safe-created, safe-unlinked, knows-unlinked, safe-settled}
-use Rattle.conf_protocol.proofs.Known.{safe-next_changed, safe-store_changed, so-synced, so-failed, so-added}
-use Rattle.conf_protocol.proofs.Known.{knows-created, knows-less_next, knows-less_store, knows-names, knows-settled, knows-next_changed}
-use Rattle.conf_protocol.proofs.Known.{knows-store_changed, knows-wrote_next, knows-wrote_store}
+use Rattle.std.{specs.Prelude.option_map, proofs.Common.{◌≡◌, ◌≢◌, ◌⊎◌, ℕ, zero, suc, List, [], ◌∷◌, Option, Some, None, Bool, true, false}}
+use Rattle.std.proofs.Common.{inl, inr, refl, sym, ◌∙◌, ap, append-nil}
+use Rattle.conf_system.specs.{declared.system.{Note.Note, FileName.TheVariants.{Store, Next}}, Machine.{Version, Machine, under, with_now}}
+use Rattle.conf_system.specs.Machine.{with_version, with_pending, synced, failed_sync, are_linked, is_any, notes_of, all_several}
+use Rattle.conf_system.specs.{Machine.{CreateNext, UnlinkNext, SyncFolder, Sync, Write, after, failing}, Crash.IsSound, Folders.folder_of}
+use Rattle.{conf_system.proofs.Steps.apart-same, conf_protocol.specs.Keeps.{IsSafe, NoteIs, Knows, is_so, may_change, is_kept, bytes_after}}
+use Rattle.conf_protocol.specs.{Keeps.several_after, declared.run.{Bytes.{Bytes, TheVariants.{OnDevice, Pending, Unsure}}, Names.Names}}
+use Rattle.conf_protocol.{specs.{declared.run.Names.TheVariants.{Settled, Broken}, Copying.IsKept}, proofs.Frames.note-same}
+use Rattle.conf_protocol.proofs.Known.{safe-off, safe-created, safe-unlinked, knows-unlinked, safe-settled, safe-next_changed}
+use Rattle.conf_protocol.proofs.Known.{safe-store_changed, so-synced, so-failed, so-added, knows-created, knows-less_next, knows-less_store}
+use Rattle.conf_protocol.proofs.Known.{knows-names, knows-settled, knows-next_changed, knows-store_changed, knows-wrote_next}
+use Rattle.conf_protocol.proofs.Known.{knows-wrote_store}
 
 -- all that a run says of itself
 pub record Holds (store next : Bytes) (names : Names) (several : Bool) (note : Option Note) (m : Machine) : Type 0 where

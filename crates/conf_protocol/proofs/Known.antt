@@ -1,28 +1,17 @@
 -- What a run knows after each call.
-use Rattle.std.specs.Prelude.{option_map}
-use Rattle.std.proofs.Common.{◌≡◌, ◌≢◌, ℕ, List, [], ◌∷◌, ◌++◌, length, get_or, map, Option, Some, None, Bool, true, false, not, ◌&&◌}
-use Rattle.std.proofs.Common.{if◌then◌else◌, inl, inr, refl, sym, ◌∙◌, ap, arith, eq-eqb}
-use Rattle.std.proofs.Common.{◌⊎◌, drop, append-nil}
+use Rattle.std.{specs.Prelude.option_map, proofs.Common.{◌≡◌, ◌≢◌, ℕ, List, [], ◌∷◌, ◌++◌, length, get_or, map, Option, Some, None, Bool}}
+use Rattle.std.proofs.Common.{true, false, not, ◌&&◌, if◌then◌else◌, inl, inr, refl, sym, ◌∙◌, ap, arith, eq-eqb, ◌⊎◌, drop, append-nil}
 use Rattle.std.proofs.lemmas.List.{drop_all}
-use Rattle.conf_disk.specs.Folder.{File, Stage, is_place, noted_at, noted_behind}
-use Rattle.conf_system.specs.declared.system.Note.{Note}
-use Rattle.conf_system.specs.declared.system.FileName.TheVariants.{Store, Next}
-use Rattle.conf_system.specs.Machine.{Version, Machine, empty_held, version_at, under, with_file, with_now}
-use Rattle.conf_system.specs.Machine.{with_version, with_pending, synced, failed_sync}
-use Rattle.conf_system.specs.Machine.{sure_count, file_of}
-use Rattle.conf_system.specs.Machine.{is_any, are_linked, notes_of, all_several, noted_by_write, CreateNext, UnlinkNext, SyncFolder, Write}
-use Rattle.conf_system.specs.Machine.{after}
-use Rattle.conf_system.specs.Crash.{IsSound}
-use Rattle.conf_system.proofs.Steps.{made-other, file_at}
-use Rattle.conf_protocol.specs.Keeps.{is_so, IsPlain, IsSafe, may_change, is_kept, Knows}
-use Rattle.conf_protocol.specs.declared.run.Bytes.{Bytes}
-use Rattle.conf_protocol.specs.declared.run.Bytes.TheVariants.{OnDevice, Pending, Unsure}
-use Rattle.conf_protocol.specs.declared.run.Names.{Names}
-use Rattle.conf_protocol.specs.declared.run.Names.TheVariants.{Settled}
-use Rattle.conf_protocol.proofs.Frames.{made-store, made-next, at-changed, at-other, linked-sym, now-same, earlier-same}
-use Rattle.conf_protocol.proofs.Frames.{note-same, notes-same}
-use Rattle.conf_protocol.proofs.Frames.{one-added, one-alone, one-changed}
-use Rattle.conf_protocol.proofs.Frames.{noted-same, plain-changed, at-created, at-new, plain-created, at-settled, plain-settled}
+use Rattle.{conf_disk.specs.Folder.{File, Stage, is_place, noted_at, noted_behind}, conf_system.specs.declared.system.Note.Note}
+use Rattle.conf_system.specs.{declared.system.FileName.TheVariants.{Store, Next}, Machine.{Version, Machine, empty_held, version_at, under}}
+use Rattle.conf_system.specs.Machine.{with_file, with_now, with_version, with_pending, synced, failed_sync, sure_count, file_of, is_any}
+use Rattle.conf_system.specs.Machine.{are_linked, notes_of, all_several, noted_by_write, CreateNext, UnlinkNext, SyncFolder, Write, after}
+use Rattle.{conf_system.{specs.Crash.IsSound, proofs.Steps.{made-other, file_at}}, conf_protocol.specs.Keeps.{is_so, IsPlain, IsSafe}}
+use Rattle.conf_protocol.specs.{Keeps.{may_change, is_kept, Knows}, declared.run.Bytes.{Bytes, TheVariants.{OnDevice, Pending, Unsure}}}
+use Rattle.conf_protocol.{specs.declared.run.Names.{Names, TheVariants.Settled}, proofs.Frames.{made-store, made-next, at-changed}}
+use Rattle.conf_protocol.proofs.Frames.{at-other, linked-sym, now-same, earlier-same, note-same, notes-same, one-added, one-alone}
+use Rattle.conf_protocol.proofs.Frames.{one-changed, noted-same, plain-changed, at-created, at-new, plain-created, at-settled}
+use Rattle.conf_protocol.proofs.Frames.{plain-settled}
 
 pub and-first : (a b : Bool) → (a && b) ≡ true → a ≡ true
 and-first true b both = refl

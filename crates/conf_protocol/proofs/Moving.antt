@@ -1,14 +1,8 @@
 -- Runs of calls of a system, one after the other, and what a disk shows of them.
 use Rattle.std.proofs.Common.{◌≡◌, ℕ, ◌≤◌, refl, sym, ◌∙◌, ap, subst, arith, inl, inr, ⊎_elim}
-use Rattle.conf_disk.specs.Image.{Image, IsImage}
-use Rattle.conf_disk.specs.Folder.{Folder}
-use Rattle.conf_disk.specs.Moments.{Elapses}
-use Rattle.conf_system.specs.Machine.{Machine}
-use Rattle.conf_system.specs.Folders.{folder_of, IsTold}
-use Rattle.conf_system.specs.Models.{SystemModel, Passes}
-use Rattle.conf_protocol.specs.Keeps.{IsSafe}
-use Rattle.conf_protocol.specs.Moments.{LeftSince, Changes, Quiet, MayEnd}
-use Rattle.conf_protocol.specs.MomentsLaws.{left_now}
+use Rattle.{conf_disk.specs.{Image.{Image, IsImage}, Folder.Folder, Moments.Elapses}, conf_system.specs.Machine.Machine}
+use Rattle.{conf_system.specs.{Folders.{folder_of, IsTold}, Models.{SystemModel, Passes}}, conf_protocol.specs.Keeps.IsSafe}
+use Rattle.conf_protocol.specs.{Moments.{LeftSince, Changes, Quiet, MayEnd}, MomentsLaws.left_now}
 
 pub Passes-joined : {S : Type 0} (model : SystemModel S) (old mid new : S) (P Q R : Machine → Type 0)
     → Passes model old mid P → Passes model mid new Q → ((m : Machine) → P m → R m) → ((m : Machine) → Q m → R m)

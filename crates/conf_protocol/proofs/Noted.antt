@@ -1,21 +1,12 @@
 -- What becomes of the notes in `store.lock`.
 use Rattle.std.proofs.Common.{◌≡◌, ℕ, zero, suc, List, [], ◌∷◌, ◌++◌, Bool, true, false, ◌&&◌, refl, sym, ◌∙◌, ap, subst}
 use Rattle.std.specs.Prelude.{Result, MatchResult}
-use Rattle.conf_system.specs.declared.system.Note.{Note}
-use Rattle.conf_system.specs.declared.system.FileName.TheVariants.{Store}
-use Rattle.conf_system.specs.Machine.{Machine, Call, notes_of, all_several, WriteNote, SyncNote, SyncFolder, after}
-use Rattle.conf_system.specs.Machine.{after_reading, failing, under, are_linked}
-use Rattle.conf_system.specs.Models.{SystemModel, Passes}
-use Rattle.conf_system.specs.Folders.{folder_of, IsTold}
-use Rattle.conf_protocol.specs.Keeps.{IsSafe, IsSure, Knows, HasSameNotes, is_so, may_change, is_kept, HasOneStore}
-use Rattle.conf_protocol.specs.Moments.{Quiet}
-use Rattle.conf_protocol.specs.declared.run.Bytes.{Bytes}
-use Rattle.conf_protocol.specs.declared.run.Bytes.TheVariants.{OnDevice, Unsure}
-use Rattle.conf_protocol.specs.declared.run.Names.{Names}
-use Rattle.conf_protocol.specs.declared.run.Names.TheVariants.{Settled, Changed}
-use Rattle.conf_protocol.proofs.Frames.{plain-settled, one-alone}
-use Rattle.conf_protocol.proofs.Known.{and-first, and-second, safe-off}
-use Rattle.conf_protocol.proofs.Moving.{Quiet-call}
+use Rattle.conf_system.specs.{declared.system.{Note.Note, FileName.TheVariants.Store}, Machine.{Machine, Call, notes_of, all_several}}
+use Rattle.conf_system.specs.Machine.{WriteNote, SyncNote, SyncFolder, after, after_reading, failing, under, are_linked}
+use Rattle.{conf_system.specs.{Models.{SystemModel, Passes}, Folders.{folder_of, IsTold}}, conf_protocol.specs.Keeps.{IsSafe, IsSure}}
+use Rattle.conf_protocol.specs.{Keeps.{Knows, HasSameNotes, is_so, may_change, is_kept, HasOneStore}, Moments.Quiet}
+use Rattle.conf_protocol.specs.declared.run.{Bytes.{Bytes, TheVariants.{OnDevice, Unsure}}, Names.{Names, TheVariants.{Settled, Changed}}}
+use Rattle.conf_protocol.proofs.{Frames.{plain-settled, one-alone}, Known.{and-first, and-second, safe-off}, Moving.Quiet-call}
 use Rattle.conf_protocol.proofs.Shown.{call-either}
 
 pub all-push : (notes : List Note) (note : Note) → all_several notes ≡ true → note.several ≡ true

@@ -1,24 +1,14 @@
 -- What the calls leave by which a run opens a folder, and what a crash leaves then.
-use Rattle.std.specs.Prelude.{Result, Ok, Err, MatchResult, is_some}
-use Rattle.std.proofs.Common.{◌≡◌, ℕ, zero, suc, List, [], ◌∷◌, length, get_or, map, Option, Some, None, Bool, true, false}
-use Rattle.std.proofs.Common.{◌&&◌, if◌then◌else◌, ⊎_elim, refl, sym, ◌∙◌, ap, subst}
+use Rattle.std.{specs.Prelude.{Result, Ok, Err, MatchResult, is_some}, proofs.Common.{◌≡◌, ℕ, zero, suc, List, [], ◌∷◌, length, get_or}}
+use Rattle.std.proofs.Common.{map, Option, Some, None, Bool, true, false, ◌&&◌, if◌then◌else◌, ⊎_elim, refl, sym, ◌∙◌, ap, subst}
 use Rattle.std.proofs.lemmas.List.Elements.{Contains-push, Contains-push_cases, Contains-append_right}
-use Rattle.conf_disk.specs.Folder.{Stage, Folder, bytes_under}
-use Rattle.conf_disk.specs.Image.{Image}
-use Rattle.conf_system.specs.declared.system.Note.{Note}
-use Rattle.conf_system.specs.Machine.{Version, Held, Machine, Call, SyncNote, SyncFolder, UnlinkNext, after, failing, after_reading}
-use Rattle.conf_system.specs.Machine.{stages, notes_of, are_linked, apart, settled, empty_held, all_several}
-use Rattle.conf_system.specs.Crash.{IsLeftAt, IsLeftOf, held_bytes, files_machine, machine_of}
-use Rattle.conf_system.specs.Folders.{IsTold}
-use Rattle.conf_system.specs.Models.{SystemModel, Passes}
-use Rattle.conf_protocol.specs.Keeps.{IsSafe, IsSure, HasOneStore}
-use Rattle.conf_protocol.specs.Opened.{IsAsBefore, Opens, GoesBy}
-use Rattle.conf_protocol.proofs.Frames.{get_or-settled, one-alone}
-use Rattle.conf_protocol.proofs.Known.{safe-unlinked, safe-settled, safe-off}
-use Rattle.conf_protocol.proofs.Moving.{Passes-joined, Passes-weaker}
-use Rattle.conf_protocol.proofs.Noted.{IsNoted, safe-read, safe-note_synced}
-use Rattle.conf_protocol.proofs.SameBytes.{settled-reads}
-use Rattle.conf_protocol.proofs.Calls.{unlinked-folder}
+use Rattle.{conf_disk.specs.{Folder.{Stage, Folder, bytes_under}, Image.Image}, conf_system.specs.declared.system.Note.Note}
+use Rattle.conf_system.specs.Machine.{Version, Held, Machine, Call, SyncNote, SyncFolder, UnlinkNext, after, failing, after_reading, stages}
+use Rattle.conf_system.specs.{Machine.{notes_of, are_linked, apart, settled, empty_held, all_several}, Crash.{IsLeftAt, IsLeftOf}}
+use Rattle.conf_system.specs.{Crash.{held_bytes, files_machine, machine_of}, Folders.IsTold, Models.{SystemModel, Passes}}
+use Rattle.conf_protocol.{specs.{Keeps.{IsSafe, IsSure, HasOneStore}, Opened.{IsAsBefore, Opens, GoesBy}}, proofs.Frames.get_or-settled}
+use Rattle.conf_protocol.proofs.{Frames.one-alone, Known.{safe-unlinked, safe-settled, safe-off}, Moving.{Passes-joined, Passes-weaker}}
+use Rattle.conf_protocol.proofs.{Noted.{IsNoted, safe-read, safe-note_synced}, SameBytes.settled-reads, Calls.unlinked-folder}
 use Rattle.conf_protocol.proofs.Shown.{call-either}
 
 pub as-same : (m : Machine) → IsSafe m → IsAsBefore m m

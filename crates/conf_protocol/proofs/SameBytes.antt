@@ -1,16 +1,11 @@
 -- What a disk reads is what the system reads.
-use Rattle.std.specs.Prelude.{option_map}
-use Rattle.std.proofs.Common.{◌≡◌, ℕ, List, length, map, get_or, take-append-drop, Option, Some, None, false, refl, sym, ◌∙◌, ap}
-use Rattle.conf_disk.specs.Folder.{File, file_bytes}
+use Rattle.std.{specs.Prelude.option_map, proofs.Common.{◌≡◌, ℕ, List, length, map, get_or, take-append-drop, Option, Some, None, false}}
+use Rattle.std.proofs.Common.{refl, sym, ◌∙◌, ap}
+use Rattle.conf_disk.specs.{Folder.{File, file_bytes}, declared.disk.Name.{Name, TheVariants.{Store, Next}}}
+use Rattle.conf_system.specs.Machine.{Held, Machine, empty_held, version_bytes, version_at, bytes_under, file_of, sure_count, are_linked}
+use Rattle.conf_system.{specs.{Machine.{SyncFolder, after}, Folders.folder_of}, proofs.Steps.{file_at, apart-same}}
+use Rattle.conf_protocol.{specs.Names.file_name, proofs.Frames.at-settled}
 use Rattle.conf_disk.specs.Folder as disk
-use Rattle.conf_disk.specs.declared.disk.Name.{Name}
-use Rattle.conf_disk.specs.declared.disk.Name.TheVariants.{Store, Next}
-use Rattle.conf_system.specs.Machine.{Held, Machine, empty_held, version_bytes, version_at, bytes_under, file_of}
-use Rattle.conf_system.specs.Machine.{sure_count, are_linked, SyncFolder, after}
-use Rattle.conf_system.specs.Folders.{folder_of}
-use Rattle.conf_system.proofs.Steps.{file_at, apart-same}
-use Rattle.conf_protocol.specs.Names.{file_name}
-use Rattle.conf_protocol.proofs.Frames.{at-settled}
 
 at-same : (files : List Held) (place : Option ℕ)
     → disk.bytes_at (map file_of files) place ≡ option_map version_bytes (version_at files place)

@@ -1,15 +1,10 @@
 -- What a disk tells of a step of its run.
-use Rattle.std.specs.Prelude.{Result, Ok, Err, MatchResult, OnOk, OnErr, IsErr, IsErrAnd}
-use Rattle.std.proofs.Common.{◌≡◌, ◌≢◌, ℕ, inr, refl, sym, ◌∙◌, ap, subst, arith}
-use Rattle.conf_disk.specs.Folder.{Folder, Step, Performs, after, after_part}
-use Rattle.conf_disk.specs.Moments.{CountsFailures, greatest}
-use Rattle.conf_disk.specs.declared.disk.DiskFault.{DiskFault}
-use Rattle.conf_disk.specs.declared.disk.DiskFault.TheVariants.{Device, OutOfMemory}
-use Rattle.conf_system.specs.Machine.{Machine, Call, failing}
-use Rattle.conf_system.specs.Machine.{after as made}
-use Rattle.conf_system.specs.Models.{SystemModel, Passes}
-use Rattle.conf_protocol.specs.Moments.{Changes, MayEnd}
-use Rattle.conf_protocol.proofs.Moving.{Passes-weaker}
+use Rattle.std.{specs.Prelude.{Result, Ok, Err, MatchResult, OnOk, OnErr, IsErr, IsErrAnd}, proofs.Common.{◌≡◌, ◌≢◌, ℕ, inr, refl, sym}}
+use Rattle.std.proofs.Common.{◌∙◌, ap, subst, arith}
+use Rattle.conf_disk.specs.{Folder.{Folder, Step, Performs, after, after_part}, Moments.{CountsFailures, greatest}}
+use Rattle.{conf_disk.specs.declared.disk.DiskFault.{DiskFault, TheVariants.{Device, OutOfMemory}}, conf_system.specs.Machine.Machine}
+use Rattle.{conf_system.specs.{Machine.{Call, failing, after as made}, Models.{SystemModel, Passes}}, conf_protocol.specs.Moments.Changes}
+use Rattle.conf_protocol.{specs.Moments.MayEnd, proofs.Moving.Passes-weaker}
 
 -- the result of a call that was made in place of another
 pub blamed-ok : {T E F : Type 0} (made : Result T E) (value : T) (of : E → F) (P : T → Type 0) (Q : E → Type 0)

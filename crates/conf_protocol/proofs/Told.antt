@@ -1,14 +1,12 @@
 -- At which stages the run goes by a note, and whether a crash leaves it.
-use Rattle.std.proofs.Common.{◌≡◌, ◌⊎◌, ℕ, List, [], map, Option, Some, None, Bool, true, false, not, ◌&&◌, ◌||◌}
-use Rattle.std.proofs.Common.{if◌then◌else◌, inl, inr, ⊎_elim, refl, sym, ◌∙◌, ap, arith}
+use Rattle.std.proofs.Common.{◌≡◌, ◌⊎◌, ℕ, List, [], map, Option, Some, None, Bool, true, false, not, ◌&&◌, ◌||◌, if◌then◌else◌, inl, inr}
+use Rattle.std.proofs.{Common.{⊎_elim, refl, sym, ◌∙◌, ap, arith}, lemmas.List.Elements.{Contains-push, Contains-push_cases}}
 use Rattle.std.specs.Prelude.{Contains}
-use Rattle.std.proofs.lemmas.List.Elements.{Contains-push, Contains-push_cases}
 use Rattle.conf_disk.specs.Folder.{Stage, is_place, noted_but, noted_as, noted_at}
-use Rattle.conf_system.specs.declared.system.FileName.TheVariants.{Store, Next}
-use Rattle.conf_system.specs.Machine.{Held, Machine, stages, file_of, with_file, with_now, with_pending, with_stage, with_renamed}
-use Rattle.conf_system.specs.Machine.{with_failed_rename, notes_of, all_several, noted_by_write, Write, SyncFolder, after}
-use Rattle.conf_system.specs.Folders.{IsTold}
-use Rattle.conf_protocol.proofs.Known.{and-second, place-itself}
+use Rattle.conf_system.specs.{declared.system.FileName.TheVariants.{Store, Next}, Machine.{Held, Machine, stages, file_of, with_file}}
+use Rattle.conf_system.specs.Machine.{with_now, with_pending, with_stage, with_renamed, with_failed_rename, notes_of, all_several}
+use Rattle.{conf_system.specs.{Machine.{noted_by_write, Write, SyncFolder, after}, Folders.IsTold}, conf_protocol.proofs.Known.and-second}
+use Rattle.conf_protocol.proofs.Known.{place-itself}
 
 now-among : (m : Machine) → Contains (stages m) m.now
 now-among m = Contains-push m.earlier m.now

@@ -1,19 +1,11 @@
 -- Writes of one append, one after the other.
-use Rattle.std.specs.Prelude.{option_map, is_some, IsSome}
-use Rattle.std.proofs.Common.{◌≡◌, ℕ, zero, suc, ◌+◌, ◌≤◌, List, [], ◌∷◌, ◌++◌, length, get_or, set, take, drop, Option, Some, None, Bool}
-use Rattle.std.proofs.Common.{inl, inr, refl, sym, ◌∙◌, ap, subst, arith, append_assoc}
-use Rattle.std.proofs.Math.Seq.{take-add}
-use Rattle.std.proofs.lemmas.Bool.{cases_lt}
-use Rattle.std.proofs.lemmas.List.{get_or-set_same, set_past}
-use Rattle.conf_disk.specs.Folder.{Stage}
-use Rattle.conf_system.specs.declared.system.FileName.{FileName}
-use Rattle.conf_system.specs.declared.system.FileName.TheVariants.{Store, Next, Copy}
-use Rattle.conf_system.specs.Machine.{Version, Held, Machine, empty_held, with_pending, with_now, with_file, with_copy}
-use Rattle.conf_system.specs.Machine.{noted_by_write, version_at, under}
-use Rattle.conf_system.specs.Machine.{Write, WriteRest, after}
-use Rattle.conf_system.specs.Models.{SystemModel, Wrote}
-use Rattle.conf_protocol.proofs.Frames.{now-same}
-use Rattle.conf_protocol.proofs.Moving.{Passes-joined}
+use Rattle.std.{specs.Prelude.{option_map, is_some, IsSome}, proofs.Common.{◌≡◌, ℕ, zero, suc, ◌+◌, ◌≤◌, List, [], ◌∷◌, ◌++◌, length}}
+use Rattle.std.proofs.Common.{get_or, set, take, drop, Option, Some, None, Bool, inl, inr, refl, sym, ◌∙◌, ap, subst, arith, append_assoc}
+use Rattle.std.proofs.{Math.Seq.take-add, lemmas.{Bool.cases_lt, List.{get_or-set_same, set_past}}}
+use Rattle.{conf_disk.specs.Folder.Stage, conf_system.specs.declared.system.FileName.{FileName, TheVariants.{Store, Next, Copy}}}
+use Rattle.conf_system.specs.Machine.{Version, Held, Machine, empty_held, with_pending, with_now, with_file, with_copy, noted_by_write}
+use Rattle.conf_system.specs.{Machine.{version_at, under, Write, WriteRest, after}, Models.{SystemModel, Wrote}}
+use Rattle.conf_protocol.proofs.{Frames.now-same, Moving.Passes-joined}
 
 pending-joined : (x y : List ℕ) (version : Version) → with_pending y (with_pending x version) ≡ with_pending (x ++ y) version
 pending-joined x y version = ap (λ (l : List ℕ). record version { pending = l }) (append_assoc version.pending x y)

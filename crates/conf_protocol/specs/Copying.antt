@@ -1,13 +1,10 @@
 -- A copy of `store.yaml`, and what takes its place.
 use Rattle.std.specs.Prelude.{◌≡◌, ℕ, List, [], length, Some, true, false}
-use Rattle.conf_disk.specs.Folder.{Sync}
+use Rattle.{conf_disk.specs.Folder.Sync, conf_system.specs.{declared.system.FileName.TheVariants.{Store, Next}, Machine.{Machine, under}}}
+use Rattle.{conf_system.specs.{Machine.bytes_under, Folders.folder_of}, conf_protocol.specs.Keeps.{IsPlain, HasOneStore, is_so}}
+use Rattle.conf_protocol.specs.declared.run.Bytes.TheVariants.{OnDevice}
 use Rattle.conf_disk.specs.Folder as disk
 use Rattle.conf_disk.specs.declared.disk.Name.TheVariants as disk_name
-use Rattle.conf_system.specs.declared.system.FileName.TheVariants.{Store, Next}
-use Rattle.conf_system.specs.Machine.{Machine, under, bytes_under}
-use Rattle.conf_system.specs.Folders.{folder_of}
-use Rattle.conf_protocol.specs.Keeps.{IsPlain, HasOneStore, is_so}
-use Rattle.conf_protocol.specs.declared.run.Bytes.TheVariants.{OnDevice}
 
 -- the copy has all that `store.yaml` reads as, and the device has it
 abbrev pub HasCopy : Machine → Type 0

@@ -1,13 +1,9 @@
 -- What a run knows of the machine.
 use Rattle.std.specs.Prelude.{◌≡◌, ℕ, List, length, get_or, Contains, Bool, true, false, not, ◌&&◌, Option, Some, None}
-use Rattle.conf_disk.specs.Folder.{Stage}
-use Rattle.conf_system.specs.declared.system.Note.{Note}
-use Rattle.conf_system.specs.declared.system.FileName.TheVariants.{Store, Next}
+use Rattle.{conf_disk.specs.Folder.Stage, conf_system.specs.declared.system.{Note.Note, FileName.TheVariants.{Store, Next}}}
 use Rattle.conf_system.specs.Machine.{Version, Machine, empty_held, under, are_linked, is_any, stages, notes_of, all_several}
-use Rattle.conf_protocol.specs.declared.run.Bytes.{Bytes}
-use Rattle.conf_protocol.specs.declared.run.Bytes.TheVariants.{OnDevice, Pending, Unsure}
-use Rattle.conf_protocol.specs.declared.run.Names.{Names}
-use Rattle.conf_protocol.specs.declared.run.Names.TheVariants.{Settled, Changed, Renamed, Broken, LeftAlone}
+use Rattle.conf_protocol.specs.declared.run.{Bytes.{Bytes, TheVariants.{OnDevice, Pending, Unsure}}, Names.{Names, TheVariants.Settled}}
+use Rattle.conf_protocol.specs.declared.run.Names.TheVariants.{Changed, Renamed, Broken, LeftAlone}
 
 -- what is known of a file's bytes is so
 abbrev pub is_so : Bytes → Option Version → Bool

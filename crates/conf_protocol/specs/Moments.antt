@@ -1,11 +1,7 @@
 -- What a disk over a system shows of its moments.
 use Rattle.std.specs.Prelude.{◌≡◌, ◌⊎◌, ℕ, Bool, Option, Result, MatchResult}
-use Rattle.conf_disk.specs.Folder.{Step, after, after_part, bytes_under}
-use Rattle.conf_disk.specs.Image.{Image, IsImage}
-use Rattle.conf_disk.specs.declared.disk.Name.{Name}
-use Rattle.conf_system.specs.Machine.{Version, Machine, with_copy}
-use Rattle.conf_system.specs.Folders.{folder_of, IsTold}
-use Rattle.conf_system.specs.Models.{SystemModel, Passes}
+use Rattle.conf_disk.specs.{Folder.{Step, after, after_part, bytes_under}, Image.{Image, IsImage}, declared.disk.Name.Name}
+use Rattle.conf_system.specs.{Machine.{Version, Machine, with_copy}, Folders.{folder_of, IsTold}, Models.{SystemModel, Passes}}
 use Rattle.conf_protocol.specs.Keeps.{IsSafe, IsExact}
 
 -- what a crash at some moment since t might have left, as a disk says it

@@ -1,13 +1,7 @@
 -- What the trait asks of a disk over a system: the images of now.
-use Rattle.std.specs.Prelude.{◌≡◌, ℕ}
-use Rattle.std.proofs.Common.{subst}
-use Rattle.conf_disk.specs.Image.{Image, IsImage, IsWhole}
-use Rattle.conf_system.specs.Crash.{IsSound}
-use Rattle.conf_system.proofs.Crashes.{sound-whole}
-use Rattle.conf_system.specs.Machine.{Machine}
-use Rattle.conf_system.specs.Folders.{folder_of}
-use Rattle.conf_system.specs.Models.{SystemModel}
-use Rattle.conf_protocol.specs.Moments.{LeftSince}
+use Rattle.std.{specs.Prelude.{◌≡◌, ℕ}, proofs.Common.subst}
+use Rattle.{conf_disk.specs.Image.{Image, IsImage, IsWhole}, conf_system.specs.{Crash.IsSound, Machine.Machine, Folders.folder_of}}
+use Rattle.{conf_system.{specs.Models.SystemModel, proofs.Crashes.sound-whole}, conf_protocol.specs.Moments.LeftSince}
 
 pub left_now : {S : Type 0} (model : SystemModel S) (s : S) (t : ℕ) (image : Image) → model.held s t (model.machine s)
     → IsImage (folder_of (model.machine s)) image → LeftSince model s t image

@@ -1,12 +1,7 @@
 -- What a run that opens a folder leaves at each moment, and what a crash left for it.
 use Rattle.std.specs.Prelude.{◌≡◌, Option, is_some, Bool, ◌&&◌}
-use Rattle.conf_disk.specs.Image.{Image}
-use Rattle.conf_system.specs.declared.system.Note.{Note}
-use Rattle.conf_system.specs.Machine.{Version, Machine}
-use Rattle.conf_system.specs.Crash.{CrashLeaves, machine_of}
-use Rattle.conf_system.specs.Models.{SystemModel, Passes}
-use Rattle.conf_protocol.specs.Keeps.{IsSafe}
-use Rattle.conf_protocol.specs.Moments.{ReadsAsBefore}
+use Rattle.{conf_disk.specs.Image.Image, conf_system.specs.{declared.system.Note.Note, Machine.{Version, Machine}, Crash.CrashLeaves}}
+use Rattle.{conf_system.specs.{Crash.machine_of, Models.{SystemModel, Passes}}, conf_protocol.specs.{Keeps.IsSafe, Moments.ReadsAsBefore}}
 
 -- A run may be killed here, and the machine may crash: the next run may build on what is left, each name reads as before,
 -- and a crash leaves nothing that it might not have left before.

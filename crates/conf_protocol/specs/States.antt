@@ -1,7 +1,5 @@
 -- What is kept of a disk that was put away.
-use Rattle.conf_system.specs.Machine.{Machine}
-use Rattle.conf_protocol.specs.Keeps.{IsSafe, IsExact, Knows, NoteIs}
-use Rattle.conf_protocol.specs.declared.run.RunState.{RunState}
+use Rattle.{conf_system.specs.Machine.Machine, conf_protocol.specs.{Keeps.{IsSafe, IsExact, Knows, NoteIs}, declared.run.RunState.RunState}}
 use Rattle.conf_protocol.specs.declared.disk.DiskState.{DiskState}
 
 -- all that a run says of itself is so

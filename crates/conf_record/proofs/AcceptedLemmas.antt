@@ -3,16 +3,13 @@ use Rattle.std.proofs.Common.{◌≡◌, ℕ, ◌≤◌, Bool, true, false, nat_
 use Rattle.std.proofs.Common.{is_ok, refl, ap, subst, ◌∙◌, arith}
 use Rattle.conf_record.proofs.Prelude.{nat_tests, byte_len, same_text, Tree, depth, style_text, set, delete, path_of, PathFault, good_name}
 use Rattle.conf_record.proofs.Prelude.{Edit, import_as, set_at, delete_at, Command, single, batch, name_of, Entry, Contents, config_named}
-use Rattle.conf_record.proofs.Prelude.{put_config, cut_config, config_limits, AreConfigs, IsState}
-use Rattle.conf_state.specs.Steps.{found, by_path, checked_tree, with_checked_config, configs_after_delete}
-use Rattle.conf_state.specs.Steps.{configs_after, edited, all_edited, performed, next_state, step}
-use Rattle.conf_state.specs.declared.fault.StoreFault.TheVariants.{BadName, Path, TooDeep, ConfigLarge}
-use Rattle.conf_state.specs.declared.room.Room.{Room}
-use Rattle.conf_state.proofs.RunLaws.{and_then-Ok}
-use Rattle.yaml_config.proofs.DepthLemmas.{set-deepens}
+use Rattle.conf_record.proofs.{Prelude.{put_config, cut_config, config_limits, AreConfigs, IsState}, SizeLemmas.size}
+use Rattle.conf_record.proofs.{PointerLemmas.pointer_bytes, PathLemmas.{tokens_size, set_holds, delete_holds}}
 use Rattle.conf_record.specs.SmallCommands.{IsSmallTree, IsShortPath, IsSmallEdit, AreSmallEdits, IsSmallCommand}
-use Rattle.conf_record.proofs.{SizeLemmas.size, PointerLemmas.pointer_bytes}
-use Rattle.conf_record.proofs.PathLemmas.{tokens_size, set_holds, delete_holds}
+use Rattle.conf_state.specs.Steps.{found, by_path, checked_tree, with_checked_config, configs_after_delete, configs_after, edited}
+use Rattle.conf_state.specs.{Steps.{all_edited, performed, next_state, step}, declared.fault.StoreFault.TheVariants.{BadName, Path}}
+use Rattle.conf_state.{specs.declared.{fault.StoreFault.TheVariants.{TooDeep, ConfigLarge}, room.Room.Room}, proofs.RunLaws.and_then-Ok}
+use Rattle.yaml_config.proofs.DepthLemmas.{set-deepens}
 
 -- ---- the answers of the parts
 

@@ -1,15 +1,11 @@
 -- A configuration that is built from its lines is the one of the base.
 use Rattle.std.proofs.Common.{◌≡◌, Bool, true, false, if◌then◌else◌, List, [], ◌∷◌, ◌++◌, codes, decimal, Some, is_some, encode_utf8_all}
-use Rattle.std.proofs.Common.{append-nil}
-use Rattle.std.proofs.Common.{length, ◌≤◌, ℕ, refl, sym, ap, subst, ◌∙◌, arith}
+use Rattle.std.proofs.Common.{append-nil, length, ◌≤◌, ℕ, refl, sym, ap, subst, ◌∙◌, arith}
 use Rattle.conf_record.proofs.Prelude.{encodes-append, Good, same_text, Tree, members_after, Size, config_limits, same_text-true, members}
-use Rattle.conf_record.proofs.Prelude.{base_bytes, entry_lines, IsState, Entry, Contents, config_named, put_config}
-use Rattle.conf_record.proofs.Prelude.{named-put-same}
-use Rattle.conf_state.proofs.EditLemmas.{found-good}
+use Rattle.conf_record.proofs.Prelude.{base_bytes, entry_lines, IsState, Entry, Contents, config_named, put_config, named-put-same}
+use Rattle.conf_record.{proofs.{BaseSpanLemmas.bytes_length, EntryLemmas.{within, whole_base}}, specs.BaseSpans.{entry_bytes, IsBuilt}}
+use Rattle.{conf_record.specs.{Entries.IsEntry, Documents.{IsBase, BasesAreRead, OneBase}}, conf_state.proofs.EditLemmas.found-good}
 use Rattle.conf_state.proofs.LimitLemmas.{AreConfigs-put, names_differ-put}
-use Rattle.conf_record.specs.{BaseSpans.entry_bytes, BaseSpans.IsBuilt, Entries.IsEntry}
-use Rattle.conf_record.specs.Documents.{IsBase, BasesAreRead, OneBase}
-use Rattle.conf_record.proofs.{BaseSpanLemmas.bytes_length, EntryLemmas.within, EntryLemmas.whole_base}
 
 -- configurations one of which is replaced by one with the same lines
 same_lines : (es : List Entry) (name : List ℕ) (t u : Tree) → config_named es name ≡ Some t → entry_bytes name t ≡ entry_bytes name u

@@ -2,18 +2,15 @@
 use Rattle.std.proofs.Common.{◌≡◌, ℕ, ◌+◌, ◌-◌, ◌≤◌, Bool, true, false, cond, if◌then◌else◌, List, [], ◌∷◌, ◌++◌, codes, decimal, length}
 use Rattle.std.proofs.Common.{Option, Some, None, Bor, MatchOption, is_some, option_copied, take, drop, map, length-append, string_bytes}
 use Rattle.std.proofs.Common.{String, Global, IsUtf8, encode_utf8_all, append_assoc, refl, sym, ap, ap₂, subst, ◌∙◌, arith}
+use Rattle.std.proofs.{lemmas.List.map-append, Math.Seq.{take-append_seam, drop-append_seam}}
 use Rattle.conf_record.proofs.Prelude.{IsUtf8-string_bytes, lookup, chars, Good, byte_len, same_text, Tree, key_lines, value_at}
 use Rattle.conf_record.proofs.Prelude.{members_after, byte_len-append, Size, byte_len-encoded, config_limits, same_text-true, GoesOn}
-use Rattle.conf_record.proofs.Prelude.{IsStyled, members, base_text, base_bytes, base_length, entry_lines, entry_length}
-use Rattle.conf_record.proofs.Prelude.{entries_length, text_of, is_name, lines_if_there, entry_named, AreConfigs, good_name, Entry}
-use Rattle.conf_record.proofs.Prelude.{Contents, names_of, config_named, has_name, names_differ, base_limit, count_limit, has_name-named}
-use Rattle.conf_record.proofs.Prelude.{names_differ-push}
-use Rattle.std.proofs.lemmas.List.{map-append}
-use Rattle.std.proofs.Math.Seq.{take-append_seam, drop-append_seam}
+use Rattle.conf_record.proofs.Prelude.{IsStyled, members, base_text, base_bytes, base_length, entry_lines, entry_length, entries_length}
+use Rattle.conf_record.proofs.Prelude.{text_of, is_name, lines_if_there, entry_named, AreConfigs, good_name, Entry, Contents, names_of}
+use Rattle.conf_record.proofs.Prelude.{config_named, has_name, names_differ, base_limit, count_limit, has_name-named, names_differ-push}
+use Rattle.conf_record.{proofs.EntryLemmas.{entry_lines_of, within, entries_and, whole_base}, specs.BaseSpans.{entry_bytes, IsSpan}}
+use Rattle.conf_record.specs.{BaseSpans.{bytes_at, AreSpans, IsGoodEntry, AreFound, IsFound, names_under}, declared.base_spans.Span.Span}
 use Rattle.conf_state.proofs.EntryLemmas.{same_key}
-use Rattle.conf_record.specs.BaseSpans.{entry_bytes, IsSpan, bytes_at, AreSpans, IsGoodEntry, AreFound, IsFound, names_under}
-use Rattle.conf_record.specs.declared.base_spans.Span.{Span}
-use Rattle.conf_record.proofs.EntryLemmas.{entry_lines_of, within, entries_and, whole_base}
 
 -- a span under a name
 abbrev pub Named : Type 0

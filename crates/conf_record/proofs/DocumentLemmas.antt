@@ -1,14 +1,12 @@
 -- What is written reads back, bytes are one document at most, and where documents close.
-use Rattle.std.proofs.Common.{◌≡◌, refl, sym, ◌∙◌, ap, subst, arith, ◌≤◌, take-append-drop}
-use Rattle.std.specs.Prelude.{ℕ, ◌+◌, true, List, [], ◌∷◌, ◌++◌, length, take, drop, replicate, map, encode_utf8_all}
+use Rattle.std.{proofs.{Common.{◌≡◌, refl, sym, ◌∙◌, ap, subst, arith, ◌≤◌, take-append-drop}, lemmas.Option.same_Some}, specs.Prelude.ℕ}
+use Rattle.std.specs.Prelude.{◌+◌, true, List, [], ◌∷◌, ◌++◌, length, take, drop, replicate, map, encode_utf8_all}
 use Rattle.conf_record.proofs.Prelude.{concat, chars, IsUtf8, all_scalars, and_parts, and_from, nat_tests, chars-encodes, code_point}
 use Rattle.conf_record.proofs.Prelude.{IsText, byte_len, Pieces, Tree, Limits, own_limits, IsRead, byte_len-chars, framed_text_bytes}
 use Rattle.conf_record.proofs.Prelude.{all_framed_bytes, TornInPieces, TornPieces, Command, Contents, base_limit, IsState, base_tree}
 use Rattle.conf_record.proofs.Prelude.{base_text, base_bytes, base_length}
-use Rattle.std.proofs.lemmas.Option.{same_Some}
 use lib.Utf8.{scalar}
-use Rattle.conf_record.specs.Records.{record_tree, record_text, record_bytes}
-use Rattle.conf_record.specs.RecordsRead.{record_of, base_of, ReadsRecord, ReadsBase}
+use Rattle.conf_record.specs.{Records.{record_tree, record_text, record_bytes}, RecordsRead.{record_of, base_of, ReadsRecord, ReadsBase}}
 use Rattle.conf_record.specs.Documents.{IsRecord, IsBase, record_pieces, records_bytes, OneBase, OneRecord, RecordsTear}
 use Rattle.conf_record.proofs.RecordLemmas.{framed_document}
 

@@ -1,15 +1,12 @@
 -- Lines of configurations make the base of a state.
 use Rattle.std.proofs.Common.{◌≡◌, ℕ, ◌≤◌, List, [], ◌∷◌, ◌++◌, codes, decimal, length, String, Global, encode_utf8_all, append_assoc}
 use Rattle.std.proofs.Common.{append-nil, refl, sym, ap, ap₂, subst, ◌∙◌, arith}
-use Rattle.conf_record.proofs.Prelude.{decimal_is_IsNumeral, encodes-append, spaces, Tree, text, mapping, key_lines}
-use Rattle.conf_record.proofs.Prelude.{value_at, members_after, element_size, Size, tree_of, GoesOn}
-use Rattle.conf_record.proofs.Prelude.{goes_on_both, IsStyled, members, base_text, base_bytes, text_of, entries_of, Entry, count_limit}
-use Rattle.conf_record.proofs.Prelude.{line, number_line, base_lines, Good, config_limits}
-use Rattle.yaml_styled.specs.Parts.{IsTree}
+use Rattle.conf_record.proofs.Prelude.{decimal_is_IsNumeral, encodes-append, spaces, Tree, text, mapping, key_lines, value_at}
+use Rattle.conf_record.proofs.Prelude.{members_after, element_size, Size, tree_of, GoesOn, goes_on_both, IsStyled, members, base_text}
+use Rattle.conf_record.proofs.Prelude.{base_bytes, text_of, entries_of, Entry, count_limit, line, number_line, base_lines, Good}
+use Rattle.conf_record.proofs.{Prelude.config_limits, PieceLemmas.entries_of-one, SizeLemmas.element_least, WrittenLemmas.ascii_bytes}
+use Rattle.{conf_record.{proofs.WrittenLemmas.{before, after}, specs.Entries.{IsEntry, AreEntries}}, yaml_styled.specs.Parts.IsTree}
 use Rattle.yaml_styled.specs.Sounds.{Sound}
-use Rattle.conf_record.specs.Entries.{IsEntry, AreEntries}
-use Rattle.conf_record.proofs.{PieceLemmas.entries_of-one, SizeLemmas.element_least}
-use Rattle.conf_record.proofs.WrittenLemmas.{ascii_bytes, before, after}
 use Rattle.yaml_data.specs.declared.tree.Tree as code
 
 -- a key after its spaces, and the value after it

@@ -1,13 +1,11 @@
 -- The fields of a mapping: numbers, keys and texts.
-use Rattle.std.proofs.Common.{◌≡◌, refl, sym, ◌∙◌, ap, arith, ◌<◌, ◌^◌, ℕ, suc, ◌+◌, Bool, true, false, ◌&&◌}
-use Rattle.std.proofs.Common.{List, [], ◌∷◌, length, drop, get_or, map, Option, Some, None, decimal, IsUtf8, bytes_eq, encode_utf8_all}
-use Rattle.std.proofs.Common.{Bor}
-use Rattle.conf_record.proofs.Prelude.{encodes-IsAscii, chars, same_from_decides, IsAscii-decimal}
-use Rattle.conf_record.proofs.Prelude.{drop_more, chars-IsAscii, encodes-chars, same_text, Pair, members_of, text_bytes, same_text-true}
-use Rattle.conf_record.proofs.Prelude.{same_text-self}
+use Rattle.std.proofs.Common.{◌≡◌, refl, sym, ◌∙◌, ap, arith, ◌<◌, ◌^◌, ℕ, suc, ◌+◌, Bool, true, false, ◌&&◌, List, [], ◌∷◌, length, drop}
+use Rattle.std.proofs.Common.{get_or, map, Option, Some, None, decimal, IsUtf8, bytes_eq, encode_utf8_all, Bor}
 use Rattle.std.proofs.lemmas.Slice.Eq.{bytes_eq-Decides}
+use Rattle.conf_record.proofs.Prelude.{encodes-IsAscii, chars, same_from_decides, IsAscii-decimal, drop_more, chars-IsAscii, encodes-chars}
+use Rattle.conf_record.proofs.Prelude.{same_text, Pair, members_of, text_bytes, same_text-true, same_text-self}
 use Rattle.conf_record.proofs.{RecordLemmas.number_from_digits-decimal, WrittenLemmas.number_spelled}
-use Rattle.conf_record.specs.{RecordsRead.number_from_digits, RecordsRead.keys_are, Reading.texts}
+use Rattle.conf_record.specs.{RecordsRead.{number_from_digits, keys_are}, Reading.texts}
 
 -- ---- numbers
 

@@ -1,18 +1,15 @@
 -- Bytes along a path: a tree holds, beside the value that a path leads to, as many bytes as the path's tokens have.
-use Rattle.std.proofs.Common.{◌≡◌, ℕ, zero, suc, ◌+◌, ◌-◌, ◌*◌, ◌<◌, ◌≤◌, Bool, true, false, ◌==◌, if◌then◌else◌, List, [], ◌∷◌}
-use Rattle.std.proofs.Common.{length, codes, Some, option_map, Ok, Err, refl, ap, ◌∙◌, arith}
-use Rattle.conf_record.proofs.Prelude.{byte_len-encoded, encodes-IsAscii, every-IsAscii, and_parts, nat_tests, len_utf8, list_all}
-use Rattle.conf_record.proofs.Prelude.{byte_len, is_empty, same_text, Tree, text, sequence}
-use Rattle.conf_record.proofs.Prelude.{mapping, Elements, no_element, element, Members, no_member, member, elements_after, lines_after_dash}
-use Rattle.conf_record.proofs.Prelude.{members_after, key_lines, value_at, same_text-true, digit, is_number, number_after, Index, number}
-use Rattle.conf_record.proofs.Prelude.{after_last, no_index, index_of, at_index, present, put_element, cut_element, push_element, value_of}
-use Rattle.conf_record.proofs.Prelude.{put_member, cut_member, child, put, cut, edit_from, set, delete}
-use Rattle.tree_path.specs.Paths.{element_at as child_at}
-use Rattle.tree_path.specs.declared.place.Miss.TheVariants.{Absent}
-use Rattle.tree_path.proofs.EditLaws.{at_step-Ok, and_then-Ok, same_Ok}
-use Rattle.tree_path.proofs.StepLaws.{option_map-Some, present-Ok, element_at-put_element, value_of-put_member}
-use Rattle.yaml_writer.proofs.SizeLaws.{three}
-use Rattle.conf_record.proofs.SizeLemmas.{size, key_line_least, element_least, value_size}
+use Rattle.std.proofs.Common.{◌≡◌, ℕ, zero, suc, ◌+◌, ◌-◌, ◌*◌, ◌<◌, ◌≤◌, Bool, true, false, ◌==◌, if◌then◌else◌, List, [], ◌∷◌, length}
+use Rattle.std.proofs.Common.{codes, Some, option_map, Ok, Err, refl, ap, ◌∙◌, arith}
+use Rattle.conf_record.proofs.Prelude.{byte_len-encoded, encodes-IsAscii, every-IsAscii, and_parts, nat_tests, len_utf8, list_all, byte_len}
+use Rattle.conf_record.proofs.Prelude.{is_empty, same_text, Tree, text, sequence, mapping, Elements, no_element, element, Members}
+use Rattle.conf_record.proofs.Prelude.{no_member, member, elements_after, lines_after_dash, members_after, key_lines, value_at}
+use Rattle.conf_record.proofs.Prelude.{same_text-true, digit, is_number, number_after, Index, number, after_last, no_index, index_of}
+use Rattle.conf_record.proofs.Prelude.{at_index, present, put_element, cut_element, push_element, value_of, put_member, cut_member, child}
+use Rattle.conf_record.proofs.{Prelude.{put, cut, edit_from, set, delete}, SizeLemmas.{size, key_line_least, element_least, value_size}}
+use Rattle.tree_path.{specs.{Paths.element_at as child_at, declared.place.Miss.TheVariants.Absent}, proofs.EditLaws.at_step-Ok}
+use Rattle.tree_path.proofs.{EditLaws.{and_then-Ok, same_Ok}, StepLaws.{option_map-Some, present-Ok, element_at-put_element}}
+use Rattle.{tree_path.proofs.StepLaws.value_of-put_member, yaml_writer.proofs.SizeLaws.three}
 
 -- ---- an index has at most one digit more than there are elements before its own
 

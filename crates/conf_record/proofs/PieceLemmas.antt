@@ -1,16 +1,14 @@
 -- The parts of a tree that a `Config` keeps.
 use Rattle.std.proofs.Common.{◌≡◌, ◌<◌, ◌≤◌, ℕ, true, ◌&&◌, List, [], ◌∷◌, ◌++◌, codes, length, max, map, not, Option, Some, None}
 use Rattle.std.proofs.Common.{option_map, String, Global, string_bytes, append_assoc, append-nil, arith, refl, sym, ap, ◌∙◌}
-use Rattle.conf_record.proofs.Prelude.{and_parts, chars, byte_len, key_lines, value_at, lines_after_dash, elements_after, members_after}
-use Rattle.conf_record.proofs.Prelude.{sequence, mapping, Elements, no_element, element, Members, no_member, member, has_key}
-use Rattle.conf_record.proofs.Prelude.{distinct, elements_distinct, members_distinct, depth, elements_depth, members_depth, AreTextElements}
-use Rattle.conf_record.proofs.Prelude.{AreTextMembers, own_limits, IsKept, Pair, tree_of, elements_of, members_of}
-use Rattle.conf_record.proofs.Prelude.{text_bytes, Text, entries_of, Edit, edit_of}
-use Rattle.conf_record.specs.RecordsRead.{values, edit_in, ahead, edits_of, entries}
-use Rattle.conf_record.specs.Reading.{AreKept, AreKeptElements, trees_of}
 use Rattle.std.proofs.lemmas.List.{map-append}
+use Rattle.conf_record.proofs.Prelude.{and_parts, chars, byte_len, key_lines, value_at, lines_after_dash, elements_after, members_after}
+use Rattle.conf_record.proofs.Prelude.{sequence, mapping, Elements, no_element, element, Members, no_member, member, has_key, distinct}
+use Rattle.conf_record.proofs.Prelude.{elements_distinct, members_distinct, depth, elements_depth, members_depth, AreTextElements}
+use Rattle.conf_record.proofs.Prelude.{AreTextMembers, own_limits, IsKept, Pair, tree_of, elements_of, members_of, text_bytes, Text}
+use Rattle.conf_record.{proofs.{Prelude.{entries_of, Edit, edit_of}, SizeLemmas.{element_least, value_size}}, specs.RecordsRead.values}
+use Rattle.conf_record.specs.{RecordsRead.{edit_in, ahead, edits_of, entries}, Reading.{AreKept, AreKeptElements, trees_of}}
 use Rattle.yaml_writer.proofs.SizeLaws.{three}
-use Rattle.conf_record.proofs.SizeLemmas.{element_least, value_size}
 use Rattle.yaml_data.specs.declared.tree.Tree as code
 use Rattle.conf_state.specs.declared.command.Edit as edits
 

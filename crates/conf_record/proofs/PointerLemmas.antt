@@ -1,11 +1,9 @@
 -- A pointer has at most twice the bytes of its tokens.
 use Rattle.std.proofs.Common.{◌≡◌, ℕ, ◌+◌, ◌*◌, ◌<◌, ◌≤◌, Bool, true, false, not, ◌&&◌, ◌||◌, ◌==◌, if◌then◌else◌, List, [], ◌∷◌, map}
-use Rattle.std.proofs.Common.{Option}
-use Rattle.std.proofs.Common.{Some, None, option_map, Ok, Err, refl, ap, arith}
+use Rattle.std.proofs.Common.{Option, Some, None, option_map, Ok, Err, refl, ap, arith}
 use Rattle.conf_record.proofs.Prelude.{nat_tests, len_utf8_bounds, len_utf8, tilde, byte_len, slash, stray, first_stray, first_piece}
-use Rattle.conf_record.proofs.Prelude.{pieces, token_from_text, tokens_or_place, path_of}
+use Rattle.conf_record.proofs.{Prelude.{pieces, token_from_text, tokens_or_place, path_of}, PathLemmas.tokens_size}
 use Rattle.json_pointer.specs.declared.fault.PathFault.TheVariants.{BadPath}
-use Rattle.conf_record.proofs.PathLemmas.{tokens_size}
 
 -- what comes before the first `/`, and the tokens after it
 abbrev parts_size : List ℕ → ℕ

@@ -4,60 +4,34 @@ pub use Rattle.conf_state.proofs.LineLemmas.{line, number_line, base_lines, asci
 pub use Rattle.conf_state.specs.BaseTexts.{members, entry_lines, entries_length, base_tree, closed_document}
 unfoldable pub use Rattle.conf_state.specs.BaseTexts.{base_bytes, base_text, base_length, entry_length}
 pub use Rattle.conf_state.specs.Commands.{Edit, import_as, set_at, delete_at, Command, single, batch, name_of, text_of, edit_of, command_of}
-pub use Rattle.conf_state.specs.Configs.{is_name}
-pub use Rattle.conf_state.specs.EntryTexts.{lines_if_there, entry_named}
-pub use Rattle.conf_state.specs.Kept.{entries_of}
-pub use Rattle.conf_state.specs.Limits.{AreConfigs, IsState, AreWithin}
-pub use Rattle.conf_state.specs.Names.{good_name, small_letter, name_char}
-pub use Rattle.conf_state.specs.States.{Entry, Contents, config_named, put_config, cut_config, names_of, has_name, names_differ, base_limit}
-pub use Rattle.conf_state.specs.States.{count_limit}
+pub use Rattle.conf_state.specs.{Configs.is_name, EntryTexts.{lines_if_there, entry_named}, Kept.entries_of, Limits.{AreConfigs, IsState}}
+pub use Rattle.conf_state.specs.{Limits.AreWithin, Names.{good_name, small_letter, name_char}, States.{Entry, Contents, config_named}}
+pub use Rattle.conf_state.specs.States.{put_config, cut_config, names_of, has_name, names_differ, base_limit, count_limit}
 pub use Rattle.json_pointer.specs.Pointers.{path_of, slash, stray, first_stray, first_piece, pieces, token_from_text, tokens_or_place}
-pub use Rattle.json_pointer.specs.declared.fault.PathFault.{PathFault}
-pub use Rattle.std.proofs.lemmas.Bool.{and_parts, and_from, eqb-true, eqb-false}
-pub use Rattle.std.proofs.lemmas.Bool.Decides.{nat_tests, same_from_decides}
-pub use Rattle.std.proofs.lemmas.Fmt.{decimal_is_IsNumeral, IsAscii-decimal, length-decimal-le, parse-decimal}
-pub use Rattle.std.proofs.lemmas.List.{drop_more, drop_all}
-pub use Rattle.std.proofs.lemmas.Result.{on_ok_weaker, IfOk-weaker}
-pub use Rattle.std.proofs.lemmas.Str.{encodes-append, IsUtf8-string_bytes, chars-encodes, chars-IsAscii, encodes-chars, len_utf8_bounds}
-pub use Rattle.std.proofs.lemmas.Str.{encodes-IsAscii, chars_from_encodes, IsCharBoundary-after_ascii}
-pub use Rattle.std.proofs.lemmas.Str.Pattern.{strip_prefix_char, strip_suffix_char}
-pub use Rattle.std.specs.Char.{len_utf8}
-pub use Rattle.std.specs.List.{concat, list_all, remove}
-pub use Rattle.std.specs.Map.{lookup}
-pub use Rattle.std.specs.Option.{IfNone, IfSome}
-pub use Rattle.std.specs.Str.{chars, IsUtf8, all_scalars}
-pub use Rattle.std.specs.Str.Parse.{digits_value, AllDigits}
-pub use Rattle.std.specs.Vec.{vec_len}
-pub use Rattle.std.specs.Vec.Iter.{into_iter_items, into_iter_len}
-pub use Rattle.tree_path.specs.Paths.{set, delete, digit, is_number, number_after, Index, number, after_last, no_index, index_of, at_index}
-pub use Rattle.tree_path.specs.Paths.{present, put_element, cut_element, push_element, value_of, put_member, cut_member}
-pub use Rattle.tree_path.specs.Paths.{edit_from}
+pub use Rattle.{json_pointer.specs.declared.fault.PathFault.PathFault, tree_path.specs.Paths.{set, delete, digit, is_number, number_after}}
+pub use Rattle.tree_path.specs.Paths.{Index, number, after_last, no_index, index_of, at_index, present, put_element, cut_element}
+pub use Rattle.tree_path.specs.Paths.{push_element, value_of, put_member, cut_member, edit_from}
+pub use Rattle.std.proofs.lemmas.Bool.{and_parts, and_from, eqb-true, eqb-false, Decides.{nat_tests, same_from_decides}}
+pub use Rattle.std.proofs.lemmas.{Fmt.{decimal_is_IsNumeral, IsAscii-decimal, length-decimal-le, parse-decimal}, List.{drop_more, drop_all}}
+pub use Rattle.std.proofs.lemmas.{Result.{on_ok_weaker, IfOk-weaker}, Str.{encodes-append, IsUtf8-string_bytes, chars-encodes}}
+pub use Rattle.std.proofs.lemmas.Str.{chars-IsAscii, encodes-chars, len_utf8_bounds, encodes-IsAscii, chars_from_encodes}
+pub use Rattle.std.{proofs.lemmas.Str.{IsCharBoundary-after_ascii, Pattern.{strip_prefix_char, strip_suffix_char}}, specs.Char.len_utf8}
+pub use Rattle.std.specs.{List.{concat, list_all, remove}, Map.lookup, Option.{IfNone, IfSome}, Str.{chars, IsUtf8, all_scalars}}
+pub use Rattle.std.specs.{Str.Parse.{digits_value, AllDigits}, Vec.{vec_len, Iter.{into_iter_items, into_iter_len}}}
 unfoldable pub use Rattle.tree_path.specs.Paths.{child, put, cut}
-pub use Rattle.yaml_chars.specs.Classes.{code_point, in_range}
-pub use Rattle.yaml_chars.specs.Signs.{tilde, line_feed, space_char, double_quote}
-pub use Rattle.yaml_config.proofs.TextTreeLemmas.{chars-IsText}
-pub use Rattle.yaml_config.specs.Kept.{own_limits, IsKept}
-pub use Rattle.yaml_config.specs.Limits.{config_limits}
-pub use Rattle.yaml_data.proofs.CharacterLemmas.{same_text-true, same_text-self, chars-same, every-IsAscii}
-pub use Rattle.yaml_data.proofs.SeenLemmas.{tree_of-Text, tree_of-Seq, tree_of-Map}
-pub use Rattle.yaml_data.specs.Seen.{tree_of, Pair, members_of, elements_of}
-pub use Rattle.yaml_data.specs.TextBytes.{text_bytes}
-pub use Rattle.yaml_data.specs.declared.text.Text.{Text}
-pub use Rattle.yaml_grammar.specs.Closings.{Pieces, ClosesOnce}
-pub use Rattle.yaml_grammar.specs.Reads.{Good, Limits, Gives}
-pub use Rattle.yaml_grammar.specs.Style.{style_text, members_after, key_lines, value_at, lines_after_dash, elements_after, members_at}
-pub use Rattle.yaml_grammar.specs.Style.{scalar_lines, shown, plain_in_style, literal_in_style, hex, letter_escape, quoted_char}
-pub use Rattle.yaml_grammar.specs.Style.{quoted_chars, in_double_quotes, literal_mark, literal_lines, feeds_at_end, key_text}
-pub use Rattle.yaml_grammar.specs.Texts.{byte_len, same_text, spaces, IsText, is_empty, first}
-pub use Rattle.yaml_grammar.specs.Trees.{Tree, depth, text, mapping, sequence, Elements, no_element, element, Members, no_member, member}
+pub use Rattle.yaml_chars.specs.{Classes.{code_point, in_range}, Signs.{tilde, line_feed, space_char, double_quote}}
+pub use Rattle.yaml_config.{proofs.TextTreeLemmas.chars-IsText, specs.{Kept.{own_limits, IsKept}, Limits.config_limits}}
+pub use Rattle.yaml_data.proofs.{CharacterLemmas.{same_text-true, same_text-self, chars-same, every-IsAscii}, SeenLemmas.tree_of-Text}
+pub use Rattle.yaml_data.{proofs.SeenLemmas.{tree_of-Seq, tree_of-Map}, specs.Seen.{tree_of, Pair, members_of, elements_of}}
+pub use Rattle.{yaml_data.specs.{TextBytes.text_bytes, declared.text.Text.Text}, yaml_grammar.specs.Closings.{Pieces, ClosesOnce}}
+pub use Rattle.yaml_grammar.specs.{Reads.{Good, Limits, Gives}, Style.{style_text, members_after, key_lines, value_at, lines_after_dash}}
+pub use Rattle.yaml_grammar.specs.Style.{elements_after, members_at, scalar_lines, shown, plain_in_style, literal_in_style, hex}
+pub use Rattle.yaml_grammar.specs.Style.{letter_escape, quoted_char, quoted_chars, in_double_quotes, literal_mark, literal_lines}
+pub use Rattle.yaml_grammar.specs.{Style.{feeds_at_end, key_text}, Texts.{byte_len, same_text, spaces, IsText, is_empty, first}, Trees.Tree}
+pub use Rattle.yaml_grammar.specs.Trees.{depth, text, mapping, sequence, Elements, no_element, element, Members, no_member, member}
 pub use Rattle.yaml_grammar.specs.Trees.{elements_depth, members_depth, has_key, distinct, elements_distinct, members_distinct}
-pub use Rattle.yaml_grammar.specs.Trees.{AreTextElements, AreTextMembers}
-pub use Rattle.yaml_recognizers.specs.Closings.{framed_text_bytes, all_framed_bytes, TornInPieces, TornPieces, framed_text}
-pub use Rattle.yaml_styled.specs.Comparing.{GoesOn, goes_on_both}
-pub use Rattle.yaml_styled.specs.Styles.{IsStyled}
-pub use Rattle.yaml_tree.specs.Reading.{IsRead, GivesNone}
-pub use Rattle.yaml_writer.proofs.ByteLemmas.{byte_len-encoded, byte_len-chars, byte_len-spaces}
-pub use Rattle.yaml_writer.specs.BudgetLaws.{byte_len-append}
-pub use Rattle.yaml_writer.specs.Runs.{stands_alone}
-pub use Rattle.yaml_writer.specs.Sizes.{element_size, indented_literal_lines}
-pub use Rattle.yaml_writer.specs.declared.size.Size.{Size}
+pub use Rattle.{yaml_grammar.specs.Trees.{AreTextElements, AreTextMembers}, yaml_recognizers.specs.Closings.framed_text_bytes}
+pub use Rattle.yaml_recognizers.specs.Closings.{all_framed_bytes, TornInPieces, TornPieces, framed_text}
+pub use Rattle.{yaml_styled.specs.{Comparing.{GoesOn, goes_on_both}, Styles.IsStyled}, yaml_tree.specs.Reading.{IsRead, GivesNone}}
+pub use Rattle.yaml_writer.{proofs.ByteLemmas.{byte_len-encoded, byte_len-chars, byte_len-spaces}, specs.BudgetLaws.byte_len-append}
+pub use Rattle.yaml_writer.specs.{Runs.stands_alone, Sizes.{element_size, indented_literal_lines}, declared.size.Size.Size}

@@ -1,24 +1,19 @@
 -- The trees of records and bases: they are good, within the limits, and tell what they were made of.
 use Rattle.std.proofs.Common.{◌≡◌, ℕ, ◌+◌, ◌<◌, ◌≤◌, true, not, ◌&&◌, ◌||◌, nat_le, if◌then◌else◌, List, [], ◌∷◌, ◌++◌, length, codes}
-use Rattle.std.proofs.Common.{decimal}
-use Rattle.std.proofs.Common.{Some, None, option_map, append_assoc, refl, ap, sym, ◌∙◌, arith}
+use Rattle.std.proofs.{Common.{decimal, Some, None, option_map, append_assoc, refl, ap, sym, ◌∙◌, arith}, lemmas.Str.Parse.tells_digits}
 use Rattle.conf_record.proofs.Prelude.{byte_len-encoded, encodes-IsAscii, every-IsAscii, and_parts, and_from, nat_tests}
-use Rattle.conf_record.proofs.Prelude.{decimal_is_IsNumeral, length-decimal-le, AllDigits}
-use Rattle.conf_record.proofs.Prelude.{digits_value, code_point, in_range, list_all, IsText, byte_len, first, same_text, Tree, text}
-use Rattle.conf_record.proofs.Prelude.{Members, no_member, member, elements_depth, members_depth, distinct, elements_distinct}
-use Rattle.conf_record.proofs.Prelude.{members_distinct, has_key, AreTextElements, AreTextMembers, Good, scalar_lines, key_lines, value_at}
-use Rattle.conf_record.proofs.Prelude.{members_after, style_text, framed_text, byte_len-append, own_limits, config_limits, same_text-self}
-use Rattle.conf_record.proofs.Prelude.{small_letter, name_char, good_name, Edit, import_as, set_at, delete_at, Command, single, batch}
-use Rattle.conf_record.proofs.Prelude.{Entry, Contents, base_limit, count_limit, names_of, has_name, names_differ, AreConfigs, IsState}
-use Rattle.conf_record.proofs.Prelude.{members, base_tree, base_text, base_length, closed_document}
-use Rattle.std.proofs.lemmas.Str.Parse.{tells_digits}
-use Rattle.conf_state.proofs.BaseLemmas.{count_bytes}
-use Rattle.conf_record.specs.Records.{edit_members, edit_elements, command_members, record_tree, record_text, FitsRecord}
+use Rattle.conf_record.proofs.Prelude.{decimal_is_IsNumeral, length-decimal-le, AllDigits, digits_value, code_point, in_range, list_all}
+use Rattle.conf_record.proofs.Prelude.{IsText, byte_len, first, same_text, Tree, text, Members, no_member, member, elements_depth}
+use Rattle.conf_record.proofs.Prelude.{members_depth, distinct, elements_distinct, members_distinct, has_key, AreTextElements}
+use Rattle.conf_record.proofs.Prelude.{AreTextMembers, Good, scalar_lines, key_lines, value_at, members_after, style_text, framed_text}
+use Rattle.conf_record.proofs.Prelude.{byte_len-append, own_limits, config_limits, same_text-self, small_letter, name_char, good_name, Edit}
+use Rattle.conf_record.proofs.Prelude.{import_as, set_at, delete_at, Command, single, batch, Entry, Contents, base_limit, count_limit}
+use Rattle.conf_record.proofs.Prelude.{names_of, has_name, names_differ, AreConfigs, IsState, members, base_tree, base_text, base_length}
+use Rattle.conf_record.{proofs.{Prelude.closed_document, SizeLemmas.{size, scalar_most, value_size}}, specs.Records.edit_members}
+use Rattle.conf_record.specs.Records.{edit_elements, command_members, record_tree, record_text, FitsRecord}
 use Rattle.conf_record.specs.RecordsRead.{number_from_digits, edit_from, ahead, edits_of, command_from, with_number, record_of, entries}
-use Rattle.conf_record.specs.RecordsRead.{base_of, IsEdit, AreEdits, IsCommand}
-use Rattle.conf_record.specs.SmallCommands.{IsSmallEdit, AreSmallEdits, IsSmallCommand}
-use Rattle.yaml_writer.proofs.SizeLaws.{three}
-use Rattle.conf_record.proofs.SizeLemmas.{size, scalar_most, value_size}
+use Rattle.conf_record.specs.{RecordsRead.{base_of, IsEdit, AreEdits, IsCommand}, SmallCommands.{IsSmallEdit, AreSmallEdits}}
+use Rattle.{conf_record.specs.SmallCommands.IsSmallCommand, conf_state.proofs.BaseLemmas.count_bytes, yaml_writer.proofs.SizeLaws.three}
 
 -- ---- numbers and names
 

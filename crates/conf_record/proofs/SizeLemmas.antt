@@ -1,13 +1,11 @@
 -- Bytes in the one style: of a scalar by those of its text, and of a tree as a value and as an element.
 use Rattle.std.proofs.Common.{◌≡◌, ℕ, zero, suc, ◌+◌, ◌*◌, ◌/◌, ◌%◌, ◌<◌, ◌≤◌, Bool, true, false, ◌||◌, ◌==◌, nat_le, nat_lt, if◌then◌else◌}
-use Rattle.std.proofs.Common.{List, [], ◌∷◌, ◌++◌, codes, refl, arith}
+use Rattle.std.proofs.{Common.{List, [], ◌∷◌, ◌++◌, codes, refl, arith}, lemmas.Str.len_utf8_ascii}
 use Rattle.conf_record.proofs.Prelude.{nat_tests, len_utf8_bounds, len_utf8, in_range, byte_len, spaces, Tree, text, sequence, mapping}
 use Rattle.conf_record.proofs.Prelude.{shown, plain_in_style, literal_in_style, hex, letter_escape, quoted_char, quoted_chars}
 use Rattle.conf_record.proofs.Prelude.{in_double_quotes, literal_mark, literal_lines, feeds_at_end, scalar_lines, key_text, key_lines}
-use Rattle.conf_record.proofs.Prelude.{lines_after_dash, value_at, style_text, byte_len-append}
-use Rattle.std.proofs.lemmas.Str.{len_utf8_ascii}
-use Rattle.yaml_writer.proofs.{SizeLaws.three, SizeLaws.elements_law, SizeLaws.members_law, SizeBounds.value_small, SizeSums.key_bytes}
-use Rattle.yaml_writer.proofs.{SizeSums.value_longer}
+use Rattle.{conf_record.proofs.Prelude.{lines_after_dash, value_at, style_text, byte_len-append}, yaml_writer.proofs.SizeLaws.three}
+use Rattle.yaml_writer.proofs.{SizeLaws.{elements_law, members_law}, SizeBounds.value_small, SizeSums.{key_bytes, value_longer}}
 
 -- how many bytes a tree has
 abbrev pub size : Tree → ℕ

@@ -1,16 +1,12 @@
 -- What a tree is as a record or a base.
 use Rattle.std.proofs.Common.{◌≡◌, refl, sym, ◌∙◌, ap, ap₂, subst, nat_lt, ℕ, Bool, true, false, List, [], ◌∷◌, codes, if◌then◌else◌}
-use Rattle.std.proofs.Common.{Option, Some, None}
-use Rattle.std.proofs.Common.{option_map, IfSome, IfNone}
+use Rattle.std.proofs.{Common.{Option, Some, None, option_map, IfSome, IfNone}, lemmas.Option.{none-some, same_Some}}
 use Rattle.conf_record.proofs.Prelude.{and_parts, list_all, chars, same_text, Tree, text, sequence, mapping, Members, member, own_limits}
 use Rattle.conf_record.proofs.Prelude.{IsRead, Pair, members_of, Command, single, command_of, entries_of, IsState, Contents, ascii}
-use Rattle.std.proofs.lemmas.Option.{none-some, same_Some}
-use Rattle.conf_record.specs.RecordsRead.{number_from_digits, keys_are, values, import_of, set_of, delete_of, edit_under, edit_from}
-use Rattle.conf_record.specs.RecordsRead.{batch_of, command_from, with_number, record_of, batch_keys, set_keys, delete_keys, base_keys}
-use Rattle.conf_record.specs.RecordsRead.{base_of, contents_of}
-use Rattle.conf_record.specs.Documents.{IsRecord, IsNoRecord, IsBase, IsNoBase}
-use Rattle.conf_record.specs.Reading.{texts, is_text, command_and_number}
-use Rattle.conf_record.proofs.{DocumentLemmas.BytesGiveOne, PieceLemmas.Named}
+use Rattle.conf_record.{proofs.{DocumentLemmas.BytesGiveOne, PieceLemmas.Named}, specs.RecordsRead.{number_from_digits, keys_are, values}}
+use Rattle.conf_record.specs.RecordsRead.{import_of, set_of, delete_of, edit_under, edit_from, batch_of, command_from, with_number}
+use Rattle.conf_record.specs.RecordsRead.{record_of, batch_keys, set_keys, delete_keys, base_keys, base_of, contents_of}
+use Rattle.conf_record.specs.{Documents.{IsRecord, IsNoRecord, IsBase, IsNoBase}, Reading.{texts, is_text, command_and_number}}
 use Rattle.conf_state.specs.declared.command.Command as code
 
 -- ---- records

@@ -3,25 +3,21 @@ use Rattle.std.proofs.Common.{◌≡◌, ℕ, ◌+◌, ◌≤◌, ◌<◌, Bool,
 use Rattle.std.proofs.Common.{length, length-append, codes, decimal, Option, Some, None, IsUtf8, Bor, encode_utf8_all, append_assoc}
 use Rattle.std.proofs.Common.{append-nil, refl, sym, ap, subst, ◌∙◌, arith}
 use Rattle.conf_record.proofs.Prelude.{nat_tests, decimal_is_IsNumeral, chars-IsAscii, encodes-append, encodes-chars, encodes-IsAscii}
-use Rattle.conf_record.proofs.Prelude.{list_all, chars, digits_value, line_feed, space_char, double_quote}
-use Rattle.conf_record.proofs.Prelude.{quoted_chars, scalar_lines, value_at}
-use Rattle.conf_record.proofs.Prelude.{elements_after, members_at, members_after, IsText, byte_len, same_text, spaces, Tree, text, Members}
-use Rattle.conf_record.proofs.Prelude.{no_member, member, stands_alone, element_size, Size, byte_len-encoded}
-use Rattle.conf_record.proofs.Prelude.{every-IsAscii, same_text-true, tree_of, text_bytes, Text, tree_of-Text, config_limits, chars-IsText}
-use Rattle.conf_record.proofs.Prelude.{count_limit, Edit, import_as, set_at, delete_at, Command, single, batch, line, number_line}
-use Rattle.yaml_writer.specs.declared.scalar_style.ScalarStyle.TheVariants.{Plain, Double}
-use Rattle.yaml_writer.specs.ScalarStyles.{value_style}
-use Rattle.yaml_writer.proofs.{StyleLemmas.value_plain, StyleLemmas.value_double, SizeSums.IsLiteral, SizeSums.one_line}
-use Rattle.yaml_writer.proofs.QuotedLemmas.{stands_alone-below, quoted_chars-alone}
-use Rattle.yaml_data.proofs.TextLemmas.{IsUtf8-text_bytes}
-use Rattle.conf_state.specs.Rooms.{record_limit}
-use Rattle.conf_record.specs.{Documents.IsRecord, LineValues.IsValueLine, LineValues.FollowsNumber, declared.lines.LineValue.LineValue}
-use Rattle.conf_record.specs.{EditLines.member_line, EditLines.lines_of}
+use Rattle.conf_record.proofs.Prelude.{list_all, chars, digits_value, line_feed, space_char, double_quote, quoted_chars, scalar_lines}
+use Rattle.conf_record.proofs.Prelude.{value_at, elements_after, members_at, members_after, IsText, byte_len, same_text, spaces, Tree, text}
+use Rattle.conf_record.proofs.Prelude.{Members, no_member, member, stands_alone, element_size, Size, byte_len-encoded, every-IsAscii}
+use Rattle.conf_record.proofs.Prelude.{same_text-true, tree_of, text_bytes, Text, tree_of-Text, config_limits, chars-IsText, count_limit}
+use Rattle.conf_record.proofs.Prelude.{Edit, import_as, set_at, delete_at, Command, single, batch, line, number_line}
+use Rattle.conf_record.{proofs.{DocumentLemmas.record_is, EditLines.edit_lines}, specs.{Documents.IsRecord, LineValues.IsValueLine}}
+use Rattle.conf_record.specs.{LineValues.FollowsNumber, declared.lines.LineValue.LineValue, EditLines.{member_line, lines_of}}
 use Rattle.conf_record.specs.Records.{edit_members, edit_elements, command_members, record_text, record_bytes, FitsRecord}
-use Rattle.conf_record.specs.RecordsRead.{number_from_digits, ReadsRecord, IsEdit, AreEdits, IsCommand}
-use Rattle.conf_record.specs.SmallCommands.{IsSmallEdit, AreSmallEdits, IsSmallCommand}
-use Rattle.conf_record.specs.Written.{IsLineOf, IsConfigLine, IsNameLine, IsPathLine, IsWrittenAs, ElementsWritten, IsWritten}
-use Rattle.conf_record.proofs.{DocumentLemmas.record_is, EditLines.edit_lines}
+use Rattle.conf_record.specs.{RecordsRead.{number_from_digits, ReadsRecord, IsEdit, AreEdits, IsCommand}, SmallCommands.IsSmallEdit}
+use Rattle.conf_record.specs.{SmallCommands.{AreSmallEdits, IsSmallCommand}, Written.{IsLineOf, IsConfigLine, IsNameLine, IsPathLine}}
+use Rattle.conf_record.specs.Written.{IsWrittenAs, ElementsWritten, IsWritten}
+use Rattle.yaml_writer.specs.{declared.scalar_style.ScalarStyle.TheVariants.{Plain, Double}, ScalarStyles.value_style}
+use Rattle.yaml_writer.proofs.{StyleLemmas.{value_plain, value_double}, SizeSums.{IsLiteral, one_line}, QuotedLemmas.stands_alone-below}
+use Rattle.{yaml_writer.proofs.QuotedLemmas.quoted_chars-alone, yaml_data.proofs.TextLemmas.IsUtf8-text_bytes}
+use Rattle.conf_state.specs.Rooms.{record_limit}
 use Rattle.yaml_data.specs.declared.tree.Tree as code
 use Rattle.conf_record.specs.declared.edit_members.EditMembers.TheVariants as cut
 

@@ -1,9 +1,8 @@
 -- Where the configurations of a base are in its bytes.
 use Rattle.std.specs.Prelude.{◌≡◌, ◌-◌, ℕ, true, List, [], ◌∷◌, ◌++◌, length, take, drop, String, encode_utf8_all}
-use Rattle.conf_record.specs.Prelude.{Global, Good, Tree, config_limits, GoesOn, entry_lines, entries_length}
-use Rattle.conf_record.specs.Prelude.{base_bytes, text_of, AreConfigs, IsState, good_name, Entry, Contents, names_of}
-use Rattle.conf_record.specs.Prelude.{names_differ}
-use Rattle.conf_record.specs.{Entries.AreEntries, declared.base_spans.Span.Span}
+use Rattle.conf_record.specs.Prelude.{Global, Good, Tree, config_limits, GoesOn, entry_lines, entries_length, base_bytes, text_of}
+use Rattle.conf_record.specs.{Prelude.{AreConfigs, IsState, good_name, Entry, Contents, names_of, names_differ}, Entries.AreEntries}
+use Rattle.conf_record.specs.declared.base_spans.Span.{Span}
 
 -- a configuration's lines as bytes
 abbrev pub entry_bytes : List ℕ → Tree → List ℕ

@@ -1,11 +1,8 @@
 -- Records and bases as bytes: which bytes are one, and what is left of written ones that a crash cuts.
-use Rattle.std.specs.Prelude.{◌≡◌, ◌≤◌, ℕ, ◌+◌, List, [], ◌∷◌, ◌++◌, length, take, replicate, Ok}
-use Rattle.conf_record.specs.Prelude.{chars, IsUtf8, Command, Contents, count_limit, base_limit, IsState, step}
-use Rattle.conf_record.specs.Prelude.{base_bytes, Room}
-use Rattle.std.specs.List.{concat}
+use Rattle.std.specs.{Prelude.{◌≡◌, ◌≤◌, ℕ, ◌+◌, List, [], ◌∷◌, ◌++◌, length, take, replicate, Ok}, List.concat}
+use Rattle.conf_record.specs.Prelude.{chars, IsUtf8, Command, Contents, count_limit, base_limit, IsState, step, base_bytes, Room}
+use Rattle.conf_record.specs.{Records.{FitsRecord, record_bytes}, RecordsRead.{IsCommand, ReadsRecord, ReadsBase}}
 use Rattle.yaml_grammar.specs.Closings.{ClosesOnce, Pieces}
-use Rattle.conf_record.specs.Records.{FitsRecord, record_bytes}
-use Rattle.conf_record.specs.RecordsRead.{IsCommand, ReadsRecord, ReadsBase}
 
 -- the bytes are a text that reads as a command with a number
 pub record IsRecord (bytes : List ℕ) (command : Command) (number : ℕ) : Type 0 where

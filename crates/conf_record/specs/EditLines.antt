@@ -1,8 +1,7 @@
 -- The members of an edit on their lines, as bytes.
 use Rattle.std.specs.Prelude.{ℕ, List, [], ◌∷◌, ◌++◌, codes}
-use Rattle.conf_record.specs.Prelude.{Bor, line_feed, spaces}
-use Rattle.conf_record.specs.{declared.edit_lines.Place.Place, declared.edit_members.EditMembers.EditMembers}
-use Rattle.conf_record.specs.declared.edit_lines.Place.TheVariants.{Alone, InBatch}
+use Rattle.conf_record.specs.{Prelude.{Bor, line_feed, spaces}, declared.edit_lines.Place.{Place, TheVariants.{Alone, InBatch}}}
+use Rattle.conf_record.specs.declared.edit_members.EditMembers.{EditMembers}
 use Rattle.conf_record.specs.declared.edit_members.EditMembers.TheVariants as cut
 
 -- how many spaces are before each member but the first

@@ -1,7 +1,6 @@
 -- Configurations as a base has them, on lines of their own.
 use Rattle.std.specs.Prelude.{◌≡◌, ℕ, List, ◌++◌}
-use Rattle.conf_record.specs.Prelude.{spaces, Tree, key_lines, value_at, members_after, element_size, GoesOn, Sound}
-use Rattle.conf_record.specs.Prelude.{members, Entry}
+use Rattle.conf_record.specs.Prelude.{spaces, Tree, key_lines, value_at, members_after, element_size, GoesOn, Sound, members, Entry}
 use Rattle.yaml_writer.specs.declared.size.Size.{Size}
 
 -- the lines begin with a configuration under its name

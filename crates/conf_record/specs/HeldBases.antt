@@ -1,11 +1,7 @@
 -- The state whose base some bytes are. There is at most one, so that a value may hold it with no code.
-use Rattle.std.specs.Prelude.{◌≡◌, ℕ, List}
-use Rattle.conf_record.specs.Prelude.{Contents}
-use Rattle.std.specs.Coded.{Coded-set, ×_prop, Π_prop, →_prop}
+use Rattle.std.{specs.{Prelude.{◌≡◌, ℕ, List}, Coded.{Coded-set, ×_prop, Π_prop, →_prop}}, proofs.Math.Logic.{∥∥₁_prop, ∥∥₁_elim}}
+use Rattle.{conf_record.specs.{Prelude.Contents, Documents.IsBase}, conf_state.specs.TreeCode.contents_code}
 use mathlib.Core.HLevel.{Σ_prop_path}
-use Rattle.std.proofs.Math.Logic.{∥∥₁_prop, ∥∥₁_elim}
-use Rattle.conf_state.specs.TreeCode.{contents_code}
-use Rattle.conf_record.specs.Documents.{IsBase}
 
 -- a state whose base the bytes are, and they are that of no other
 abbrev pub Held : List ℕ → Type 0

@@ -1,9 +1,8 @@
 -- The members of an edit as they were read of their lines: texts, each without its quotes.
 use Rattle.std.specs.Prelude.{◌≡◌, ◌<◌, ℕ, ◌+◌, List, ◌++◌, length, codes, decimal, encode_utf8_all, ◌≤◌}
-use Rattle.conf_record.specs.Prelude.{Bor, chars, IsText, text, config_limits, Edit, import_as, set_at, delete_at}
-use Rattle.conf_record.specs.Prelude.{record_limit, count_limit}
-use Rattle.conf_record.specs.{declared.edit_members.EditMembers.EditMembers, declared.lines.LineValue.LineValue}
-use Rattle.conf_record.specs.{Written.IsLineOf}
+use Rattle.conf_record.specs.Prelude.{Bor, chars, IsText, text, config_limits, Edit, import_as, set_at, delete_at, record_limit}
+use Rattle.conf_record.specs.{Prelude.count_limit, declared.{edit_members.EditMembers.EditMembers, lines.LineValue.LineValue}}
+use Rattle.conf_record.specs.Written.{IsLineOf}
 use Rattle.conf_record.specs.declared.edit_members.EditMembers.TheVariants as cut
 
 -- the value is a text on this line, which is short enough for a configuration, and has so many bytes with its line feed

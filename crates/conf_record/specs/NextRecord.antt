@@ -1,7 +1,6 @@
 -- Why bytes are not the record after a count.
 use Rattle.std.specs.Prelude.{◌≢◌, ℕ, ◌+◌, List}
-use Rattle.conf_record.specs.Prelude.{Command}
-use Rattle.conf_record.specs.{Documents.IsRecord, Documents.IsNoRecord, declared.next_record.NoNext.NoNext}
+use Rattle.conf_record.specs.{Prelude.Command, Documents.{IsRecord, IsNoRecord}, declared.next_record.NoNext.NoNext}
 use Rattle.conf_record.specs.declared.next_record.NoNext.TheVariants.{NotARecord, OtherNumber, OutOfMemory}
 
 -- the reason holds of the bytes; OutOfMemory says nothing of them

@@ -1,10 +1,8 @@
 -- What the parts of the reader return: values in order, and what they are in the definitions of records and bases.
 use Rattle.std.specs.Prelude.{ℕ, Bool, true, false, List, [], ◌∷◌, Vec, Option, Some, None, option_map, map}
-use Rattle.conf_record.specs.Prelude.{chars, Global, Tree, Elements, no_element, element, Members, text, sequence}
-use Rattle.conf_record.specs.Prelude.{mapping, IsKept, Pair, tree_of, members_of, text_bytes, Edit, import_as, set_at}
-use Rattle.conf_record.specs.Prelude.{delete_at, Command, command_of, Contents}
-use Rattle.yaml_data.specs.declared.text.Text.{Text}
-use Rattle.conf_record.specs.{declared.edit_members.EditMembers.EditMembers, RecordsRead.entries}
+use Rattle.conf_record.specs.Prelude.{chars, Global, Tree, Elements, no_element, element, Members, text, sequence, mapping, IsKept, Pair}
+use Rattle.conf_record.specs.Prelude.{tree_of, members_of, text_bytes, Edit, import_as, set_at, delete_at, Command, command_of, Contents}
+use Rattle.{conf_record.specs.{declared.edit_members.EditMembers.EditMembers, RecordsRead.entries}, yaml_data.specs.declared.text.Text.Text}
 use Rattle.yaml_data.specs.declared.tree.Tree as code_tree
 use Rattle.conf_record.specs.declared.edit_members.EditMembers.TheVariants as read
 use Rattle.conf_state.specs.declared.command.Command as code

@@ -1,8 +1,7 @@
 -- Records: the documents that hold commands, each with the number under which it was accepted.
 use Rattle.std.specs.Prelude.{◌≤◌, ℕ, List, [], ◌∷◌, codes, decimal, encode_utf8_all}
-use Rattle.conf_record.specs.Prelude.{byte_len, Tree, text, sequence, mapping, Elements, no_element, element, Members}
-use Rattle.conf_record.specs.Prelude.{no_member, member, Edit, import_as, set_at, delete_at, Command, single, batch}
-use Rattle.conf_record.specs.Prelude.{closed_document, record_limit}
+use Rattle.conf_record.specs.Prelude.{byte_len, Tree, text, sequence, mapping, Elements, no_element, element, Members, no_member, member}
+use Rattle.conf_record.specs.Prelude.{Edit, import_as, set_at, delete_at, Command, single, batch, closed_document, record_limit}
 
 -- the members of an edit
 abbrev pub edit_members : Edit → Members

@@ -1,12 +1,10 @@
 -- Which texts are records and bases, and what they hold. The document may be spelled in any way. With other keys, keys
 -- in another order, or a number, a name or a path that is not good, it is neither.
-use Rattle.std.specs.Prelude.{◌≡◌, ℕ, Bool, true, false, ◌&&◌, ◌||◌, nat_le, if◌then◌else◌, List, [], ◌∷◌, codes}
-use Rattle.std.specs.Prelude.{decimal, Option, Some, None, option_map, is_ok}
-use Rattle.conf_record.specs.Prelude.{IsText, same_text, Tree, text, sequence, mapping, Elements, no_element, element}
-use Rattle.conf_record.specs.Prelude.{Members, no_member, member, Gives, IsKept, own_limits, path_of, good_name, Edit}
-use Rattle.conf_record.specs.Prelude.{import_as, set_at, delete_at, Command, single, batch, name_of, Entry, Contents}
-use Rattle.conf_record.specs.Prelude.{count_limit, IsState}
-use Rattle.std.specs.Str.Parse.{digits_value}
+use Rattle.std.specs.Prelude.{◌≡◌, ℕ, Bool, true, false, ◌&&◌, ◌||◌, nat_le, if◌then◌else◌, List, [], ◌∷◌, codes, decimal, Option, Some}
+use Rattle.std.specs.{Prelude.{None, option_map, is_ok}, Str.Parse.digits_value}
+use Rattle.conf_record.specs.Prelude.{IsText, same_text, Tree, text, sequence, mapping, Elements, no_element, element, Members, no_member}
+use Rattle.conf_record.specs.Prelude.{member, Gives, IsKept, own_limits, path_of, good_name, Edit, import_as, set_at, delete_at, Command}
+use Rattle.conf_record.specs.Prelude.{single, batch, name_of, Entry, Contents, count_limit, IsState}
 
 -- ---- the parts of a document
 

@@ -1,8 +1,8 @@
 -- Which commands have a record that is read back, whatever the state: what a store asks of a command beside what its
 -- configurations are.
 use Rattle.std.specs.Prelude.{◌≡◌, ◌*◌, ◌≤◌, true, List, [], ◌∷◌, ℕ, is_ok}
-use Rattle.conf_record.specs.Prelude.{byte_len, Tree, depth, style_text, config_limits, path_of, good_name, Edit}
-use Rattle.conf_record.specs.Prelude.{import_as, set_at, delete_at, Command, single, batch}
+use Rattle.conf_record.specs.Prelude.{byte_len, Tree, depth, style_text, config_limits, path_of, good_name, Edit, import_as, set_at}
+use Rattle.conf_record.specs.Prelude.{delete_at, Command, single, batch}
 
 -- a tree within the limits of a store's configuration
 pub record IsSmallTree (t : Tree) : Type 0 where

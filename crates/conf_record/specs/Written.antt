@@ -1,10 +1,8 @@
 -- Lines of records as a store writes them. Lines are bytes, and the texts that they mean are characters.
 use Rattle.std.specs.Prelude.{◌≡◌, ℕ, true, List, [], ◌∷◌, ◌++◌, codes, encode_utf8_all}
-use Rattle.conf_record.specs.Prelude.{line_feed, space_char, scalar_lines, value_at, elements_after, members_at}
-use Rattle.conf_record.specs.Prelude.{members_after, IsText, Tree, indented_scalar_lines, IsKept, Edit, Command}
-use Rattle.conf_record.specs.Prelude.{good_name}
-use Rattle.conf_record.specs.Records.{edit_members, edit_elements, command_members}
-use Rattle.conf_record.specs.RecordsRead.{IsEdit, AreEdits, IsCommand}
+use Rattle.conf_record.specs.Prelude.{line_feed, space_char, scalar_lines, value_at, elements_after, members_at, members_after, IsText}
+use Rattle.conf_record.specs.{Prelude.{Tree, indented_scalar_lines, IsKept, Edit, Command, good_name}, Records.edit_members}
+use Rattle.conf_record.specs.{Records.{edit_elements, command_members}, RecordsRead.{IsEdit, AreEdits, IsCommand}}
 use Rattle.conf_record.specs.SmallCommands.{IsSmallTree, IsShortPath, IsSmallEdit, AreSmallEdits, IsSmallCommand}
 
 -- the text as a value is this line alone, in the one style, at whatever indentation

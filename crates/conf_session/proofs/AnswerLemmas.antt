@@ -1,14 +1,11 @@
 -- The texts of answers, and what they answer.
-use Rattle.std.proofs.Common.{◌≡◌, refl, sym, ◌∙◌, ap, arith, ◌≤◌, append_assoc}
-use Rattle.std.specs.Prelude.{ℕ, suc, List, [], ◌∷◌, ◌++◌, codes, Result, Ok, Err}
+use Rattle.std.{proofs.Common.{◌≡◌, refl, sym, ◌∙◌, ap, arith, ◌≤◌, append_assoc}, specs.Prelude.{ℕ, suc, List, [], ◌∷◌, ◌++◌, codes}}
+use Rattle.std.specs.{Prelude.{Result, Ok, Err}, Str.Parse.AllDigits}
 use Rattle.conf_session.proofs.Prelude.{chars, Tree, text, sequence, Elements, no_element, element, depth, elements_depth, framed_text}
 use Rattle.conf_session.proofs.Prelude.{tree_of, elements_of, text_bytes, tree_of-Text, join_elements, elements_of-append, at, at_from}
 use Rattle.conf_session.proofs.Prelude.{at_step, child, refusal, Miss, own_limits, child-within, IsState, Contents, count_line, and_then-Ok}
-use Rattle.conf_session.proofs.Prelude.{tree_named, tree_at}
-use Rattle.std.specs.Str.Parse.{AllDigits}
-use Rattle.yaml_data.specs.declared.text.Text.{Text}
-use Rattle.conf_session.specs.Answers.{one, text_elements}
-use Rattle.conf_session.proofs.{LengthLemmas.by_path-Ok, LengthLemmas.tree_named-good, WordLemmas.framed-one}
+use Rattle.conf_session.proofs.{Prelude.{tree_named, tree_at}, LengthLemmas.{by_path-Ok, tree_named-good}, WordLemmas.framed-one}
+use Rattle.{conf_session.specs.Answers.{one, text_elements}, yaml_data.specs.declared.text.Text.Text}
 use Rattle.yaml_data.specs.declared.tree.Tree as code
 
 -- ---- the text of an answer

@@ -1,7 +1,6 @@
 -- What a piece asks for is answered: no fault of a request is one that ends a session.
-use Rattle.std.proofs.Common.{◌≡◌, ◌≢◌, ⊎_elim, refl, sym, ap, ◌∙◌}
-use Rattle.std.specs.Prelude.{ℕ, suc, ◌+◌, Bool, true, false, nat_le, nat_lt, if◌then◌else◌, List, [], ◌∷◌, Option, Some, None, Result, Ok}
-use Rattle.std.specs.Prelude.{Err, is_some, is_ok}
+use Rattle.std.{proofs.Common.{◌≡◌, ◌≢◌, ⊎_elim, refl, sym, ap, ◌∙◌}, specs.Prelude.{ℕ, suc, ◌+◌, Bool, true, false, nat_le, nat_lt}}
+use Rattle.std.specs.Prelude.{if◌then◌else◌, List, [], ◌∷◌, Option, Some, None, Result, Ok, Err, is_some, is_ok}
 use Rattle.conf_session.proofs.Prelude.{byte_len, style_text, Tree, depth, ReadFault, path_of, tokens_or_place, bad_place, PathFault, at}
 use Rattle.conf_session.proofs.Prelude.{at_from, at_step, child, put, cut, set, delete, edit_from, Miss, config_limits, base_length, Edit}
 use Rattle.conf_session.proofs.Prelude.{import_as, set_at, delete_at, Command, single, batch, name_of, good_name, Entry, Contents}
@@ -9,15 +8,12 @@ use Rattle.conf_session.proofs.Prelude.{config_named, base_limit, count_limit, s
 use Rattle.conf_session.proofs.Prelude.{with_room, next_state, and_then, checked_tree, with_checked_config, found, by_path}
 use Rattle.conf_session.proofs.Prelude.{configs_after_delete, StoreFault, Room, Enough, LongRecord, Missing, outcome, room_for, tree_named}
 use Rattle.conf_session.proofs.Prelude.{RefusesText, Condition, first_fault, ConditionFault, IsTold, told-first}
-use Rattle.tree_path.specs.Paths.{and_then as then_path}
-use Rattle.tree_path.specs.declared.place.Miss.TheVariants.{Absent, NoIndex}
-use Rattle.conf_session.specs.{declared.fault.SessionFault.SessionFault, declared.words.Refusal.Refusal}
-use Rattle.conf_session.specs.Said.{Part, import_text, plain, Said, single_part, batch_of_parts, get_at, export_of, all_names}
-use Rattle.conf_session.specs.Said.{checkpoint_now, conditional, nothing}
+use Rattle.conf_session.specs.{declared.{fault.SessionFault.SessionFault, words.Refusal.Refusal}, Said.{Part, import_text, plain, Said}}
+use Rattle.conf_session.specs.Said.{single_part, batch_of_parts, get_at, export_of, all_names, checkpoint_now, conditional, nothing}
 use Rattle.conf_session.specs.Requests.{Request, changing, unread, getting, exporting, naming, checkpointing, if_met, bad, RefusesPart}
-use Rattle.conf_session.specs.Requests.{MeansRequest, Asks}
-use Rattle.conf_session.specs.Answers.{Stored, longest, answer, answered, path_answered, read_answered, refused_answer, answer_or_refusal}
-use Rattle.conf_session.specs.Answers.{value_at_path, condition_answered, unless_failed}
+use Rattle.conf_session.specs.{Requests.{MeansRequest, Asks}, Answers.{Stored, longest, answer, answered, path_answered, read_answered}}
+use Rattle.conf_session.specs.Answers.{refused_answer, answer_or_refusal, value_at_path, condition_answered, unless_failed}
+use Rattle.tree_path.specs.{Paths.and_then as then_path, declared.place.Miss.TheVariants.{Absent, NoIndex}}
 use Rattle.yaml_events.specs.declared.read_fault.ReadFault.TheVariants as read
 use Rattle.conf_state.specs.declared.fault.StoreFault.TheVariants as store
 use Rattle.conf_conditions.specs.declared.fault.ConditionFault.TheVariants as condition

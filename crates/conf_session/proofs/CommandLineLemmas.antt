@@ -1,28 +1,25 @@
 -- What commands that are spelled one key a line say.
-use Rattle.std.proofs.Common.{◌≡◌, refl, sym, ap, subst, ◌∙◌, inl, arith, ◌<◌, ◌≤◌, append_assoc, append-nil}
-use Rattle.std.specs.Prelude.{ℕ, zero, suc, ◌+◌, ◌*◌, ◌==◌, Bool, true, false, nat_lt, if◌then◌else◌, List, [], ◌∷◌, ◌++◌, codes, length}
-use Rattle.std.specs.Prelude.{Option, Some, option_map}
+use Rattle.std.{proofs.Common.{◌≡◌, refl, sym, ap, subst, ◌∙◌, inl, arith, ◌<◌, ◌≤◌, append_assoc, append-nil}, specs.Prelude.{ℕ, zero}}
+use Rattle.std.specs.Prelude.{suc, ◌+◌, ◌*◌, ◌==◌, Bool, true, false, nat_lt, if◌then◌else◌, List, [], ◌∷◌, ◌++◌, codes, length, Option}
+use Rattle.std.specs.{Prelude.{Some, option_map}, Borrow.Bor}
 use Rattle.conf_session.proofs.Prelude.{list_all, chars, IsUtf8, IsAscii, and_parts, and_from, ltb-true, nat_tests, chars-IsAscii}
 use Rattle.conf_session.proofs.Prelude.{code_point, is_in, IsText, byte_len, spaces, text, sequence, mapping, Elements, no_member, member}
 use Rattle.conf_session.proofs.Prelude.{AreTextMembers, AreTextElements, members_depth, elements_depth, members_distinct, elements_distinct}
 use Rattle.conf_session.proofs.Prelude.{word_char, plain_in_style, literal_in_style, literal_mark, literal_lines, feeds_at_end}
 use Rattle.conf_session.proofs.Prelude.{in_double_quotes, scalar_lines, long_key, key_lines, value_at, members_at, members_after}
 use Rattle.conf_session.proofs.Prelude.{elements_after, style_text, Good, Gives, every_joined, every-IsAscii, byte_len-append, stands_alone}
-use Rattle.conf_session.proofs.Prelude.{byte_len-chars, IsKept, set_at, delete_at, member_line, lines_of, scalar_most}
-use Rattle.conf_session.proofs.Prelude.{Tree, element, Members, has_key, not_from_false, number_from_digits, Condition, test_at}
-use Rattle.conf_session.proofs.Prelude.{absent_at, count_is, length-append}
-use Rattle.yaml_config.proofs.TextTreeLemmas.{chars-IsText}
-use Rattle.std.specs.Borrow.{Bor}
-use Rattle.conf_session.specs.Said.{Part, Said, Says, command_limits, piece_limit, import_text, plain, single_part, batch_of_parts, get_at}
-use Rattle.conf_session.specs.Said.{said_by, part_from, part_of, parts_of, parts_said, change_said, with_conditions}
-use Rattle.conf_session.specs.SaidConditions.{first_and_rest, all_in, condition_from, condition_in, all_conditions_in}
-use Rattle.conf_session.specs.CommandLines.{Spelling, bare, quoted, Line, spelled, bare_char, begins_bare, stands, IsField, line_text}
-use Rattle.conf_session.specs.CommandLines.{lines_text, members_of_lines, IsSpelled, IsLine, AreLines, Entry, entry_text, entry_members}
-use Rattle.conf_session.specs.CommandLines.{elements_text, elements_of_entries, IsEntry, AreEntries, AreSaid, AreElementLines}
-use Rattle.conf_session.specs.CommandLines.{SaysPart, SpellsPart, ArePartLines, AreConditionLines, IsConditionLines, Layout, single}
-use Rattle.conf_session.specs.CommandLines.{batch_of, after_if, layout_text, layout_members, IsLayout, IsCommandLines}
-use Rattle.conf_session.specs.CommandLines.{IsChangeLines, SayChangeAfter}
-use Rattle.conf_session.proofs.LinesPresented.{Unambiguous, KeysAreText, AllKeysAreText, LayoutIsText, marker_text, document_of, lines_give}
+use Rattle.conf_session.proofs.Prelude.{byte_len-chars, IsKept, set_at, delete_at, member_line, lines_of, scalar_most, Tree, element}
+use Rattle.conf_session.proofs.Prelude.{Members, has_key, not_from_false, number_from_digits, Condition, test_at, absent_at, count_is}
+use Rattle.conf_session.proofs.{Prelude.length-append, LinesPresented.{Unambiguous, KeysAreText, AllKeysAreText, LayoutIsText, marker_text}}
+use Rattle.conf_session.{proofs.LinesPresented.{document_of, lines_give}, specs.Said.{Part, Said, Says, command_limits, piece_limit}}
+use Rattle.conf_session.specs.Said.{import_text, plain, single_part, batch_of_parts, get_at, said_by, part_from, part_of, parts_of}
+use Rattle.conf_session.specs.{Said.{parts_said, change_said, with_conditions}, SaidConditions.{first_and_rest, all_in, condition_from}}
+use Rattle.conf_session.specs.{SaidConditions.{condition_in, all_conditions_in}, CommandLines.{Spelling, bare, quoted, Line, spelled}}
+use Rattle.conf_session.specs.CommandLines.{bare_char, begins_bare, stands, IsField, line_text, lines_text, members_of_lines, IsSpelled}
+use Rattle.conf_session.specs.CommandLines.{IsLine, AreLines, Entry, entry_text, entry_members, elements_text, elements_of_entries, IsEntry}
+use Rattle.conf_session.specs.CommandLines.{AreEntries, AreSaid, AreElementLines, SaysPart, SpellsPart, ArePartLines, AreConditionLines}
+use Rattle.conf_session.specs.CommandLines.{IsConditionLines, Layout, single, batch_of, after_if, layout_text, layout_members, IsLayout}
+use Rattle.{conf_session.specs.CommandLines.{IsCommandLines, IsChangeLines, SayChangeAfter}, yaml_config.proofs.TextTreeLemmas.chars-IsText}
 use Rattle.conf_record.specs.declared.edit_members.EditMembers.TheVariants as cut
 
 -- ---- all is ASCII

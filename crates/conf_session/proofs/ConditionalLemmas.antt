@@ -1,23 +1,19 @@
 -- A command with conditions: it is as it is without them, or it is refused and changes nothing.
-use Rattle.std.proofs.Common.{◌≡◌, ◌≢◌, inl, inr, refl, sym, ap, subst, ◌∙◌, ◌≤◌}
-use Rattle.std.specs.Prelude.{ℕ, true, false, if◌then◌else◌, List, [], ◌∷◌, ◌++◌, length, Option, Some, None, Result, Ok, Err, IfOk, IfErr}
-use Rattle.std.specs.Prelude.{is_ok}
+use Rattle.std.{proofs.Common.{◌≡◌, ◌≢◌, inl, inr, refl, sym, ap, subst, ◌∙◌, ◌≤◌}, specs.Prelude.{ℕ, true, false, if◌then◌else◌, List, []}}
+use Rattle.std.specs.Prelude.{◌∷◌, ◌++◌, length, Option, Some, None, Result, Ok, Err, IfOk, IfErr, is_ok}
 use Rattle.conf_session.proofs.Prelude.{false≢true, append-nil, chars, IsUtf8, ReadFault, bytes_under, Image, IsImage, DiskModel}
 use Rattle.conf_session.proofs.Prelude.{LeavesOnly, Store, Command, command_of, Contents, StoreFault, MeansPrefix, HasFlushed, staged_text}
 use Rattle.conf_session.proofs.Prelude.{IsImportOf, RefusesText, StoreView, Condition, first_fault, ConditionFault, first-none, first-some}
-use Rattle.conf_session.proofs.Prelude.{told-first}
-use Rattle.conf_session.specs.{declared.fault.SessionFault.SessionFault, declared.reply.Reply.Reply}
-use Rattle.conf_session.specs.{declared.reply.Reply.TheVariants.Refused, declared.words.Refusal.Refusal, Said.import_text, Said.single_part}
-use Rattle.conf_session.specs.{Conditional.RefusesFirst, Conditional.IsGuarded, Conditional.ConditionsGuard, Runs.stored_of}
-use Rattle.conf_session.specs.Requests.{Request, MeansRequest, changing, unread, if_met}
-use Rattle.conf_session.specs.Answers.{Stored, answer, answer_limit, document_bytes, answered, read_answered, condition_answered}
-use Rattle.conf_session.specs.Answers.{refused_answer, unless_failed, stored_after, file_after, staged_after, accepted_command, refused_of}
-use Rattle.conf_session.specs.Answers.{syncs, flushed_after, waiting_after}
-use Rattle.conf_session.specs.ReadChanges.{IsRequest, EndsByMemory, ReadsAsked, IfMet}
-use Rattle.conf_session.specs.Replies.{DidAsked, Handles, MeansPrefixes, Performs, Replies, refused_as, unmet_after, unmet_as}
-use Rattle.conf_session.proofs.{AnsweredLemmas.condition-told, LengthLemmas.refused-short}
-use Rattle.conf_session.proofs.RefusalLemmas.{OnlyMemory, path-memory, text-memory}
-use Rattle.conf_session.proofs.RequestLemmas.{unchanged, handles-none, handles-same, text-given, text-refused}
+use Rattle.conf_session.proofs.{Prelude.told-first, AnsweredLemmas.condition-told, LengthLemmas.refused-short, RefusalLemmas.OnlyMemory}
+use Rattle.conf_session.proofs.{RefusalLemmas.{path-memory, text-memory}, RequestLemmas.{unchanged, handles-none, handles-same, text-given}}
+use Rattle.conf_session.{proofs.RequestLemmas.text-refused, specs.declared.{fault.SessionFault.SessionFault, reply.Reply.Reply}}
+use Rattle.conf_session.specs.{declared.{reply.Reply.TheVariants.Refused, words.Refusal.Refusal}, Said.{import_text, single_part}}
+use Rattle.conf_session.specs.{Conditional.{RefusesFirst, IsGuarded, ConditionsGuard}, Runs.stored_of, Requests.{Request, MeansRequest}}
+use Rattle.conf_session.specs.{Requests.{changing, unread, if_met}, Answers.{Stored, answer, answer_limit, document_bytes, answered}}
+use Rattle.conf_session.specs.Answers.{read_answered, condition_answered, refused_answer, unless_failed, stored_after, file_after}
+use Rattle.conf_session.specs.Answers.{staged_after, accepted_command, refused_of, syncs, flushed_after, waiting_after}
+use Rattle.conf_session.specs.{ReadChanges.{IsRequest, EndsByMemory, ReadsAsked, IfMet}, Replies.{DidAsked, Handles, MeansPrefixes}}
+use Rattle.conf_session.specs.Replies.{Performs, Replies, refused_as, unmet_after, unmet_as}
 use Rattle.yaml_events.specs.declared.read_fault.ReadFault.TheVariants as read_faults
 use Rattle.conf_state.specs.declared.command.Command as code
 use Rattle.conf_state.specs.declared.fault.StoreFault.TheVariants as store_faults

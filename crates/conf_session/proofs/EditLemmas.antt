@@ -1,8 +1,7 @@
 -- What an element of a list of edits is, case by case.
-use Rattle.std.proofs.Common.{◌≡◌, false, true, refl, ap}
-use Rattle.std.specs.Prelude.{[], ◌∷◌, codes, Option, option_and_then}
-use Rattle.conf_session.proofs.Prelude.{Members, Edit, keys_are, edit_under, ascii, texts}
-use Rattle.conf_session.specs.{Edits.as_import, Edits.listed_from, Edits.tree_keys, Said.part_from}
+use Rattle.std.{proofs.Common.{◌≡◌, false, true, refl, ap}, specs.Prelude.{[], ◌∷◌, codes, Option, option_and_then}}
+use Rattle.conf_session.{proofs.Prelude.{Members, Edit, keys_are, edit_under, ascii, texts}, specs.Edits.{as_import, listed_from}}
+use Rattle.conf_session.specs.{Edits.tree_keys, Said.part_from}
 
 -- a mapping with the keys of an import that has its tree
 pub listed-tree : (ms : Members) → keys_are tree_keys ms ≡ true

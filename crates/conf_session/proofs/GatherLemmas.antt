@@ -5,22 +5,18 @@ use Rattle.std.specs.Prelude.{option_map, Result, Ok, Err}
 use Rattle.conf_session.proofs.Prelude.{concat, Appends, Keeps-refl, false≢true, append-nil, concat-append, All-nil, ClosesOnce}
 use Rattle.conf_session.proofs.Prelude.{bytes_under, Image, IsImage, DiskModel, LeavesOnly, Store, LeavesOnly-joined, Command, Contents}
 use Rattle.conf_session.proofs.Prelude.{StoreFault, MeansPrefix, AllImagesMean, HasFlushed, staged_text, StaysTheSame, Staged, StoreView}
-use Rattle.conf_session.specs.{Said.piece_limit, Input.ahead, Input.piece_or_rest, Input.AdvancesAhead, Input.AdvancesWithin}
-use Rattle.conf_session.specs.{Requests.Request, Requests.Asks, Runs.TakesUp, Runs.stored_of, Groups.all_asked}
-use Rattle.conf_session.specs.{declared.input.Input.Input, declared.reply.Reply.Reply, declared.unwritten.Unwritten.Unwritten}
-use Rattle.conf_session.specs.{declared.fault.SessionFault.SessionFault, Sinks.AreAcknowledged, Sinks.SentSoFar}
-use Rattle.conf_session.specs.Answers.{Stored, answer_bytes, output, stored_after_all, accepted_command, accepted_commands, refused_of}
-use Rattle.conf_session.specs.Answers.{flushed_after, waiting_after}
-use Rattle.conf_session.specs.Replies.{DidAsked, MeansPrefixes, Performs, PerformsAll, reply_bytes}
-use Rattle.conf_session.specs.Gathering.{last_bytes, unwritten_bytes, HasRoomFor, KeepsAnswer, KeepsAnswers, GathersPiece}
-use Rattle.conf_session.specs.Gathering.{LeavesPiece, GathersPieces, PerformsTurns, PerformsFlushed, BreaksOff, StopsShort, FlushesAll}
-use Rattle.conf_session.specs.Gathering.{SubmitsGroup, WritesAnswers, CutsAnswers, CutsSending, FailsToWrite, SendsAnswers}
-use Rattle.conf_session.specs.Gathering.{HandsOut, PassesGroup, PerformsGroup}
-use Rattle.conf_session.specs.Handings.{Handing}
-use Rattle.conf_session.proofs.{SinkLemmas.kept-acknowledged}
-use Rattle.conf_session.proofs.PassedLemmas.{few-accepted, few-refused, continues, prefix-whole, pieces-last, performs-none, performs-more}
-use Rattle.conf_session.proofs.PassedLemmas.{state-more, moments-more, accepted_commands-last, output-last, refusals-last}
-use Rattle.conf_session.proofs.TurnLemmas.{asked-stored, asked-accepted, files-asked}
+use Rattle.conf_session.proofs.{SinkLemmas.kept-acknowledged, PassedLemmas.{few-accepted, few-refused, continues, prefix-whole}}
+use Rattle.conf_session.proofs.PassedLemmas.{pieces-last, performs-none, performs-more, state-more, moments-more, accepted_commands-last}
+use Rattle.conf_session.proofs.{PassedLemmas.{output-last, refusals-last}, TurnLemmas.{asked-stored, asked-accepted, files-asked}}
+use Rattle.conf_session.specs.{Said.piece_limit, Input.{ahead, piece_or_rest, AdvancesAhead, AdvancesWithin}, Requests.{Request, Asks}}
+use Rattle.conf_session.specs.{Runs.{TakesUp, stored_of}, Groups.all_asked, declared.{input.Input.Input, reply.Reply.Reply}}
+use Rattle.conf_session.specs.{declared.{unwritten.Unwritten.Unwritten, fault.SessionFault.SessionFault}, Sinks.AreAcknowledged}
+use Rattle.conf_session.specs.{Sinks.SentSoFar, Answers.{Stored, answer_bytes, output, stored_after_all, accepted_command}}
+use Rattle.conf_session.specs.{Answers.{accepted_commands, refused_of, flushed_after, waiting_after}, Replies.{DidAsked, MeansPrefixes}}
+use Rattle.conf_session.specs.{Replies.{Performs, PerformsAll, reply_bytes}, Gathering.{last_bytes, unwritten_bytes, HasRoomFor}}
+use Rattle.conf_session.specs.Gathering.{KeepsAnswer, KeepsAnswers, GathersPiece, LeavesPiece, GathersPieces, PerformsTurns}
+use Rattle.conf_session.specs.Gathering.{PerformsFlushed, BreaksOff, StopsShort, FlushesAll, SubmitsGroup, WritesAnswers, CutsAnswers}
+use Rattle.conf_session.specs.{Gathering.{CutsSending, FailsToWrite, SendsAnswers, HandsOut, PassesGroup, PerformsGroup}, Handings.Handing}
 use Rattle.conf_state.specs.declared.fault.StoreFault.TheVariants as why
 use Rattle.conf_session.specs.declared.fault.SessionFault.TheVariants as fault
 

@@ -1,35 +1,25 @@
 -- The tree of each answer is good, and its document reads as it.
-use Rattle.std.proofs.Common.{◌≡◌, refl, sym, ap, subst, arith, ◌≤◌}
-use Rattle.std.specs.Prelude.{ℕ, zero, suc, Bool, true, false, if◌then◌else◌, List, [], ◌∷◌, ◌++◌, length, codes}
-use Rattle.std.specs.Prelude.{decimal, Option, Some, None, Result, Ok, Err}
-use Rattle.std.specs.Str.{all_scalars}
+use Rattle.std.{proofs.Common.{◌≡◌, refl, sym, ap, subst, arith, ◌≤◌}, specs.Prelude.{ℕ, zero, suc, Bool, true, false, if◌then◌else◌, List}}
+use Rattle.std.specs.{Prelude.{[], ◌∷◌, ◌++◌, length, codes, decimal, Option, Some, None, Result, Ok, Err}, Str.all_scalars}
 use lib.Utf8.{scalar}
 use Rattle.std.proofs.lemmas.Str.{chars-encodes}
-use Rattle.conf_session.proofs.Prelude.{and_parts, and_from, nat_tests, list_all, same_text, code_point, IsText}
-use Rattle.conf_session.proofs.Prelude.{byte_len, byte_len-append, byte_len-encoded, Tree, text, sequence, mapping, Elements, no_element}
-use Rattle.conf_session.proofs.Prelude.{element, Members, no_member, member, depth, elements_distinct}
-use Rattle.conf_session.proofs.Prelude.{AreTextElements, AreTextMembers, style_text, plain_in_style, word_char, framed_text}
-use Rattle.conf_session.proofs.Prelude.{framed_text_bytes, Good, Gives, own_limits, at, at_from, at_step}
-use Rattle.conf_session.proofs.Prelude.{child-within, Miss, path_of, Contents, Entry, names_of, count_limit, IsState}
-use Rattle.conf_session.proofs.Prelude.{AreConfigs, Command, StoreFault, ConditionFault, and_then-Ok, step-one, by_path, tree_named}
-use Rattle.conf_session.proofs.Prelude.{outcome, room_for, first_fault}
-use Rattle.conf_record.proofs.RecordLemmas.{name_is_text, decimal_is_text}
-use Rattle.tree_path.proofs.{EditLaws.child-distinct, StepLaws.present-Ok}
-use Rattle.tree_path.specs.Paths.{child, Index, number, after_last, no_index, index_of, at_index, element_at, value_of}
-use Rattle.tree_path.specs.Paths.{refusal as step_refusal}
-use Rattle.tree_path.specs.declared.place.Miss.TheVariants.{Absent}
-use Rattle.yaml_grammar.specs.Trees.{IsTextTree, distinct}
-use Rattle.yaml_recognizers.proofs.OneStyle.StyleTexts.{style_is_text}
-use Rattle.yaml_recognizers.specs.{Closings.ClosedOnce, StyleLaws.FramedReads}
-use Rattle.yaml_tree.specs.Reading.{IsRead}
-use Rattle.conf_session.specs.{declared.fault.SessionFault.SessionFault, declared.words.Refusal.Refusal}
-use Rattle.conf_session.specs.Requests.{Request, changing, unread, getting, exporting, naming, checkpointing, if_met, bad}
-use Rattle.conf_session.specs.Answers.{Stored, longest, one, text_elements, answered, refused_answer, answer_or_refusal}
-use Rattle.conf_session.specs.Answers.{value_at_path, change_answer, document_bytes, answer, answer_limit}
-use Rattle.conf_session.specs.Answers.{condition_answered, unless_failed, word}
-use Rattle.conf_session.specs.AnswersRead.{IsDocumentOf, AnswersAreRead}
-use Rattle.conf_session.proofs.{WordLemmas.word_plain, AnswerLemmas.texts-shallow}
-use Rattle.conf_session.proofs.LengthLemmas.{answer-short, by_path-Ok, step-few, tree_named-good}
+use Rattle.conf_session.proofs.Prelude.{and_parts, and_from, nat_tests, list_all, same_text, code_point, IsText, byte_len, byte_len-append}
+use Rattle.conf_session.proofs.Prelude.{byte_len-encoded, Tree, text, sequence, mapping, Elements, no_element, element, Members, no_member}
+use Rattle.conf_session.proofs.Prelude.{member, depth, elements_distinct, AreTextElements, AreTextMembers, style_text, plain_in_style}
+use Rattle.conf_session.proofs.Prelude.{word_char, framed_text, framed_text_bytes, Good, Gives, own_limits, at, at_from, at_step}
+use Rattle.conf_session.proofs.Prelude.{child-within, Miss, path_of, Contents, Entry, names_of, count_limit, IsState, AreConfigs, Command}
+use Rattle.conf_session.proofs.Prelude.{StoreFault, ConditionFault, and_then-Ok, step-one, by_path, tree_named, outcome, room_for}
+use Rattle.conf_session.proofs.{Prelude.first_fault, WordLemmas.word_plain, AnswerLemmas.texts-shallow, LengthLemmas.answer-short}
+use Rattle.conf_session.{proofs.LengthLemmas.{by_path-Ok, step-few, tree_named-good}, specs.declared.fault.SessionFault.SessionFault}
+use Rattle.conf_session.specs.{declared.words.Refusal.Refusal, Requests.{Request, changing, unread, getting, exporting, naming}}
+use Rattle.conf_session.specs.{Requests.{checkpointing, if_met, bad}, Answers.{Stored, longest, one, text_elements, answered}}
+use Rattle.conf_session.specs.Answers.{refused_answer, answer_or_refusal, value_at_path, change_answer, document_bytes, answer}
+use Rattle.conf_session.specs.{Answers.{answer_limit, condition_answered, unless_failed, word}, AnswersRead.{IsDocumentOf, AnswersAreRead}}
+use Rattle.{conf_record.proofs.RecordLemmas.{name_is_text, decimal_is_text}, tree_path.proofs.EditLaws.child-distinct}
+use Rattle.tree_path.{proofs.StepLaws.present-Ok, specs.Paths.{child, Index, number, after_last, no_index, index_of, at_index, element_at}}
+use Rattle.tree_path.specs.{Paths.{value_of, refusal as step_refusal}, declared.place.Miss.TheVariants.Absent}
+use Rattle.{yaml_grammar.specs.Trees.{IsTextTree, distinct}, yaml_recognizers.proofs.OneStyle.StyleTexts.style_is_text}
+use Rattle.{yaml_recognizers.specs.{Closings.ClosedOnce, StyleLaws.FramedReads}, yaml_tree.specs.Reading.IsRead}
 use Rattle.conf_session.specs.declared.words.Refusal.TheVariants as why
 
 -- ---- trees of texts whose keys differ, and so deep at most

@@ -3,33 +3,27 @@ use Rattle.std.proofs.Common.{◌≡◌, ◌⊎◌, inl, inr, ⊎_elim, refl, sy
 use Rattle.std.specs.Prelude.{ℕ, ◌+◌, ◌-◌, ◌*◌, true, false, List, [], ◌∷◌, ◌++◌, length, take, Option, Result, Ok, Err}
 use Rattle.conf_session.proofs.Prelude.{Appends, Keeps, Appends-trans, Appends-kept, Keeps-refl, cases_lt, append-nil, Image, IsImage}
 use Rattle.conf_session.proofs.Prelude.{DiskModel, LeavesOnly, LeavesOnly-start, Command, Contents, MeansPrefix, HasFlushed, StoreView}
-use Rattle.conf_session.specs.Input.{piece_or_rest as piece_of}
-use Rattle.conf_session.specs.{declared.fault.SessionFault.SessionFault, declared.input.Input.Input, declared.unwritten.Unwritten.Unwritten}
-use Rattle.conf_session.specs.{declared.groups.Checkpoints.Checkpoints, declared.groups.Grouping.Grouping, declared.session.Tally.Tally}
-use Rattle.conf_session.specs.{Requests.Request, Replies.MeansPrefixes, Sinks.SentSoFar, Streams.streams_of}
-use Rattle.conf_session.specs.declared.groups.Grouping.TheVariants.{Each, Read}
-use Rattle.conf_session.specs.Input.{ahead, bytes_read, AdvancesToPiece, AdvancesToEnd, Advances}
-use Rattle.conf_session.specs.declared.groups.Checkpoints.TheVariants.{Asked, After}
-use Rattle.conf_session.specs.Answers.{Stored, answer_bytes, answer_limit, output, stored_after, stored_after_all, accepted_commands}
-use Rattle.conf_session.specs.Answers.{refusals}
-use Rattle.conf_session.specs.Runs.{stored_of, AfterAtLeast, BeginsWith, EndsAnswered}
-use Rattle.conf_session.specs.Groups.{AreDue, Files, Turn, asked, all_asked, requests_of, files_of, stored_after_turns, files_after_turns}
-use Rattle.conf_session.specs.Groups.{turns_output, turns_accepted, turns_refused, acknowledged_turns, GroupedEnds, RunsGrouped}
-use Rattle.conf_session.specs.Groups.{checkpoints_of, FailsAtRequests}
-use Rattle.conf_session.specs.Gathering.{HandsOut, PerformsTurns, BreaksOff, StopsShort, Starts, Tends, PassesGroup, CutsGroup}
-use Rattle.conf_session.specs.Gathering.{PerformsGroup}
-use Rattle.conf_session.proofs.{GatherLemmas.joined-none, PassedLemmas.take-beyond}
-use Rattle.conf_session.proofs.ReadLemmas.{ReadSoFar, read-none, read-as, read-more, ends-before, ends-here, ends-unanswered, nothing-read}
-use Rattle.conf_session.proofs.TurnLemmas.{stored-joined, output-joined, accepted-joined, refused-joined, due-joined, asked-due}
-use Rattle.conf_session.proofs.TurnLemmas.{requests-joined, asked-joined, asked-requests, asked-stored, asked-output, asked-accepted}
-use Rattle.conf_session.proofs.TurnLemmas.{asked-refused, quiet-output, quiet-accepted, quiet-refused}
-use Rattle.conf_session.specs.Handings.{Handing, handings_of}
-use Rattle.conf_session.proofs.HandedLemmas.{handed-after, handed-since, Handed, handed-none, handed-more, handed-later, handed-now}
-use Rattle.conf_session.proofs.HandedLemmas.{handed-empty}
-use Rattle.conf_session.specs.declared.fault.SessionFault.TheVariants as fault
-use Rattle.conf_session.proofs.ReadLemmas as reading
+use Rattle.conf_session.proofs.{GatherLemmas.joined-none, PassedLemmas.take-beyond, ReadLemmas.{ReadSoFar, read-none, read-as, read-more}}
+use Rattle.conf_session.proofs.{ReadLemmas.{ends-before, ends-here, ends-unanswered, nothing-read}, TurnLemmas.stored-joined}
+use Rattle.conf_session.proofs.TurnLemmas.{output-joined, accepted-joined, refused-joined, due-joined, asked-due, requests-joined}
+use Rattle.conf_session.proofs.TurnLemmas.{asked-joined, asked-requests, asked-stored, asked-output, asked-accepted, asked-refused}
+use Rattle.conf_session.proofs.{TurnLemmas.{quiet-output, quiet-accepted, quiet-refused}, HandedLemmas.{handed-after, handed-since, Handed}}
+use Rattle.conf_session.proofs.HandedLemmas.{handed-none, handed-more, handed-later, handed-now, handed-empty}
 use Rattle.conf_session.proofs.PerformedLemmas.{HasPerformed, performed-stored, performed-files, performed-more, performed-tended}
 use Rattle.conf_session.proofs.PerformedLemmas.{performed-means, performed-moments, performed-during, performed-all, performed-kept}
+use Rattle.conf_session.specs.Input.{piece_or_rest as piece_of, ahead, bytes_read, AdvancesToPiece, AdvancesToEnd, Advances}
+use Rattle.conf_session.specs.declared.{fault.SessionFault.SessionFault, input.Input.Input, unwritten.Unwritten.Unwritten}
+use Rattle.conf_session.specs.declared.groups.{Checkpoints.{Checkpoints, TheVariants.{Asked, After}}, Grouping.{Grouping, TheVariants.Each}}
+use Rattle.conf_session.specs.{declared.{groups.Grouping.TheVariants.Read, session.Tally.Tally}, Requests.Request, Replies.MeansPrefixes}
+use Rattle.conf_session.specs.{Sinks.SentSoFar, Streams.streams_of, Answers.{Stored, answer_bytes, answer_limit, output, stored_after}}
+use Rattle.conf_session.specs.{Answers.{stored_after_all, accepted_commands, refusals}, Runs.{stored_of, AfterAtLeast, BeginsWith}}
+use Rattle.conf_session.specs.{Runs.EndsAnswered, Groups.{AreDue, Files, Turn, asked, all_asked, requests_of, files_of, stored_after_turns}}
+use Rattle.conf_session.specs.Groups.{files_after_turns, turns_output, turns_accepted, turns_refused, acknowledged_turns, GroupedEnds}
+use Rattle.conf_session.specs.{Groups.{RunsGrouped, checkpoints_of, FailsAtRequests}, Gathering.{HandsOut, PerformsTurns, BreaksOff}}
+use Rattle.conf_session.specs.{Gathering.{StopsShort, Starts, Tends, PassesGroup, CutsGroup, PerformsGroup}, Handings.Handing}
+use Rattle.conf_session.specs.Handings.{handings_of}
+use Rattle.conf_session.specs.declared.fault.SessionFault.TheVariants as fault
+use Rattle.conf_session.proofs.ReadLemmas as reading
 
 -- ---- an output that is cut
 

@@ -1,7 +1,7 @@
 -- How many bytes answers have: no more than a base.
-use Rattle.std.proofs.Common.{◌≡◌, refl, ◌∙◌, ap, subst, arith, ◌≤◌, ◌<◌}
-use Rattle.std.specs.Prelude.{ℕ, suc, ◌+◌, ◌==◌, Bool, true, false, ◌&&◌, nat_le, nat_lt, if◌then◌else◌, List, [], ◌∷◌, ◌++◌, length, codes}
-use Rattle.std.specs.Prelude.{decimal, Option, Some, None, Result, Ok, Err}
+use Rattle.std.{proofs.Common.{◌≡◌, refl, ◌∙◌, ap, subst, arith, ◌≤◌, ◌<◌}, specs.Prelude.{ℕ, suc, ◌+◌, ◌==◌, Bool, true, false, ◌&&◌}}
+use Rattle.std.specs.Prelude.{nat_le, nat_lt, if◌then◌else◌, List, [], ◌∷◌, ◌++◌, length, codes, decimal, Option, Some, None, Result, Ok}
+use Rattle.std.specs.Prelude.{Err}
 use Rattle.conf_session.proofs.Prelude.{and_parts, nat_tests, decimal_is_IsNumeral, length-decimal-le, is_in, list_all, Good, byte_len}
 use Rattle.conf_session.proofs.Prelude.{spaces, first, same_text, Tree, text, sequence, mapping, no_element, element, no_member, member}
 use Rattle.conf_session.proofs.Prelude.{plain_in_style, literal_in_style, literal_mark, literal_lines, feeds_at_end, in_double_quotes}
@@ -12,13 +12,12 @@ use Rattle.conf_session.proofs.Prelude.{names_of, config_named, base_limit, coun
 use Rattle.conf_session.proofs.Prelude.{with_room, found, by_path, Room, Enough, LongRecord, Missing, base_length, entry_length}
 use Rattle.conf_session.proofs.Prelude.{entries_length, StoreFault, count_bytes, base_length-framed, and_then-Ok, step-one, size}
 use Rattle.conf_session.proofs.Prelude.{scalar_most, value_size, byte_len-encoded, outcome, room_for, tree_named, first_fault}
-use Rattle.conf_session.proofs.Prelude.{ConditionFault}
+use Rattle.conf_session.{proofs.{Prelude.ConditionFault, WordLemmas.refusal-short}, specs.declared.fault.SessionFault.SessionFault}
+use Rattle.conf_session.specs.{declared.words.Refusal.Refusal, Requests.{Request, changing, unread, getting, exporting, naming}}
+use Rattle.conf_session.specs.{Requests.{checkpointing, if_met, bad}, Answers.{Stored, longest, one, text_elements, answered}}
+use Rattle.conf_session.specs.Answers.{refused_answer, answer_or_refusal, value_at_path, change_answer, document_bytes, answer}
+use Rattle.conf_session.specs.Answers.{answer_bytes, answer_limit, condition_answered, unless_failed}
 use Rattle.tree_path.specs.Paths.{refusal as step_refusal}
-use Rattle.conf_session.specs.{declared.fault.SessionFault.SessionFault, declared.words.Refusal.Refusal}
-use Rattle.conf_session.specs.Requests.{Request, changing, unread, getting, exporting, naming, checkpointing, if_met, bad}
-use Rattle.conf_session.specs.Answers.{Stored, longest, one, text_elements, answered, refused_answer, answer_or_refusal, value_at_path}
-use Rattle.conf_session.specs.Answers.{change_answer, document_bytes, answer, answer_bytes, answer_limit, condition_answered, unless_failed}
-use Rattle.conf_session.proofs.WordLemmas.{refusal-short}
 use Rattle.conf_state.specs.declared.fault.StoreFault.TheVariants as store
 use Rattle.conf_session.specs.declared.words.Refusal.TheVariants as why
 

@@ -1,32 +1,24 @@
 -- Lines of keys and texts, and batches of such lines, are a document that reads as their mapping: a presentation of it,
 -- which fits and means it.
-use Rattle.std.proofs.Common.{◌≡◌, refl, sym, ◌∙◌, ap, arith, ◌<◌, ◌≤◌, append_assoc, append-nil, subst}
-use Rattle.std.specs.Prelude.{ℕ, suc, ◌+◌, ◌==◌, Bool, true, false, not, ◌&&◌, ◌||◌, List, [], ◌∷◌, ◌++◌, codes, map, flat_map, length}
-use Rattle.std.specs.Prelude.{Some, None}
+use Rattle.std.{proofs.Common.{◌≡◌, refl, sym, ◌∙◌, ap, arith, ◌<◌, ◌≤◌, append_assoc, append-nil, subst}, specs.Prelude.{ℕ, suc, ◌+◌}}
+use Rattle.std.specs.Prelude.{◌==◌, Bool, true, false, not, ◌&&◌, ◌||◌, List, [], ◌∷◌, ◌++◌, codes, map, flat_map, length, Some, None}
 use Rattle.conf_session.proofs.Prelude.{list_all, and_parts, and_from, or_left, or_right, not-true, not_from_false, le-leb, ltb-false}
 use Rattle.conf_session.proofs.Prelude.{leb-true, agree_below_at, false≢true, is_in, ns, white, indicator, line_break, IsText, spaces}
 use Rattle.conf_session.proofs.Prelude.{starts_line, byte_len, sequence, mapping, Members, scalar_of, seq_from, seq_to, map_from, map_to}
 use Rattle.conf_session.proofs.Prelude.{document_from, document_to, shape, shapes, tree_shapes, elements_shapes, members_shapes, IsTreeOf}
 use Rattle.conf_session.proofs.Prelude.{plain_in_style, key_text, Presents, CanRead, Limits, Good, Gives, stands_alone}
-use Rattle.yaml_grammar.specs.Separation.{comments_text}
-use Rattle.yaml_grammar.specs.FlowScalars.{raw, quoted_char_text, quoted_char_fits, quoted_char_value, char_value}
-use Rattle.yaml_grammar.specs.FlowScalars.{plain_text, values, Scalar, plain, double, scalar_text, scalar_value}
-use Rattle.yaml_grammar.specs.FlowScalars.{scalar_fits, outer, block_key, plain_run}
-use Rattle.yaml_grammar.specs.FlowNodes.{scalar, flow_text, flow_fits, short_key}
-use Rattle.yaml_grammar.specs.BlockNodes.{Node, flow, items, pairs, Items, item, item_and, Pairs, pair, pair_and}
-use Rattle.yaml_grammar.specs.BlockNodes.{Pair, keyed, compact_pairs, node_text, indented_text, items_text}
-use Rattle.yaml_grammar.specs.BlockNodes.{items_fit, items_events, pair_text, pair_fits, pairs_text, pairs_fit}
-use Rattle.yaml_grammar.specs.BlockNodes.{pairs_events}
-use Rattle.yaml_grammar.specs.Streams.{Stream, Document, bare as bare_document, explicit, content, suffixes}
-use Rattle.yaml_grammar.specs.Streams.{stream_text, stream_events, fits}
-use Rattle.yaml_grammar.specs.Events.{Event, as_document, as_seq, as_map, seq_end, map_start, map_end, document_end}
-use Rattle.yaml_recognizers.proofs.OneStyle.Presented.{feed, one_space, word_flow}
-use Rattle.yaml_recognizers.proofs.OneStyle.ScalarsFit.{word_flow_fits}
-use Rattle.yaml_recognizers.proofs.OneStyle.Spelled.{word_flow_spelled}
 use Rattle.conf_session.specs.CommandLines.{Spelling, bare, quoted, Line, spelled, bare_char, begins_bare, stands, line_text, lines_text}
 use Rattle.conf_session.specs.CommandLines.{members_of_lines, IsLine, AreLines, Entry, entry_text, entry_members, elements_text}
 use Rattle.conf_session.specs.CommandLines.{elements_of_entries, AreEntries, Layout, single, batch_of, after_if, layout_text}
-use Rattle.conf_session.specs.CommandLines.{layout_members, IsLayout}
+use Rattle.{conf_session.specs.CommandLines.{layout_members, IsLayout}, yaml_grammar.specs.{Separation.comments_text, FlowScalars.raw}}
+use Rattle.yaml_grammar.specs.FlowScalars.{quoted_char_text, quoted_char_fits, quoted_char_value, char_value, plain_text, values, Scalar}
+use Rattle.yaml_grammar.specs.FlowScalars.{plain, double, scalar_text, scalar_value, scalar_fits, outer, block_key, plain_run}
+use Rattle.yaml_grammar.specs.{FlowNodes.{scalar, flow_text, flow_fits, short_key}, BlockNodes.{Node, flow, items, pairs, Items, item}}
+use Rattle.yaml_grammar.specs.BlockNodes.{item_and, Pairs, pair, pair_and, Pair, keyed, compact_pairs, node_text, indented_text, items_text}
+use Rattle.yaml_grammar.specs.BlockNodes.{items_fit, items_events, pair_text, pair_fits, pairs_text, pairs_fit, pairs_events}
+use Rattle.yaml_grammar.specs.Streams.{Stream, Document, bare as bare_document, explicit, content, suffixes, stream_text, stream_events}
+use Rattle.yaml_grammar.specs.{Streams.fits, Events.{Event, as_document, as_seq, as_map, seq_end, map_start, map_end, document_end}}
+use Rattle.yaml_recognizers.proofs.OneStyle.{Presented.{feed, one_space, word_flow}, ScalarsFit.word_flow_fits, Spelled.word_flow_spelled}
 
 -- ---- presentations
 

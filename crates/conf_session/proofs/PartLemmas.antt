@@ -1,9 +1,9 @@
 -- The parts of a batch: how they are found in a sequence, and how their texts are read, in order.
-use Rattle.std.proofs.Common.{◌≡◌, refl, sym, ap, subst, ◌∙◌, append_assoc, append-nil, arith}
-use Rattle.std.specs.Prelude.{List, [], ◌∷◌, ◌++◌, length, map, Option, Some, None, option_map}
+use Rattle.std.{proofs.Common.{◌≡◌, refl, sym, ap, subst, ◌∙◌, append_assoc, append-nil, arith}, specs.Prelude.{List, [], ◌∷◌, ◌++◌}}
+use Rattle.std.specs.Prelude.{length, map, Option, Some, None, option_map}
 use Rattle.conf_session.proofs.Prelude.{map-append, ReadFault, Tree, tree_of, elements_of, Edit, edit_of, AreKeptElements}
-use Rattle.conf_session.specs.{Said.Part, Said.part_seen, Said.parts_seen, SaidConditions.all_in, SaidConditions.first_and_rest}
-use Rattle.conf_session.specs.Requests.{IsReadAs, AreReadAs, RefusesPart, IsFirstRefused}
+use Rattle.conf_session.specs.{Said.{Part, part_seen, parts_seen}, SaidConditions.{all_in, first_and_rest}, Requests.{IsReadAs, AreReadAs}}
+use Rattle.conf_session.specs.Requests.{RefusesPart, IsFirstRefused}
 use Rattle.yaml_data.specs.declared.tree.Tree as code_tree
 use Rattle.conf_state.specs.declared.command.Edit as code_edit
 use Rattle.conf_session.specs.declared.parts.Part as code_part

@@ -1,16 +1,14 @@
 -- One request after others.
-use Rattle.std.proofs.Common.{◌≡◌, refl, sym, ◌∙◌, ap, subst, arith, ◌≤◌, append_assoc, length-append}
-use Rattle.std.specs.Prelude.{ℕ, ◌+◌, ◌-◌, suc, Bool, true, false, if◌then◌else◌, List, [], ◌∷◌, ◌++◌, length, take, Option, Some, None}
-use Rattle.std.specs.Prelude.{Result, Ok, Err}
+use Rattle.std.{proofs.Common.{◌≡◌, refl, sym, ◌∙◌, ap, subst, arith, ◌≤◌, append_assoc, length-append}, specs.Prelude.{ℕ, ◌+◌, ◌-◌, suc}}
+use Rattle.std.specs.Prelude.{Bool, true, false, if◌then◌else◌, List, [], ◌∷◌, ◌++◌, length, take, Option, Some, None, Result, Ok, Err}
 use Rattle.conf_session.proofs.Prelude.{append-nil, All-push, ClosesOnce, Image, IsImage, bytes_under, DiskModel, LeavesOnly, Store}
 use Rattle.conf_session.proofs.Prelude.{LeavesOnly-start, LeavesOnly-joined, Command, Contents, after, StoreFault, outcome, room_for}
 use Rattle.conf_session.proofs.Prelude.{tree_named, MeansPrefix, HasFlushed, staged_text, StoreView, accepted-room, accepted-anyway}
-use Rattle.conf_session.proofs.Prelude.{after-done, after-joined, prefix-longer, first_fault, ConditionFault}
-use Rattle.conf_session.specs.{Said.piece_limit, Runs.stored_of, Runs.ArePieces, Runs.AfterAtLeast, Replies.LeavesPrefixes}
-use Rattle.conf_session.specs.{Replies.Performs, Replies.PerformsAll}
-use Rattle.conf_session.specs.Requests.{Request, Asks, AllAsk, changing, unread, getting, exporting, naming, checkpointing, if_met, bad}
-use Rattle.conf_session.specs.Answers.{Stored, longest, syncs, flushed_after, waiting_after, AllAreAcknowledged, answer_bytes}
-use Rattle.conf_session.specs.Answers.{output, stored_after, stored_after_all, file_after, file_after_all, staged_after, staged_after_all}
+use Rattle.conf_session.{proofs.Prelude.{after-done, after-joined, prefix-longer, first_fault, ConditionFault}, specs.Said.piece_limit}
+use Rattle.conf_session.specs.{Runs.{stored_of, ArePieces, AfterAtLeast}, Replies.{LeavesPrefixes, Performs, PerformsAll}, Requests.Request}
+use Rattle.conf_session.specs.Requests.{Asks, AllAsk, changing, unread, getting, exporting, naming, checkpointing, if_met, bad}
+use Rattle.conf_session.specs.Answers.{Stored, longest, syncs, flushed_after, waiting_after, AllAreAcknowledged, answer_bytes, output}
+use Rattle.conf_session.specs.Answers.{stored_after, stored_after_all, file_after, file_after_all, staged_after, staged_after_all}
 use Rattle.conf_session.specs.Answers.{accepted_commands, accepted_command, accepted_by, stored_after_change, refused_of, refusals}
 use Rattle.conf_session.specs.Answers.{is_refused, value_at_path, unless_failed}
 

@@ -1,15 +1,13 @@
 -- What was read so far of an input, and how a session ends at it.
-use Rattle.std.proofs.Common.{◌≡◌, refl, sym, ◌∙◌, ap, subst, arith, ◌≤◌, append_assoc, length-append}
-use Rattle.std.specs.Prelude.{ℕ, ◌+◌, Bool, true, false, List, [], ◌∷◌, ◌++◌, length, take, Option, None, Ok, Err}
+use Rattle.std.{proofs.Common.{◌≡◌, refl, sym, ◌∙◌, ap, subst, arith, ◌≤◌, append_assoc, length-append}, specs.Prelude.{ℕ, ◌+◌, Bool, true}}
+use Rattle.std.specs.Prelude.{false, List, [], ◌∷◌, ◌++◌, length, take, Option, None, Ok, Err}
 use Rattle.conf_session.proofs.Prelude.{concat, Appends, Consumes, Appends-nil, Appends-trans, Consumes-nil, Consumes-trans, append-nil}
 use Rattle.conf_session.proofs.Prelude.{take-append-le, take_all, concat-append, All-nil, All-append, ClosesOnce}
-use Rattle.conf_session.specs.Input.{piece_or_rest as piece_of}
-use Rattle.conf_session.specs.{Said.piece_limit, declared.fault.SessionFault.SessionFault, declared.input.Input.Input}
-use Rattle.conf_session.specs.{declared.unwritten.Unwritten.Unwritten, declared.session.Tally.Tally, Requests.Request, Requests.AllAsk}
-use Rattle.conf_session.specs.{Answers.Stored, Answers.output, Answers.accepted_commands, Answers.refusals, Gathering.HasRoomFor}
-use Rattle.conf_session.specs.{Gathering.SendsAnswers, Gathering.last_bytes, Gathering.unwritten_bytes, Streams.streams_of}
-use Rattle.conf_session.specs.Input.{session_limit, IsSound, ahead, bytes_read, AdvancesToPiece, AdvancesToEnd, FailsToRead, FindsTooLong}
-use Rattle.conf_session.specs.Input.{FindsSessionLong, RunsOutOfMemory, Advances}
+use Rattle.conf_session.specs.Input.{piece_or_rest as piece_of, session_limit, IsSound, ahead, bytes_read, AdvancesToPiece, AdvancesToEnd}
+use Rattle.conf_session.specs.{Input.{FailsToRead, FindsTooLong, FindsSessionLong, RunsOutOfMemory, Advances}, Said.piece_limit}
+use Rattle.conf_session.specs.declared.{fault.SessionFault.SessionFault, input.Input.Input, unwritten.Unwritten.Unwritten}
+use Rattle.conf_session.specs.{declared.session.Tally.Tally, Requests.{Request, AllAsk}, Answers.{Stored, output, accepted_commands}}
+use Rattle.conf_session.specs.{Answers.refusals, Gathering.{HasRoomFor, SendsAnswers, last_bytes, unwritten_bytes}, Streams.streams_of}
 use Rattle.conf_session.specs.Runs.{ArePieces, TakesUp, BeginsWith, EndsAnswered, EndsEarly}
 use Rattle.conf_session.specs.declared.fault.SessionFault.TheVariants as fault
 

@@ -1,12 +1,11 @@
 -- The faults that are answered, and those that end a session.
-use Rattle.std.proofs.Common.{◌≡◌, ◌≢◌, ◌⊎◌, inl, inr, ⊎_elim, refl, subst}
-use Rattle.std.specs.Prelude.{List, ℕ, Bool, true, false, Option, Some, None, Result, Ok, Err, IfOk, IfErr, if◌then◌else◌}
+use Rattle.std.{proofs.Common.{◌≡◌, ◌≢◌, ◌⊎◌, inl, inr, ⊎_elim, refl, subst}, specs.Prelude.{List, ℕ, Bool, true, false, Option, Some}}
+use Rattle.std.specs.Prelude.{None, Result, Ok, Err, IfOk, IfErr, if◌then◌else◌}
 use Rattle.conf_session.proofs.Prelude.{Tree, ReadFault, PathFault, at, good_name, Contents, config_named, and_then, found, by_path}
-use Rattle.conf_session.proofs.Prelude.{StoreFault, tree_named, tree_at, RefusesText}
-use Rattle.conf_session.specs.{declared.fault.SessionFault.SessionFault, declared.words.Refusal.Refusal, declared.reply.Reply.Reply}
-use Rattle.conf_session.specs.{declared.reply.Reply.TheVariants.Refused, Replies.refused_as}
-use Rattle.conf_session.specs.declared.fault.SessionFault.TheVariants.{OutOfMemory, Device, Reopen}
-use Rattle.conf_session.specs.Answers.{answered, path_answered, read_answered}
+use Rattle.conf_session.{proofs.Prelude.{StoreFault, tree_named, tree_at, RefusesText}, specs.declared.fault.SessionFault.SessionFault}
+use Rattle.conf_session.specs.declared.{fault.SessionFault.TheVariants.{OutOfMemory, Device, Reopen}, words.Refusal.Refusal}
+use Rattle.conf_session.specs.{declared.reply.Reply.{Reply, TheVariants.Refused}, Replies.refused_as, Answers.{answered, path_answered}}
+use Rattle.conf_session.specs.Answers.{read_answered}
 use Rattle.yaml_events.specs.declared.read_fault.ReadFault.TheVariants as read
 use Rattle.json_pointer.specs.declared.fault.PathFault.TheVariants as path
 use Rattle.conf_state.specs.declared.fault.StoreFault.TheVariants as store

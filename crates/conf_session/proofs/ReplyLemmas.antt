@@ -1,14 +1,13 @@
 -- What is answered to requests that change nothing.
-use Rattle.std.proofs.Common.{◌≡◌, refl, sym, ◌∙◌, ap, subst, ◌≤◌}
-use Rattle.std.specs.Prelude.{ℕ, List, [], codes, length, String, string_bytes, Result, Ok, Err, IfOk}
+use Rattle.std.{proofs.Common.{◌≡◌, refl, sym, ◌∙◌, ap, subst, ◌≤◌}, specs.Prelude.{ℕ, List, [], codes, length, String, string_bytes}}
+use Rattle.std.specs.Prelude.{Result, Ok, Err, IfOk}
 use Rattle.conf_session.proofs.Prelude.{Global, Tree, text, sequence, style_text, framed_text_bytes, at, path_of, PathFault, IsState}
-use Rattle.conf_session.proofs.Prelude.{names_of, and_then, by_path, StoreFault, Path, tree_named, tree_at}
-use Rattle.conf_session.specs.{Replies.Replies, Replies.refused_as, declared.words.Refusal.Refusal, declared.reply.Reply.TheVariants.Done}
-use Rattle.conf_session.specs.{declared.reply.Reply.TheVariants.Refused}
-use Rattle.conf_session.specs.Requests.{Request, getting, exporting, naming}
-use Rattle.conf_session.specs.Answers.{Stored, answer, accepted_command, refused_of, one, text_elements, answered, path_answered}
-use Rattle.conf_session.specs.Answers.{refused_answer, answer_or_refusal, document_bytes, answer_limit, value_at_path, is_refused}
-use Rattle.conf_session.proofs.{LengthLemmas.refused-short, LengthLemmas.answer-short, RefusalLemmas.refused-ok}
+use Rattle.conf_session.proofs.{Prelude.{names_of, and_then, by_path, StoreFault, Path, tree_named, tree_at}, LengthLemmas.refused-short}
+use Rattle.conf_session.{proofs.{LengthLemmas.answer-short, RefusalLemmas.refused-ok}, specs.Replies.{Replies, refused_as}}
+use Rattle.conf_session.specs.{declared.{words.Refusal.Refusal, reply.Reply.TheVariants.{Done, Refused}}, Requests.{Request, getting}}
+use Rattle.conf_session.specs.{Requests.{exporting, naming}, Answers.{Stored, answer, accepted_command, refused_of, one, text_elements}}
+use Rattle.conf_session.specs.Answers.{answered, path_answered, refused_answer, answer_or_refusal, document_bytes, answer_limit}
+use Rattle.conf_session.specs.Answers.{value_at_path, is_refused}
 
 -- ---- a request that changes nothing, and is answered by a result
 

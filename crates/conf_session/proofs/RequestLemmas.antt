@@ -1,27 +1,22 @@
 -- What one request does.
-use Rattle.std.proofs.Common.{◌≡◌, ◌≢◌, ◌≤◌, ◌⊎◌, inl, inr, ⊎_elim, refl, sym, ◌∙◌, ap, subst, arith, length-append}
-use Rattle.std.specs.Prelude.{ℕ, ◌+◌, min, max, false, List, [], ◌∷◌, ◌++◌, length, decimal, codes, Option, Some, None, option_map}
-use Rattle.std.specs.Prelude.{unwrap_or, Result, Ok, Err, IfOk, String, string_bytes}
+use Rattle.std.{proofs.Common.{◌≡◌, ◌≢◌, ◌≤◌, ◌⊎◌, inl, inr, ⊎_elim, refl, sym, ◌∙◌, ap, subst, arith, length-append}, specs.Prelude.ℕ}
+use Rattle.std.specs.Prelude.{◌+◌, min, max, false, List, [], ◌∷◌, ◌++◌, length, decimal, codes, Option, Some, None, option_map, unwrap_or}
+use Rattle.std.specs.Prelude.{Result, Ok, Err, IfOk, String, string_bytes}
 use Rattle.conf_session.proofs.Prelude.{chars, IsUtf8, Global, cases_lt, encodes-chars, append-nil, take_all, text, framed_text_bytes}
 use Rattle.conf_session.proofs.Prelude.{Folder, bytes_under, Image, IsImage, DiskModel, LeavesOnly, greatest, Store, LeavesOnly-start}
 use Rattle.conf_session.proofs.Prelude.{LeavesOnly-weaker, base_bytes, Command, Edit, single, IsState, Contents, count_limit, step, after}
 use Rattle.conf_session.proofs.Prelude.{StoreFault, Room, HasFailed, outcome, room_for, next_record, journal_length, Accepts}
 use Rattle.conf_session.proofs.Prelude.{RefusesCommand, IsImportOf, RefusesText, Staged, staged_length, with_more, ImageMeans, MeansPrefix}
 use Rattle.conf_session.proofs.Prelude.{AllImagesMean, HasFlushed, staged_text, StoreView, accepted-room, accepted-anyway, after-done}
-use Rattle.conf_session.proofs.Prelude.{after-joined, prefix-longer}
-use Rattle.conf_journal.specs.Store.{file_with_bytes}
-use Rattle.conf_session.specs.{declared.fault.SessionFault.SessionFault, Runs.stored_of, declared.words.Refusal.Refusal}
-use Rattle.conf_session.specs.{declared.reply.Reply.Reply}
-use Rattle.conf_session.specs.Said.{Part, Says, import_text, plain, single_part}
-use Rattle.conf_session.specs.Requests.{Asks, MeansRequest, Request, changing, unread, getting, exporting, naming, checkpointing, if_met}
-use Rattle.conf_session.specs.Requests.{bad}
-use Rattle.conf_session.specs.Answers.{Stored, longest, one, change_answer, stored_after_change, stored_after, file_after_change}
-use Rattle.conf_session.specs.Answers.{accepted_by, accepted_command, is_refused, answered, refused_answer, document_bytes}
-use Rattle.conf_session.specs.Replies.{OnlyReads, LeavesPrefixes, MeansPrefixes, Performs, Replies, Did, DidAsked, CountsFailures, Handles}
-use Rattle.conf_session.specs.Replies.{refused_as}
-use Rattle.conf_session.specs.declared.reply.Reply.TheVariants.{Accepted, Refused}
-use Rattle.conf_session.proofs.LengthLemmas.{step-few, answer-short, refused-short}
+use Rattle.conf_session.proofs.{Prelude.{after-joined, prefix-longer}, LengthLemmas.{step-few, answer-short, refused-short}}
 use Rattle.conf_session.proofs.RefusalLemmas.{OnlyMemory, answered-memory, is-device, no-device}
+use Rattle.conf_session.specs.declared.{fault.SessionFault.SessionFault, words.Refusal.Refusal, reply.Reply.{Reply, TheVariants.Accepted}}
+use Rattle.conf_session.specs.{declared.reply.Reply.TheVariants.Refused, Runs.stored_of, Said.{Part, Says, import_text, plain, single_part}}
+use Rattle.conf_session.specs.Requests.{Asks, MeansRequest, Request, changing, unread, getting, exporting, naming, checkpointing, if_met}
+use Rattle.conf_session.specs.{Requests.bad, Answers.{Stored, longest, one, change_answer, stored_after_change, stored_after}}
+use Rattle.conf_session.specs.Answers.{file_after_change, accepted_by, accepted_command, is_refused, answered, refused_answer}
+use Rattle.conf_session.specs.{Answers.document_bytes, Replies.{OnlyReads, LeavesPrefixes, MeansPrefixes, Performs, Replies, Did, DidAsked}}
+use Rattle.{conf_session.specs.Replies.{CountsFailures, Handles, refused_as}, conf_journal.specs.Store.file_with_bytes}
 use Rattle.conf_state.specs.declared.fault.StoreFault.TheVariants as state
 use Rattle.conf_session.specs.declared.fault.SessionFault.TheVariants as fault
 

@@ -1,23 +1,17 @@
 -- Pieces of a round, one after the other.
 use Rattle.std.proofs.Common.{◌≡◌, inl, inr, refl, sym, ◌∙◌, ap, subst, arith, ◌≤◌, ◌<◌, get_or, length-append, append_assoc}
-use Rattle.std.specs.Prelude.{ℕ, ◌+◌, false, List, [], ◌∷◌, ◌++◌, length, codes, take, Ok, Err}
-use Rattle.conf_session.proofs.Prelude.{append-nil, Global, length-take-le, length-map, take_more, get_or-map, ClosesAt, ClosesOnce}
-use Rattle.conf_session.proofs.Prelude.{Image, IsImage, Contents, HasFlushed, DiskModel, LeavesOnly, Command, MeansPrefix, StoreView}
-use Rattle.std.specs.declared.vec.Vec.{Vec}
-use Rattle.yaml_docs.specs.NextClosing.{IsNextClosing, NoClosingAfter}
-use Rattle.conf_session.specs.Answers.{answer_bytes as answer_to}
-use Rattle.conf_session.specs.{Requests.Request, Runs.AfterAtLeast, Runs.stored_of, declared.reply.Reply.Reply}
-use Rattle.conf_session.specs.{declared.rounds.Piece.Piece, declared.rounds.RoundFault.RoundFault}
-use Rattle.conf_session.specs.Answers.{Stored, answers, stored_after, stored_after_all, accepted_command, accepted_commands}
-use Rattle.conf_session.specs.Answers.{flushed_after, waiting_after}
-use Rattle.conf_session.specs.Replies.{DidAsked, MeansPrefixes, Performs, PerformsAll, reply_bytes}
-use Rattle.conf_session.specs.Gathering.{PerformsTurns, StopsShort}
-use Rattle.conf_session.specs.Rounds.{RoundAsks, AllRoundAsk, Rounds, AnswersPiece, FailsPiece, answer_bytes, piece_bytes}
-use Rattle.conf_session.specs.Rounds.{checkpointed}
+use Rattle.std.specs.{Prelude.{ℕ, ◌+◌, false, List, [], ◌∷◌, ◌++◌, length, codes, take, Ok, Err}, declared.vec.Vec.Vec}
+use Rattle.conf_session.proofs.Prelude.{append-nil, Global, length-take-le, length-map, take_more, get_or-map, ClosesAt, ClosesOnce, Image}
+use Rattle.conf_session.proofs.Prelude.{IsImage, Contents, HasFlushed, DiskModel, LeavesOnly, Command, MeansPrefix, StoreView}
 use Rattle.conf_session.proofs.PassedLemmas.{performs-none, performs-more, state-more, moments-more, at-least, continues}
-use Rattle.conf_session.proofs.PassedLemmas.{accepted_commands-last}
-use Rattle.conf_session.proofs.TurnLemmas.{asked-accepted, asked-stored}
-use Rattle.conf_session.proofs.GatherLemmas.{all-flushed, flush-moments, flush-state}
+use Rattle.conf_session.proofs.{PassedLemmas.accepted_commands-last, TurnLemmas.{asked-accepted, asked-stored}, GatherLemmas.all-flushed}
+use Rattle.conf_session.{proofs.GatherLemmas.{flush-moments, flush-state}, specs.Answers.{answer_bytes as answer_to, Stored, answers}}
+use Rattle.conf_session.specs.Answers.{stored_after, stored_after_all, accepted_command, accepted_commands, flushed_after, waiting_after}
+use Rattle.conf_session.specs.{Requests.Request, Runs.{AfterAtLeast, stored_of}, declared.{reply.Reply.Reply, rounds.Piece.Piece}}
+use Rattle.conf_session.specs.{declared.rounds.RoundFault.RoundFault, Replies.{DidAsked, MeansPrefixes, Performs, PerformsAll, reply_bytes}}
+use Rattle.conf_session.specs.{Gathering.{PerformsTurns, StopsShort}, Rounds.{RoundAsks, AllRoundAsk, Rounds, AnswersPiece, FailsPiece}}
+use Rattle.{conf_session.specs.Rounds.{answer_bytes, piece_bytes, checkpointed}, yaml_docs.specs.NextClosing.IsNextClosing}
+use Rattle.yaml_docs.specs.NextClosing.{NoClosingAfter}
 use Rattle.conf_session.specs.declared.rounds.RoundFault.TheVariants as fault
 
 -- ---- pieces that are closed once

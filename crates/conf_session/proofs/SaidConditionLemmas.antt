@@ -1,8 +1,7 @@
 -- The conditions of a command, as its document has them.
-use Rattle.std.proofs.Common.{◌≡◌, refl, arith}
-use Rattle.std.specs.Prelude.{Bool, if◌then◌else◌, List, [], ◌∷◌, codes, length, None}
-use Rattle.conf_session.proofs.Prelude.{Members, sequence, elements_of, ascii, keys_are, values, texts}
-use Rattle.conf_session.specs.SaidConditions.{test_keys, absent_keys, missing_keys, count_keys, test_in, absent_in, missing_in, count_in}
+use Rattle.std.{proofs.Common.{◌≡◌, refl, arith}, specs.Prelude.{Bool, if◌then◌else◌, List, [], ◌∷◌, codes, length, None}}
+use Rattle.conf_session.{proofs.Prelude.{Members, sequence, elements_of, ascii, keys_are, values, texts}, specs.SaidConditions.test_keys}
+use Rattle.conf_session.specs.SaidConditions.{absent_keys, missing_keys, count_keys, test_in, absent_in, missing_in, count_in}
 use Rattle.conf_session.specs.SaidConditions.{condition_from, all_conditions_in, conditions_in}
 use Rattle.yaml_data.specs.declared.tree.Tree as code_tree
 

@@ -1,11 +1,10 @@
 -- What a command document says, case by case.
-use Rattle.std.proofs.Common.{◌≡◌, false, true, length, get_or, refl, ap}
-use Rattle.std.specs.Prelude.{ℕ, Bool, if◌then◌else◌, List, [], ◌∷◌, codes, Option, option_and_then}
+use Rattle.std.{proofs.Common.{◌≡◌, false, true, length, get_or, refl, ap}, specs.Prelude.{ℕ, Bool, if◌then◌else◌, List, [], ◌∷◌, codes}}
+use Rattle.std.specs.Prelude.{Option, option_and_then}
 use Rattle.conf_session.proofs.Prelude.{chars, same_text, Pair, members_of, text_bytes, Elements, Members, text, sequence, mapping, Edit}
-use Rattle.conf_session.proofs.Prelude.{keys_are, values, edit_under, ascii, texts}
-use Rattle.conf_session.specs.Said.{as_part, nothing, said_by, part_from, part_said, batch_keys, get_keys, export_keys, names_keys}
-use Rattle.conf_session.specs.Said.{checkpoint_keys, batch_said, get_said, export_said, names_said, checkpoint_said, begins_with_if}
-use Rattle.conf_session.specs.Said.{conditional_said, change_said}
+use Rattle.conf_session.{proofs.Prelude.{keys_are, values, edit_under, ascii, texts}, specs.Said.{as_part, nothing, said_by, part_from}}
+use Rattle.conf_session.specs.Said.{part_said, batch_keys, get_keys, export_keys, names_keys, checkpoint_keys, batch_said, get_said}
+use Rattle.conf_session.specs.Said.{export_said, names_said, checkpoint_said, begins_with_if, conditional_said, change_said}
 
 -- a text says nothing
 pub said-text : (value : List ℕ) → said_by (text value) ≡ nothing

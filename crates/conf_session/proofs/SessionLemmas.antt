@@ -1,23 +1,18 @@
 -- A session each of whose pieces is a group is a run.
-use Rattle.std.proofs.Common.{◌≡◌, inl, inr, refl, sym, ◌∙◌, ap, subst, arith, ◌≤◌}
-use Rattle.std.specs.Prelude.{ℕ, ◌+◌, true, false, List, [], ◌∷◌, ◌++◌, length, take, Option, Result, Ok, Err}
-use Rattle.conf_session.proofs.Prelude.{Appends, append-nil, Folder, DiskModel, LeavesOnly, Command, Contents, MeansPrefix}
-use Rattle.conf_session.proofs.Prelude.{HasFlushed, StoreView}
-use Rattle.conf_session.specs.{declared.fault.SessionFault.SessionFault, declared.groups.Grouping.Grouping, declared.session.Tally.Tally}
-use Rattle.conf_session.specs.{Requests.Request, Streams.Streams, Streams.streams_of}
-use Rattle.conf_session.specs.Answers.{Stored, acknowledged, accepted_commands, output, refusals, flushed_after, stored_after}
-use Rattle.conf_session.specs.Answers.{stored_after_all, file_after_all, staged_after_all, waiting_after}
-use Rattle.conf_session.specs.Runs.{AfterAtLeast, BeginsWith, Ends, EndsAnswered, EndsEarly, Runs, stored_of}
-use Rattle.conf_session.specs.Groups.{acknowledged_turns, all_asked, asked, files_of, files_after_turns, requests_of, stored_after_turns}
-use Rattle.conf_session.specs.Handings.{Handing, accepted_within, handings_of, taken_in}
-use Rattle.conf_session.specs.Groups.{GroupedEnds, RunsBy, turns_within, turns_accepted, turns_output, turns_refused}
-use Rattle.conf_session.specs.declared.groups.Grouping.TheVariants.{Each, Read}
-use Rattle.conf_session.proofs.GroupLemmas.{AreSingle, Session, session-grouped}
-use Rattle.conf_session.proofs.PerformedLemmas.{HasPerformed, performed-files, performed-stored}
-use Rattle.conf_session.proofs.HandedLemmas.{asked-within, handed-after, handed-since, since-weaker}
-use Rattle.conf_session.proofs.PassedLemmas.{none-waits}
-use Rattle.conf_session.proofs.TurnLemmas.{asked-accepted, asked-files, asked-joined, asked-output, asked-refused, asked-requests}
-use Rattle.conf_session.proofs.TurnLemmas.{asked-stored}
+use Rattle.std.{proofs.Common.{◌≡◌, inl, inr, refl, sym, ◌∙◌, ap, subst, arith, ◌≤◌}, specs.Prelude.{ℕ, ◌+◌, true, false, List, [], ◌∷◌}}
+use Rattle.std.specs.Prelude.{◌++◌, length, take, Option, Result, Ok, Err}
+use Rattle.conf_session.proofs.Prelude.{Appends, append-nil, Folder, DiskModel, LeavesOnly, Command, Contents, MeansPrefix, HasFlushed}
+use Rattle.conf_session.proofs.{Prelude.StoreView, GroupLemmas.{AreSingle, Session, session-grouped}, PerformedLemmas.HasPerformed}
+use Rattle.conf_session.proofs.{PerformedLemmas.{performed-files, performed-stored}, HandedLemmas.{asked-within, handed-after}}
+use Rattle.conf_session.proofs.{HandedLemmas.{handed-since, since-weaker}, PassedLemmas.none-waits, TurnLemmas.asked-accepted}
+use Rattle.conf_session.proofs.TurnLemmas.{asked-files, asked-joined, asked-output, asked-refused, asked-requests, asked-stored}
+use Rattle.conf_session.specs.declared.{fault.SessionFault.SessionFault, groups.Grouping.{Grouping, TheVariants.{Each, Read}}}
+use Rattle.conf_session.specs.{declared.session.Tally.Tally, Requests.Request, Streams.{Streams, streams_of}, Answers.Stored}
+use Rattle.conf_session.specs.Answers.{acknowledged, accepted_commands, output, refusals, flushed_after, stored_after, stored_after_all}
+use Rattle.conf_session.specs.{Answers.{file_after_all, staged_after_all, waiting_after}, Runs.{AfterAtLeast, BeginsWith, Ends}}
+use Rattle.conf_session.specs.{Runs.{EndsAnswered, EndsEarly, Runs, stored_of}, Groups.{acknowledged_turns, all_asked, asked, files_of}}
+use Rattle.conf_session.specs.Groups.{files_after_turns, requests_of, stored_after_turns, GroupedEnds, RunsBy, turns_within, turns_accepted}
+use Rattle.conf_session.specs.{Groups.{turns_output, turns_refused}, Handings.{Handing, accepted_within, handings_of, taken_in}}
 use Rattle.conf_session.specs.declared.fault.SessionFault.TheVariants as fault
 
 -- what is flushed after requests each of which is flushed

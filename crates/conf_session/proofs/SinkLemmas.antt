@@ -1,14 +1,12 @@
 -- Answers that are handed out once their commands are flushed.
-use Rattle.std.proofs.Common.{◌≡◌, refl, sym, ◌∙◌, ap, arith, append_assoc}
-use Rattle.std.specs.Prelude.{ℕ, ◌+◌, List, [], ◌++◌, length, take, Option, Ok}
-use Rattle.conf_session.proofs.Prelude.{Appends, Appends-trans, append-nil, DiskModel, LeavesOnly-weaker, Command, Contents, after}
-use Rattle.conf_session.proofs.Prelude.{Image, MeansPrefix, StoreView, after-joined}
-use Rattle.conf_session.specs.{Requests.Request, Answers.Stored, Answers.output, Runs.AfterAtLeast, Runs.stored_of, Gathering.KeepsAnswers}
-use Rattle.conf_session.specs.{Gathering.PerformsFlushed, Gathering.unwritten_bytes, Sinks.AreAcknowledged, Sinks.NoneIsTakenBack}
-use Rattle.conf_session.specs.{Sinks.SentSoFar, declared.unwritten.Unwritten.Unwritten}
+use Rattle.std.{proofs.Common.{◌≡◌, refl, sym, ◌∙◌, ap, arith, append_assoc}, specs.Prelude.{ℕ, ◌+◌, List, [], ◌++◌, length, take, Option}}
+use Rattle.std.specs.Prelude.{Ok}
+use Rattle.conf_session.proofs.Prelude.{Appends, Appends-trans, append-nil, DiskModel, LeavesOnly-weaker, Command, Contents, after, Image}
+use Rattle.conf_session.proofs.{Prelude.{MeansPrefix, StoreView, after-joined}, PassedLemmas.take-beyond, TurnLemmas.asked-output}
+use Rattle.conf_session.{proofs.TurnLemmas.{leads-turns, output-joined, stored-joined}, specs.{Requests.Request, Answers.{Stored, output}}}
+use Rattle.conf_session.specs.{Runs.{AfterAtLeast, stored_of}, Gathering.{KeepsAnswers, PerformsFlushed, unwritten_bytes}}
+use Rattle.conf_session.specs.{Sinks.{AreAcknowledged, NoneIsTakenBack, SentSoFar}, declared.unwritten.Unwritten.Unwritten}
 use Rattle.conf_session.specs.Groups.{all_asked, stored_after_turns, turns_accepted, turns_output}
-use Rattle.conf_session.proofs.PassedLemmas.{take-beyond}
-use Rattle.conf_session.proofs.TurnLemmas.{asked-output, leads-turns, output-joined, stored-joined}
 
 module _ {D : Type 0} (model : DiskModel D) where
   -- answers that are kept may be handed out once their requests are flushed

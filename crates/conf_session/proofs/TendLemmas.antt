@@ -1,18 +1,13 @@
 -- Turns that no request asked for.
-use Rattle.std.proofs.Common.{◌≡◌, refl, sym, ◌∙◌, ap, subst, arith, ◌≤◌, length-drop}
-use Rattle.std.specs.Prelude.{ℕ, ◌+◌, min, false, List, [], ◌∷◌, ◌++◌, length, Option, Some, None, option_map, unwrap_or, Result, Ok, Err}
+use Rattle.std.{proofs.Common.{◌≡◌, refl, sym, ◌∙◌, ap, subst, arith, ◌≤◌, length-drop}, specs.Prelude.{ℕ, ◌+◌, min, false, List, [], ◌∷◌}}
+use Rattle.std.specs.Prelude.{◌++◌, length, Option, Some, None, option_map, unwrap_or, Result, Ok, Err}
 use Rattle.conf_session.proofs.Prelude.{append-nil, take_all, bytes_under, Image, IsImage, DiskModel, LeavesOnly, Store, LeavesOnly-start}
 use Rattle.conf_session.proofs.Prelude.{base_bytes, Command, Contents, after, ImageMeans, MeansPrefix, AllImagesMean, HasFlushed}
 use Rattle.conf_session.proofs.Prelude.{staged_text, Begins, SlicesPart, SlicesLast, Slices, SliceReads, SliceFlushes, Staged}
-use Rattle.conf_session.proofs.Prelude.{staged_length, slice_limit, after_slice, StoreView}
-use Rattle.conf_store.specs.Grown.{HasGrown}
-use Rattle.conf_store.specs.declared.slicing.Progress.{Progress}
-use Rattle.conf_store.specs.declared.slicing.Progress.TheVariants.{Left, Done}
-use Rattle.conf_session.specs.{declared.fault.SessionFault.SessionFault, declared.groups.Checkpoints.Checkpoints}
-use Rattle.conf_session.specs.declared.groups.Checkpoints.TheVariants.{Asked, After}
-use Rattle.conf_session.specs.Groups.{begun, finished, files_of}
-use Rattle.conf_session.specs.Gathering.{PerformsTurns, Tends, TendsByBeginning, TendsBySlice}
-use Rattle.conf_session.proofs.TurnLemmas.{quiet-now}
+use Rattle.conf_session.proofs.{Prelude.{staged_length, slice_limit, after_slice, StoreView}, TurnLemmas.quiet-now}
+use Rattle.conf_session.specs.declared.{fault.SessionFault.SessionFault, groups.Checkpoints.{Checkpoints, TheVariants.{Asked, After}}}
+use Rattle.conf_session.specs.{Groups.{begun, finished, files_of}, Gathering.{PerformsTurns, Tends, TendsByBeginning, TendsBySlice}}
+use Rattle.conf_store.specs.{Grown.HasGrown, declared.slicing.Progress.{Progress, TheVariants.{Left, Done}}}
 
 -- ---- where all is flushed
 

@@ -1,16 +1,15 @@
 -- Turns of a grouped session, one after the other.
-use Rattle.std.proofs.Common.{◌≡◌, refl, sym, ◌∙◌, ap, subst, arith, ◌≤◌, append_assoc, length-append}
-use Rattle.std.specs.Prelude.{ℕ, ◌+◌, List, [], ◌∷◌, ◌++◌, length, Option, Ok}
+use Rattle.std.{proofs.Common.{◌≡◌, refl, sym, ◌∙◌, ap, subst, arith, ◌≤◌, append_assoc, length-append}, specs.Prelude.{ℕ, ◌+◌, List, []}}
+use Rattle.std.specs.Prelude.{◌∷◌, ◌++◌, length, Option, Ok}
 use Rattle.conf_session.proofs.Prelude.{append-nil, take_all, Folder, Image, IsImage, DiskModel, LeavesOnly, LeavesOnly-joined, Command}
 use Rattle.conf_session.proofs.Prelude.{Contents, after, MeansPrefix, AllImagesMean, HasFlushed, StoreView, after-joined, after-nothing}
-use Rattle.conf_session.proofs.Prelude.{prefix-longer}
-use Rattle.conf_session.specs.{Requests.Request, Runs.AfterAtLeast, Runs.stored_of, Gathering.PerformsTurns}
-use Rattle.conf_session.specs.Answers.{Stored, answer_bytes, output, stored_after, stored_after_all, file_after, file_after_all}
-use Rattle.conf_session.specs.Answers.{staged_after, staged_after_all, accepted_command, accepted_commands, refusals}
-use Rattle.conf_session.specs.Groups.{AreDue, Turn, asked, begun, finished, Files, all_asked, requests_of, files_of, stored_after_turn}
-use Rattle.conf_session.specs.Groups.{stored_after_turns, files_after_turn, files_after_turns, turn_output, turns_output, turn_accepted}
-use Rattle.conf_session.specs.Groups.{turns_accepted, turns_refused, acknowledged_turns}
-use Rattle.conf_session.proofs.PassedLemmas.{Continues, at-least, prefix-continued, leads-one}
+use Rattle.conf_session.proofs.{Prelude.prefix-longer, PassedLemmas.{Continues, at-least, prefix-continued, leads-one}}
+use Rattle.conf_session.specs.{Requests.Request, Runs.{AfterAtLeast, stored_of}, Gathering.PerformsTurns, Answers.{Stored, answer_bytes}}
+use Rattle.conf_session.specs.Answers.{output, stored_after, stored_after_all, file_after, file_after_all, staged_after, staged_after_all}
+use Rattle.conf_session.specs.{Answers.{accepted_command, accepted_commands, refusals}, Groups.{AreDue, Turn, asked, begun, finished}}
+use Rattle.conf_session.specs.Groups.{Files, all_asked, requests_of, files_of, stored_after_turn, stored_after_turns, files_after_turn}
+use Rattle.conf_session.specs.Groups.{files_after_turns, turn_output, turns_output, turn_accepted, turns_accepted, turns_refused}
+use Rattle.conf_session.specs.Groups.{acknowledged_turns}
 
 -- ---- two lists of turns
 

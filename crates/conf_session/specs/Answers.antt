@@ -1,17 +1,13 @@
 -- What a session answers, and what is stored then. All of it is computed from the requests.
-use Rattle.std.specs.Prelude.{◌≡◌, ◌≤◌, ℕ, ◌+◌, ◌-◌, max, Bool, true, false, if◌then◌else◌, List, [], ◌∷◌, ◌++◌, length}
-use Rattle.std.specs.Prelude.{codes, decimal, Option, Some, None, option_map, unwrap_or, Result, Ok, Err, is_some}
-use Rattle.conf_session.specs.Prelude.{concat, Tree, text, sequence, mapping, Elements, no_element, element, no_member}
-use Rattle.conf_session.specs.Prelude.{member, style_text, framed_text_bytes, ReadFault, Command, IsState, Contents}
-use Rattle.conf_session.specs.Prelude.{names_of, base_limit, and_then, by_path, StoreFault, base_bytes, outcome}
-use Rattle.conf_session.specs.Prelude.{next_record, tree_named, first_fault, ConditionFault}
-use Rattle.json_pointer.specs.declared.fault.PathFault.{PathFault}
-use Rattle.tree_path.specs.Paths.{at}
-use Rattle.json_pointer.specs.Pointers.{path_of}
+use Rattle.std.specs.Prelude.{◌≡◌, ◌≤◌, ℕ, ◌+◌, ◌-◌, max, Bool, true, false, if◌then◌else◌, List, [], ◌∷◌, ◌++◌, length, codes, decimal}
+use Rattle.std.specs.Prelude.{Option, Some, None, option_map, unwrap_or, Result, Ok, Err, is_some}
+use Rattle.conf_session.specs.Prelude.{concat, Tree, text, sequence, mapping, Elements, no_element, element, no_member, member, style_text}
+use Rattle.conf_session.specs.Prelude.{framed_text_bytes, ReadFault, Command, IsState, Contents, names_of, base_limit, and_then, by_path}
+use Rattle.conf_session.specs.Prelude.{StoreFault, base_bytes, outcome, next_record, tree_named, first_fault, ConditionFault}
+use Rattle.conf_session.specs.{declared.{fault.SessionFault.SessionFault, words.Refusal.Refusal}, Requests.{Request, changing, unread}}
+use Rattle.conf_session.specs.Requests.{getting, exporting, naming, checkpointing, if_met, bad, Asks}
+use Rattle.{json_pointer.specs.{declared.fault.PathFault.PathFault, Pointers.path_of}, tree_path.specs.Paths.at}
 use Rattle.conf_journal.specs.Store.{file_with_bytes}
-use Rattle.conf_session.specs.{declared.fault.SessionFault.SessionFault, declared.words.Refusal.Refusal}
-use Rattle.conf_session.specs.Requests.{Request, changing, unread, getting, exporting, naming, checkpointing, if_met}
-use Rattle.conf_session.specs.Requests.{bad, Asks}
 use Rattle.yaml_events.specs.declared.read_fault.ReadFault.TheVariants as read
 use Rattle.json_pointer.specs.declared.fault.PathFault.TheVariants as path
 use Rattle.conf_state.specs.declared.fault.StoreFault.TheVariants as store

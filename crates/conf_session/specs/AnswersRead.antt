@@ -1,7 +1,7 @@
 -- What the documents of answers read as, as a statement.
 use Rattle.std.specs.Prelude.{◌≡◌, ℕ, List, Some}
-use Rattle.conf_session.specs.Prelude.{ClosesOnce, IsKept, IsRead, IsState, Tree, own_limits}
-use Rattle.conf_session.specs.{Requests.Request, Answers.Stored, Answers.answer, Answers.answer_bytes}
+use Rattle.conf_session.specs.{Prelude.{ClosesOnce, IsKept, IsRead, IsState, Tree, own_limits}, Requests.Request, Answers.{Stored, answer}}
+use Rattle.conf_session.specs.Answers.{answer_bytes}
 
 -- The tree is good within a Config's own limits. The bytes are closed once, at their end, and read as the tree, and as
 -- no other.

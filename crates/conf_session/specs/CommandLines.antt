@@ -1,12 +1,10 @@
 -- Commands that are spelled one key a line. Each text is ASCII, and so its bytes are its characters.
 use Rattle.std.specs.Prelude.{◌≡◌, ◌≢◌, ℕ, Bool, true, false, not, ◌&&◌, List, [], ◌∷◌, ◌++◌, codes, Option, Some}
-use Rattle.conf_session.specs.Prelude.{list_all, double_quote, line_feed, first, spaces, plain_in_style, long_key, text}
-use Rattle.conf_session.specs.Prelude.{sequence, mapping, Elements, no_element, element, Members, no_member, member}
-use Rattle.conf_session.specs.Prelude.{Tree, has_key, members_distinct, Condition}
-use Rattle.yaml_chars.specs.Classes.{in_range, is_in, indicator}
+use Rattle.conf_session.specs.Prelude.{list_all, double_quote, line_feed, first, spaces, plain_in_style, long_key, text, sequence, mapping}
+use Rattle.conf_session.specs.Prelude.{Elements, no_element, element, Members, no_member, member, Tree, has_key, members_distinct}
+use Rattle.conf_session.specs.{Prelude.Condition, Said.{Part, part_from, part_of, Said, single_part, change_said, with_conditions, said_by}}
+use Rattle.{conf_session.specs.SaidConditions.condition_in, yaml_chars.specs.Classes.{in_range, is_in, indicator}}
 use Rattle.yaml_writer.specs.Runs.{stands_alone}
-use Rattle.conf_session.specs.Said.{Part, part_from, part_of, Said, single_part, change_said, with_conditions, said_by}
-use Rattle.conf_session.specs.SaidConditions.{condition_in}
 
 -- how a text is spelled after its key: as it is, or between double quotes
 pub data Spelling : Type 0 where

@@ -1,8 +1,7 @@
 -- What conditions make of a request: it is as it is without them, or it is refused and changes nothing.
 use Rattle.std.specs.Prelude.{◌≡◌, ◌⊎◌, ℕ, List, [], Option, Some, Ok}
-use Rattle.conf_session.specs.Prelude.{Condition, AllHold, FailsFirst, ConditionFault}
-use Rattle.conf_session.specs.{declared.words.Refusal.Refusal, Requests.Request, Requests.if_met}
-use Rattle.conf_session.specs.Answers.{Stored, answer, stored_after, file_after, staged_after, accepted_command}
+use Rattle.conf_session.specs.{Prelude.{Condition, AllHold, FailsFirst, ConditionFault}, declared.words.Refusal.Refusal, Requests.Request}
+use Rattle.conf_session.specs.{Requests.if_met, Answers.{Stored, answer, stored_after, file_after, staged_after, accepted_command}}
 use Rattle.conf_session.specs.Answers.{condition_answered, refusal, word}
 
 -- both requests are answered alike, and leave the same

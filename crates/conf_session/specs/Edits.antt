@@ -1,13 +1,9 @@
 -- The edits that a text lists.
 use Rattle.std.specs.Prelude.{◌≡◌, ◌≢◌, ℕ, List, [], ◌∷◌, codes, Option, Some, None, option_and_then, if◌then◌else◌}
-use Rattle.conf_session.specs.Prelude.{Tree, text, sequence, mapping, Elements, Members, IsRead, Refuses, ReadFault}
-use Rattle.conf_session.specs.Prelude.{Edit, import_as, keys_are, edit_under}
-use Rattle.yaml_config.specs.Limits.{config_limits}
-use Rattle.conf_session.specs.{Requests.AreReadAs, Requests.IsFirstRefused, SaidConditions.all_in}
-use Rattle.conf_session.specs.Said.{Part, plain, part_from}
-use Rattle.conf_session.specs.declared.edits.EditsFault.{EditsFault}
-use Rattle.conf_session.specs.declared.edits.EditsFault.TheVariants.{Text, NoEdits, Import}
-use Rattle.yaml_events.specs.declared.read_fault.ReadFault.TheVariants.{OutOfMemory}
+use Rattle.conf_session.specs.Prelude.{Tree, text, sequence, mapping, Elements, Members, IsRead, Refuses, ReadFault, Edit, import_as}
+use Rattle.conf_session.specs.{Prelude.{keys_are, edit_under}, Requests.{AreReadAs, IsFirstRefused}, SaidConditions.all_in, Said.Part}
+use Rattle.conf_session.specs.{Said.{plain, part_from}, declared.edits.EditsFault.{EditsFault, TheVariants.{Text, NoEdits, Import}}}
+use Rattle.{yaml_config.specs.Limits.config_limits, yaml_events.specs.declared.read_fault.ReadFault.TheVariants.OutOfMemory}
 
 -- ---- the elements of a list
 

@@ -1,22 +1,15 @@
 -- One group of a grouped session: the pieces that one read brought are performed, flushed and then answered.
-use Rattle.std.specs.Prelude.{◌≡◌, ◌≢◌, ◌⊎◌, ℕ, ◌+◌, ◌*◌, ◌<◌, ◌≤◌, true, false, List, [], ◌++◌, length, take, Option}
-use Rattle.std.specs.Prelude.{Some, None, Result, Ok, Err, All}
-use Rattle.conf_session.specs.Prelude.{Appends, Keeps, ClosesOnce, DiskModel, LeavesOnly, Command, Contents}
-use Rattle.conf_session.specs.Prelude.{MeansPrefix, AllImagesMean, HasFlushed, HasGrown, StoreView}
-use Rattle.conf_session.specs.{Said.piece_limit, declared.input.Input.Input, Requests.Request, Requests.Asks}
-use Rattle.conf_session.specs.{Runs.TakesUp, Runs.stored_of, declared.groups.Checkpoints.Checkpoints}
-use Rattle.conf_session.specs.{declared.groups.Checkpoints.TheVariants.Asked}
-use Rattle.conf_session.specs.{declared.groups.Checkpoints.TheVariants.After, declared.groups.Grouping.Grouping}
-use Rattle.conf_session.specs.{declared.reply.Reply.Reply}
-use Rattle.conf_session.specs.declared.groups.Grouping.TheVariants.{Each, Read}
-use Rattle.conf_session.specs.{declared.unwritten.Unwritten.Unwritten, declared.fault.SessionFault.SessionFault}
-use Rattle.conf_session.specs.Input.{IsSound, ahead, bytes_read, piece_or_rest, session_limit}
-use Rattle.conf_session.specs.Handings.{Handing, handed_bytes}
-use Rattle.conf_session.specs.Answers.{Stored, answer_limit, output, stored_after_all, accepted_commands, refusals}
-use Rattle.conf_session.specs.Replies.{DidAsked, MeansPrefixes, Performs, PerformsAll, Replies, accepts, refuses}
-use Rattle.conf_session.specs.Replies.{reply_bytes}
-use Rattle.conf_session.specs.Groups.{AreDue, Turn, all_asked, files_after_turns, files_of, requests_of}
-use Rattle.conf_session.specs.Groups.{stored_after_turns, turns_accepted}
+use Rattle.std.specs.Prelude.{◌≡◌, ◌≢◌, ◌⊎◌, ℕ, ◌+◌, ◌*◌, ◌<◌, ◌≤◌, true, false, List, [], ◌++◌, length, take, Option, Some, None, Result}
+use Rattle.std.specs.Prelude.{Ok, Err, All}
+use Rattle.conf_session.specs.Prelude.{Appends, Keeps, ClosesOnce, DiskModel, LeavesOnly, Command, Contents, MeansPrefix, AllImagesMean}
+use Rattle.conf_session.specs.{Prelude.{HasFlushed, HasGrown, StoreView}, Said.piece_limit, declared.input.Input.Input}
+use Rattle.conf_session.specs.declared.groups.{Checkpoints.{Checkpoints, TheVariants.{Asked, After}}, Grouping.{Grouping, TheVariants.Each}}
+use Rattle.conf_session.specs.declared.{groups.Grouping.TheVariants.Read, reply.Reply.Reply, unwritten.Unwritten.Unwritten}
+use Rattle.conf_session.specs.{declared.fault.SessionFault.SessionFault, Requests.{Request, Asks}, Runs.{TakesUp, stored_of}, Input.IsSound}
+use Rattle.conf_session.specs.{Input.{ahead, bytes_read, piece_or_rest, session_limit}, Handings.{Handing, handed_bytes}, Answers.Stored}
+use Rattle.conf_session.specs.{Answers.{answer_limit, output, stored_after_all, accepted_commands, refusals}, Replies.DidAsked}
+use Rattle.conf_session.specs.{Replies.{MeansPrefixes, Performs, PerformsAll, Replies, accepts, refuses, reply_bytes}, Groups.AreDue}
+use Rattle.conf_session.specs.Groups.{Turn, all_asked, files_after_turns, files_of, requests_of, stored_after_turns, turns_accepted}
 use Rattle.conf_session.specs.declared.fault.SessionFault.TheVariants as fault
 
 -- ---- answers that are not written yet

@@ -1,18 +1,14 @@
 -- What a grouped session has read, answered and stored, for each of its results.
 use Rattle.std.specs.Prelude.{◌≡◌, ◌≢◌, ◌⊎◌, ℕ, zero, ◌+◌, ◌-◌, ◌*◌, ◌<◌, ◌≤◌, false, List, [], ◌∷◌, ◌++◌, length, take, map, Option, Some}
 use Rattle.std.specs.Prelude.{None, unwrap_or, Result, Err}
-use Rattle.conf_session.specs.Prelude.{Consumes, Keeps, Appends, Folder, bytes_under, Image, IsImage, DiskModel}
-use Rattle.conf_session.specs.Prelude.{LeavesOnly, Store, base_bytes, Command, Contents, MeansPrefix, AllImagesMean}
-use Rattle.conf_session.specs.Prelude.{HasFlushed, staged_text, HasGrown, StoreView}
-use Rattle.conf_session.specs.{Requests.Request, declared.fault.SessionFault.SessionFault}
-use Rattle.conf_session.specs.{declared.groups.Checkpoints.Checkpoints, declared.session.Tally.Tally, Streams.Streams}
-use Rattle.conf_session.specs.{declared.groups.Grouping.Grouping}
-use Rattle.conf_session.specs.Handings.{Handings, HoldsSince, taken_in}
-use Rattle.conf_session.specs.declared.groups.Grouping.TheVariants.{Each, Read}
-use Rattle.conf_session.specs.Answers.{Stored, answer_bytes, answer_limit, stored_after, file_after, staged_after}
-use Rattle.conf_session.specs.Answers.{accepted_command, refused_of}
-use Rattle.conf_session.specs.Runs.{AfterAtLeast, BeginsWith, EndsAnswered, EndsEarly, Runs, stored_of}
-use Rattle.conf_session.specs.declared.groups.Checkpoints.TheVariants.{Asked, After}
+use Rattle.conf_session.specs.Prelude.{Consumes, Keeps, Appends, Folder, bytes_under, Image, IsImage, DiskModel, LeavesOnly, Store}
+use Rattle.conf_session.specs.Prelude.{base_bytes, Command, Contents, MeansPrefix, AllImagesMean, HasFlushed, staged_text, HasGrown}
+use Rattle.conf_session.specs.{Prelude.StoreView, Requests.Request, declared.fault.SessionFault.SessionFault}
+use Rattle.conf_session.specs.declared.groups.{Checkpoints.{Checkpoints, TheVariants.{Asked, After}}, Grouping.{Grouping, TheVariants.Each}}
+use Rattle.conf_session.specs.{declared.{groups.Grouping.TheVariants.Read, session.Tally.Tally}, Streams.Streams, Handings.Handings}
+use Rattle.conf_session.specs.{Handings.{HoldsSince, taken_in}, Answers.{Stored, answer_bytes, answer_limit, stored_after, file_after}}
+use Rattle.conf_session.specs.{Answers.{staged_after, accepted_command, refused_of}, Runs.{AfterAtLeast, BeginsWith, EndsAnswered}}
+use Rattle.conf_session.specs.Runs.{EndsEarly, Runs, stored_of}
 use Rattle.conf_session.specs.declared.fault.SessionFault.TheVariants as fault
 
 -- ---- turns

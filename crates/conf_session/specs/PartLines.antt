@@ -1,9 +1,7 @@
 -- The texts of a part, as they were cut from its lines. They are bytes, and mean characters.
-use Rattle.std.specs.Prelude.{List, ℕ}
-use Rattle.conf_session.specs.Prelude.{chars, text, set_at, delete_at}
-use Rattle.std.specs.Borrow.{Bor}
+use Rattle.std.specs.{Prelude.{List, ℕ}, Borrow.Bor}
+use Rattle.conf_session.specs.{Prelude.{chars, text, set_at, delete_at}, Said.{Part, import_text, plain}}
 use Rattle.conf_record.specs.declared.edit_members.EditMembers.{EditMembers}
-use Rattle.conf_session.specs.Said.{Part, import_text, plain}
 use Rattle.conf_record.specs.declared.edit_members.EditMembers.TheVariants as cut
 
 -- the part with these texts

@@ -1,8 +1,7 @@
 -- A command that changes configurations, once its texts are read.
 use Rattle.std.specs.Prelude.{◌≡◌, true, List, Result, Ok, Err, IfErr, is_ok}
-use Rattle.conf_session.specs.Prelude.{command_of, StoreFault, Condition}
-use Rattle.conf_session.specs.{declared.fault.SessionFault.TheVariants.OutOfMemory, Answers.answered}
-use Rattle.conf_session.specs.Requests.{Request, changing, unread, if_met}
+use Rattle.conf_session.specs.{Prelude.{command_of, StoreFault, Condition}, declared.fault.SessionFault.TheVariants.OutOfMemory}
+use Rattle.conf_session.specs.{Answers.answered, Requests.{Request, changing, unread, if_met}}
 use Rattle.conf_state.specs.declared.command.Command as code
 
 -- this is the request: the command, or the answered reason why there is none

@@ -1,18 +1,12 @@
 -- What the code's requests and replies are, and what one request does.
-use Rattle.std.specs.Prelude.{◌≡◌, ◌≤◌, ℕ, true, false, List, [], ◌∷◌, ◌++◌, length, string_bytes, Result, Ok}
-use Rattle.std.specs.Prelude.{Err, IsErrOf}
-use Rattle.conf_session.specs.Prelude.{framed_text_bytes, Folder, bytes_under, DiskModel, LeavesOnly, Store, Command}
-use Rattle.conf_session.specs.Prelude.{Contents, HasFailed, MeansPrefix, HasFlushed, AllImagesAfterPrefix, staged_text}
-use Rattle.conf_session.specs.Prelude.{StoreView, StoreFault, ConditionFault}
-use Rattle.conf_session.specs.{declared.fault.SessionFault.SessionFault, Runs.stored_of, declared.words.Refusal.Refusal}
-use Rattle.conf_session.specs.{declared.reply.Reply.Reply}
-use Rattle.conf_session.specs.declared.fault.SessionFault.TheVariants.{OutOfMemory, Device}
-use Rattle.conf_session.specs.Requests.{Request, changing, checkpointing, if_met}
-use Rattle.conf_session.specs.Answers.{Stored, answered, condition_answered, answer_bytes, answer_limit, refusal, word}
-use Rattle.conf_session.specs.Answers.{stored_after, file_after, staged_after, accepted_command, refused_of}
-use Rattle.conf_session.specs.Answers.{flushed_after, waiting_after, stored_after_all, file_after_all, staged_after_all}
-use Rattle.conf_session.specs.Answers.{accepted_commands}
-use Rattle.conf_session.specs.declared.reply.Reply.TheVariants.{Accepted, Done, Refused}
+use Rattle.std.specs.Prelude.{◌≡◌, ◌≤◌, ℕ, true, false, List, [], ◌∷◌, ◌++◌, length, string_bytes, Result, Ok, Err, IsErrOf}
+use Rattle.conf_session.specs.Prelude.{framed_text_bytes, Folder, bytes_under, DiskModel, LeavesOnly, Store, Command, Contents, HasFailed}
+use Rattle.conf_session.specs.Prelude.{MeansPrefix, HasFlushed, AllImagesAfterPrefix, staged_text, StoreView, StoreFault, ConditionFault}
+use Rattle.conf_session.specs.declared.{fault.SessionFault.{SessionFault, TheVariants.{OutOfMemory, Device}}, words.Refusal.Refusal}
+use Rattle.conf_session.specs.{declared.reply.Reply.{Reply, TheVariants.{Accepted, Done, Refused}}, Runs.stored_of, Requests.Request}
+use Rattle.conf_session.specs.{Requests.{changing, checkpointing, if_met}, Answers.{Stored, answered, condition_answered, answer_bytes}}
+use Rattle.conf_session.specs.Answers.{answer_limit, refusal, word, stored_after, file_after, staged_after, accepted_command, refused_of}
+use Rattle.conf_session.specs.Answers.{flushed_after, waiting_after, stored_after_all, file_after_all, staged_after_all, accepted_commands}
 use Rattle.conf_state.specs.declared.command.Command as code_command
 
 -- a request that changes nothing

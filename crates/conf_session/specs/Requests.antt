@@ -1,12 +1,9 @@
 -- What the pieces of a session ask for. Each piece is one request; a piece that is no command is a bad one.
 use Rattle.std.specs.Prelude.{◌≡◌, ◌≢◌, ◌⊎◌, List, [], ◌∷◌, ◌++◌, ℕ, encode_utf8_all}
-use Rattle.conf_session.specs.Prelude.{Gives, Tree, Refuses, ReadFault, Edit, Command, import_as, single, batch}
-use Rattle.conf_session.specs.Prelude.{StoreFault, Condition}
-use Rattle.yaml_config.specs.Limits.{config_limits}
-use Rattle.conf_state.specs.declared.fault.StoreFault.TheVariants.{Read, OutOfMemory}
-use Rattle.conf_store.specs.Imports.{IsImportOf, RefusesText}
-use Rattle.conf_session.specs.Said.{Part, import_text, plain, Said, Says, single_part, batch_of_parts, get_at}
-use Rattle.conf_session.specs.Said.{export_of, all_names, checkpoint_now, conditional, nothing}
+use Rattle.conf_session.specs.Prelude.{Gives, Tree, Refuses, ReadFault, Edit, Command, import_as, single, batch, StoreFault, Condition}
+use Rattle.conf_session.specs.Said.{Part, import_text, plain, Said, Says, single_part, batch_of_parts, get_at, export_of, all_names}
+use Rattle.{conf_session.specs.Said.{checkpoint_now, conditional, nothing}, yaml_config.specs.Limits.config_limits}
+use Rattle.{conf_state.specs.declared.fault.StoreFault.TheVariants.{Read, OutOfMemory}, conf_store.specs.Imports.{IsImportOf, RefusesText}}
 use Rattle.yaml_events.specs.declared.read_fault.ReadFault.TheVariants as read
 
 -- What a document says, with the texts of imports read, or with the reason why there is no command to perform. With

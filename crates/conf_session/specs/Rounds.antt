@@ -1,15 +1,12 @@
 -- What a round has answered and stored, for each of its results.
 use Rattle.std.specs.Prelude.{◌≡◌, ◌⊎◌, ℕ, ◌+◌, ◌-◌, ◌<◌, false, true, List, [], ◌∷◌, ◌++◌, length, take, map, Result, Ok, Err}
+use Rattle.std.specs.declared.{vec.Vec.Vec, alloc.Global.Global}
 use Rattle.conf_session.specs.Prelude.{ClosesOnce, bytes_under, Image, IsImage, DiskModel, LeavesOnly, Store, Command, Contents}
-use Rattle.conf_session.specs.Prelude.{MeansPrefix, AllImagesMean, HasFlushed, staged_text, StoreView}
-use Rattle.std.specs.declared.vec.Vec.{Vec}
-use Rattle.std.specs.declared.alloc.Global.{Global}
-use Rattle.conf_session.specs.Answers.{answer_bytes as answer_to}
-use Rattle.conf_session.specs.{Runs.AfterAtLeast, Runs.stored_of, Replies.Performs, declared.fault.SessionFault.SessionFault}
-use Rattle.conf_session.specs.{declared.rounds.Piece.Piece, declared.rounds.RoundFault.RoundFault}
-use Rattle.conf_session.specs.Requests.{Request, bad, Asks}
+use Rattle.conf_session.specs.{Prelude.{MeansPrefix, AllImagesMean, HasFlushed, staged_text, StoreView}, Answers.answer_bytes as answer_to}
 use Rattle.conf_session.specs.Answers.{Stored, answers, stored_after_all, file_after_all, staged_after_all, accepted_commands}
-use Rattle.conf_session.specs.Answers.{flushed_after, waiting_after}
+use Rattle.conf_session.specs.{Answers.{flushed_after, waiting_after}, Runs.{AfterAtLeast, stored_of}, Replies.Performs}
+use Rattle.conf_session.specs.{declared.{fault.SessionFault.SessionFault, rounds.{Piece.Piece, RoundFault.RoundFault}}, Requests.Request}
+use Rattle.conf_session.specs.Requests.{bad, Asks}
 use Rattle.conf_session.specs.declared.fault.SessionFault.TheVariants as session
 use Rattle.conf_session.specs.declared.rounds.RoundFault.TheVariants as fault
 

@@ -1,17 +1,12 @@
 -- What a run of a session has read, answered and stored, for each of its results.
-use Rattle.std.specs.Prelude.{◌≡◌, ℕ, ◌+◌, ◌*◌, ◌<◌, ◌≤◌, true, false, List, [], ◌∷◌, ◌++◌, length, take}
-use Rattle.std.specs.Prelude.{option_map, Result, Ok, Err, All}
-use Rattle.conf_session.specs.Prelude.{concat, Consumes, IsAtEnd, Keeps, Appends, ClosesOnce, Pieces, bytes_under}
-use Rattle.conf_session.specs.Prelude.{Image, IsImage, DiskModel, LeavesOnly, Store, Command, Contents, after}
-use Rattle.conf_session.specs.Prelude.{MeansPrefix, HasFlushed, staged_text, StoreView}
-use Rattle.conf_store.specs.Meaning.{ImageMeans}
-use Rattle.conf_store.specs.Staged.{Staged}
-use Rattle.conf_session.specs.{Said.piece_limit, Input.session_limit, Input.IsOverlong}
-use Rattle.conf_session.specs.{declared.fault.SessionFault.SessionFault, Requests.Request, Requests.AllAsk}
-use Rattle.conf_session.specs.{declared.session.Tally.Tally, Streams.Streams}
-use Rattle.conf_session.specs.Handings.{Handings, HoldsSince, accepted_within, taken_in}
-use Rattle.conf_session.specs.Answers.{Stored, answer_limit, output, stored_after_all, file_after_all, staged_after_all}
-use Rattle.conf_session.specs.Answers.{accepted_commands, refusals, flushed_after, waiting_after, acknowledged}
+use Rattle.std.specs.Prelude.{◌≡◌, ℕ, ◌+◌, ◌*◌, ◌<◌, ◌≤◌, true, false, List, [], ◌∷◌, ◌++◌, length, take, option_map, Result, Ok, Err, All}
+use Rattle.conf_session.specs.Prelude.{concat, Consumes, IsAtEnd, Keeps, Appends, ClosesOnce, Pieces, bytes_under, Image, IsImage}
+use Rattle.conf_session.specs.Prelude.{DiskModel, LeavesOnly, Store, Command, Contents, after, MeansPrefix, HasFlushed, staged_text}
+use Rattle.conf_session.specs.{Prelude.StoreView, Said.piece_limit, Input.{session_limit, IsOverlong}}
+use Rattle.conf_session.specs.{declared.{fault.SessionFault.SessionFault, session.Tally.Tally}, Requests.{Request, AllAsk}, Streams.Streams}
+use Rattle.conf_session.specs.{Handings.{Handings, HoldsSince, accepted_within, taken_in}, Answers.{Stored, answer_limit, output}}
+use Rattle.conf_session.specs.Answers.{stored_after_all, file_after_all, staged_after_all, accepted_commands, refusals, flushed_after}
+use Rattle.{conf_session.specs.Answers.{waiting_after, acknowledged}, conf_store.specs.{Meaning.ImageMeans, Staged.Staged}}
 use Rattle.conf_session.specs.declared.fault.SessionFault.TheVariants as fault
 
 -- the state of a store, the length of its file, and that of the new file of a running checkpoint

@@ -1,12 +1,10 @@
 -- What the pieces of a session say. Each piece is one command document; a piece that is none says nothing.
-use Rattle.std.specs.Prelude.{◌≡◌, ◌≢◌, ◌⊎◌, ℕ, Bool, true, false, List, [], ◌∷◌, codes, map, Option, Some, None}
-use Rattle.std.specs.Prelude.{option_and_then, if◌then◌else◌}
-use Rattle.conf_session.specs.Prelude.{chars, same_text, Tree, text, sequence, mapping, Elements}
-use Rattle.conf_session.specs.Prelude.{Members, no_member, member, Limits, text_bytes, own_limits, IsRead, Refuses}
-use Rattle.conf_session.specs.Prelude.{ReadFault, Edit, import_as, edit_of, keys_are, values, edit_under, Condition}
-use Rattle.conf_session.specs.Prelude.{conditions_of}
+use Rattle.std.specs.Prelude.{◌≡◌, ◌≢◌, ◌⊎◌, ℕ, Bool, true, false, List, [], ◌∷◌, codes, map, Option, Some, None, option_and_then}
+use Rattle.std.specs.Prelude.{if◌then◌else◌}
+use Rattle.conf_session.specs.Prelude.{chars, same_text, Tree, text, sequence, mapping, Elements, Members, no_member, member, Limits}
+use Rattle.conf_session.specs.Prelude.{text_bytes, own_limits, IsRead, Refuses, ReadFault, Edit, import_as, edit_of, keys_are, values}
+use Rattle.conf_session.specs.{Prelude.{edit_under, Condition, conditions_of}, SaidConditions.{all_in, conditions_in}}
 use Rattle.yaml_events.specs.declared.read_fault.ReadFault.TheVariants.{OutOfMemory}
-use Rattle.conf_session.specs.SaidConditions.{all_in, conditions_in}
 use Rattle.conf_session.specs.declared.parts.Part as code_part
 use Rattle.conf_session.specs.declared.parts.Part.TheVariants as code_parts
 use Rattle.conf_session.specs.declared.said.Change as code_change

@@ -1,8 +1,7 @@
 -- The conditions of a command, as its document has them under `if`.
 use Rattle.std.specs.Prelude.{ℕ, List, [], ◌∷◌, codes, Option, Some, None, option_map, if◌then◌else◌}
-use Rattle.conf_session.specs.Prelude.{chars, Tree, text, sequence, mapping, Elements, no_element, element, Members}
-use Rattle.conf_session.specs.Prelude.{IsKept, tree_of, text_bytes, keys_are, values, number_from_digits, Condition}
-use Rattle.conf_session.specs.Prelude.{test_at, absent_at, count_is}
+use Rattle.conf_session.specs.Prelude.{chars, Tree, text, sequence, mapping, Elements, no_element, element, Members, IsKept, tree_of}
+use Rattle.conf_session.specs.Prelude.{text_bytes, keys_are, values, number_from_digits, Condition, test_at, absent_at, count_is}
 use Rattle.conf_session.specs.declared.conditions.Members as code
 use Rattle.conf_session.specs.declared.conditions.Members.TheVariants as read
 

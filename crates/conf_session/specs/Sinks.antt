@@ -1,9 +1,8 @@
 -- What holds of answers when they are handed out.
 use Rattle.std.specs.Prelude.{◌≡◌, ℕ, false, List, [], ◌++◌, length, Option}
-use Rattle.conf_session.specs.Prelude.{Appends, Image, IsImage, DiskModel, LeavesOnly, Command, MeansPrefix}
-use Rattle.conf_session.specs.Prelude.{AllImagesMean, HasFlushed, StoreView}
-use Rattle.conf_session.specs.{Answers.Stored, Runs.AfterAtLeast, Runs.stored_of}
-use Rattle.conf_session.specs.Groups.{Turn, stored_after_turns, turns_accepted, turns_output}
+use Rattle.conf_session.specs.Prelude.{Appends, Image, IsImage, DiskModel, LeavesOnly, Command, MeansPrefix, AllImagesMean, HasFlushed}
+use Rattle.conf_session.specs.{Prelude.StoreView, Answers.Stored, Runs.{AfterAtLeast, stored_of}, Groups.{Turn, stored_after_turns}}
+use Rattle.conf_session.specs.Groups.{turns_accepted, turns_output}
 
 -- A sink has taken the answers to some turns, from `start` on, after what it held before. The store holds what is
 -- stored after them.

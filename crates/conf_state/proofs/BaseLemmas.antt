@@ -1,15 +1,12 @@
 -- The length of a base text: what is around the configurations, and each of them.
 use Rattle.std.proofs.Common.{◌≡◌, ℕ, ◌+◌, ◌<◌, ◌≤◌, ◌^◌, Bool, true, false, ◌==◌, if◌then◌else◌, List, [], ◌∷◌, ◌++◌, length, codes}
-use Rattle.std.proofs.Common.{decimal, refl, ap, ap₂, ◌∙◌, arith}
+use Rattle.std.{proofs.{Common.{decimal, refl, ap, ap₂, ◌∙◌, arith}, lemmas.Str.Parse.tells_digits}, specs.Char.len_utf8}
 use Rattle.conf_state.proofs.Prelude.{nat_tests, decimal_is_IsNumeral_wide, AllDigits, byte_len, spaces, Tree, mapping, letter}
 use Rattle.conf_state.proofs.Prelude.{plain_in_style, literal_in_style, quoted_char, quoted_chars, in_double_quotes, scalar_lines}
 use Rattle.conf_state.proofs.Prelude.{literal_mark, literal_lines, feeds_at_end, key_lines, value_at, members_after, style_text}
-use Rattle.conf_state.proofs.Prelude.{byte_len-append}
-use Rattle.std.proofs.lemmas.Str.Parse.{tells_digits}
-use Rattle.std.specs.Char.{len_utf8}
+use Rattle.conf_state.{proofs.Prelude.byte_len-append, specs.{States.{Entry, Contents, base_limit, count_limit}, BaseTexts.members}}
+use Rattle.conf_state.specs.BaseTexts.{base_tree, base_text, base_length, entry_lines, entry_length, entries_length, framed_length}
 use Rattle.yaml_chars.specs.Classes.{in_range, is_in}
-use Rattle.conf_state.specs.States.{Entry, Contents, base_limit, count_limit}
-use Rattle.conf_state.specs.BaseTexts.{members, base_tree, base_text, base_length, entry_lines, entry_length, entries_length, framed_length}
 
 -- ---- in double quotes each digit means itself
 

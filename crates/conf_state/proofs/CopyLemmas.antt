@@ -1,12 +1,10 @@
 -- A copy of configurations, made one by one.
 use Rattle.std.proofs.Common.{◌≡◌, true, List, [], ◌∷◌, ◌++◌, String, Global, None, string_bytes, IsAscii, append_assoc, sym, ap, subst}
 use Rattle.std.proofs.Common.{◌∙◌}
-use Rattle.conf_state.proofs.Prelude.{IsUtf8-string_bytes, chars, tree_of}
+use Rattle.conf_state.proofs.{Prelude.{IsUtf8-string_bytes, chars, tree_of}, EntryLemmas.{put_under-named, plain_put_under}}
+use Rattle.conf_state.{proofs.{PartLemmas.{put_absent, twice}, PlaceLemmas.none_of}, specs.{Commands.text_of, Configs.put_under}}
+use Rattle.conf_state.specs.{Kept.{entries_of, ArePlain}, States.{Entry, config_named, put_config, names_of, names_differ}}
 use Rattle.yaml_data.specs.declared.tree.Tree.{Tree}
-use Rattle.conf_state.specs.{Commands.text_of, Configs.put_under, Kept.entries_of, Kept.ArePlain}
-use Rattle.conf_state.specs.States.{Entry, config_named, put_config, names_of, names_differ}
-use Rattle.conf_state.proofs.{EntryLemmas.put_under-named, EntryLemmas.plain_put_under, PartLemmas.put_absent, PartLemmas.twice}
-use Rattle.conf_state.proofs.{PlaceLemmas.none_of}
 
 -- one more configuration is copied, under a name that is not among those before
 pub copied_more : (all : List Entry) (done : List (String Global × Tree)) (key name : String Global)

@@ -1,13 +1,10 @@
 -- When a state has room for one command more.
 use Rattle.std.proofs.Common.{◌≡◌, ℕ, ◌+◌, ◌<◌, ◌≤◌, ◌^◌, Bool, true, false, min, nat_le, nat_lt, if◌then◌else◌, List, Result, Ok, Err}
 use Rattle.std.proofs.Common.{refl, ap, sym, ◌∙◌, arith}
-use Rattle.conf_state.proofs.Prelude.{nat_tests}
-use Rattle.conf_state.specs.{Steps.with_room, Steps.next_state, declared.fault.StoreFault.StoreFault, declared.room.Room.Room}
-use Rattle.conf_state.specs.States.{Entry, Contents, base_limit, count_limit}
-use Rattle.conf_state.specs.BaseTexts.{base_length, framed_length, entries_length}
-use Rattle.conf_state.specs.declared.fault.StoreFault.TheVariants.{StoreFull, RecordLong, JournalLong, CountFull}
-use Rattle.conf_state.specs.declared.room.Room.TheVariants.{Enough, LongRecord, Missing}
-use Rattle.conf_state.proofs.BaseLemmas.{base_length-framed}
+use Rattle.conf_state.{proofs.{Prelude.nat_tests, BaseLemmas.base_length-framed}, specs.Steps.{with_room, next_state}}
+use Rattle.conf_state.specs.declared.fault.StoreFault.{StoreFault, TheVariants.{StoreFull, RecordLong, JournalLong, CountFull}}
+use Rattle.conf_state.specs.{declared.room.Room.{Room, TheVariants.{Enough, LongRecord, Missing}}, States.{Entry, Contents, base_limit}}
+use Rattle.conf_state.specs.{States.count_limit, BaseTexts.{base_length, framed_length, entries_length}}
 
 -- a smaller number passes the test
 pub lt-true : (a b : ℕ) → a < b → nat_lt a b ≡ true

@@ -2,16 +2,13 @@
 use Rattle.std.proofs.Common.{◌≡◌, ℕ, true, List, String, Global, Option, Some, None, option_map, is_some, string_bytes, MutBor, OnSome, Ok}
 use Rattle.std.proofs.Common.{sym, ap, subst, ◌∙◌}
 use Rattle.conf_state.proofs.Prelude.{IsUtf8-string_bytes, lookup, set_value, option_copied_mut, chars, Good, tree_of, Changes}
-use Rattle.conf_state.proofs.Prelude.{config_limits, Change}
-use Rattle.yaml_data.specs.declared.tree.Tree.{Tree}
+use Rattle.conf_state.proofs.{Prelude.{config_limits, Change}, DraftSteps.{put-made, put-kept}, EditLemmas.found-good}
+use Rattle.conf_state.proofs.{NameLemmas.good_name-ascii, OriginLemmas.{held-there, not-held, drafted-within}, PlanningLemmas.edit-made}
+use Rattle.conf_state.{proofs.EntryLemmas.{set_value-named, plain_set_value, put_under-named, plain_put_under}, specs.Commands.text_of}
+use Rattle.conf_state.specs.{Configs.{is_name, put_under}, Edits.{configs_edited, edited_at}, Kept.{entries_of, ArePlain}, Names.good_name}
+use Rattle.conf_state.specs.{declared.draft.Draft.Draft, Drafts.{cut_all, texts_of, drafted, ChangesOne, IsDraft, IsDraftOf}, States.Entry}
+use Rattle.{conf_state.specs.States.{config_named, put_config}, yaml_data.specs.declared.tree.Tree.Tree}
 use Rattle.yaml_config.specs.declared.edit.Edit.{Edit as PathEdit}
-use Rattle.conf_state.specs.{Commands.text_of, Configs.is_name, Configs.put_under, Edits.configs_edited, Edits.edited_at, Kept.entries_of}
-use Rattle.conf_state.specs.{Kept.ArePlain, Names.good_name, declared.draft.Draft.Draft}
-use Rattle.conf_state.specs.Drafts.{cut_all, texts_of, drafted, ChangesOne, IsDraft, IsDraftOf}
-use Rattle.conf_state.specs.States.{Entry, config_named, put_config}
-use Rattle.conf_state.proofs.{DraftSteps.put-made, DraftSteps.put-kept, EditLemmas.found-good, NameLemmas.good_name-ascii}
-use Rattle.conf_state.proofs.{OriginLemmas.held-there, OriginLemmas.not-held, OriginLemmas.drafted-within, PlanningLemmas.edit-made}
-use Rattle.conf_state.proofs.EntryLemmas.{set_value-named, plain_set_value, put_under-named, plain_put_under}
 use Rattle.yaml_grammar.specs.Trees as grammar
 
 -- what a draft holds once a tree is under a name

@@ -1,10 +1,9 @@
 -- Configurations that are removed and put in one after the other.
 use Rattle.std.proofs.Common.{◌≡◌, ℕ, Bool, true, false, not, ◌||◌, if◌then◌else◌, List, [], ◌∷◌, ◌++◌, Some, None, is_some, refl, sym, ap}
 use Rattle.std.proofs.Common.{◌∙◌}
-use Rattle.conf_state.proofs.Prelude.{and_parts, and_from, same_text, Tree, same_text-true, same_text-self}
-use Rattle.conf_state.specs.Drafts.{cut_all, put_all}
-use Rattle.conf_state.specs.States.{Entry, names_of, config_named, put_config, cut_config, has_name, names_differ}
-use Rattle.conf_state.proofs.{LimitLemmas.names_differ-cut, LimitLemmas.other_way, PlaceLemmas.is_none}
+use Rattle.conf_state.proofs.{Prelude.{and_parts, and_from, same_text, Tree, same_text-true, same_text-self}, LimitLemmas.names_differ-cut}
+use Rattle.conf_state.{proofs.{LimitLemmas.other_way, PlaceLemmas.is_none}, specs.{Drafts.{cut_all, put_all}, States.{Entry, names_of}}}
+use Rattle.conf_state.specs.States.{config_named, put_config, cut_config, has_name, names_differ}
 
 -- ---- names
 

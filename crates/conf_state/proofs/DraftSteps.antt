@@ -2,15 +2,13 @@
 use Rattle.std.proofs.Common.{◌≡◌, ℕ, Bool, true, false, ◌||◌, if◌then◌else◌, List, [], ◌∷◌, ◌++◌, String, Global, string_bytes, IsUtf8}
 use Rattle.std.proofs.Common.{refl, sym, ap, subst, ◌∙◌}
 use Rattle.conf_state.proofs.Prelude.{IsUtf8-string_bytes, list_any, chars, string_eq, Good, same_text, config_limits}
-use Rattle.indexmap.specs.IndexSet.{insert_key}
-use Rattle.yaml_data.specs.declared.tree.Tree.{Tree}
-use Rattle.conf_state.specs.{Commands.text_of, Configs.is_name, Configs.cut_from, Kept.entries_of, Kept.ArePlain, Limits.AreConfigs}
-use Rattle.conf_state.specs.{Names.good_name, declared.draft.Draft.Draft}
-use Rattle.conf_state.specs.Drafts.{cut_all, put_all, texts_of, drafted, IsDraft}
-use Rattle.conf_state.specs.States.{Entry, names_of, put_config, cut_config, has_name, names_differ}
 use Rattle.conf_state.proofs.DraftLemmas.{put_all-put, cut-put_all, cut-none, cut_all-append, named-cut_all-gone, names_differ-push}
-use Rattle.conf_state.proofs.EntryLemmas.{same_key, cut_from-named, plain_cut_from}
-use Rattle.conf_state.proofs.LimitLemmas.{names_differ-put, names_differ-cut, AreConfigs-put, AreConfigs-cut}
+use Rattle.conf_state.proofs.{EntryLemmas.{same_key, cut_from-named, plain_cut_from}, LimitLemmas.{names_differ-put, names_differ-cut}}
+use Rattle.conf_state.{proofs.LimitLemmas.{AreConfigs-put, AreConfigs-cut}, specs.{Commands.text_of, Configs.{is_name, cut_from}}}
+use Rattle.conf_state.specs.{Kept.{entries_of, ArePlain}, Limits.AreConfigs, Names.good_name, declared.draft.Draft.Draft, Drafts.cut_all}
+use Rattle.conf_state.specs.{Drafts.{put_all, texts_of, drafted, IsDraft}, States.{Entry, names_of, put_config, cut_config, has_name}}
+use Rattle.{conf_state.specs.States.names_differ, yaml_data.specs.declared.tree.Tree.Tree}
+use Rattle.indexmap.specs.IndexSet.{insert_key}
 use Rattle.yaml_grammar.specs.Trees as grammar
 
 -- ---- removed names

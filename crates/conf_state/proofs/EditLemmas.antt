@@ -5,18 +5,14 @@ use Rattle.std.proofs.Common.{subst, ◌∙◌, arith}
 use Rattle.conf_state.proofs.Prelude.{nat_tests, lookup, chars, Good, byte_len, spaces, same_text, depth, style_text, key_lines, value_at}
 use Rattle.conf_state.proofs.Prelude.{byte_len-append, same_text-true, tree_of, length_at, Changes, path_of, pointer_text, slash}
 use Rattle.conf_state.proofs.Prelude.{first_stray, tokens_or_place, chars-nil, encodes-chars, Change, PathFault, config_limits, Edit}
-use Rattle.yaml_data.specs.declared.tree.Tree.{Tree}
-use Rattle.yaml_writer.proofs.SizeLaws.{value_law}
-use Rattle.yaml_writer.proofs.SizeBounds.{value_bound, value_small}
+use Rattle.{yaml_data.specs.declared.tree.Tree.Tree, yaml_writer.proofs.{SizeLaws.value_law, SizeBounds.{value_bound, value_small}}}
 use lib.Utf8.{encodes}
-use Rattle.yaml_config.specs.declared.edit.Edit.TheVariants.{Delete}
-use Rattle.conf_state.specs.{Configs.is_name, BaseTexts.entry_length, BaseTexts.entries_length, Edits.configs_with_edit}
-use Rattle.conf_state.specs.{Edits.configs_after_edit, Edits.configs_edited, Edits.absence, Kept.entries_of, Kept.ArePlain, Names.good_name}
-use Rattle.conf_state.specs.{Limits.AreConfigs, PathFaults.store_fault_of, States.Entry, States.base_limit, States.config_named}
-use Rattle.conf_state.specs.{States.put_config, States.cut_config, Steps.and_then, Steps.by_path, Steps.found, Steps.configs_after}
+use Rattle.{yaml_config.specs.declared.edit.Edit.TheVariants.Delete, conf_state.specs.{Configs.is_name, BaseTexts.entry_length}}
+use Rattle.conf_state.specs.{BaseTexts.entries_length, Edits.{configs_with_edit, configs_after_edit, configs_edited, absence}}
+use Rattle.conf_state.specs.{Kept.{entries_of, ArePlain}, Names.good_name, Limits.AreConfigs, PathFaults.store_fault_of, States.Entry}
+use Rattle.conf_state.specs.{States.{base_limit, config_named, put_config, cut_config}, Steps.{and_then, by_path, found, configs_after}}
 use Rattle.conf_state.specs.{Steps.configs_after_delete, Commands.delete_at, declared.fault.StoreFault.TheVariants.OutOfMemory}
-use Rattle.conf_state.proofs.{EntryLemmas.lookup-named, StepLemmas.by_absence}
-use Rattle.conf_state.proofs.LimitLemmas.{entries_length-found, entries_length-put}
+use Rattle.conf_state.proofs.{EntryLemmas.lookup-named, StepLemmas.by_absence, LimitLemmas.{entries_length-found, entries_length-put}}
 use Rattle.yaml_grammar.specs.Trees as grammar
 use Rattle.json_pointer.specs.declared.fault.PathFault.TheVariants as path_faults
 

@@ -1,12 +1,10 @@
 -- What the map's calls do to a state's configurations.
 use Rattle.std.proofs.Common.{◌≡◌, ℕ, Bool, true, false, cond, if◌then◌else◌, List, [], ◌∷◌, String, Global, Option, Some, option_map}
-use Rattle.std.proofs.Common.{string_bytes, bytes_eq, IsUtf8, IsAscii, encode_utf8_all, refl, sym, ap, ◌∙◌}
+use Rattle.std.{proofs.Common.{string_bytes, bytes_eq, IsUtf8, IsAscii, encode_utf8_all, refl, sym, ap, ◌∙◌}, specs.Bool.Decides}
 use Rattle.conf_state.proofs.Prelude.{same_from_decides, bytes_eq-Decides, encodes-chars, IsUtf8-string_bytes, lookup, set_value, chars}
-use Rattle.conf_state.proofs.Prelude.{same_text, tree_of, same_text-Decides}
-use Rattle.std.specs.Bool.{Decides}
+use Rattle.conf_state.{proofs.Prelude.{same_text, tree_of, same_text-Decides}, specs.Configs.{is_name, put_under, cut_from}}
+use Rattle.conf_state.specs.{Kept.{entries_of, ArePlain}, States.{Entry, config_named, put_config, cut_config}}
 use Rattle.yaml_data.specs.declared.tree.Tree.{Tree}
-use Rattle.conf_state.specs.{Configs.is_name, Configs.put_under, Configs.cut_from, Kept.entries_of, Kept.ArePlain}
-use Rattle.conf_state.specs.States.{Entry, config_named, put_config, cut_config}
 use Rattle.yaml_grammar.specs.Trees as grammar
 
 -- texts that differ differ in a character

@@ -1,9 +1,8 @@
 -- The length of a configuration's lines in a base text, and what an edit leaves of the others.
 use Rattle.std.proofs.Common.{◌≡◌, ℕ, min, List, Some, sym, ap, ◌∙◌, arith}
-use Rattle.conf_state.proofs.Prelude.{byte_len, Tree}
-use Rattle.conf_state.specs.{States.Contents, States.config_named, BaseTexts.entry_length, Limits.IsState, EntryTexts.lines_if_there}
-use Rattle.conf_state.specs.{EntryTexts.entry_named}
-use Rattle.conf_state.proofs.{BaseLemmas.entries_length-short, LimitLemmas.entries_length-found}
+use Rattle.conf_state.proofs.{Prelude.{byte_len, Tree}, BaseLemmas.entries_length-short, LimitLemmas.entries_length-found}
+use Rattle.conf_state.specs.{States.{Contents, config_named}, BaseTexts.entry_length, Limits.IsState, EntryTexts.lines_if_there}
+use Rattle.conf_state.specs.EntryTexts.{entry_named}
 
 -- the length of a configuration's lines is within any count of bytes
 pub entry-exact : (s : Contents) (name : List ℕ) (t : Tree) → IsState s → config_named s.configs name ≡ Some t

@@ -1,8 +1,7 @@
 -- The lines of a document, as they are written one after another.
 use Rattle.std.proofs.Common.{◌≡◌, ℕ, ◌<◌, true, nat_lt, List, [], ◌++◌, codes, append-nil, append_assoc, ap, sym, ◌∙◌, arith}
 use Rattle.conf_state.proofs.Prelude.{nat_tests, chars-IsAscii, chars, AllDigits, list_all, Tree, text, no_member, member, key_lines}
-use Rattle.conf_state.proofs.Prelude.{value_at, members_after, every-IsAscii}
-use Rattle.conf_state.proofs.BaseLemmas.{count_line}
+use Rattle.conf_state.proofs.{Prelude.{value_at, members_after, every-IsAscii}, BaseLemmas.count_line}
 
 -- ASCII, by a test that computes
 pub ascii : (cs : List ℕ) → list_all (λ c. nat_lt c 128) cs ≡ true → chars cs ≡ cs

@@ -1,10 +1,9 @@
 -- The names of what a draft makes of configurations.
 use Rattle.std.proofs.Common.{◌≡◌, ℕ, Bool, true, false, not, ◌||◌, if◌then◌else◌, List, [], ◌∷◌, ◌++◌, append-nil, append_assoc, String}
 use Rattle.std.proofs.Common.{Global, map, length, refl, sym, ap, ◌∙◌, arith}
-use Rattle.conf_state.proofs.Prelude.{and_parts, same_text, Tree, same_text-true, same_text-self}
-use Rattle.conf_state.specs.{Commands.text_of, Drafts.cut_all, Drafts.put_all}
-use Rattle.conf_state.specs.States.{Entry, names_of, put_config, cut_config, has_name, names_differ}
-use Rattle.conf_state.proofs.LimitLemmas.{names_differ-cut, other_way}
+use Rattle.conf_state.proofs.{Prelude.{and_parts, same_text, Tree, same_text-true, same_text-self}, LimitLemmas.names_differ-cut}
+use Rattle.conf_state.{proofs.LimitLemmas.other_way, specs.{Commands.text_of, Drafts.{cut_all, put_all}, States.{Entry, names_of}}}
+use Rattle.conf_state.specs.States.{put_config, cut_config, has_name, names_differ}
 
 -- the names that are not among others
 abbrev pub outside : List (List ℕ) → List (List ℕ) → List (List ℕ)

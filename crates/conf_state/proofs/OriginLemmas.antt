@@ -1,13 +1,11 @@
 -- What a draft holds of an origin's configurations, and what it leaves in the origin.
 use Rattle.std.proofs.Common.{◌≡◌, ℕ, ◌+◌, List, Option, Some, None, option_map, IsUtf8, refl, sym, ap, ◌∙◌, arith}
-use Rattle.conf_state.proofs.Prelude.{lookup, chars, Good, byte_len, tree_of, config_limits}
-use Rattle.yaml_data.specs.declared.tree.Tree.{Tree}
-use Rattle.conf_state.specs.{BaseTexts.entry_length, BaseTexts.entries_length, Configs.is_name, Drafts.cut_all, Drafts.drafted}
-use Rattle.conf_state.specs.{Drafts.texts_of, Drafts.IsDraftOf, EntryTexts.lines_if_there, EntryTexts.entry_named, Kept.entries_of}
-use Rattle.conf_state.specs.{Limits.AreWithin, States.Entry, States.config_named, States.cut_config, declared.draft.Draft.Draft}
-use Rattle.conf_state.proofs.{DraftLemmas.named-put_all-some, DraftLemmas.named-put_all-none, EditLemmas.found-named, EditLemmas.named-good}
-use Rattle.conf_state.proofs.{EntryLemmas.lookup-named, LimitLemmas.entries_length-found, LimitLemmas.entries_length-absent}
-use Rattle.conf_state.proofs.{TakeLemmas.drafted-configs, TakeLemmas.drafted-distinct}
+use Rattle.conf_state.proofs.{Prelude.{lookup, chars, Good, byte_len, tree_of, config_limits}, DraftLemmas.named-put_all-some}
+use Rattle.conf_state.proofs.{DraftLemmas.named-put_all-none, EditLemmas.{found-named, named-good}, EntryLemmas.lookup-named}
+use Rattle.conf_state.proofs.{LimitLemmas.{entries_length-found, entries_length-absent}, TakeLemmas.{drafted-configs, drafted-distinct}}
+use Rattle.conf_state.specs.{BaseTexts.{entry_length, entries_length}, Configs.is_name, Drafts.{cut_all, drafted, texts_of, IsDraftOf}}
+use Rattle.conf_state.specs.{EntryTexts.{lines_if_there, entry_named}, Kept.entries_of, Limits.AreWithin, States.{Entry, config_named}}
+use Rattle.{conf_state.specs.{States.cut_config, declared.draft.Draft.Draft}, yaml_data.specs.declared.tree.Tree.Tree}
 use Rattle.yaml_grammar.specs.Trees as grammar
 
 module _ (es : List Entry) (draft : Draft) (of : IsDraftOf es draft) where

@@ -3,15 +3,13 @@ use Rattle.std.proofs.Common.{length, ◌≡◌, ◌≤◌, inl, inr, ℕ, ◌+�
 use Rattle.std.proofs.Common.{String, Global, Option, Some, None, is_some, nat_lt, Result, Ok, Err, OnOk, IfErr, is_err, ◌<◌, ◌^◌}
 use Rattle.std.proofs.Common.{append-nil, refl, sym, ap, subst, ◌∙◌, append_assoc, arith}
 use Rattle.conf_state.proofs.Prelude.{and_parts, Good, byte_len, same_text, depth, style_text, same_text-true, same_text-self}
-use Rattle.conf_state.proofs.Prelude.{config_limits, nat_tests}
-use Rattle.yaml_data.specs.declared.tree.Tree.{Tree}
-use Rattle.conf_state.specs.{Names.good_name, Limits.AreConfigs, Limits.IsState, Steps.checked_tree, declared.fault.StoreFault.StoreFault}
-use Rattle.conf_state.specs.{declared.fault.StoreFault.TheVariants.TooDeep, declared.fault.StoreFault.TheVariants.ConfigLarge}
-use Rattle.conf_state.specs.States.{Entry, Contents, base_limit, names_of, config_named, put_config, has_name, names_differ}
-use Rattle.conf_state.specs.BaseTexts.{base_length, entries_length, framed_length}
-use Rattle.conf_state.specs.Kept.{entries_of, ArePlain, IsKept, Appended, IsUnfit}
-use Rattle.conf_state.proofs.BaseLemmas.{base_length-framed, entries_length-short}
+use Rattle.conf_state.proofs.{Prelude.{config_limits, nat_tests}, BaseLemmas.{base_length-framed, entries_length-short}}
 use Rattle.conf_state.proofs.LimitLemmas.{entries_length-put, entries_length-absent, names_differ-put, AreConfigs-put}
+use Rattle.conf_state.specs.{Names.good_name, Limits.{AreConfigs, IsState}, Steps.checked_tree, declared.fault.StoreFault.StoreFault}
+use Rattle.conf_state.specs.{declared.fault.StoreFault.TheVariants.{TooDeep, ConfigLarge}, States.{Entry, Contents, base_limit, names_of}}
+use Rattle.conf_state.specs.{States.{config_named, put_config, has_name, names_differ}, BaseTexts.{base_length, entries_length}}
+use Rattle.conf_state.specs.{BaseTexts.framed_length, Kept.{entries_of, ArePlain, IsKept, Appended, IsUnfit}}
+use Rattle.yaml_data.specs.declared.tree.Tree.{Tree}
 use Rattle.yaml_grammar.specs.Trees as grammar
 
 -- a new name goes last

@@ -1,13 +1,11 @@
 -- A draft and a count as a state, and the state after one command more.
 use Rattle.std.proofs.Common.{◌≡◌, ◌⊎◌, inr, ℕ, ◌+◌, ◌<◌, ◌≤◌, ◌^◌, min, List, Result, Ok, Err, OnOk, IfErr, refl, ap, sym, subst, ◌∙◌}
 use Rattle.std.proofs.Common.{arith}
-use Rattle.conf_state.specs.{BaseTexts.base_length, BaseTexts.framed_length, BaseTexts.entries_length, Commands.Command, Drafts.drafted}
-use Rattle.conf_state.specs.{Drafts.IsDraftOf, Limits.IsState, Parts.IsPart, States.Entry, States.Contents, States.base_limit}
-use Rattle.conf_state.specs.{States.count_limit, Steps.and_then, Steps.next_state, Steps.performed, Steps.step, declared.draft.Draft.Draft}
-use Rattle.conf_state.specs.{declared.fault.StoreFault.StoreFault, declared.fault.StoreFault.TheVariants.OutOfMemory}
-use Rattle.conf_state.specs.{declared.room.Room.TheVariants.Enough}
-use Rattle.conf_state.proofs.{BaseLemmas.base_length-framed, CountLemmas.next_state-short, OriginLemmas.drafted-within}
-use Rattle.conf_state.proofs.{PlanningLemmas.or_so}
+use Rattle.conf_state.specs.{BaseTexts.{base_length, framed_length, entries_length}, Commands.Command, Drafts.{drafted, IsDraftOf}}
+use Rattle.conf_state.specs.{Limits.IsState, Parts.IsPart, States.{Entry, Contents, base_limit, count_limit}, Steps.{and_then, next_state}}
+use Rattle.conf_state.specs.{Steps.{performed, step}, declared.{draft.Draft.Draft, fault.StoreFault.{StoreFault, TheVariants.OutOfMemory}}}
+use Rattle.conf_state.{specs.declared.room.Room.TheVariants.Enough, proofs.{BaseLemmas.base_length-framed, CountLemmas.next_state-short}}
+use Rattle.conf_state.proofs.{OriginLemmas.drafted-within, PlanningLemmas.or_so}
 
 module _ (es : List Entry) (draft : Draft) (of : IsDraftOf es draft) (count : ℕ) where
   abbrev made : ℕ → Contents

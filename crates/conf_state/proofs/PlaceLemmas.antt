@@ -1,10 +1,10 @@
 -- What changes of the places make of the configurations.
 use Rattle.std.proofs.Common.{◌≡◌, ℕ, Bool, true, false, cond, List, [], ◌∷◌, filter, String, Global, Option, Some, None, is_some}
-use Rattle.std.proofs.Common.{string_bytes, MutBor, OnSome, OnErr, Result, Ok, Err, refl, sym, ap, ◌∙◌}
+use Rattle.std.proofs.{Common.{string_bytes, MutBor, OnSome, OnErr, Result, Ok, Err, refl, sym, ap, ◌∙◌}, lemmas.Map.Keys.IsDistinct-head}
+use Rattle.std.proofs.lemmas.Map.Keys.{IsDistinct-tail}
 use Rattle.conf_state.proofs.Prelude.{set_value_same, bytes_eq-Decides, AllByRecursion, IsDistinct, keys_of, lookup, set_value}
-use Rattle.conf_state.proofs.Prelude.{option_copied_mut, string_eq, insert_entry}
-use Rattle.std.proofs.lemmas.Map.Keys.{IsDistinct-head, IsDistinct-tail}
-use Rattle.conf_state.specs.{Configs.is_name, Configs.put_under, Configs.cut_from, Places.with_place, Places.present}
+use Rattle.conf_state.{proofs.Prelude.{option_copied_mut, string_eq, insert_entry}, specs.Configs.{is_name, put_under, cut_from}}
+use Rattle.conf_state.specs.Places.{with_place, present}
 
 -- what is found in a place
 abbrev pub in_place : {X : Type 0} → Option (Option X) → Option X

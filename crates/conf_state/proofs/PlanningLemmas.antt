@@ -1,14 +1,12 @@
 -- An edit inside one configuration, as an edit of all configurations.
 use Rattle.std.proofs.Common.{◌≡◌, ◌⊎◌, inl, inr, ℕ, ◌<◌, ◌≤◌, nat_le, false, List, Some, Result, Ok, Err, refl, ap, ◌∙◌, arith}
 use Rattle.conf_state.proofs.Prelude.{nat_tests, style_text, byte_len, Tree, depth, tree_after_edit, config_limits, path_of, PathFault}
-use Rattle.yaml_config.specs.declared.edit.Edit.{Edit as PathEdit}
-use Rattle.conf_state.specs.{Limits.AreConfigs, declared.planning.EditPlan.EditPlan, declared.fault.StoreFault.StoreFault}
-use Rattle.conf_state.specs.Edits.{configs_with_edit, configs_after_edit, configs_edited, checked_edit, edited_at, IsPlan}
-use Rattle.conf_state.specs.States.{Entry, config_named, put_config}
+use Rattle.conf_state.proofs.{EditLemmas.edited-there, StepLemmas.{checked_tree-deep, checked_tree-large, checked_tree-within}}
+use Rattle.conf_state.specs.{Limits.AreConfigs, declared.{planning.EditPlan.EditPlan, fault.StoreFault.{StoreFault, TheVariants.TooDeep}}}
+use Rattle.conf_state.specs.{declared.fault.StoreFault.TheVariants.ConfigLarge, Edits.{configs_with_edit, configs_after_edit}}
+use Rattle.conf_state.specs.{Edits.{configs_edited, checked_edit, edited_at, IsPlan}, States.{Entry, config_named, put_config}}
 use Rattle.conf_state.specs.Steps.{and_then, found, by_path, checked_tree, with_checked_config}
-use Rattle.conf_state.specs.declared.fault.StoreFault.TheVariants.{TooDeep, ConfigLarge}
-use Rattle.conf_state.proofs.EditLemmas.{edited-there}
-use Rattle.conf_state.proofs.StepLemmas.{checked_tree-deep, checked_tree-large, checked_tree-within}
+use Rattle.yaml_config.specs.declared.edit.Edit.{Edit as PathEdit}
 
 -- ---- the limits, in their order
 

@@ -2,14 +2,12 @@
 use Rattle.std.proofs.Common.{◌≡◌, ℕ, ◌+◌, Bool, true, false, nat_le, nat_lt, if◌then◌else◌, List, [], ◌∷◌, Option, Some, None, Result, Ok}
 use Rattle.std.proofs.Common.{Err, refl, subst}
 use Rattle.conf_state.proofs.Prelude.{byte_len, style_text, Tree, depth, set, delete, path_of, PathFault, config_limits}
-use Rattle.conf_state.specs.{BaseTexts.base_length, Names.good_name, declared.fault.StoreFault.StoreFault, declared.room.Room.Room}
-use Rattle.conf_state.specs.Commands.{Edit, import_as, set_at, delete_at, Command, single, batch, name_of}
-use Rattle.conf_state.specs.States.{Entry, Contents, config_named, base_limit, count_limit}
+use Rattle.conf_state.{proofs.RunLaws.and_then-Ok, specs.{BaseTexts.base_length, Names.good_name, declared.fault.StoreFault.StoreFault}}
+use Rattle.conf_state.specs.declared.{fault.StoreFault.TheVariants.{BadName, TooDeep, ConfigLarge, StoreFull, CountFull}, room.Room.Room}
+use Rattle.conf_state.specs.{declared.room.Room.TheVariants.{Enough, LongRecord, Missing}, Commands.{Edit, import_as, set_at, delete_at}}
+use Rattle.conf_state.specs.{Commands.{Command, single, batch, name_of}, States.{Entry, Contents, config_named, base_limit, count_limit}}
 use Rattle.conf_state.specs.Steps.{IsRefusal, step, edited, all_edited, performed, configs_after, with_room, next_state, and_then}
 use Rattle.conf_state.specs.Steps.{checked_tree, with_checked_config, found, by_path, configs_after_delete}
-use Rattle.conf_state.specs.declared.fault.StoreFault.TheVariants.{BadName, TooDeep, ConfigLarge, StoreFull, CountFull}
-use Rattle.conf_state.specs.declared.room.Room.TheVariants.{Enough, LongRecord, Missing}
-use Rattle.conf_state.proofs.RunLaws.{and_then-Ok}
 
 -- ---- room in the journal
 

@@ -1,11 +1,10 @@
 -- Runs of commands: what they count, and that one run is two in a row.
 use Rattle.std.proofs.Common.{◌≡◌, ◌+◌, Bool, true, false, nat_le, nat_lt, if◌then◌else◌, List, [], ◌∷◌, ◌++◌, length, Result, Ok, Err}
 use Rattle.std.proofs.Common.{refl, sym, ap, arith}
-use Rattle.conf_state.specs.{Commands.Command, BaseTexts.base_length, declared.fault.StoreFault.StoreFault, declared.room.Room.Room}
-use Rattle.conf_state.specs.States.{Entry, Contents, base_limit, count_limit}
-use Rattle.conf_state.specs.Steps.{and_then, performed, with_room, next_state, step, after}
-use Rattle.conf_state.specs.declared.fault.StoreFault.TheVariants.{StoreFull, CountFull}
-use Rattle.conf_state.specs.declared.room.Room.TheVariants.{Enough, LongRecord, Missing}
+use Rattle.conf_state.specs.{Commands.Command, BaseTexts.base_length, declared.fault.StoreFault.{StoreFault, TheVariants.StoreFull}}
+use Rattle.conf_state.specs.declared.{fault.StoreFault.TheVariants.CountFull, room.Room.{Room, TheVariants.{Enough, LongRecord, Missing}}}
+use Rattle.conf_state.specs.{States.{Entry, Contents, base_limit, count_limit}, Steps.{and_then, performed, with_room, next_state, step}}
+use Rattle.conf_state.specs.Steps.{after}
 
 -- a state that is the answer of a call and of another after it
 pub and_then-Ok : {A B : Type 0} (r : Result A StoreFault) (next : A → Result B StoreFault) (y : B)

@@ -2,23 +2,16 @@
 use Rattle.std.proofs.Common.{◌≡◌, ℕ, true, List, [], ◌∷◌, ◌++◌, String, Global, Option, Some, None, option_map, is_some, string_bytes}
 use Rattle.std.proofs.Common.{MutBor, OnSome, map, Ok, Err, refl, sym, ap, subst, ◌∙◌}
 use Rattle.conf_state.proofs.Prelude.{IsUtf8-string_bytes, lookup, set_value, option_copied_mut, chars, Good, tree_of, Changes}
-use Rattle.conf_state.proofs.Prelude.{config_limits, Change}
-use Rattle.yaml_config.specs.Undoing.{TakesBack}
-use Rattle.yaml_config.specs.declared.undo.Undo.{Undo}
-use Rattle.yaml_data.specs.declared.tree.Tree.{Tree}
-use Rattle.yaml_config.specs.declared.edit.Edit.{Edit as PathEdit}
-use Rattle.conf_state.specs.{BaseTexts.entries_length, Commands.text_of, Configs.is_name, Edits.configs_edited, Edits.edited_at}
-use Rattle.conf_state.specs.{Kept.entries_of, Kept.ArePlain, Limits.AreConfigs, declared.sets.Made.Made, Drafts.ChangesOne}
-use Rattle.conf_state.specs.States.{Entry, names_of, names_differ, config_named, put_config}
-use Rattle.conf_state.specs.Trails.{IsHeld, IsMade, Trail}
-use Rattle.conf_state.proofs.{EditLemmas.found-good, EditLemmas.found-named, EditLemmas.named-good, PlanningLemmas.edit-made}
-use Rattle.conf_state.proofs.{DraftLemmas.named-put-same, DraftLemmas.put-put-same, LimitLemmas.AreConfigs-put}
-use Rattle.conf_state.proofs.LimitLemmas.{names_differ-put}
-use Rattle.conf_state.proofs.EntryLemmas.{lookup-named, set_value-named, plain_set_value, put_config-same}
-use Rattle.conf_state.specs.{Commands.edit_of, Steps.and_then, Steps.all_edited, declared.fault.StoreFault.StoreFault}
+use Rattle.conf_state.proofs.{Prelude.{config_limits, Change}, EditLemmas.{found-good, found-named, named-good}, PlanningLemmas.edit-made}
+use Rattle.conf_state.proofs.{DraftLemmas.{named-put-same, put-put-same}, LimitLemmas.{AreConfigs-put, names_differ-put}}
+use Rattle.conf_state.{proofs.EntryLemmas.{lookup-named, set_value-named, plain_set_value, put_config-same}, specs.BaseTexts.entries_length}
+use Rattle.conf_state.specs.{Commands.{text_of, edit_of}, Configs.is_name, Edits.{configs_edited, edited_at}, Kept.{entries_of, ArePlain}}
+use Rattle.conf_state.specs.{Limits.AreConfigs, declared.{sets.Made.Made, fault.StoreFault.StoreFault}, Drafts.ChangesOne, States.Entry}
+use Rattle.conf_state.specs.{States.{names_of, names_differ, config_named, put_config}, Trails.{IsHeld, IsMade, Trail}, Steps.and_then}
+use Rattle.{conf_state.specs.Steps.all_edited, yaml_config.specs.{Undoing.TakesBack, declared.{undo.Undo.Undo, edit.Edit.Edit as PathEdit}}}
+use Rattle.{yaml_config.specs.declared.edit.Edit.TheVariants.Set, yaml_data.specs.declared.tree.Tree.Tree}
 use Rattle.conf_state.specs.declared.command.Edit as code_edit
 use Rattle.conf_state.specs.declared.command.Edit.TheVariants as edits
-use Rattle.yaml_config.specs.declared.edit.Edit.TheVariants.{Set}
 use Rattle.yaml_grammar.specs.Trees as grammar
 
 -- ---- what was made, one set after the other

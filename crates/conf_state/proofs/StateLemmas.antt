@@ -1,13 +1,11 @@
 -- The limits of a state stay kept: at the start, and with each configuration put in or taken out.
 use Rattle.std.proofs.Common.{◌≡◌, ℕ, ◌+◌, ◌<◌, ◌≤◌, true, List, [], String, Global, IsUtf8, Ok, ap, sym, subst, ◌∙◌, refl, arith}
-use Rattle.conf_state.proofs.Prelude.{length-decimal-le, chars, Good, config_limits}
+use Rattle.conf_state.proofs.{Prelude.{length-decimal-le, chars, Good, config_limits}, BaseLemmas.base_length-framed}
+use Rattle.conf_state.proofs.{CountLemmas.next_state-short, EntryLemmas.{cut_from-named, plain_cut_from}, LimitLemmas.names_differ-put}
+use Rattle.conf_state.{proofs.LimitLemmas.{names_differ-cut, AreConfigs-put, AreConfigs-cut}, specs.{Configs.cut_from, Names.good_name}}
+use Rattle.conf_state.specs.{Kept.{entries_of, ArePlain, IsKept}, Limits.{AreConfigs, IsState}, BaseTexts.entries_length, Steps.next_state}
+use Rattle.conf_state.specs.{declared.room.Room.Room, States.{Entry, Contents, names_of, names_differ, put_config, cut_config, count_limit}}
 use Rattle.yaml_data.specs.declared.tree.Tree.{Tree}
-use Rattle.conf_state.specs.{Configs.cut_from, Names.good_name, Kept.entries_of, Kept.ArePlain, Kept.IsKept, Limits.AreConfigs}
-use Rattle.conf_state.specs.{Limits.IsState, BaseTexts.entries_length, Steps.next_state, declared.room.Room.Room}
-use Rattle.conf_state.specs.States.{Entry, Contents, names_of, names_differ, put_config, cut_config, count_limit}
-use Rattle.conf_state.proofs.{BaseLemmas.base_length-framed, CountLemmas.next_state-short}
-use Rattle.conf_state.proofs.EntryLemmas.{cut_from-named, plain_cut_from}
-use Rattle.conf_state.proofs.LimitLemmas.{names_differ-put, names_differ-cut, AreConfigs-put, AreConfigs-cut}
 use Rattle.yaml_grammar.specs.Trees as grammar
 
 -- a state without configurations keeps its limits

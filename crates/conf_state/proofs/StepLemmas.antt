@@ -1,13 +1,12 @@
 -- What edits make that put in or take out a whole configuration, or are refused before any change; and batches.
 use Rattle.std.proofs.Common.{◌≡◌, ℕ, ◌<◌, ◌≤◌, ◌==◌, Bool, true, false, List, [], ◌∷◌, ◌++◌, length, Option, Some, if◌then◌else◌, None}
 use Rattle.std.proofs.Common.{option_map, option_to_list, is_some, Result, Ok, Err, length-append, refl, ap, ◌∙◌, arith}
-use Rattle.conf_state.proofs.Prelude.{nat_tests, style_text, byte_len, Tree, depth, config_limits}
-use Rattle.conf_state.specs.{Edits.absence, Names.good_name, declared.fault.StoreFault.StoreFault, declared.room.Room.Room}
-use Rattle.conf_state.specs.Commands.{Edit, import_as, set_at, delete_at, single, batch, name_of}
-use Rattle.conf_state.specs.States.{Entry, Contents, config_named, put_config, cut_config}
-use Rattle.conf_state.specs.Steps.{and_then, found, checked_tree, with_checked_config, configs_after, edited, all_edited, next_state, step}
-use Rattle.conf_state.specs.declared.fault.StoreFault.TheVariants.{BadName, NoConfig, TooDeep, ConfigLarge}
-use Rattle.conf_state.proofs.{CountLemmas.lt-true, CountLemmas.lt-false, PlaceLemmas.is_none}
+use Rattle.conf_state.proofs.{Prelude.{nat_tests, style_text, byte_len, Tree, depth, config_limits}, CountLemmas.{lt-true, lt-false}}
+use Rattle.conf_state.{proofs.PlaceLemmas.is_none, specs.{Edits.absence, Names.good_name, declared.fault.StoreFault.StoreFault}}
+use Rattle.conf_state.specs.declared.{fault.StoreFault.TheVariants.{BadName, NoConfig, TooDeep, ConfigLarge}, room.Room.Room}
+use Rattle.conf_state.specs.{Commands.{Edit, import_as, set_at, delete_at, single, batch, name_of}, States.{Entry, Contents, config_named}}
+use Rattle.conf_state.specs.{States.{put_config, cut_config}, Steps.{and_then, found, checked_tree, with_checked_config, configs_after}}
+use Rattle.conf_state.specs.Steps.{edited, all_edited, next_state, step}
 
 -- ---- the limits of a configuration, in their order
 

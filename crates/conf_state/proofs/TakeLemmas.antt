@@ -1,15 +1,12 @@
 -- A draft that is taken into a state, in the code's lists and in those of the definitions.
 use Rattle.std.proofs.Common.{◌≡◌, ℕ, true, List, [], ◌∷◌, ◌++◌, append-nil, append_assoc, String, Global, string_bytes, refl, sym, ap}
 use Rattle.std.proofs.Common.{subst, ◌∙◌}
-use Rattle.conf_state.proofs.Prelude.{IsUtf8-string_bytes}
-use Rattle.yaml_data.specs.declared.tree.Tree.{Tree}
-use Rattle.conf_state.specs.{Configs.put_under, Configs.put_each, Configs.cut_from, Configs.cut_each, declared.draft.Draft.Draft}
-use Rattle.conf_state.specs.{BaseTexts.entries_length, Kept.entries_of, Kept.ArePlain, Kept.IsKept, Limits.AreConfigs}
-use Rattle.conf_state.specs.Drafts.{cut_all, put_all, texts_of, drafted, IsCounted, IsDraft}
-use Rattle.conf_state.specs.States.{Entry, config_named, names_of, names_differ, put_config, cut_config}
-use Rattle.conf_state.proofs.{PartLemmas.put_absent, PartLemmas.twice, PlaceLemmas.none_of}
-use Rattle.conf_state.proofs.EntryLemmas.{cut_from-named, plain_cut_from, put_under-named, plain_put_under}
-use Rattle.conf_state.proofs.LimitLemmas.{AreConfigs-put, AreConfigs-cut, names_differ-put, names_differ-cut}
+use Rattle.conf_state.proofs.{Prelude.IsUtf8-string_bytes, PartLemmas.{put_absent, twice}, PlaceLemmas.none_of, EntryLemmas.cut_from-named}
+use Rattle.conf_state.proofs.{EntryLemmas.{plain_cut_from, put_under-named, plain_put_under}, LimitLemmas.{AreConfigs-put, AreConfigs-cut}}
+use Rattle.conf_state.{proofs.LimitLemmas.{names_differ-put, names_differ-cut}, specs.Configs.{put_under, put_each, cut_from, cut_each}}
+use Rattle.conf_state.specs.{declared.draft.Draft.Draft, BaseTexts.entries_length, Kept.{entries_of, ArePlain, IsKept}, Limits.AreConfigs}
+use Rattle.conf_state.specs.{Drafts.{cut_all, put_all, texts_of, drafted, IsCounted, IsDraft}, States.{Entry, config_named, names_of}}
+use Rattle.{conf_state.specs.States.{names_differ, put_config, cut_config}, yaml_data.specs.declared.tree.Tree.Tree}
 
 -- ---- the code's lists
 

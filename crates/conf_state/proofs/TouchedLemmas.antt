@@ -1,14 +1,13 @@
 -- A command changes no configuration but those under the names of its edits.
 use Rattle.std.proofs.Common.{◌≡◌, ◌+◌, Bool, true, false, nat_le, nat_lt, if◌then◌else◌, List, ℕ, [], ◌∷◌, Ok, Err, map, sym, ap, ◌∙◌}
-use Rattle.conf_state.proofs.Prelude.{same_text, Tree, path_of, set, delete}
-use Rattle.conf_state.specs.{Names.good_name, BaseTexts.base_length, Touched.touched, declared.room.Room.Room}
-use Rattle.conf_state.specs.Commands.{Edit, import_as, set_at, delete_at, Command, single, batch, name_of}
-use Rattle.conf_state.specs.States.{Entry, Contents, config_named, put_config, cut_config, base_limit, count_limit}
-use Rattle.conf_state.specs.Steps.{and_then, found, by_path, checked_tree, with_checked_config, configs_after_delete, configs_after, edited}
-use Rattle.conf_state.specs.Steps.{all_edited, performed, with_room, next_state, step}
-use Rattle.conf_state.specs.declared.fault.StoreFault.TheVariants.{StoreFull, CountFull, BadName, EmptyBatch}
-use Rattle.conf_state.specs.declared.room.Room.TheVariants.{Enough, LongRecord, Missing}
-use Rattle.conf_state.proofs.{DraftLemmas.named-put-other, DraftLemmas.named-cut-other, RunLaws.and_then-Ok}
+use Rattle.conf_state.proofs.{Prelude.{same_text, Tree, path_of, set, delete}, DraftLemmas.{named-put-other, named-cut-other}}
+use Rattle.conf_state.{proofs.RunLaws.and_then-Ok, specs.{Names.good_name, BaseTexts.base_length, Touched.touched, declared.room.Room.Room}}
+use Rattle.conf_state.specs.declared.{room.Room.TheVariants.{Enough, LongRecord, Missing}, fault.StoreFault.TheVariants.StoreFull}
+use Rattle.conf_state.specs.{declared.fault.StoreFault.TheVariants.{CountFull, BadName, EmptyBatch}, Commands.{Edit, import_as, set_at}}
+use Rattle.conf_state.specs.{Commands.{delete_at, Command, single, batch, name_of}, States.{Entry, Contents, config_named, put_config}}
+use Rattle.conf_state.specs.{States.{cut_config, base_limit, count_limit}, Steps.{and_then, found, by_path, checked_tree}}
+use Rattle.conf_state.specs.Steps.{with_checked_config, configs_after_delete, configs_after, edited, all_edited, performed, with_room}
+use Rattle.conf_state.specs.Steps.{next_state, step}
 
 -- the name is none of these
 abbrev pub IsNoneOf : List ℕ → List (List ℕ) → Type 0

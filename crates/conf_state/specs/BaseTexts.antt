@@ -1,7 +1,6 @@
 -- The base text of a state: one document that holds all of it.
 use Rattle.std.specs.Prelude.{ℕ, ◌+◌, ◌==◌, if◌then◌else◌, length, List, [], ◌∷◌, ◌++◌, codes, decimal, encode_utf8_all}
-use Rattle.conf_state.specs.Prelude.{byte_len, spaces, Tree, text, mapping, Members, no_member, member, style_text}
-use Rattle.conf_state.specs.Prelude.{key_lines, value_at}
+use Rattle.conf_state.specs.Prelude.{byte_len, spaces, Tree, text, mapping, Members, no_member, member, style_text, key_lines, value_at}
 use Rattle.conf_state.specs.States.{Entry, Contents}
 
 -- the configurations as a mapping of names to trees

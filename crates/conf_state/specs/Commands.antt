@@ -1,7 +1,6 @@
 -- Commands, with each text as its code points and each tree as the grammar's.
 use Rattle.std.specs.Prelude.{ℕ, Bool, true, false, List, map, String, string_bytes}
-use Rattle.conf_state.specs.Prelude.{chars, Global, Tree, tree_of}
-use Rattle.conf_state.specs.declared.command.Command.TheVariants.{Import, Set, Delete, Batch}
+use Rattle.conf_state.specs.{Prelude.{chars, Global, Tree, tree_of}, declared.command.Command.TheVariants.{Import, Set, Delete, Batch}}
 use Rattle.conf_state.specs.declared.command.Command as code
 use Rattle.conf_state.specs.declared.command.Edit as code_edit
 use Rattle.conf_state.specs.declared.command.Edit.TheVariants as edits

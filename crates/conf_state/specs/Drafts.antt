@@ -1,10 +1,8 @@
 -- What edits have made of configurations so far.
 use Rattle.std.specs.Prelude.{◌≡◌, ℕ, true, List, [], ◌∷◌, String, Some}
-use Rattle.conf_state.specs.Prelude.{Global, Tree, Changes}
-use Rattle.yaml_config.specs.declared.change.Change.{Change}
-use Rattle.conf_state.specs.{BaseTexts.entries_length, Commands.text_of, Kept.entries_of, Kept.ArePlain}
-use Rattle.conf_state.specs.{Limits.AreConfigs, Limits.AreWithin, declared.draft.Draft.Draft}
-use Rattle.conf_state.specs.States.{Entry, names_of, names_differ, config_named, put_config, cut_config}
+use Rattle.conf_state.specs.{Prelude.{Global, Tree, Changes}, BaseTexts.entries_length, Commands.text_of, Kept.{entries_of, ArePlain}}
+use Rattle.conf_state.specs.{Limits.{AreConfigs, AreWithin}, declared.draft.Draft.Draft, States.{Entry, names_of, names_differ}}
+use Rattle.{conf_state.specs.States.{config_named, put_config, cut_config}, yaml_config.specs.declared.change.Change.Change}
 
 -- without the configurations under these names
 abbrev pub cut_all : List Entry → List (List ℕ) → List Entry

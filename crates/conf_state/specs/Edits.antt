@@ -1,13 +1,9 @@
 -- Edits inside a configuration.
 use Rattle.std.specs.Prelude.{◌≡◌, ℕ, ◌<◌, ◌≤◌, if◌then◌else◌, List, length, Result, Ok, Err}
-use Rattle.conf_state.specs.Prelude.{byte_len, Tree, depth, style_text, path_of, config_limits, Changes}
-use Rattle.conf_state.specs.Prelude.{tree_after_edit}
-use Rattle.tree_path.specs.Steps.{ArePlaces}
-use Rattle.yaml_config.specs.declared.edit.Edit.{Edit as PathEdit}
-use Rattle.conf_state.specs.{Names.good_name, declared.fault.StoreFault.StoreFault, declared.planning.EditPlan.EditPlan}
-use Rattle.conf_state.specs.States.{Entry, config_named}
-use Rattle.conf_state.specs.Steps.{and_then, found, by_path, checked_tree, with_checked_config}
-use Rattle.conf_state.specs.declared.fault.StoreFault.TheVariants.{BadName, NoConfig}
+use Rattle.conf_state.specs.{Prelude.{byte_len, Tree, depth, style_text, path_of, config_limits, Changes, tree_after_edit}, Names.good_name}
+use Rattle.conf_state.specs.declared.{fault.StoreFault.{StoreFault, TheVariants.{BadName, NoConfig}}, planning.EditPlan.EditPlan}
+use Rattle.conf_state.specs.{States.{Entry, config_named}, Steps.{and_then, found, by_path, checked_tree, with_checked_config}}
+use Rattle.{tree_path.specs.Steps.ArePlaces, yaml_config.specs.declared.edit.Edit.Edit as PathEdit}
 
 -- the configurations with an edited tree under a name, or the refusal of the edit
 abbrev pub configs_with_edit : List Entry → List ℕ → PathEdit → Tree → List (List ℕ) → Result (List Entry) StoreFault

@@ -1,9 +1,7 @@
 -- How an edit ends that is made in a state in place, and one that is made on a draft of a state.
-use Rattle.std.specs.Prelude.{◌≡◌, ◌⊎◌, List, Result, Ok, Err, OnOk, OnErr, IfErr, refl}
-use Rattle.std.proofs.Common.{inr}
-use Rattle.conf_state.specs.{Drafts.drafted, Drafts.IsDraftOf, States.Entry, States.Contents, Steps.and_then}
-use Rattle.conf_state.specs.{Steps.next_state, declared.draft.Draft.Draft, declared.fault.StoreFault.StoreFault}
-use Rattle.conf_state.specs.{declared.fault.StoreFault.TheVariants.OutOfMemory, declared.room.Room.Room}
+use Rattle.std.{specs.Prelude.{◌≡◌, ◌⊎◌, List, Result, Ok, Err, OnOk, OnErr, IfErr, refl}, proofs.Common.inr}
+use Rattle.conf_state.specs.{Drafts.{drafted, IsDraftOf}, States.{Entry, Contents}, Steps.{and_then, next_state}}
+use Rattle.conf_state.specs.declared.{draft.Draft.Draft, fault.StoreFault.{StoreFault, TheVariants.OutOfMemory}, room.Room.Room}
 
 -- In a state: the next state has what the edit makes, if there is room. A refusal leaves the state.
 pub record EndsInPlace (room : Room) (old : Contents) (made : Result (List Entry) StoreFault)

@@ -1,7 +1,6 @@
 -- A configuration of a state by itself, as a base text has it.
 use Rattle.std.specs.Prelude.{ℕ, List, [], Option, Some, None}
-use Rattle.conf_state.specs.Prelude.{Tree}
-use Rattle.conf_state.specs.{States.Entry, States.config_named, BaseTexts.entry_lines}
+use Rattle.conf_state.specs.{Prelude.Tree, States.{Entry, config_named}, BaseTexts.entry_lines}
 
 -- the lines of a configuration, if there is one
 abbrev pub lines_if_there : List ℕ → Option Tree → List ℕ

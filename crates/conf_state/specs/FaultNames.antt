@@ -1,8 +1,7 @@
 -- The name of a fault: that of the innermost one.
 use Rattle.std.specs.Prelude.{ℕ, List, codes}
-use Rattle.conf_state.specs.Prelude.{PathFault}
+use Rattle.conf_state.specs.{Prelude.PathFault, declared.fault.StoreFault.StoreFault}
 use Rattle.yaml_events.specs.declared.read_fault.ReadFault.{ReadFault}
-use Rattle.conf_state.specs.declared.fault.StoreFault.{StoreFault}
 use Rattle.yaml_events.specs.declared.read_fault.ReadFault.TheVariants as read
 use Rattle.json_pointer.specs.declared.fault.PathFault.TheVariants as path
 use Rattle.conf_state.specs.declared.fault.StoreFault.TheVariants as store

@@ -1,10 +1,8 @@
 -- What a state of src/ is as a value, and the limits that it keeps.
-use Rattle.std.specs.Prelude.{◌≡◌, ◌⊎◌, ℕ, min, true, false, List, [], ◌∷◌, None, is_some, String, string_bytes}
-use Rattle.std.specs.Prelude.{IsAscii}
-use Rattle.conf_state.specs.Prelude.{Global, Good, tree_of, config_limits}
+use Rattle.std.specs.Prelude.{◌≡◌, ◌⊎◌, ℕ, min, true, false, List, [], ◌∷◌, None, is_some, String, string_bytes, IsAscii}
+use Rattle.conf_state.specs.{Prelude.{Global, Good, tree_of, config_limits}, Commands.text_of, Names.good_name, States.Entry}
+use Rattle.conf_state.specs.{States.{config_named, put_config}, Limits.IsState, BaseTexts.{entry_length, entries_length}}
 use Rattle.yaml_data.specs.declared.tree.Tree.{Tree}
-use Rattle.conf_state.specs.{Commands.text_of, Names.good_name, States.Entry, States.config_named, States.put_config}
-use Rattle.conf_state.specs.{Limits.IsState, BaseTexts.entry_length, BaseTexts.entries_length}
 use Rattle.yaml_grammar.specs.Trees as grammar
 
 -- names, and configurations under their names, of the code

@@ -1,8 +1,7 @@
 -- What the configurations end as, once a `&mut` into them has ended.
 use Rattle.std.specs.Prelude.{◌≡◌, ℕ, List, Option, String, OnSome}
-use Rattle.conf_state.specs.Prelude.{MutBor, Fml, LendsSo, Global, set_value}
+use Rattle.conf_state.specs.{Prelude.{MutBor, Fml, LendsSo, Global, set_value}, Configs.is_name, contracts.configs.Configs.the_row}
 use Rattle.yaml_data.specs.declared.tree.Tree.{Tree}
-use Rattle.conf_state.specs.{Configs.is_name, contracts.configs.Configs.the_row}
 use Rattle.yaml_config.specs.contracts.config.Config as config
 
 -- the name has the last configuration written through r, and at `None` all stay as they are

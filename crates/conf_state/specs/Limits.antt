@@ -1,8 +1,7 @@
 -- The limits that a state keeps.
 use Rattle.std.specs.Prelude.{◌≡◌, ◌≤◌, true, List, [], ◌∷◌}
-use Rattle.conf_state.specs.Prelude.{Good, config_limits}
-use Rattle.conf_state.specs.{Names.good_name, BaseTexts.base_length}
-use Rattle.conf_state.specs.States.{Entry, Contents, names_of, names_differ, base_limit, count_limit}
+use Rattle.conf_state.specs.{Prelude.{Good, config_limits}, Names.good_name, BaseTexts.base_length, States.{Entry, Contents, names_of}}
+use Rattle.conf_state.specs.States.{names_differ, base_limit, count_limit}
 
 -- each name is good, and each tree is within the limits of a configuration
 abbrev pub AreConfigs : List Entry → Type 0

@@ -1,7 +1,6 @@
 -- Names of configurations.
 use Rattle.std.specs.Prelude.{ℕ, Bool, ◌&&◌, ◌||◌, nat_le, List, length, codes}
-use Rattle.conf_state.specs.Prelude.{list_all, first}
-use Rattle.yaml_chars.specs.Classes.{in_range, is_in}
+use Rattle.{conf_state.specs.Prelude.{list_all, first}, yaml_chars.specs.Classes.{in_range, is_in}}
 
 -- a lowercase ASCII letter
 abbrev pub small_letter : ℕ → Bool

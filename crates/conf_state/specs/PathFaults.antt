@@ -1,8 +1,7 @@
 -- The fault of a path as a fault of a store.
+use Rattle.conf_state.specs.declared.fault.StoreFault.{StoreFault, TheVariants.{Path, OutOfMemory}}
 use Rattle.json_pointer.specs.declared.fault.PathFault as path
 use Rattle.json_pointer.specs.declared.fault.PathFault.TheVariants as path_faults
-use Rattle.conf_state.specs.declared.fault.StoreFault.{StoreFault}
-use Rattle.conf_state.specs.declared.fault.StoreFault.TheVariants.{Path, OutOfMemory}
 
 -- out of memory is a fault of the store itself, each other fault is one of the path
 abbrev pub store_fault_of : path.PathFault → StoreFault

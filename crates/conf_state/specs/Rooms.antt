@@ -1,7 +1,6 @@
 -- Whether the journal has room for a command's record.
 use Rattle.std.specs.Prelude.{ℕ, ◌+◌, Bool, ◌&&◌, nat_le, nat_lt, if◌then◌else◌}
-use Rattle.conf_state.specs.declared.room.Room.{Room}
-use Rattle.conf_state.specs.declared.room.Room.TheVariants.{Enough, LongRecord, Missing}
+use Rattle.conf_state.specs.declared.room.Room.{Room, TheVariants.{Enough, LongRecord, Missing}}
 
 -- the most bytes of a batch's record
 abbrev pub record_limit : ℕ

@@ -1,16 +1,13 @@
 -- What a command makes of a state: the new state, or the first refusal that holds. They come in this order: EmptyBatch;
 -- for each edit in turn BadName, NoConfig, Path, TooDeep, ConfigLarge; StoreFull, RecordLong, JournalLong, CountFull.
 use Rattle.std.specs.Prelude.{ℕ, ◌+◌, nat_le, nat_lt, if◌then◌else◌, List, [], ◌∷◌, Option, Some, None, Result, Ok, Err}
-use Rattle.conf_state.specs.Prelude.{byte_len, Tree, depth, style_text, path_of, PathFault, config_limits}
-use Rattle.tree_path.specs.Paths.{set, delete}
-use Rattle.conf_state.specs.{Names.good_name, BaseTexts.base_length, declared.fault.StoreFault.StoreFault}
-use Rattle.conf_state.specs.{declared.room.Room.Room}
-use Rattle.conf_state.specs.Commands.{Edit, import_as, set_at, delete_at, Command, single, batch, name_of}
-use Rattle.conf_state.specs.States.{Entry, Contents, config_named, put_config, cut_config, base_limit, count_limit}
-use Rattle.conf_state.specs.declared.fault.StoreFault.TheVariants.{EmptyBatch, BadName, NoConfig, Path, Read, TooDeep}
-use Rattle.conf_state.specs.declared.fault.StoreFault.TheVariants.{ConfigLarge, StoreFull, RecordLong, JournalLong}
-use Rattle.conf_state.specs.declared.fault.StoreFault.TheVariants.{CountFull, Reopen, Device, OutOfMemory}
-use Rattle.conf_state.specs.declared.room.Room.TheVariants.{Enough, LongRecord, Missing}
+use Rattle.conf_state.specs.{Prelude.{byte_len, Tree, depth, style_text, path_of, PathFault, config_limits}, Names.good_name}
+use Rattle.conf_state.specs.{BaseTexts.base_length, declared.fault.StoreFault.{StoreFault, TheVariants.{EmptyBatch, BadName, NoConfig}}}
+use Rattle.conf_state.specs.declared.fault.StoreFault.TheVariants.{Path, Read, TooDeep, ConfigLarge, StoreFull, RecordLong, JournalLong}
+use Rattle.conf_state.specs.declared.{fault.StoreFault.TheVariants.{CountFull, Reopen, Device, OutOfMemory}, room.Room.Room}
+use Rattle.conf_state.specs.{declared.room.Room.TheVariants.{Enough, LongRecord, Missing}, Commands.{Edit, import_as, set_at, delete_at}}
+use Rattle.conf_state.specs.{Commands.{Command, single, batch, name_of}, States.{Entry, Contents, config_named, put_config, cut_config}}
+use Rattle.{conf_state.specs.States.{base_limit, count_limit}, tree_path.specs.Paths.{set, delete}}
 
 -- the first refusal of two calls in a row, or what the second gives
 abbrev pub and_then : {A B : Type 0} → Result A StoreFault → (A → Result B StoreFault) → Result B StoreFault

@@ -1,11 +1,8 @@
 -- Sets that were made in configurations, one after the other, and can be taken back.
 use Rattle.std.specs.Prelude.{◌≡◌, ℕ, ◌<◌, true, List, [], ◌∷◌, Some, String, string_bytes, length}
-use Rattle.conf_state.specs.Prelude.{Global, Tree}
-use Rattle.yaml_config.specs.Undoing.{TakesBack}
-use Rattle.yaml_data.specs.declared.tree.Tree.{Tree as Node}
-use Rattle.conf_state.specs.{BaseTexts.entries_length, Commands.text_of, Kept.entries_of, Kept.ArePlain, Limits.AreConfigs}
-use Rattle.conf_state.specs.States.{Entry, names_of, names_differ, config_named, put_config}
-use Rattle.conf_state.specs.declared.sets.Made.{Made}
+use Rattle.conf_state.specs.{Prelude.{Global, Tree}, BaseTexts.entries_length, Commands.text_of, Kept.{entries_of, ArePlain}}
+use Rattle.conf_state.specs.{Limits.AreConfigs, States.{Entry, names_of, names_differ, config_named, put_config}, declared.sets.Made.Made}
+use Rattle.{yaml_config.specs.Undoing.TakesBack, yaml_data.specs.declared.tree.Tree.Tree as Node}
 use Rattle.conf_state.specs.declared.command.Edit as code_edit
 use Rattle.conf_state.specs.declared.command.Edit.TheVariants as edits
 

@@ -1,10 +1,8 @@
 -- A code for what a state holds: states with the same code are equal. A tree is stored as instructions that
 -- build it on a stack of trees; each is a list of numbers, of which the first says what it does.
-use Rattle.std.specs.Prelude.{◌≡◌, ℕ, zero, suc, List, [], ◌∷◌, ◌++◌, refl}
+use Rattle.std.specs.{Prelude.{◌≡◌, ℕ, zero, suc, List, [], ◌∷◌, ◌++◌, refl}, Coded.{Coded, code_by, coded_list, coded×, coded_ℕ}}
 use Rattle.std.proofs.Common.{ap, ◌∙◌}
-use Rattle.conf_state.specs.Prelude.{Tree, text, sequence, mapping, Elements, no_element, element, Members, no_member}
-use Rattle.conf_state.specs.Prelude.{member}
-use Rattle.std.specs.Coded.{Coded, code_by, coded_list, coded×, coded_ℕ}
+use Rattle.conf_state.specs.Prelude.{Tree, text, sequence, mapping, Elements, no_element, element, Members, no_member, member}
 use Rattle.conf_state.specs.States.{Contents}
 
 -- 0: a text; 1: an empty sequence; 2: an empty mapping; 3: the tree on top becomes the first element of the sequence

@@ -1,6 +1,5 @@
 -- What a crash leaves, and what reads, after a store was made where there is none.
-use Rattle.std.proofs.Common.{◌≡◌, ◌⊎◌, inl, inr, ⊎_elim, sym, ◌∙◌, ◌≤◌}
-use Rattle.std.specs.Prelude.{ℕ, List, Some, None}
+use Rattle.std.{proofs.Common.{◌≡◌, ◌⊎◌, inl, inr, ⊎_elim, sym, ◌∙◌, ◌≤◌}, specs.Prelude.{ℕ, List, Some, None}}
 use Rattle.conf_store.proofs.Prelude.{bytes_under, Image, IsImage, image_now, ReadingIsAnImage, DiskModel, LeavesOnly, Store}
 use Rattle.conf_store.proofs.Prelude.{LeavesOnly-joined, LeavesOnly-now, HoldsStore, OnlyHeldIsLeft, IsStoreOf, LeavesStoreOr}
 use Rattle.conf_store.proofs.FileLemmas.{loaded-old, own-store}

@@ -1,14 +1,13 @@
 -- How long the files are, and what opening makes of them.
-use Rattle.std.proofs.Common.{◌≡◌, ◌≢◌, ◌⊎◌, inl, inr, ⊎_elim, refl, sym, ◌∙◌, ap, subst, ◌≤◌, length-append}
-use Rattle.std.specs.Prelude.{ℕ, Bool, List, get_or, Option, Some, None, IsSome, option_map}
+use Rattle.std.{proofs.Common.{◌≡◌, ◌≢◌, ◌⊎◌, inl, inr, ⊎_elim, refl, sym, ◌∙◌, ap, subst, ◌≤◌, length-append}, specs.Prelude.{ℕ, Bool}}
+use Rattle.std.specs.Prelude.{List, get_or, Option, Some, None, IsSome, option_map}
 use Rattle.conf_store.proofs.Prelude.{false≢true, File, empty_file, file_bytes, Folder, bytes_at, bytes_under, Image, IsImage, image_now}
 use Rattle.conf_store.proofs.Prelude.{synced_file, ReadingIsAnImage, DiskModel, LeavesOnly, TimeGoesOn, DiskFault, Store, LeavesOnly-weaker}
 use Rattle.conf_store.proofs.Prelude.{LeavesOnly-joined, LeavesOnly-now, LeavesOnly-same, HoldsStore, OnlyHeldIsLeft, file_at, IsStoreOf}
-use Rattle.conf_store.proofs.Prelude.{LeavesStoreOr, Contents, base_bytes, several_waited}
-use Rattle.conf_store.specs.{Faults.open_fault, Staged.Staged, Staged.staged_length, Durable.IsHeld, Durable.IsStaging, Durable.staged_text}
-use Rattle.conf_store.specs.{Opens.IsFound, declared.fault.OpenFault.OpenFault, declared.fault.OpenFault.TheVariants.Device}
+use Rattle.conf_store.proofs.{Prelude.{LeavesStoreOr, Contents, base_bytes, several_waited}, StagedLemmas.{text-of, text-length}}
+use Rattle.conf_store.{proofs.OpenLemmas.found-means, specs.{Faults.open_fault, Staged.{Staged, staged_length}, Durable.IsHeld}}
+use Rattle.conf_store.specs.{Durable.{IsStaging, staged_text}, Opens.IsFound, declared.fault.OpenFault.{OpenFault, TheVariants.Device}}
 use Rattle.conf_store.specs.Files.{HasLength, FilesStay, IsNewBase, IsOldOrBase, LeavesOldOrBase}
-use Rattle.conf_store.proofs.{StagedLemmas.text-of, StagedLemmas.text-length, OpenLemmas.found-means}
 use Rattle.conf_disk.specs.declared.disk.DiskFault.TheVariants as disk
 
 -- ---- lengths

@@ -4,8 +4,7 @@ use Rattle.std.proofs.Common.{ap, sym, subst}
 use Rattle.conf_store.proofs.Prelude.{and_parts, same_text, Tree, text, sequence, mapping, Members, no_member, member, good_name, Edit}
 use Rattle.conf_store.proofs.Prelude.{Command, single, name_of, Contents, keys_are, values, number_from_digits, entries, base_keys}
 use Rattle.conf_store.proofs.Prelude.{import_keys, set_keys, delete_keys, has_good_path, if_good, import_of, set_of, delete_of, with_number}
-use Rattle.conf_store.proofs.Prelude.{numbered_of, record_of, contents_of, base_of}
-use Rattle.conf_store.proofs.FirstStepLemmas.{as_edit}
+use Rattle.conf_store.proofs.{Prelude.{numbered_of, record_of, contents_of, base_of}, FirstStepLemmas.as_edit}
 use Rattle.conf_store.specs.First as first
 
 -- a mapping with more keys than one is no batch

@@ -6,9 +6,7 @@ use Rattle.conf_store.proofs.Prelude.{put_config, base_limit, count_limit, base_
 use Rattle.conf_store.proofs.Prelude.{Command, single, name_of, AreConfigs, IsState, and_then, found, by_path, checked_tree}
 use Rattle.conf_store.proofs.Prelude.{with_checked_config, configs_after_delete, configs_after, edited, next_state, step, after, StoreFault}
 use Rattle.conf_store.proofs.Prelude.{BadName, TooDeep, ConfigLarge, StoreFull, CountFull, Enough, and_then-Ok}
-use Rattle.yaml_grammar.specs.Reads.{Limits, Good, Gives}
-use Rattle.tree_path.specs.Paths.{set, delete}
-use Rattle.json_pointer.specs.Pointers.{path_of}
+use Rattle.{yaml_grammar.specs.Reads.{Limits, Good, Gives}, tree_path.specs.Paths.{set, delete}, json_pointer.specs.Pointers.path_of}
 use Rattle.conf_state.proofs.CountLemmas.{lt-false}
 use Rattle.conf_store.specs.First as first
 

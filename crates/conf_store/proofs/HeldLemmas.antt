@@ -1,18 +1,16 @@
 -- What an open store has on its disk, with commands that wait for a flush, and what a crash leaves of it.
-use Rattle.std.proofs.Common.{◌≡◌, ◌⊎◌, inl, inr, refl, sym, ◌∙◌, ap, subst, arith, ◌≤◌, append_assoc, length-append}
-use Rattle.std.specs.Prelude.{ℕ, zero, suc, true, false, ◌+◌, ◌||◌, Bool, List, [], ◌∷◌, ◌++◌, length, take, Option, Some, None}
-use Rattle.std.specs.Prelude.{option_map, Ok}
+use Rattle.std.{proofs.Common.{◌≡◌, ◌⊎◌, inl, inr, refl, sym, ◌∙◌, ap, subst, arith, ◌≤◌, append_assoc, length-append}, specs.Prelude.ℕ}
+use Rattle.std.specs.Prelude.{zero, suc, true, false, ◌+◌, ◌||◌, Bool, List, [], ◌∷◌, ◌++◌, length, take, Option, Some, None, option_map}
+use Rattle.std.specs.Prelude.{Ok}
 use Rattle.conf_store.proofs.Prelude.{append-nil, take-append-le, take_all, All-nil, cases_lt, ClosesOnce, Pieces, File, Folder}
 use Rattle.conf_store.proofs.Prelude.{with_pending, synced_whole, synced_file, HoldsStore, IsLeftOf, IsLeftNoted, HeldIsNoted, IsStoreOf}
-use Rattle.conf_store.proofs.Prelude.{Image, IsWorn, Zeroed, several_waited, several_after, any_bytes, file_at, store_limit}
-use Rattle.conf_store.proofs.Prelude.{Command, Contents, step, after, after-count, Enough, OnePieces, OneBase, OneRecord, IsRecord}
-use Rattle.conf_store.proofs.Prelude.{RecordsClose, record_pieces, records_bytes, record_bytes}
-use Rattle.conf_store.specs.Meaning.{AreRecords, PiecesMean, FileMeans, ImageMeans}
-use Rattle.conf_store.specs.Durable.{IsWholeStore, IsJournal, HasFlushed, IsHeld, IsDurable, AllImagesMean, AfterPrefix}
-use Rattle.conf_store.specs.Durable.{AllImagesAfterPrefix, HolesMean, IsNoted, MeansPrefix, OneFlushed, NothingWaits}
-use Rattle.conf_store.proofs.PieceLemmas.{pieces-joined, pieces-one, no_closing}
-use Rattle.conf_store.proofs.MeaningLemmas.{records-joined, after-joined, after-done, pieces-mean-more, pieces-mean-one, one-list}
-use Rattle.conf_store.proofs.MeaningLemmas.{ok-same}
+use Rattle.conf_store.proofs.Prelude.{Image, IsWorn, Zeroed, several_waited, several_after, any_bytes, file_at, store_limit, Command}
+use Rattle.conf_store.proofs.Prelude.{Contents, step, after, after-count, Enough, OnePieces, OneBase, OneRecord, IsRecord, RecordsClose}
+use Rattle.conf_store.proofs.{Prelude.{record_pieces, records_bytes, record_bytes}, PieceLemmas.{pieces-joined, pieces-one, no_closing}}
+use Rattle.conf_store.proofs.MeaningLemmas.{records-joined, after-joined, after-done, pieces-mean-more, pieces-mean-one, one-list, ok-same}
+use Rattle.conf_store.specs.{Meaning.{AreRecords, PiecesMean, FileMeans, ImageMeans}, Durable.{IsWholeStore, IsJournal, HasFlushed, IsHeld}}
+use Rattle.conf_store.specs.Durable.{IsDurable, AllImagesMean, AfterPrefix, AllImagesAfterPrefix, HolesMean, IsNoted, MeansPrefix}
+use Rattle.conf_store.specs.Durable.{OneFlushed, NothingWaits}
 
 -- ---- what a crash leaves
 

@@ -1,9 +1,7 @@
 -- Pieces that mean a state have no zero, so what comes before the first one with a zero is one list.
-use Rattle.std.proofs.Common.{◌≡◌, inl, refl, sym, ◌∙◌, ap, subst}
-use Rattle.std.specs.Prelude.{ℕ, ◌+◌, true, false, List, [], ◌∷◌, ◌++◌}
-use Rattle.conf_store.proofs.Prelude.{All, All-nil, All-cons, All-head, All-tail, false≢true, NoZeroByte, no_zero, StartsWithHole}
-use Rattle.conf_store.proofs.Prelude.{Command, Contents, IsRecord, IsBase, IsNoRecord}
-use Rattle.conf_store.specs.Meaning.{AreRecords, PiecesMean, Means}
+use Rattle.std.{proofs.Common.{◌≡◌, inl, refl, sym, ◌∙◌, ap, subst}, specs.Prelude.{ℕ, ◌+◌, true, false, List, [], ◌∷◌, ◌++◌}}
+use Rattle.conf_store.proofs.Prelude.{All, All-nil, All-cons, All-head, All-tail, false≢true, NoZeroByte, no_zero, StartsWithHole, Command}
+use Rattle.conf_store.{proofs.Prelude.{Contents, IsRecord, IsBase, IsNoRecord}, specs.Meaning.{AreRecords, PiecesMean, Means}}
 
 abbrev Clean : List ℕ → Type 0
 Clean piece = no_zero piece ≡ true

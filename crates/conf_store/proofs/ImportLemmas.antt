@@ -4,10 +4,8 @@ use Rattle.conf_store.proofs.Prelude.{byte_len, style_text, Tree, depth, config_
 use Rattle.conf_store.proofs.Prelude.{Contents, put_config, base_limit, count_limit, and_then, step, with_checked_config, with_room}
 use Rattle.conf_store.proofs.Prelude.{next_state, StoreFault, EmptyBatch, BadName, NoConfig, Path, Read, TooDeep, ConfigLarge, StoreFull}
 use Rattle.conf_store.proofs.Prelude.{RecordLong, JournalLong, CountFull, Reopen, Device, OutOfMemory, Room, Enough, LongRecord}
-use Rattle.yaml_tree.specs.Reading.{IsRead}
-use Rattle.conf_state.specs.declared.room.Room.TheVariants.{Missing}
-use Rattle.conf_store.specs.{View.StoreView, Accepting.IsOfState, Imports.RefusesText, Imports.RefusesImport}
-use Rattle.conf_store.specs.Calls.{room_for, journal_length, RefusesCommand}
+use Rattle.conf_store.specs.{View.StoreView, Accepting.IsOfState, Imports.{RefusesText, RefusesImport}, Calls.{room_for, journal_length}}
+use Rattle.{conf_store.specs.Calls.RefusesCommand, yaml_tree.specs.Reading.IsRead, conf_state.specs.declared.room.Room.TheVariants.Missing}
 
 -- a refusal that is neither of a name nor of a text
 OfTree : {A : Type 0} → Result A StoreFault → Type 0

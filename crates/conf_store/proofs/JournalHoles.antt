@@ -1,14 +1,12 @@
 -- What is left of the records of commands that wait, with zeros in any places.
 use Rattle.std.proofs.Common.{◌≡◌, inl, inr, refl, sym, ap, subst, arith, ◌≤◌, append_assoc, length-append}
-use Rattle.std.specs.Prelude.{ℕ, suc, ◌+◌, Bool, true, false, List, [], ◌∷◌, ◌++◌, length, take, Contains}
-use Rattle.conf_store.proofs.Prelude.{All, All-nil, All-cons, All-head, All-tail, ClosesOnce, Pieces, SomePieces}
-use Rattle.conf_store.proofs.Prelude.{Command, IsNoRecord, RecordsClose, record_pieces, record_bytes}
-use Rattle.conf_store.proofs.Prelude.{NoZeroByte, no_zero, StartsWithHole}
-use Rattle.std.proofs.lemmas.List.Elements.{All-weaker}
+use Rattle.std.{proofs.lemmas.List.Elements.All-weaker, specs.Prelude.{ℕ, suc, ◌+◌, Bool, true, false, List, [], ◌∷◌, ◌++◌, length, take}}
+use Rattle.std.specs.Prelude.{Contains}
+use Rattle.conf_store.proofs.Prelude.{All, All-nil, All-cons, All-head, All-tail, ClosesOnce, Pieces, SomePieces, Command, IsNoRecord}
+use Rattle.conf_store.proofs.Prelude.{RecordsClose, record_pieces, record_bytes, NoZeroByte, no_zero, StartsWithHole}
+use Rattle.conf_store.proofs.{HoleLemmas.zero-no-record, PieceLemmas.pieces-joined, MeaningLemmas.{after-prefix, pieces-mean-more}}
+use Rattle.conf_store.{proofs.MeaningLemmas.records-prefix, specs.{Durable.{HolesMean, IsNoted}, Holes.MayBeDropped}}
 use Rattle.yaml_recognizers.specs.Zeroed.{AreLeft, HoleAfter, HolesAfter, WholeBehind, Zeroed}
-use Rattle.conf_store.specs.{Durable.HolesMean, Durable.IsNoted, Holes.MayBeDropped}
-use Rattle.conf_store.proofs.{HoleLemmas.zero-no-record, PieceLemmas.pieces-joined}
-use Rattle.conf_store.proofs.MeaningLemmas.{after-prefix, pieces-mean-more, records-prefix}
 
 zeroed-short : (text left : List ℕ) → Zeroed text left → length left ≤ length text
 zeroed-short text [] z = omega arith

@@ -1,13 +1,11 @@
 -- Whether a record stands among pieces that are found one closing line after the other.
-use Rattle.std.proofs.Common.{◌≡◌, refl, arith}
-use Rattle.std.specs.Prelude.{ℕ, Bool, true, false, not, ◌==◌, ◌&&◌, ◌||◌, ◌-◌, List, [], ◌∷◌, ◌++◌, length, drop, slice_range, Contains}
+use Rattle.std.{proofs.{Common.{◌≡◌, refl, arith}, lemmas.List.Elements.{Contains-append_left, Contains-append_right}}, specs.Prelude.ℕ}
+use Rattle.std.specs.Prelude.{Bool, true, false, not, ◌==◌, ◌&&◌, ◌||◌, ◌-◌, List, [], ◌∷◌, ◌++◌, length, drop, slice_range, Contains}
 use Rattle.std.specs.List.{list_any}
 use Rattle.conf_store.proofs.Prelude.{All, All-nil, All-push, take_all, length-drop, PieceBetween, RestUnclosed, SomePieces, IsNextClosing}
-use Rattle.conf_store.proofs.Prelude.{StartsLine, NoClosingAfter, IsNoRecord, no_zero}
-use Rattle.std.proofs.lemmas.List.Elements.{Contains-append_left, Contains-append_right}
-use Rattle.conf_store.specs.Holes.{IsAnyRecord, KeepsRecord, LacksRecord}
-use Rattle.conf_store.proofs.PieceLemmas.{SoFar, nothing-so_far, further-piece, no-further-piece}
-use Rattle.conf_store.proofs.RecoveryLemmas.{pieces-all}
+use Rattle.conf_store.proofs.{Prelude.{StartsLine, NoClosingAfter, IsNoRecord, no_zero}, PieceLemmas.{SoFar, nothing-so_far, further-piece}}
+use Rattle.conf_store.{proofs.{PieceLemmas.no-further-piece, RecoveryLemmas.pieces-all}, specs.Holes.{IsAnyRecord, KeepsRecord}}
+use Rattle.conf_store.specs.Holes.{LacksRecord}
 
 -- the bytes up to a place are pieces of which none is a record
 pub record LacksSoFar (bytes : List ℕ) (at : ℕ) : Type 0 where

@@ -1,12 +1,11 @@
 -- What a life keeps, and what lives keep.
-use Rattle.std.proofs.Common.{◌≡◌, inl, inr, refl, sym, ◌∙◌, ap, subst}
-use Rattle.std.specs.Prelude.{ℕ, zero, suc, true, false, ◌||◌, Bool, List, [], ◌∷◌, ◌++◌, take, if◌then◌else◌, Result, Ok, is_ok}
-use Rattle.conf_store.proofs.Prelude.{AllByRecursion, Command, Contents, after, and_then, after-append, StoreFault}
-use Rattle.conf_store.specs.Lives.{Call, submitting, performing, flushing, beginning, slicing, checkpointing, Answer, ok, more, refused}
-use Rattle.conf_store.specs.Lives.{device, reopen, crashed, Event, World, opened, world_state, with_submitted, all_flushed, MayRemain}
-use Rattle.conf_store.specs.Lives.{Flushes, Succeeds, Continues, MayRemainDuring, MayEndBy, MayEnd, state_or, after_call, flushes_all}
-use Rattle.conf_store.specs.Lives.{acknowledges, flushed_by, accepted_one, accepted_in, accepted_by, accepted_commands, Keeps, all_commands}
-use Rattle.conf_store.specs.Lives.{LivesHold}
+use Rattle.std.{proofs.Common.{◌≡◌, inl, inr, refl, sym, ◌∙◌, ap, subst}, specs.Prelude.{ℕ, zero, suc, true, false, ◌||◌, Bool, List, []}}
+use Rattle.std.specs.Prelude.{◌∷◌, ◌++◌, take, if◌then◌else◌, Result, Ok, is_ok}
+use Rattle.conf_store.{proofs.Prelude.{AllByRecursion, Command, Contents, after, and_then, after-append, StoreFault}, specs.Lives.Call}
+use Rattle.conf_store.specs.Lives.{submitting, performing, flushing, beginning, slicing, checkpointing, Answer, ok, more, refused, device}
+use Rattle.conf_store.specs.Lives.{reopen, crashed, Event, World, opened, world_state, with_submitted, all_flushed, MayRemain, Flushes}
+use Rattle.conf_store.specs.Lives.{Succeeds, Continues, MayRemainDuring, MayEndBy, MayEnd, state_or, after_call, flushes_all, acknowledges}
+use Rattle.conf_store.specs.Lives.{flushed_by, accepted_one, accepted_in, accepted_by, accepted_commands, Keeps, all_commands, LivesHold}
 
 after-joined : (s mid end : Contents) (first second : List Command) → after s first ≡ Ok mid
     → after mid second ≡ Ok end → after s (first ++ second) ≡ Ok end

@@ -1,13 +1,10 @@
 -- What bytes mean: at most one state.
-use Rattle.std.proofs.Common.{◌≡◌, inr, refl, sym, ◌∙◌, ap, subst, arith, ◌≤◌}
-use Rattle.std.specs.Prelude.{ℕ, zero, suc, ◌+◌, Bool, List, [], ◌∷◌, ◌++◌, length, take, Result, Ok}
-use Rattle.conf_store.proofs.Prelude.{All-nil, IsNoRecord, append-nil, NoZeroByte, ClosesOnce, Pieces}
-use Rattle.conf_store.proofs.Prelude.{OnePieces, Command, Contents, step, after}
-use Rattle.conf_store.proofs.Prelude.{and_then, StoreFault, after-append, after-count, and_then-Ok, Enough, IsRecord, IsBase, record_pieces}
-use Rattle.conf_store.proofs.Prelude.{OneBase, OneRecord, store_limit}
-use Rattle.conf_store.specs.Meaning.{AreRecords, PiecesMean, Means}
-use Rattle.conf_store.specs.Durable.{IsWholeStore}
-use Rattle.conf_store.proofs.{HoleLemmas.means-front, PieceLemmas.pieces-joined, PieceLemmas.pieces-one}
+use Rattle.std.{proofs.Common.{◌≡◌, inr, refl, sym, ◌∙◌, ap, subst, arith, ◌≤◌}, specs.Prelude.{ℕ, zero, suc, ◌+◌, Bool, List, [], ◌∷◌}}
+use Rattle.std.specs.Prelude.{◌++◌, length, take, Result, Ok}
+use Rattle.conf_store.proofs.Prelude.{All-nil, IsNoRecord, append-nil, NoZeroByte, ClosesOnce, Pieces, OnePieces, Command, Contents, step}
+use Rattle.conf_store.proofs.Prelude.{after, and_then, StoreFault, after-append, after-count, and_then-Ok, Enough, IsRecord, IsBase}
+use Rattle.conf_store.proofs.{Prelude.{record_pieces, OneBase, OneRecord, store_limit}, HoleLemmas.means-front, PieceLemmas.pieces-joined}
+use Rattle.conf_store.{proofs.PieceLemmas.pieces-one, specs.{Meaning.{AreRecords, PiecesMean, Means}, Durable.IsWholeStore}}
 
 -- ---- lists of records
 

@@ -1,16 +1,12 @@
 -- What opening finds, and that it changes no meaning.
-use Rattle.std.proofs.Common.{◌≡◌, inl, inr, ⊎_elim, refl, sym, ◌∙◌, subst, arith, ◌≤◌}
-use Rattle.std.specs.Prelude.{ℕ, zero, suc, Bool, List, Option, Some, None, option_map, Vec}
-use Rattle.conf_store.proofs.Prelude.{Folder, Tells, bytes_under, Image, IsImage, image_now, synced_file, ReadingIsAnImage}
-use Rattle.conf_store.proofs.Prelude.{Bytes, TooLong, Store, HoldsStore, IsStoreOf, several_waited, store_limit, Contents}
-use Rattle.conf_store.proofs.Prelude.{base_bytes, cases_lt, DiskFault}
-use Rattle.std.specs.declared.alloc.Global.{Global}
-use Rattle.conf_store.specs.{Faults.open_fault, Calls.HasFailed, Durable.IsDurable, declared.fault.OpenFault.OpenFault}
-use Rattle.conf_store.specs.Meaning.{FileMeans, ImageMeans, MeanTheSame}
-use Rattle.conf_store.specs.Opens.{FileRecoversTo, HasNoBase, RefusesBytes, IsFound, RefusesOpening, RefusalMeans}
-use Rattle.conf_store.specs.Opens.{OneMeaning, RefusedMeansNothing, ReadsAfterOpening, MeantAtEntry}
-use Rattle.conf_store.specs.declared.fault.OpenFault.TheVariants.{NotAStore, Damaged, Device, OutOfMemory}
-use Rattle.conf_store.proofs.RecoveryLemmas.{recovers-means, recovers-whole}
+use Rattle.std.{proofs.Common.{◌≡◌, inl, inr, ⊎_elim, refl, sym, ◌∙◌, subst, arith, ◌≤◌}, specs.Prelude.{ℕ, zero, suc, Bool, List, Option}}
+use Rattle.std.specs.{Prelude.{Some, None, option_map, Vec}, declared.alloc.Global.Global}
+use Rattle.conf_store.proofs.Prelude.{Folder, Tells, bytes_under, Image, IsImage, image_now, synced_file, ReadingIsAnImage, Bytes, TooLong}
+use Rattle.conf_store.proofs.Prelude.{Store, HoldsStore, IsStoreOf, several_waited, store_limit, Contents, base_bytes, cases_lt, DiskFault}
+use Rattle.conf_store.{proofs.RecoveryLemmas.{recovers-means, recovers-whole}, specs.{Faults.open_fault, Calls.HasFailed}}
+use Rattle.conf_store.specs.{Durable.IsDurable, declared.fault.OpenFault.{OpenFault, TheVariants.{NotAStore, Damaged, Device, OutOfMemory}}}
+use Rattle.conf_store.specs.{Meaning.{FileMeans, ImageMeans, MeanTheSame}, Opens.{FileRecoversTo, HasNoBase, RefusesBytes, IsFound}}
+use Rattle.conf_store.specs.Opens.{RefusesOpening, RefusalMeans, OneMeaning, RefusedMeansNothing, ReadsAfterOpening, MeantAtEntry}
 use Rattle.conf_disk.specs.declared.disk.DiskFault.TheVariants as disk
 
 -- ---- what is found

@@ -2,17 +2,13 @@
 use Rattle.std.proofs.Common.{◌≡◌, ◌≤◌, ◌<◌, ◌==◌, ◌⊎◌, inl, inr, suc, ℕ, ◌+◌, max, Bool, true, false, cond, List, [], ◌∷◌, ◌++◌, length}
 use Rattle.std.proofs.Common.{map, take, get_or, Option, Some, None, Result, Ok, Err, OnOk, OnErr, not, ◌&&◌, ◌||◌, option_map, unwrap_or}
 use Rattle.std.proofs.Common.{IsSome, is_some, bytes_eq, string_bytes, String, Global, IsUtf8, encode_utf8_all, refl, sym, ap, ◌∙◌, subst}
-use Rattle.std.proofs.Common.{append_assoc, append-nil, arith}
+use Rattle.std.{proofs.{Common.{append_assoc, append-nil, arith}, lemmas.Slice.Eq.bytes_eq-Decides}, specs.Map.lookup}
 use Rattle.conf_store.proofs.Prelude.{false≢true, eqb-true, IsUtf8-string_bytes, get_by_text, chars, byte_len, same_text, byte_len-encoded}
 use Rattle.conf_store.proofs.Prelude.{same_text-true, same_text-self, nat_tests, map_more, map-append, Command, edit_of, name_of, text_of}
 use Rattle.conf_store.proofs.Prelude.{lines_if_there, entry_named, Entry, Contents, has_name, names_differ, step, touched, Room}
-use Rattle.std.proofs.lemmas.Slice.Eq.{bytes_eq-Decides}
-use Rattle.std.specs.Map.{lookup}
-use Rattle.conf_state.specs.declared.command.Edit.{Edit as CodeEdit}
-use Rattle.conf_state.proofs.EntryLemmas.{same_key}
-use Rattle.conf_state.proofs.TouchedLemmas.{IsNoneOf, step-other}
-use Rattle.conf_store.specs.Early.{AreApart, IsApart, Texts, part_of, parts_of}
-use Rattle.conf_store.specs.Parts.{Part, parts_named, part_bytes, texts, joined, AreWithin, IsMade, AreMade}
+use Rattle.conf_store.specs.{Early.{AreApart, IsApart, Texts, part_of, parts_of}, Parts.{Part, parts_named, part_bytes, texts, joined}}
+use Rattle.{conf_store.specs.Parts.{AreWithin, IsMade, AreMade}, conf_state.specs.declared.command.Edit.Edit as CodeEdit}
+use Rattle.conf_state.proofs.{EntryLemmas.same_key, TouchedLemmas.{IsNoneOf, step-other}}
 
 -- ---- names that differ, of a state
 

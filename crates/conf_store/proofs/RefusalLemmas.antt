@@ -1,9 +1,8 @@
 -- The faults of a command on a state, and what a store makes of them.
-use Rattle.std.proofs.Common.{◌≡◌, ◌⊎◌, inl, inr, refl, subst}
-use Rattle.std.specs.Prelude.{Err}
+use Rattle.std.{proofs.Common.{◌≡◌, ◌⊎◌, inl, inr, refl, subst}, specs.Prelude.Err}
 use Rattle.conf_store.proofs.Prelude.{Command, Contents, step, IsRefusal, StoreFault, EmptyBatch, BadName, NoConfig, Path, Read, TooDeep}
 use Rattle.conf_store.proofs.Prelude.{ConfigLarge, StoreFull, RecordLong, JournalLong, CountFull, Reopen, Device, OutOfMemory, Room}
-use Rattle.conf_store.specs.{View.StoreView, Accepting.IsOfState, Calls.outcome, Calls.journal_length, Calls.RefusesCommand}
+use Rattle.conf_store.specs.{View.StoreView, Accepting.IsOfState, Calls.{outcome, journal_length, RefusesCommand}}
 
 -- a step refuses for the command and the state alone
 abbrev pub StepsRefuse : Type 0

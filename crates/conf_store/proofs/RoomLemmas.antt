@@ -1,9 +1,7 @@
 -- What a string does that has room.
 use Rattle.std.proofs.Common.{◌≡◌, ◌≤◌, ℕ, ◌+◌, false, if◌then◌else◌, List, ◌++◌, length, String, Global, Result, string_bytes, sym, ap}
-use Rattle.std.proofs.Common.{◌∙◌}
-use Rattle.std.specs.Prelude.{string_capacity, string_len, is_ok, is_err, IsOk, OnOk, Ok, Err}
-use Rattle.conf_store.proofs.Prelude.{false≢true}
-use Rattle.conf_store.specs.Room.{AppendsWithin}
+use Rattle.std.{proofs.Common.◌∙◌, specs.Prelude.{string_capacity, string_len, is_ok, is_err, IsOk, OnOk, Ok, Err}}
+use Rattle.conf_store.{proofs.Prelude.false≢true, specs.Room.AppendsWithin}
 
 pub appended : {E : Type 0} (old new : String Global) (more : List ℕ) (result : Result (Unit {0}) E)
     → string_capacity old ≤ string_capacity new

@@ -5,13 +5,11 @@ use Rattle.std.proofs.Common.{append-nil, length-append, arith}
 use Rattle.conf_store.proofs.Prelude.{false≢true, length-take-le, take-append-le, encodes-append, same_text, text, mapping, value_at}
 use Rattle.conf_store.proofs.Prelude.{members_after, same_text-true, same_text-self, byte_len-encoded, members, base_text, base_bytes}
 use Rattle.conf_store.proofs.Prelude.{base_length, entry_lines, Command, IsState, lines_if_there, Entry, Contents, config_named, names_of}
-use Rattle.conf_store.proofs.Prelude.{has_name, names_differ, step, touched, Room}
-use Rattle.conf_state.proofs.LineLemmas.{line, base_lines}
+use Rattle.conf_store.proofs.{Prelude.{has_name, names_differ, step, touched, Room}, PendingLemmas.{AreWithin-more, differ-names, no-name}}
+use Rattle.conf_store.{proofs.PendingLemmas.texts-step, specs.{Cuttings.Cut, Stagings.{left_of, staged_view, HasRoom}, Parts.Part}}
+use Rattle.conf_store.specs.{Parts.{parts_named, texts, joined, AreWithin, AreMade}, Staged.{Staged, staged_length, with_more, slice_limit}}
+use Rattle.{conf_store.specs.Staged.{next_slice, after_slice}, conf_state.proofs.LineLemmas.{line, base_lines}}
 use Rattle.conf_record.specs.BaseStart.{base_start, configs_start}
-use Rattle.conf_store.specs.{Cuttings.Cut, Stagings.left_of, Stagings.staged_view, Stagings.HasRoom}
-use Rattle.conf_store.specs.Parts.{Part, parts_named, texts, joined, AreWithin, AreMade}
-use Rattle.conf_store.specs.Staged.{Staged, staged_length, with_more, slice_limit, next_slice, after_slice}
-use Rattle.conf_store.proofs.PendingLemmas.{AreWithin-more, differ-names, no-name, texts-step}
 
 -- ---- a base, part by part
 

@@ -1,13 +1,11 @@
 -- A running checkpoint beside what is under `store.yaml`.
-use Rattle.std.proofs.Common.{◌≡◌, refl, sym, ◌∙◌, ap, subst, arith, ◌≤◌, append_assoc, length-append, take-append-drop}
-use Rattle.std.specs.Prelude.{ℕ, ◌+◌, min, Bool, List, [], ◌∷◌, ◌++◌, length, take, Option, Some, None, IsSome, option_map, Ok}
+use Rattle.std.{proofs.Common.{◌≡◌, refl, sym, ◌∙◌, ap, subst, arith, ◌≤◌, append_assoc, length-append, take-append-drop}, specs.Prelude.ℕ}
+use Rattle.std.specs.Prelude.{◌+◌, min, Bool, List, [], ◌∷◌, ◌++◌, length, take, Option, Some, None, IsSome, option_map, Ok}
 use Rattle.conf_store.proofs.Prelude.{Image, false≢true, length-take-le, ClosesOnce, File, Folder, bytes_under, synced_file, Next}
-use Rattle.conf_store.proofs.Prelude.{HoldsStore}
-use Rattle.conf_store.proofs.Prelude.{store_limit, file_with_bytes, Command, Contents, step, after, Enough, IsRecord, IsBase}
-use Rattle.conf_store.specs.Meaning.{FileMeans, ImageMeans}
-use Rattle.conf_store.specs.Staged.{Staged, staged_length, with_more, slice_limit, next_slice, after_slice}
-use Rattle.conf_store.specs.Durable.{IsWholeStore, IsJournal, IsDurable, AfterPrefix, IsStaged, IsStaging, staged_text}
-use Rattle.conf_store.proofs.MeaningLemmas.{whole-means, base-whole, record-whole}
+use Rattle.conf_store.proofs.Prelude.{HoldsStore, store_limit, file_with_bytes, Command, Contents, step, after, Enough, IsRecord, IsBase}
+use Rattle.conf_store.{proofs.MeaningLemmas.{whole-means, base-whole, record-whole}, specs.{Meaning.{FileMeans, ImageMeans}, Staged.Staged}}
+use Rattle.conf_store.specs.{Staged.{staged_length, with_more, slice_limit, next_slice, after_slice}, Durable.{IsWholeStore, IsJournal}}
+use Rattle.conf_store.specs.Durable.{IsDurable, AfterPrefix, IsStaged, IsStaging, staged_text}
 
 -- the new file's bytes
 pub text-of : (folder : Folder) (s : Contents) (staged : Staged) → (is : IsStaged folder s staged)

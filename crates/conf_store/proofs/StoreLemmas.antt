@@ -1,23 +1,19 @@
 -- What an open store keeps on its disk, and what a crash during its calls leaves.
-use Rattle.std.proofs.Common.{◌≡◌, ◌⊎◌, inl, ⊎_elim, refl, sym, ◌∙◌, ap, subst, arith, ◌≤◌, length-append}
-use Rattle.std.specs.Prelude.{ℕ, true, false, ◌+◌, ◌&&◌, min, Bool, nat_le, nat_lt, if◌then◌else◌, List, [], ◌∷◌, ◌++◌, length}
-use Rattle.std.specs.Prelude.{Some, option_map, Ok, Err}
+use Rattle.std.{proofs.Common.{◌≡◌, ◌⊎◌, inl, ⊎_elim, refl, sym, ◌∙◌, ap, subst, arith, ◌≤◌, length-append}, specs.Prelude.{ℕ, true, false}}
+use Rattle.std.specs.Prelude.{◌+◌, ◌&&◌, min, Bool, nat_le, nat_lt, if◌then◌else◌, List, [], ◌∷◌, ◌++◌, length, Some, option_map, Ok, Err}
 use Rattle.conf_store.proofs.Prelude.{false≢true, ClosesOnce, byte_len, byte_len-encoded, Folder, with_pending, Image, IsImage, synced_file}
-use Rattle.conf_store.proofs.Prelude.{DiskModel, LeavesOnly, greatest, LeavesOnly-start, LeavesOnly-weaker, HoldsStore}
-use Rattle.conf_store.proofs.Prelude.{HeldIsNoted, SyncedIsLeft, IsStoreOf, store_limit, Command, single, batch, is_batch, Contents}
-use Rattle.conf_store.proofs.Prelude.{count_limit, IsState, step, after, Room, Enough, LongRecord, IsRecord, IsBase, BasesAreRead}
-use Rattle.conf_store.proofs.Prelude.{IsLeftNoted, several_waited, several_after, file_at}
-use Rattle.conf_store.proofs.Prelude.{BasesClose, BasesFit, RecordsAreRead, RecordsClose, base_bytes, FitsRecord, record_text}
-use Rattle.conf_store.proofs.Prelude.{record_bytes, IsCommand, nat_tests, StoreFault}
-use Rattle.conf_state.specs.Rooms.{record_limit, room_of}
+use Rattle.conf_store.proofs.Prelude.{DiskModel, LeavesOnly, greatest, LeavesOnly-start, LeavesOnly-weaker, HoldsStore, HeldIsNoted}
+use Rattle.conf_store.proofs.Prelude.{SyncedIsLeft, IsStoreOf, store_limit, Command, single, batch, is_batch, Contents, count_limit}
+use Rattle.conf_store.proofs.Prelude.{IsState, step, after, Room, Enough, LongRecord, IsRecord, IsBase, BasesAreRead, IsLeftNoted}
+use Rattle.conf_store.proofs.Prelude.{several_waited, several_after, file_at, BasesClose, BasesFit, RecordsAreRead, RecordsClose}
+use Rattle.conf_store.proofs.Prelude.{base_bytes, FitsRecord, record_text, record_bytes, IsCommand, nat_tests, StoreFault}
+use Rattle.conf_store.proofs.{MeaningLemmas.{whole-means, base-whole, ok-same}, StagedLemmas.means-waiting, StepLemmas.StepsNeedRoom}
+use Rattle.conf_store.proofs.{StepLemmas.{StepsCount, accepted-anyway, accepted-number}, HeldLemmas.{held-journal, held-images}}
+use Rattle.conf_store.proofs.HeldLemmas.{held-stores, journal-more, journal-synced, none-noted, appended-noted, appended-left}
+use Rattle.conf_store.specs.{Accepting.{IsAccepted, IsBaseOf, IsMeasured}, Meaning.{FileMeans, ImageMeans}, Calls.next_number}
+use Rattle.conf_store.specs.{Calls.{next_record, room_for, outcome}, Durable.{IsJournal, HasFlushed, HolesMean, IsHeld, IsDurable}}
+use Rattle.{conf_store.specs.Durable.{AllImagesMean, MeansPrefix}, conf_state.specs.Rooms.{record_limit, room_of}}
 use Rattle.conf_state.specs.declared.room.Room.TheVariants.{Missing}
-use Rattle.conf_store.specs.{Accepting.IsAccepted, Accepting.IsBaseOf, Accepting.IsMeasured, Meaning.FileMeans, Meaning.ImageMeans}
-use Rattle.conf_store.specs.Calls.{next_number, next_record, room_for, outcome}
-use Rattle.conf_store.specs.Durable.{IsJournal, HasFlushed, HolesMean, IsHeld, IsDurable, AllImagesMean, MeansPrefix}
-use Rattle.conf_store.proofs.{MeaningLemmas.whole-means, MeaningLemmas.base-whole, MeaningLemmas.ok-same, StagedLemmas.means-waiting}
-use Rattle.conf_store.proofs.StepLemmas.{StepsNeedRoom, StepsCount, accepted-anyway, accepted-number}
-use Rattle.conf_store.proofs.HeldLemmas.{held-journal, held-images, held-stores, journal-more, journal-synced, none-noted, appended-noted}
-use Rattle.conf_store.proofs.HeldLemmas.{appended-left}
 
 -- a durable store's images mean its state
 pub durable-means : SyncedIsLeft → (folder : Folder) (s : Contents) (size : ℕ) → IsDurable folder s size → AllImagesMean folder s

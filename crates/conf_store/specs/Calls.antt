@@ -1,9 +1,8 @@
 -- What the calls of an open store return, and how they change it.
 use Rattle.std.specs.Prelude.{◌≡◌, ◌⊎◌, ℕ, ◌+◌, ◌<◌, ◌≤◌, min, max, false, if◌then◌else◌, List, length, Result, Ok, Err}
-use Rattle.conf_store.specs.Prelude.{greatest, store_limit, Command, is_batch, Contents, config_named, count_limit}
-use Rattle.conf_store.specs.Prelude.{Tree, style_text, at, good_name, room_of, step, and_then, found, by_path}
-use Rattle.conf_store.specs.Prelude.{StoreFault, BadName, Reopen, Device, OutOfMemory, Room, record_bytes}
-use Rattle.conf_store.specs.{Staged.staged_length, Staged.with_more, View.StoreView}
+use Rattle.conf_store.specs.Prelude.{greatest, store_limit, Command, is_batch, Contents, config_named, count_limit, Tree, style_text, at}
+use Rattle.conf_store.specs.Prelude.{good_name, room_of, step, and_then, found, by_path, StoreFault, BadName, Reopen, Device, OutOfMemory}
+use Rattle.conf_store.specs.{Prelude.{Room, record_bytes}, Staged.{staged_length, with_more}, View.StoreView}
 
 -- The number of the next record. At the greatest count it is that count, which has as many digits as the number after
 -- it.

@@ -1,8 +1,7 @@
 -- What a call that may change an open store says of the store before it, `old`, and of the one after it, `new`.
 use Rattle.std.specs.Prelude.{◌≡◌, ◌≢◌, ◌⊎◌, ◌≤◌, ℕ, Bool, false, List, [], ◌∷◌, ◌++◌, Option, Result, IfErr, IsErrOf, OnOk}
 use Rattle.conf_store.specs.Prelude.{bytes_under, several_waited, DiskModel, LeavesOnly, Store, file_with_bytes, Command, Contents}
-use Rattle.conf_store.specs.Prelude.{StoreFault, Device}
-use Rattle.conf_store.specs.{Calls.HasFailed, Calls.next_record, Meaning.ImageMeans, View.StoreView}
+use Rattle.conf_store.specs.{Prelude.{StoreFault, Device}, Calls.{HasFailed, next_record}, Meaning.ImageMeans, View.StoreView}
 use Rattle.conf_store.specs.Durable.{MeansPrefix, AllImagesMean, HasFlushed, staged_text}
 
 -- ---- faults

@@ -1,8 +1,7 @@
 -- Why no store was made of a state.
 use Rattle.std.specs.Prelude.{◌≡◌, ◌≢◌, ◌⊎◌, None, Some, Result, Ok, Err}
 use Rattle.conf_store.specs.Prelude.{Folder, bytes_under, image_now, Store, base_bytes, Contents}
-use Rattle.conf_store.specs.declared.creating.CreateFault.{CreateFault}
-use Rattle.conf_store.specs.declared.creating.CreateFault.TheVariants.{StoreExists, Device, OutOfMemory}
+use Rattle.conf_store.specs.declared.creating.CreateFault.{CreateFault, TheVariants.{StoreExists, Device, OutOfMemory}}
 
 -- Why no store of `s` was made. At StoreExists there is a `store.yaml`, and nothing has changed. At OutOfMemory both
 -- files read as before. At Device `store.yaml` reads as before, or there was none and now it is the whole base of `s`.

@@ -1,6 +1,5 @@
 -- What is seen of the slice that is made next.
-use Rattle.std.specs.Prelude.{ℕ, List}
-use Rattle.std.proofs.Common.{refl}
+use Rattle.std.{specs.Prelude.{ℕ, List}, proofs.Common.refl}
 use Rattle.conf_store.specs.Prelude.{Coded, code_by, coded×, coded_ℕ, coded_list}
 
 -- the slice as far as it is made, what is left of the part, and how many bytes there is room for in both

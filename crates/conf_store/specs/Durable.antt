@@ -1,11 +1,8 @@
 -- What an open store keeps on its disk, and what a crash leaves of it.
-use Rattle.std.specs.Prelude.{◌≡◌, ◌≤◌, ℕ, ◌+◌, Bool, false, List, [], ◌++◌, length, take, Option, Some, None}
-use Rattle.std.specs.Prelude.{option_map, Ok}
+use Rattle.std.specs.Prelude.{◌≡◌, ◌≤◌, ℕ, ◌+◌, Bool, false, List, [], ◌++◌, length, take, Option, Some, None, option_map, Ok}
 use Rattle.conf_store.specs.Prelude.{Pieces, File, Folder, bytes_under, several_waited, Image, IsImage, synced_file, Next, HoldsStore}
-use Rattle.conf_store.specs.Prelude.{file_at, store_limit, Command, Contents, after, record_pieces, records_bytes}
-use Rattle.conf_store.specs.Prelude.{Zeroed}
-use Rattle.conf_store.specs.Meaning.{AreRecords, PiecesMean, FileMeans, ImageMeans}
-use Rattle.conf_store.specs.Staged.{Staged}
+use Rattle.conf_store.specs.Prelude.{file_at, store_limit, Command, Contents, after, record_pieces, records_bytes, Zeroed}
+use Rattle.conf_store.specs.{Meaning.{AreRecords, PiecesMean, FileMeans, ImageMeans}, Staged.Staged}
 
 -- The bytes mean `s`, and end with a closing line: nothing follows the last piece.
 pub record IsWholeStore (bytes : List ℕ) (s : Contents) : Type 0 where

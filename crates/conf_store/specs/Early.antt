@@ -1,11 +1,7 @@
 -- The parts, as the code has them: names, and the bytes that were made early.
-use Rattle.std.specs.Prelude.{◌≡◌, false, ℕ, List, [], ◌∷◌, String, string_bytes, option_map, unwrap_or}
-use Rattle.std.specs.Prelude.{encode_utf8_all}
-use Rattle.conf_store.specs.Prelude.{bytes_eq, chars, Global, text_of, entry_named, Entry}
-use Rattle.std.specs.HashMap.{HashMap, get_by_text}
-use Rattle.std.specs.declared.hash.FoldHasher.{FoldHasher}
-use Rattle.std.specs.declared.hash.BuildHasherDefault.{BuildHasherDefault}
-use Rattle.conf_store.specs.Parts.{Part}
+use Rattle.std.specs.{Prelude.{◌≡◌, false, ℕ, List, [], ◌∷◌, String, string_bytes, option_map, unwrap_or, encode_utf8_all}, HashMap.HashMap}
+use Rattle.std.specs.{HashMap.get_by_text, declared.hash.{FoldHasher.FoldHasher, BuildHasherDefault.BuildHasherDefault}}
+use Rattle.conf_store.specs.{Prelude.{bytes_eq, chars, Global, text_of, entry_named, Entry}, Parts.Part}
 
 -- texts by name
 abbrev pub Texts : Type 0

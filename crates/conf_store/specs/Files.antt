@@ -1,8 +1,7 @@
 -- What the files of a folder read as, and what opening makes of them.
 use Rattle.std.specs.Prelude.{◌≡◌, ◌≢◌, ◌⊎◌, ℕ, Bool, List, length, Option, Some, None}
 use Rattle.conf_store.specs.Prelude.{bytes_under, several_waited, Image, IsImage, image_now, DiskModel, LeavesOnly, Store, IsStoreOf}
-use Rattle.conf_store.specs.Prelude.{Contents, base_bytes}
-use Rattle.conf_store.specs.{Meaning.FileMeans, Opens.FileRecoversTo}
+use Rattle.conf_store.specs.{Prelude.{Contents, base_bytes}, Meaning.FileMeans, Opens.FileRecoversTo}
 
 -- the file is there, and has so many bytes
 abbrev pub HasLength : Option (List ℕ) → ℕ → Type 0

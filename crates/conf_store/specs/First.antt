@@ -1,15 +1,13 @@
 -- What the bytes of a `store.yaml` of the format `confstore-1` mean. These definitions never change: they are those of
 -- the first format, where a command was one edit and the limits were smaller. The law `old_stores_read` says that
 -- today's give the same state wherever these give one. Nothing else uses them.
-use Rattle.std.specs.Prelude.{◌≡◌, ◌≤◌, ℕ, ◌+◌, Bool, true, ◌&&◌, nat_le, nat_lt, if◌then◌else◌, length, List, [], ◌∷◌}
-use Rattle.std.specs.Prelude.{codes, decimal, Option, Some, None, option_map, is_ok, Result, Ok, Err}
-use Rattle.conf_store.specs.Prelude.{chars, IsUtf8, Pieces, style_text, byte_len, same_text, Tree, depth, text}
-use Rattle.conf_store.specs.Prelude.{sequence, mapping, no_member, member, set, delete, store_limit, good_name, Entry}
-use Rattle.conf_store.specs.Prelude.{Contents, config_named, put_config, cut_config, base_limit, count_limit, names_of}
-use Rattle.conf_store.specs.Prelude.{names_differ, members, closed_document, and_then, found, by_path, StoreFault}
-use Rattle.conf_store.specs.Prelude.{BadName, TooDeep, ConfigLarge, StoreFull, CountFull, number_from_digits, keys_are}
-use Rattle.conf_store.specs.Prelude.{values, entries, base_keys}
-use Rattle.yaml_grammar.specs.Reads.{Limits, Good, Gives}
+use Rattle.std.specs.Prelude.{◌≡◌, ◌≤◌, ℕ, ◌+◌, Bool, true, ◌&&◌, nat_le, nat_lt, if◌then◌else◌, length, List, [], ◌∷◌, codes, decimal}
+use Rattle.std.specs.Prelude.{Option, Some, None, option_map, is_ok, Result, Ok, Err}
+use Rattle.conf_store.specs.Prelude.{chars, IsUtf8, Pieces, style_text, byte_len, same_text, Tree, depth, text, sequence, mapping}
+use Rattle.conf_store.specs.Prelude.{no_member, member, set, delete, store_limit, good_name, Entry, Contents, config_named, put_config}
+use Rattle.conf_store.specs.Prelude.{cut_config, base_limit, count_limit, names_of, names_differ, members, closed_document, and_then, found}
+use Rattle.conf_store.specs.Prelude.{by_path, StoreFault, BadName, TooDeep, ConfigLarge, StoreFull, CountFull, number_from_digits, keys_are}
+use Rattle.{conf_store.specs.Prelude.{values, entries, base_keys}, yaml_grammar.specs.Reads.{Limits, Good, Gives}}
 use Rattle.json_pointer.specs.Pointers.{path_of}
 
 -- ---- limits

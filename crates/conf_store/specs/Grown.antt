@@ -1,7 +1,6 @@
 -- By how much a file has grown since its base was written.
 use Rattle.std.specs.Prelude.{◌≡◌, ℕ, List, ◌++◌, length, Option, Some, None}
-use Rattle.conf_store.specs.Prelude.{ClosesOnce, Folder, Contents, IsBase}
-use Rattle.conf_store.specs.{Durable.staged_text, Staged.Staged}
+use Rattle.conf_store.specs.{Prelude.{ClosesOnce, Folder, Contents, IsBase}, Durable.staged_text, Staged.Staged}
 
 -- The bytes are a base, a piece that is closed once, and then others: so many.
 pub record IsGrown (bytes : List ℕ) (count : ℕ) : Type 0 where

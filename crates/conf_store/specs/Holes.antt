@@ -1,8 +1,7 @@
 -- What a crash leaves behind the last whole record: a piece with a zero, and behind it pieces that are no records, or
 -- any pieces if several records waited for one sync.
 use Rattle.std.specs.Prelude.{◌≡◌, ◌⊎◌, ℕ, Bool, true, false, List, Contains}
-use Rattle.conf_store.specs.Prelude.{All, Pieces, Command, IsRecord, IsNoRecord, no_zero}
-use Rattle.conf_store.specs.declared.waiting.Waiting.{Waiting}
+use Rattle.conf_store.specs.{Prelude.{All, Pieces, Command, IsRecord, IsNoRecord, no_zero}, declared.waiting.Waiting.Waiting}
 use Rattle.conf_store.specs.declared.waiting.Waiting.TheVariants.{One, Several}
 
 -- whether several records may have waited for one sync

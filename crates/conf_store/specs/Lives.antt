@@ -1,8 +1,7 @@
 -- Lives of a store, each from one opening to the next crash, and what they keep.
-use Rattle.std.specs.Prelude.{◌≡◌, ◌⊎◌, ℕ, List, [], ◌∷◌, ◌++◌, take, drop, map, Bool, true, false, ◌||◌, if◌then◌else◌}
-use Rattle.std.specs.Prelude.{Result, Ok, Err, is_ok}
+use Rattle.std.specs.Prelude.{◌≡◌, ◌⊎◌, ℕ, List, [], ◌∷◌, ◌++◌, take, drop, map, Bool, true, false, ◌||◌, if◌then◌else◌, Result, Ok, Err}
+use Rattle.std.specs.{Prelude.is_ok, List.AllByRecursion}
 use Rattle.conf_store.specs.Prelude.{Command, Contents, after, StoreFault}
-use Rattle.std.specs.List.{AllByRecursion}
 
 -- `performing` is a command that is submitted and flushed by one call
 pub data Call : Type 0 where

@@ -1,8 +1,7 @@
 -- Why a piece is not the next record after a state.
 use Rattle.std.specs.Prelude.{◌≡◌, ◌≢◌, ℕ, ◌+◌, List, Ok, Err}
-use Rattle.conf_store.specs.Prelude.{Command, Contents, step, Enough, IsRecord, IsNoRecord}
-use Rattle.conf_store.specs.{declared.records.NoRecord.NoRecord, declared.records.RecordFault.RecordFault}
-use Rattle.conf_store.specs.declared.records.NoRecord.TheVariants.{NotARecord, WrongNumber, Refused}
+use Rattle.conf_store.specs.{Prelude.{Command, Contents, step, Enough, IsRecord, IsNoRecord}, declared.records.NoRecord.NoRecord}
+use Rattle.conf_store.specs.declared.records.{NoRecord.TheVariants.{NotARecord, WrongNumber, Refused}, RecordFault.RecordFault}
 use Rattle.conf_store.specs.declared.records.RecordFault.TheVariants.{Bad, OutOfMemory}
 
 -- the reason holds of the piece and the state

@@ -1,7 +1,6 @@
 -- What a part's text takes.
 use Rattle.std.specs.Prelude.{ℕ, List, [], ◌++◌, encode_utf8_all}
-use Rattle.conf_store.specs.{Room.AppendsWithin, declared.part_text.PartText.PartText}
-use Rattle.conf_store.specs.RoomLaws.{AppendsWithin-none, AppendsWithin-both}
+use Rattle.conf_store.specs.{Room.AppendsWithin, declared.part_text.PartText.PartText, RoomLaws.{AppendsWithin-none, AppendsWithin-both}}
 
 abbrev pub TakesWithin : PartText → List ℕ → PartText → Type 0
 TakesWithin before cs after = AppendsWithin before.text (encode_utf8_all cs) after.text

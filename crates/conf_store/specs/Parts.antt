@@ -1,6 +1,5 @@
 -- The parts of a base's text that are not written yet.
-use Rattle.std.specs.Prelude.{◌≡◌, ◌≤◌, true, ℕ, List, [], ◌∷◌, ◌++◌, length, Option, None, IsSome, unwrap_or}
-use Rattle.std.specs.Prelude.{encode_utf8_all}
+use Rattle.std.specs.Prelude.{◌≡◌, ◌≤◌, true, ℕ, List, [], ◌∷◌, ◌++◌, length, Option, None, IsSome, unwrap_or, encode_utf8_all}
 use Rattle.conf_store.specs.Prelude.{Coded, coded×, coded_ℕ, coded_list, coded_option, same_text, Entry, entry_named}
 
 -- the name of a configuration, and its bytes, if they were made before a command changed it

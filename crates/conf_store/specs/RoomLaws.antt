@@ -1,9 +1,7 @@
 -- Texts that are appended one after the other.
-use Rattle.std.specs.Prelude.{ℕ, List, [], ◌++◌, String, string_bytes, encode_utf8_all}
-use Rattle.std.proofs.Common.{sym, ap, ◌∙◌, subst, append-nil, append_assoc, arith, length-append}
-use Rattle.conf_store.specs.Prelude.{Global}
-use Rattle.std.proofs.lemmas.Str.{encodes-append}
-use Rattle.conf_store.specs.Room.{AppendsWithin}
+use Rattle.std.{specs.Prelude.{ℕ, List, [], ◌++◌, String, string_bytes, encode_utf8_all}, proofs.Common.{sym, ap, ◌∙◌, subst, append-nil}}
+use Rattle.std.proofs.{Common.{append_assoc, arith, length-append}, lemmas.Str.encodes-append}
+use Rattle.conf_store.specs.{Prelude.Global, Room.AppendsWithin}
 
 pub AppendsWithin-none : (s : String Global) → AppendsWithin s [] s
 AppendsWithin-none s = record {

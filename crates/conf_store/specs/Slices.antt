@@ -1,11 +1,9 @@
 -- What a checkpoint does that is written in slices.
 use Rattle.std.specs.Prelude.{◌≡◌, ℕ, ◌<◌, true, false, List, [], length, Option, Some, None}
-use Rattle.conf_store.specs.Prelude.{File, Folder, bytes_under, several_waited, synced_file, DiskModel, Store, Next, HoldsStore}
-use Rattle.conf_store.specs.Prelude.{IsSynced, file_with_bytes, Command, Contents, base_bytes}
-use Rattle.conf_store.specs.{View.StoreView, declared.slicing.Progress.Progress}
-use Rattle.conf_store.specs.Staged.{Staged, staged_length, next_slice, after_slice, is_sync_due}
-use Rattle.conf_store.specs.Durable.{HasFlushed, AllImagesMean, staged_text}
-use Rattle.conf_store.specs.declared.slicing.Progress.TheVariants.{Left, Done}
+use Rattle.conf_store.specs.Prelude.{File, Folder, bytes_under, several_waited, synced_file, DiskModel, Store, Next, HoldsStore, IsSynced}
+use Rattle.conf_store.specs.{Prelude.{file_with_bytes, Command, Contents, base_bytes}, View.StoreView, declared.slicing.Progress.Progress}
+use Rattle.conf_store.specs.{declared.slicing.Progress.TheVariants.{Left, Done}, Staged.{Staged, staged_length, next_slice, after_slice}}
+use Rattle.conf_store.specs.{Staged.is_sync_due, Durable.{HasFlushed, AllImagesMean, staged_text}}
 
 -- nothing of `next.yaml` is pending, where a sync is due
 abbrev pub SyncedWhenDue : Folder → Option Staged → Type 0

@@ -1,7 +1,6 @@
 -- A checkpoint that is made part by part, beside the state.
 use Rattle.std.specs.Prelude.{◌≡◌, ◌≤◌, ℕ, ◌+◌, Bool, true, false, List, ◌++◌, length, Option, Some, None, string_bytes}
-use Rattle.conf_store.specs.Prelude.{Entry, Contents}
-use Rattle.conf_store.specs.{Cuttings.Cut, Staged.Staged, Staged.slice_limit, declared.staging.Staging.Staging}
+use Rattle.conf_store.specs.{Prelude.{Entry, Contents}, Cuttings.Cut, Staged.{Staged, slice_limit}, declared.staging.Staging.Staging}
 use Rattle.conf_store.specs.Parts.{Part, AreWithin, joined, texts}
 
 -- what is left to write: the slice and the part at hand, the configurations that wait, and what comes after them

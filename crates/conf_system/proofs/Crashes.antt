@@ -1,27 +1,18 @@
 -- What a crash leaves of a machine is an image of its folder, and the folder is whole.
 use Rattle.std.proofs.Common.{◌≡◌, ◌⊎◌, ⊎_elim, inl, inr, ℕ, ◌≤◌, List, [], ◌∷◌, ◌++◌, length, get_or, map, take, drop, Option, Some, None}
 use Rattle.std.proofs.Common.{All, Contains, Bool, true, false, ◌&&◌, if◌then◌else◌, refl, sym, ◌∙◌, ap, subst, arith, append_assoc}
-use Rattle.std.proofs.Common.{length-append, take-append-drop}
-use Rattle.std.proofs.Math.Seq.{take-length}
-use Rattle.std.proofs.lemmas.Bool.Decides.{eqb_tells}
-use Rattle.std.proofs.lemmas.List.{take-append-le, drop-append-le, length-map, map-append}
-use Rattle.std.proofs.lemmas.List.Elements.{All-contains, All-nil, All-weaker, All-map, All-contains_itself, All-get_or}
-use Rattle.std.proofs.lemmas.List.Elements.{Contains-append_left, Contains-append_right, Contains-append_cases}
-use Rattle.std.proofs.lemmas.List.{get_or_past}
-use Rattle.std.proofs.lemmas.Bool.{cases_lt}
-use Rattle.conf_disk.specs.Folder.{Stage, File, empty_file}
-use Rattle.conf_disk.specs.Folder as disk
-use Rattle.conf_disk.specs.Image.{Image, IsImage, IsTornAt, IsMade, IsStage, IsWhole}
-use Rattle.conf_disk.specs.Image as image
-use Rattle.conf_disk.proofs.Worn.{IsWorn-behind, IsWorn-more}
-use Rattle.conf_system.specs.declared.system.Note.{Note}
-use Rattle.conf_system.specs.Machine.{Version, Held, Machine, empty_held, version_bytes, stages, are_linked, apart}
-use Rattle.conf_system.specs.Machine.{sure_count, cut_at, file_of}
-use Rattle.conf_system.specs.Machine.{notes_of, all_several}
-use Rattle.conf_system.specs.Crash.{IsTorn, IsLeftOf, IsLeftAt, CrashLeaves, IsFront, IsSound}
-use Rattle.conf_system.specs.Folders.{same_place, same_stage, first_of, stages_before, stage_of, folder_of, IsTold}
-use Rattle.conf_system.proofs.Torn.{the_only}
+use Rattle.std.proofs.{Common.{length-append, take-append-drop}, Math.Seq.take-length, lemmas.Bool.{cases_lt, Decides.eqb_tells}}
+use Rattle.std.proofs.lemmas.List.{take-append-le, drop-append-le, length-map, map-append, get_or_past, Elements.{All-contains, All-nil}}
+use Rattle.std.proofs.lemmas.List.Elements.{All-weaker, All-map, All-contains_itself, All-get_or, Contains-append_left}
+use Rattle.std.proofs.lemmas.List.Elements.{Contains-append_right, Contains-append_cases}
+use Rattle.conf_disk.specs.{Folder.{Stage, File, empty_file}, Image.{Image, IsImage, IsTornAt, IsMade, IsStage, IsWhole}}
+use Rattle.{conf_disk.proofs.Worn.{IsWorn-behind, IsWorn-more}, conf_system.specs.{declared.system.Note.Note, Machine.{Version, Held}}}
+use Rattle.conf_system.specs.Machine.{Machine, empty_held, version_bytes, stages, are_linked, apart, sure_count, cut_at, file_of, notes_of}
+use Rattle.conf_system.specs.{Machine.all_several, Crash.{IsTorn, IsLeftOf, IsLeftAt, CrashLeaves, IsFront, IsSound}, Folders.same_place}
+use Rattle.conf_system.{specs.Folders.{same_stage, first_of, stages_before, stage_of, folder_of, IsTold}, proofs.Torn.the_only}
 use Rattle.conf_system.proofs.Steps.{file_at}
+use Rattle.conf_disk.specs.Folder as disk
+use Rattle.conf_disk.specs.Image as image
 
 and-first : (a b : Bool) → (a && b) ≡ true → a ≡ true
 and-first true b both = refl

@@ -1,18 +1,12 @@
 -- What a crash leaves of a machine, before and after a call.
-use Rattle.std.proofs.Common.{◌≡◌, inl, inr, ℕ, zero, suc, List, [], ◌∷◌, get_or, set, take}
-use Rattle.std.specs.Prelude.{option_map}
-use Rattle.std.proofs.Common.{◌⊎◌, Option, Some, None, Bool, refl, ap, subst, arith}
-use Rattle.std.proofs.lemmas.List.{set-get_or}
-use Rattle.std.proofs.lemmas.List.Elements.{Contains-append_right}
-use Rattle.conf_disk.specs.Image.{Image}
-use Rattle.conf_system.specs.declared.system.FileName.{FileName}
-use Rattle.conf_system.specs.declared.system.FileName.TheVariants.{Store, Next, Copy}
-use Rattle.conf_system.specs.Machine.{Version, Held, Machine, empty_held, version_bytes, version_at, with_now, with_file}
-use Rattle.conf_system.specs.Machine.{with_version, with_pending, synced, failed_sync, Call, Write, Sync, RenameNext, LinkNext}
-use Rattle.conf_system.specs.Machine.{SyncFolder, WriteRest, after, failing, apart, noted_by_write}
-use Rattle.conf_system.specs.Crash.{IsLeftAt, CrashLeaves, image_now}
-use Rattle.conf_system.proofs.Torn.{TearsInto, TearsInto-appended_first, TearsInto-synced, TearsInto-failed, LeftInto-now}
-use Rattle.conf_system.proofs.Torn.{set-into, IsTorn-whole}
+use Rattle.std.proofs.Common.{◌≡◌, inl, inr, ℕ, zero, suc, List, [], ◌∷◌, get_or, set, take, ◌⊎◌, Option, Some, None, Bool, refl, ap, subst}
+use Rattle.std.{proofs.{Common.arith, lemmas.List.{set-get_or, Elements.Contains-append_right}}, specs.Prelude.option_map}
+use Rattle.{conf_disk.specs.Image.Image, conf_system.specs.declared.system.FileName.{FileName, TheVariants.{Store, Next, Copy}}}
+use Rattle.conf_system.specs.Machine.{Version, Held, Machine, empty_held, version_bytes, version_at, with_now, with_file, with_version}
+use Rattle.conf_system.specs.Machine.{with_pending, synced, failed_sync, Call, Write, Sync, RenameNext, LinkNext, SyncFolder, WriteRest}
+use Rattle.conf_system.specs.{Machine.{after, failing, apart, noted_by_write}, Crash.{IsLeftAt, CrashLeaves, image_now}}
+use Rattle.conf_system.proofs.Torn.{TearsInto, TearsInto-appended_first, TearsInto-synced, TearsInto-failed, LeftInto-now, set-into}
+use Rattle.conf_system.proofs.Torn.{IsTorn-whole}
 
 -- what may be left under a name, may be left of files of which more may be left
 IsLeftAt-into : (less more : List Held) (place : Option ℕ) (bytes : Option (List ℕ))

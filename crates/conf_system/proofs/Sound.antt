@@ -1,22 +1,16 @@
 -- Each call leaves a sound machine sound.
-use Rattle.std.specs.Prelude.{option_map}
-use Rattle.std.proofs.Common.{◌≡◌, ℕ, zero, suc, ◌+◌, ◌≤◌, List, [], ◌∷◌, ◌++◌, length, get_or, set, map, take, Option, Some, None}
-use Rattle.std.proofs.Common.{All, Bool, true, false, inl, inr, refl, sym, ◌∙◌, ap, subst, arith, append_assoc, length-append, length-take}
-use Rattle.std.proofs.Math.Seq.{take-length}
-use Rattle.std.proofs.lemmas.Bool.{cases_lt}
-use Rattle.std.proofs.lemmas.List.{append-nil, length-map, length-set, get_or_past, take-append-le}
-use Rattle.std.proofs.lemmas.List.Elements.{All-contains, All-push, All-nil, All-weaker, All-set, All-get_or, All-map}
-use Rattle.std.proofs.lemmas.List.Elements.{Contains-append_right}
-use Rattle.conf_disk.specs.Folder.{Stage}
-use Rattle.conf_disk.specs.Image.{IsMade, IsApartFrom}
-use Rattle.conf_system.specs.declared.system.FileName.{FileName}
-use Rattle.conf_system.specs.declared.system.FileName.TheVariants.{Store, Next, Copy}
-use Rattle.conf_system.specs.Machine.{Version, Held, Machine, empty_held, version_bytes, version_at, stages, with_now, with_file}
-use Rattle.conf_system.specs.Machine.{with_version, with_pending, synced, failed_sync, replaced, settled, Call, CreateNext, CreateCopy}
-use Rattle.conf_system.specs.Machine.{Write, Sync, RenameNext, LinkNext, UnlinkNext, PlaceCopy, UnlinkCopy, SyncFolder, WriteNote}
-use Rattle.conf_system.specs.Machine.{MayBeCalled, after, failing, SyncNote, WriteRest, apart}
-use Rattle.conf_system.proofs.Steps.{apart-same, apart-none, apart-itself, made-other}
-use Rattle.conf_system.specs.Crash.{IsFront, IsSound}
+use Rattle.std.{specs.Prelude.option_map, proofs.Common.{◌≡◌, ℕ, zero, suc, ◌+◌, ◌≤◌, List, [], ◌∷◌, ◌++◌, length, get_or, set, map, take}}
+use Rattle.std.proofs.Common.{Option, Some, None, All, Bool, true, false, inl, inr, refl, sym, ◌∙◌, ap, subst, arith, append_assoc}
+use Rattle.std.proofs.{Common.{length-append, length-take}, Math.Seq.take-length, lemmas.{Bool.cases_lt, List.{append-nil, length-map}}}
+use Rattle.std.proofs.lemmas.List.{length-set, get_or_past, take-append-le, Elements.{All-contains, All-push, All-nil, All-weaker, All-set}}
+use Rattle.std.proofs.lemmas.List.Elements.{All-get_or, All-map, Contains-append_right}
+use Rattle.{conf_disk.specs.{Folder.Stage, Image.{IsMade, IsApartFrom}}, conf_system.specs.declared.system.FileName.FileName}
+use Rattle.conf_system.specs.{declared.system.FileName.TheVariants.{Store, Next, Copy}, Machine.{Version, Held, Machine, empty_held}}
+use Rattle.conf_system.specs.Machine.{version_bytes, version_at, stages, with_now, with_file, with_version, with_pending, synced}
+use Rattle.conf_system.specs.Machine.{failed_sync, replaced, settled, Call, CreateNext, CreateCopy, Write, Sync, RenameNext, LinkNext}
+use Rattle.conf_system.specs.Machine.{UnlinkNext, PlaceCopy, UnlinkCopy, SyncFolder, WriteNote, MayBeCalled, after, failing, SyncNote}
+use Rattle.conf_system.{specs.{Machine.{WriteRest, apart}, Crash.{IsFront, IsSound}}, proofs.Steps.{apart-same, apart-none, apart-itself}}
+use Rattle.conf_system.proofs.Steps.{made-other}
 
 -- the names of a stage lead to files of so many
 abbrev IsNamed : ℕ → Stage → Type 0

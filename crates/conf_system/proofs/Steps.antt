@@ -1,25 +1,17 @@
 -- What calls make of the machine is what steps make of the folder.
-use Rattle.std.proofs.Common.{◌≡◌, ℕ, zero, suc, ◌≤◌, List, [], ◌∷◌, ◌++◌, length, get_or, set, map}
-use Rattle.std.proofs.Common.{Option, Some, None, Bool, true, false, if◌then◌else◌, inl, inr, refl, sym, ◌∙◌, ap, arith, append_assoc}
-use Rattle.std.proofs.Common.{length-append}
-use Rattle.std.proofs.Common.{take-append-drop}
+use Rattle.std.proofs.Common.{◌≡◌, ℕ, zero, suc, ◌≤◌, List, [], ◌∷◌, ◌++◌, length, get_or, set, map, Option, Some, None, Bool, true, false}
+use Rattle.std.proofs.Common.{if◌then◌else◌, inl, inr, refl, sym, ◌∙◌, ap, arith, append_assoc, length-append, take-append-drop, eq-eqb}
+use Rattle.std.proofs.lemmas.{Bool.Decides.eqb_tells, List.{append-nil, drop_all, take-append-le, drop-append-le, map-set, map-append}}
+use Rattle.std.proofs.{lemmas.List.{length-map, Elements.{All-contains, Contains-append_right}}, Math.Seq.take-length}
 use Rattle.std.specs.Prelude.{IsSome, is_some, ◌&&◌}
-use Rattle.std.proofs.Common.{eq-eqb}
-use Rattle.std.proofs.lemmas.Bool.Decides.{eqb_tells}
-use Rattle.std.proofs.Math.Seq.{take-length}
-use Rattle.std.proofs.lemmas.List.{append-nil, drop_all, take-append-le, drop-append-le, map-set, map-append, length-map}
-use Rattle.std.proofs.lemmas.List.Elements.{All-contains, Contains-append_right}
-use Rattle.conf_disk.specs.Folder.{File, Stage, empty_file, synced_whole}
+use Rattle.conf_disk.specs.{Folder.{File, Stage, empty_file, synced_whole}, Image.IsMade}
+use Rattle.conf_system.specs.{declared.system.FileName.TheVariants.{Store, Next}, Machine.{Version, Held, Machine, empty_held}}
+use Rattle.conf_system.specs.Machine.{version_bytes, stages, with_now, with_file, with_pending, synced, settled, CreateNext, Write, Sync}
+use Rattle.conf_system.specs.Machine.{RenameNext, LinkNext, UnlinkNext, SyncFolder, MayBeCalled, after, failing, with_renamed, are_linked}
+use Rattle.conf_system.specs.{Machine.{apart, notes_of, all_several, sure_count, cut_at, file_of}, Crash.IsSound, Folders.MayAppend}
+use Rattle.conf_system.specs.Folders.{same_place, same_stage, first_of, stages_before, stage_of, folder_of, IsSure}
 use Rattle.conf_disk.specs.Folder as disk
-use Rattle.conf_disk.specs.Image.{IsMade}
 use Rattle.conf_disk.specs.declared.disk.Name.TheVariants as disk_name
-use Rattle.conf_system.specs.declared.system.FileName.TheVariants.{Store, Next}
-use Rattle.conf_system.specs.Machine.{Version, Held, Machine, empty_held, version_bytes, stages, with_now, with_file, with_pending, synced}
-use Rattle.conf_system.specs.Machine.{settled, CreateNext, Write, Sync, RenameNext, LinkNext, UnlinkNext, SyncFolder}
-use Rattle.conf_system.specs.Machine.{MayBeCalled, after, failing, with_renamed, are_linked, apart, notes_of}
-use Rattle.conf_system.specs.Machine.{all_several, sure_count, cut_at, file_of}
-use Rattle.conf_system.specs.Crash.{IsSound}
-use Rattle.conf_system.specs.Folders.{MayAppend, same_place, same_stage, first_of, stages_before, stage_of, folder_of, IsSure}
 
 sure-within : (count : ℕ) (versions : List Version) → sure_count count versions ≤ count
 sure-within count [] = omega arith

@@ -1,18 +1,11 @@
 -- What a crash leaves where nothing is pending.
-use Rattle.std.specs.Prelude.{option_map}
-use Rattle.std.proofs.Common.{◌≡◌, ◌↔◌, ℕ, zero, suc, List, [], ◌∷◌, ◌++◌, get_or, Option, Some, None, Contains, Bool}
-use Rattle.std.proofs.Common.{refl, sym, ◌∙◌, ap, subst, arith}
-use Rattle.std.proofs.lemmas.List.{append-nil}
-use Rattle.std.proofs.lemmas.List.Elements.{All-contains, Contains-append_right}
-use Rattle.conf_disk.specs.Folder.{Stage}
-use Rattle.conf_disk.specs.Image.{Image}
-use Rattle.conf_system.specs.declared.system.FileName.TheVariants.{Store}
-use Rattle.conf_system.specs.declared.system.Note.{Note}
-use Rattle.conf_system.specs.Machine.{Version, Held, Machine, empty_held, version_bytes, version_at, stages, bytes_under, apart}
-use Rattle.conf_disk.specs.Image.{IsWorn}
-use Rattle.conf_disk.proofs.Worn.{IsWorn-none}
-use Rattle.conf_system.specs.Crash.{IsTorn, IsLeftOf, IsLeftAt, CrashLeaves, IsOnDevice, image_now, files_machine, machine_of}
-use Rattle.conf_system.proofs.Torn.{the_only}
+use Rattle.std.{specs.Prelude.option_map, proofs.Common.{◌≡◌, ◌↔◌, ℕ, zero, suc, List, [], ◌∷◌, ◌++◌, get_or, Option, Some, None, Contains}}
+use Rattle.std.proofs.{Common.{Bool, refl, sym, ◌∙◌, ap, subst, arith}, lemmas.List.{append-nil, Elements.All-contains}}
+use Rattle.std.proofs.lemmas.List.Elements.{Contains-append_right}
+use Rattle.conf_disk.{specs.{Folder.Stage, Image.{Image, IsWorn}}, proofs.Worn.IsWorn-none}
+use Rattle.conf_system.specs.{declared.system.{FileName.TheVariants.Store, Note.Note}, Machine.{Version, Held, Machine, empty_held}}
+use Rattle.conf_system.specs.{Machine.{version_bytes, version_at, stages, bytes_under, apart}, Crash.{IsTorn, IsLeftOf, IsLeftAt}}
+use Rattle.conf_system.{specs.Crash.{CrashLeaves, IsOnDevice, image_now, files_machine, machine_of}, proofs.Torn.the_only}
 use Rattle.conf_system.proofs.Images.{reading-left}
 
 -- a file in one version, of which the device has all bytes

@@ -1,14 +1,10 @@
 -- What is left of one file, and of a file whose name may lead to several.
-use Rattle.std.proofs.Common.{◌≡◌, ⊎_elim, ℕ, zero, suc, ◌<◌, List, [], ◌∷◌, ◌++◌, length, get_or, set, take, drop}
-use Rattle.std.proofs.Common.{Contains, Bool, true, false, refl, ◌∙◌, ap, subst, arith, append_assoc}
-use Rattle.std.proofs.Common.{take-append-drop}
-use Rattle.std.proofs.lemmas.List.{append-nil}
+use Rattle.std.proofs.Common.{◌≡◌, ⊎_elim, ℕ, zero, suc, ◌<◌, List, [], ◌∷◌, ◌++◌, length, get_or, set, take, drop, Contains, Bool, true}
+use Rattle.std.proofs.{Common.{false, refl, ◌∙◌, ap, subst, arith, append_assoc, take-append-drop}, lemmas.List.append-nil}
 use Rattle.std.proofs.lemmas.List.Elements.{All-contains, All-push, All-nil, Contains-append_left, Contains-append_right}
 use Rattle.std.proofs.lemmas.List.Elements.{Contains-append_cases}
-use Rattle.conf_system.specs.Machine.{Version, Held, version_bytes, with_pending, synced, failed_sync, with_now, empty_held}
-use Rattle.conf_disk.specs.Image.{IsWorn}
-use Rattle.conf_disk.proofs.Worn.{IsWorn-whole, IsWorn-more, IsWorn-none}
-use Rattle.conf_system.specs.Crash.{IsTorn, IsLeftOf}
+use Rattle.conf_system.specs.{Machine.{Version, Held, version_bytes, with_pending, synced, failed_sync, with_now, empty_held}, Crash.IsTorn}
+use Rattle.{conf_system.specs.Crash.IsLeftOf, conf_disk.{specs.Image.IsWorn, proofs.Worn.{IsWorn-whole, IsWorn-more, IsWorn-none}}}
 
 -- what reads see may be left
 pub IsTorn-whole : (version : Version) → IsTorn version (version_bytes version)

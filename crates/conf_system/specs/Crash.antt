@@ -1,11 +1,8 @@
 -- What a crash of the machine leaves of a folder.
 use Rattle.std.specs.Prelude.{◌≡◌, ℕ, List, [], ◌∷◌, ◌++◌, length, get_or, take, Option, Some, None, Contains, All, Bool, false, option_map}
-use Rattle.conf_disk.specs.Folder.{Stage}
-use Rattle.conf_disk.specs.Image.{Image, IsWorn, IsMade, IsApartFrom}
-use Rattle.conf_system.specs.declared.system.FileName.TheVariants.{Store}
-use Rattle.conf_system.specs.declared.system.Note.{Note}
-use Rattle.conf_system.specs.Machine.{Version, Held, Machine, empty_held, version_bytes, versions, stages, bytes_under}
-use Rattle.conf_system.specs.Machine.{version_at, apart, notes_of}
+use Rattle.conf_disk.specs.{Folder.Stage, Image.{Image, IsWorn, IsMade, IsApartFrom}}
+use Rattle.conf_system.specs.{declared.system.{FileName.TheVariants.Store, Note.Note}, Machine.{Version, Held, Machine, empty_held}}
+use Rattle.conf_system.specs.Machine.{version_bytes, versions, stages, bytes_under, version_at, apart, notes_of}
 
 -- the bytes that the device surely has, and what is left of the pending ones
 pub record IsTorn (version : Version) (bytes : List ℕ) : Type 0 where

@@ -1,15 +1,12 @@
 -- The machine as a folder of conf_disk, which is what a disk over a system shows of it.
-use Rattle.std.specs.Prelude.{◌≡◌, ℕ, List, [], ◌∷◌, get_or, map, Option, Some, None, Contains}
-use Rattle.std.specs.Prelude.{Bool, true, false, if◌then◌else◌, ◌==◌, ◌&&◌}
-use Rattle.conf_disk.specs.Folder.{Stage, Folder, noted_at}
-use Rattle.conf_disk.specs.Image.{Image, IsImage}
+use Rattle.std.specs.Prelude.{◌≡◌, ℕ, List, [], ◌∷◌, get_or, map, Option, Some, None, Contains, Bool, true, false, if◌then◌else◌, ◌==◌}
+use Rattle.std.specs.Prelude.{◌&&◌}
+use Rattle.conf_disk.specs.{Folder.{Stage, Folder, noted_at}, Image.{Image, IsImage}}
+use Rattle.conf_system.specs.{declared.system.FileName.TheVariants.{Store, Next}, Machine.{Held, Machine, empty_held, file_of, stages}}
+use Rattle.conf_system.specs.Machine.{notes_of, all_several, after, failing, MayBeCalled, CreateNext, Write, Sync, RenameNext, LinkNext}
+use Rattle.conf_system.specs.{Machine.{UnlinkNext, SyncFolder, are_linked, apart}, Crash.{IsSound, CrashLeaves}}
 use Rattle.conf_disk.specs.Folder as disk
 use Rattle.conf_disk.specs.declared.disk.Name.TheVariants as disk_name
-use Rattle.conf_system.specs.declared.system.FileName.TheVariants.{Store, Next}
-use Rattle.conf_system.specs.Machine.{Held, Machine, empty_held, file_of, stages, notes_of, all_several, after, failing, MayBeCalled}
-use Rattle.conf_system.specs.Machine.{CreateNext, Write, Sync}
-use Rattle.conf_system.specs.Machine.{RenameNext, LinkNext, UnlinkNext, SyncFolder, are_linked, apart}
-use Rattle.conf_system.specs.Crash.{IsSound, CrashLeaves}
 
 abbrev pub stage_of : Stage → Stage
 stage_of stage = record { store = stage.store; next = apart stage.store stage.next }

@@ -1,10 +1,7 @@
 -- Facts about the machine that hold whatever system keeps it.
 use Rattle.std.specs.Prelude.{◌≡◌, ◌⊎◌, ◌↔◌, ℕ, ◌+◌, ◌<◌, ◌≤◌, List, ◌++◌, length, take, replicate, Option, Bool}
-use Rattle.conf_disk.specs.Image.{Image}
-use Rattle.conf_system.specs.declared.system.FileName.{FileName}
-use Rattle.conf_system.specs.declared.system.FileName.TheVariants.{Store}
-use Rattle.conf_system.specs.Machine.{Version, Machine, Call, Sync, MayBeCalled, after, failing, failed_sync, synced, with_pending}
-use Rattle.conf_system.specs.Machine.{bytes_under}
+use Rattle.{conf_disk.specs.Image.Image, conf_system.specs.{declared.system.FileName.{FileName, TheVariants.Store}, Machine.Version}}
+use Rattle.conf_system.specs.Machine.{Machine, Call, Sync, MayBeCalled, after, failing, failed_sync, synced, with_pending, bytes_under}
 use Rattle.conf_system.specs.Crash.{IsTorn, CrashLeaves, IsSound, IsOnDevice, image_now, machine_of}
 
 -- a crash may leave a prefix of the pending bytes, and zeros after it

@@ -1,14 +1,9 @@
 -- What the kernel and the device hold of one folder, and what a call of the system makes of it.
-use Rattle.std.specs.Prelude.{◌≡◌, ℕ, zero, suc, List, [], ◌∷◌, ◌++◌, length, get_or, set, map, take, Option, Some, None}
-use Rattle.std.specs.Prelude.{IsSome, option_map, Bool, true, false, if◌then◌else◌}
-use Rattle.std.specs.Prelude.{min, drop, ◌&&◌}
-use Rattle.conf_disk.specs.Folder.{File, Stage, noted_at, noted_but, noted_as}
-use Rattle.std.specs.Prelude.{◌||◌, ◌==◌}
-use Rattle.conf_system.specs.declared.system.FileName.{FileName}
-use Rattle.conf_system.specs.declared.system.Linking.{Linking}
-use Rattle.conf_system.specs.declared.system.Linking.TheVariants.{Linked, Unsupported}
-use Rattle.conf_system.specs.declared.system.Note.{Note}
-use Rattle.conf_system.specs.declared.system.FileName.TheVariants.{Store, Next, Copy}
+use Rattle.std.specs.Prelude.{◌≡◌, ℕ, zero, suc, List, [], ◌∷◌, ◌++◌, length, get_or, set, map, take, Option, Some, None, IsSome}
+use Rattle.std.specs.Prelude.{option_map, Bool, true, false, if◌then◌else◌, min, drop, ◌&&◌, ◌||◌, ◌==◌}
+use Rattle.{conf_disk.specs.Folder.{File, Stage, noted_at, noted_but, noted_as}, conf_system.specs.declared.system.FileName.FileName}
+use Rattle.conf_system.specs.declared.system.{FileName.TheVariants.{Store, Next, Copy}, Linking.{Linking, TheVariants.Linked}}
+use Rattle.conf_system.specs.declared.system.{Linking.TheVariants.Unsupported, Note.Note}
 
 -- One file of the system (an inode): the bytes that the device surely has, those after them, which may be in memory
 -- alone, and whether a sync failed. Then pages may count as written that are not, and no later sync says anything.

@@ -1,8 +1,7 @@
 -- A system, by what contracts see of it, and how a call of it goes.
 use Rattle.std.specs.Prelude.{◌≡◌, ◌⊎◌, ℕ, ◌≤◌, List, length, take, drop, Result, MatchResult}
-use Rattle.conf_system.specs.declared.system.Linking.{Linking}
-use Rattle.conf_system.specs.declared.system.Note.{Note}
-use Rattle.conf_system.specs.Machine.{Machine, Call, LinkNext, after, after_linking, after_reading, failing}
+use Rattle.conf_system.specs.{declared.system.{Linking.Linking, Note.Note}, Machine.{Machine, Call, LinkNext, after, after_linking}}
+use Rattle.conf_system.specs.Machine.{after_reading, failing}
 
 pub record SystemModel (S : Type 0) : Type 1 where
   -- whether the system is one that the clauses speak of; no call changes it

@@ -1,11 +1,7 @@
 -- What an edited text is.
 use Rattle.std.specs.Prelude.{◌≡◌, ℕ, List, Ok}
-use Rattle.yaml_grammar.specs.Style.{style_text}
-use Rattle.yaml_grammar.specs.Trees.{Tree, text}
-use Rattle.yaml_config.specs.Limits.{config_limits}
-use Rattle.yaml_tree.specs.Reading.{IsRead}
-use Rattle.tree_path.specs.Paths.{set}
-use Rattle.json_pointer.specs.Pointers.{path_of}
+use Rattle.{yaml_grammar.specs.{Style.style_text, Trees.{Tree, text}}, yaml_config.specs.Limits.config_limits}
+use Rattle.{yaml_tree.specs.Reading.IsRead, tree_path.specs.Paths.set, json_pointer.specs.Pointers.path_of}
 
 -- the bytes give a tree, the pointer is a path, and the text is the one style of that tree with the value at the path
 pub record IsEdited (bytes pointer value edited : List ℕ) : Type 0 where

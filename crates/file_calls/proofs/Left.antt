@@ -1,17 +1,11 @@
 -- What a crash leaves of the names, before and after a call.
-use Rattle.std.specs.Prelude.{option_map}
-use Rattle.std.proofs.Common.{◌≡◌, ◌⊎◌, inl, inr, ℕ, zero, suc, List, [], ◌∷◌, ◌++◌, take, Option, Some, None, Contains, Bool}
-use Rattle.std.proofs.Common.{refl, sym, ◌∙◌, ap, subst, arith}
-use Rattle.std.proofs.lemmas.List.Elements.{Contains-append_right}
-use Rattle.conf_disk.specs.Image.{IsWorn}
-use Rattle.conf_disk.proofs.Worn.{IsWorn-none}
-use Rattle.conf_system.specs.Machine.{Version, with_pending, failed_sync}
+use Rattle.std.{specs.Prelude.option_map, proofs.Common.{◌≡◌, ◌⊎◌, inl, inr, ℕ, zero, suc, List, [], ◌∷◌, ◌++◌, take, Option, Some, None}}
+use Rattle.std.proofs.{Common.{Contains, Bool, refl, sym, ◌∙◌, ap, subst, arith}, lemmas.List.Elements.Contains-append_right}
+use Rattle.{conf_disk.{specs.Image.IsWorn, proofs.Worn.IsWorn-none}, conf_system.specs.Machine.{Version, with_pending, failed_sync}}
 use Rattle.conf_system.proofs.Torn.{TearsInto, TearsInto-appended_first, TearsInto-failed, IsTorn-whole, the_only}
-use Rattle.file_calls.specs.Machine.{File, Leads, Names, Machine, file_at, file_bytes, with_new, with_version}
-use Rattle.file_calls.specs.Machine.{CreateBeside, CreateGiven, Write, GiveOwner, GiveGroup, SetMode, SyncNew, Rename}
-use Rattle.file_calls.specs.Machine.{UnlinkBeside, UnlinkGiven, SyncFolder, Call, after, failing}
-use Rattle.file_calls.specs.Machine.Leads.{Nothing, Old, New}
-use Rattle.file_calls.specs.Crash.{Image, IsLeft, CrashLeaves, IsOnDevice, image_now}
+use Rattle.file_calls.specs.Machine.{File, Leads, Names, Machine, file_at, file_bytes, with_new, with_version, CreateBeside, CreateGiven}
+use Rattle.file_calls.specs.Machine.{Write, GiveOwner, GiveGroup, SetMode, SyncNew, Rename, UnlinkBeside, UnlinkGiven, SyncFolder, Call}
+use Rattle.file_calls.specs.{Machine.{after, failing, Leads.{Nothing, Old, New}}, Crash.{Image, IsLeft, CrashLeaves, IsOnDevice, image_now}}
 
 left-now : (file : Option File) → IsLeft file (option_map file_bytes file)
 left-now None = tt

@@ -1,7 +1,6 @@
 -- What a crash of the machine leaves of the two names.
 use Rattle.std.specs.Prelude.{◌≡◌, ℕ, List, [], Option, None, Some, Contains, option_map}
-use Rattle.conf_system.specs.Crash.{IsTorn}
-use Rattle.file_calls.specs.Machine.{File, Names, Machine, file_at, file_bytes, stages}
+use Rattle.{conf_system.specs.Crash.IsTorn, file_calls.specs.Machine.{File, Names, Machine, file_at, file_bytes, stages}}
 
 -- the bytes under the two names, where there is a file
 pub record Image : Type 0 where

@@ -1,7 +1,6 @@
 -- Facts about the machine that hold whatever system keeps it.
 use Rattle.std.specs.Prelude.{◌≡◌, ◌⊎◌, ℕ, Some}
-use Rattle.file_calls.specs.Machine.{File, Machine, Call, after, failing, file_bytes}
-use Rattle.file_calls.specs.Crash.{Image, CrashLeaves, IsOnDevice, image_now}
+use Rattle.file_calls.specs.{Machine.{File, Machine, Call, after, failing, file_bytes}, Crash.{Image, CrashLeaves, IsOnDevice, image_now}}
 
 -- what reads see may be left
 abbrev pub ReadingIsLeft : Type 0

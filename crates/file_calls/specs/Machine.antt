@@ -1,6 +1,5 @@
 -- A file that a person names, and a new one in its folder, as the kernel and the device hold them.
-use Rattle.std.specs.Prelude.{◌≡◌, ℕ, zero, suc, List, [], ◌∷◌, ◌++◌, take, Option, Some, None, IsSome, option_map}
-use Rattle.std.specs.Prelude.{Bool, true}
+use Rattle.std.specs.Prelude.{◌≡◌, ℕ, zero, suc, List, [], ◌∷◌, ◌++◌, take, Option, Some, None, IsSome, option_map, Bool, true}
 use Rattle.conf_system.specs.Machine.{Version, empty_version, version_bytes, with_pending, synced, failed_sync}
 use Rattle.file_calls.specs.declared.calls.Rights.{Rights}
 

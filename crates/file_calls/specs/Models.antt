@@ -1,10 +1,7 @@
 -- The system under a file, by what contracts see of it, and how a call of it goes.
 use Rattle.std.specs.Prelude.{◌≡◌, ◌⊎◌, ℕ, ◌≤◌, List, length, take, Some, Result, MatchResult, IfOk, bit_and}
-use Rattle.file_calls.specs.declared.calls.Creation.{Creation}
-use Rattle.file_calls.specs.declared.calls.Creation.TheVariants.{Made, Taken}
-use Rattle.file_calls.specs.declared.calls.Rights.{Rights}
-use Rattle.file_calls.specs.Machine.{Leads, Machine, Call, CreateBeside, CreateGiven, Write, IsNamed, after, failing, rights_at}
-use Rattle.file_calls.specs.Machine.Leads.{Nothing}
+use Rattle.file_calls.specs.{declared.calls.{Creation.{Creation, TheVariants.{Made, Taken}}, Rights.Rights}, Machine.{Leads, Machine, Call}}
+use Rattle.file_calls.specs.Machine.{CreateBeside, CreateGiven, Write, IsNamed, after, failing, rights_at, Leads.Nothing}
 
 pub record FileModel (S : Type 0) : Type 1 where
   -- whether the system is one that the clauses speak of; no call changes it

@@ -1,12 +1,10 @@
 -- Whether each `~` of a text is before `0` or `1`, character by character.
 use Rattle.std.proofs.Common.{◌≡◌, ◌==◌, ℕ, ◌+◌, Bool, true, false, ◌&&◌, ◌||◌, not, if◌then◌else◌, List, [], ◌∷◌, ◌++◌, length, Option}
-use Rattle.std.proofs.Common.{Some, None, option_map, refl, sym, ap, ◌∙◌, arith}
-use Rattle.std.specs.Prelude.{is_none}
+use Rattle.std.{proofs.Common.{Some, None, option_map, refl, sym, ap, ◌∙◌, arith}, specs.Prelude.is_none}
 use Rattle.json_pointer.proofs.Prelude.{len_utf8, MatchOption, chars, IsUtf8, nat_tests, chars-nil, chars_past_char, IsUtf8-past_char}
 use Rattle.json_pointer.proofs.Prelude.{first}
 use lib.Utf8.{encode}
-use Rattle.json_pointer.specs.{Pointers.stray, Pointers.first_stray, Tokens.escaped_by}
-use Rattle.json_pointer.proofs.Pointers.{escape-stray}
+use Rattle.json_pointer.{specs.{Pointers.{stray, first_stray}, Tokens.escaped_by}, proofs.Pointers.escape-stray}
 
 none-map : (f : ℕ → ℕ) (o : Option ℕ) → is_none (option_map f o) ≡ is_none o
 none-map f None = refl

@@ -1,20 +1,16 @@
 -- Pointers: a path's text reads back as the path, and where a text goes wrong no path has it.
 use Rattle.std.proofs.Common.{◌≡◌, ◌==◌, ℕ, ◌+◌, ◌<◌, Bool, true, false, cond, not, ◌||◌, List, [], ◌∷◌, ◌++◌, length, length-append, map}
 use Rattle.std.proofs.Common.{drop, slice_range, Global, Option, Some, None, option_map, Ok, Err, refl, sym, ap, ap₂, subst, ◌∙◌}
-use Rattle.std.proofs.Common.{append_assoc, arith}
+use Rattle.std.proofs.{Common.{append_assoc, arith}, lemmas.{Bool.{eqb-true, and_parts}, List.Sums.list_all-from_AllPass}}
+use Rattle.std.specs.List.{list_all}
 use Rattle.json_pointer.proofs.Prelude.{cow_str_bytes, CowStr, len_utf8, chars, IsUtf8, nat_tests, length-encode, encodes-chars}
 use Rattle.json_pointer.proofs.Prelude.{encodes-append, chars-append, chars-nil, chars_past_char, IsUtf8-encode, IsUtf8-past_char}
 use Rattle.json_pointer.proofs.Prelude.{IsUtf8-drop, IsCharBoundary-start, IsScalar, MatchOption, byte_len, IsBlind}
-use Rattle.std.proofs.lemmas.Bool.{eqb-true, and_parts}
-use Rattle.std.proofs.lemmas.List.Sums.{list_all-from_AllPass}
-use Rattle.std.specs.List.{list_all}
 use lib.Utf8.{encodes, encode}
-use Rattle.yaml_chars.specs.Places.{IsRun, between}
-use Rattle.yaml_chars.proofs.Places.{rest-between}
-use Rattle.json_pointer.specs.{declared.fault.PathFault.PathFault, declared.fault.PathFault.TheVariants.BadPath}
-use Rattle.json_pointer.specs.Tokens.{texts, escaped_by}
-use Rattle.json_pointer.specs.Pointers.{unescaped, char_text, token_text, pointer_text, stray, first_stray, bad_place, first_piece, pieces}
-use Rattle.json_pointer.specs.Pointers.{token_from_text, path_of, tokens_or_place}
+use Rattle.{yaml_chars.{specs.Places.{IsRun, between}, proofs.Places.rest-between}, json_pointer.specs.declared.fault.PathFault.PathFault}
+use Rattle.json_pointer.specs.{declared.fault.PathFault.TheVariants.BadPath, Tokens.{texts, escaped_by}, Pointers.{unescaped, char_text}}
+use Rattle.json_pointer.specs.Pointers.{token_text, pointer_text, stray, first_stray, bad_place, first_piece, pieces, token_from_text}
+use Rattle.json_pointer.specs.Pointers.{path_of, tokens_or_place}
 
 -- ---- a character's spelling: two characters, or itself
 

@@ -1,9 +1,8 @@
 -- Paths as texts (RFC 6901, 3 and 4): each token is led by `/`, and in it `~` is spelled `~0` and `/` is spelled `~1`.
-use Rattle.std.specs.Prelude.{ℕ, ◌+◌, Bool, false, not, ◌&&◌, ◌||◌, ◌==◌, if◌then◌else◌, List, [], ◌∷◌, ◌++◌, map}
-use Rattle.std.specs.Prelude.{codes, Option, Some, None, option_map, Result, Ok, Err}
-use Rattle.json_pointer.specs.Prelude.{digit_zero, digit_one, tilde, first, is_empty}
-use Rattle.std.specs.Char.{len_utf8}
-use Rattle.json_pointer.specs.{declared.fault.PathFault.PathFault, declared.fault.PathFault.TheVariants.BadPath}
+use Rattle.std.specs.Prelude.{ℕ, ◌+◌, Bool, false, not, ◌&&◌, ◌||◌, ◌==◌, if◌then◌else◌, List, [], ◌∷◌, ◌++◌, map, codes, Option, Some}
+use Rattle.std.specs.{Prelude.{None, option_map, Result, Ok, Err}, Char.len_utf8}
+use Rattle.json_pointer.specs.{Prelude.{digit_zero, digit_one, tilde, first, is_empty}, declared.fault.PathFault.PathFault}
+use Rattle.json_pointer.specs.declared.fault.PathFault.TheVariants.{BadPath}
 
 -- `/`
 abbrev pub slash : ℕ

@@ -1,4 +1,3 @@
 -- What the definitions and the code of this crate name of others.
 pub use Rattle.std.specs.Str.{chars}
-pub use Rattle.yaml_chars.specs.Signs.{digit_zero, digit_one, tilde}
-pub use Rattle.yaml_grammar.specs.Texts.{first, is_empty}
+pub use Rattle.{yaml_chars.specs.Signs.{digit_zero, digit_one, tilde}, yaml_grammar.specs.Texts.{first, is_empty}}

@@ -1,10 +1,7 @@
 -- The tokens of the code, as texts.
-use Rattle.std.specs.Prelude.{◌==◌, ℕ, List, Option, Some, None, if◌then◌else◌, map}
-use Rattle.json_pointer.specs.Prelude.{chars, digit_zero, digit_one, tilde}
-use Rattle.std.specs.Cow.{cow_str_bytes}
-use Rattle.std.specs.declared.borrow.CowStr.{CowStr}
+use Rattle.std.specs.{Prelude.{◌==◌, ℕ, List, Option, Some, None, if◌then◌else◌, map}, Cow.cow_str_bytes, declared.borrow.CowStr.CowStr}
 use Rattle.std.specs.declared.alloc.Global.{Global}
-use Rattle.json_pointer.specs.Pointers.{slash}
+use Rattle.json_pointer.specs.{Prelude.{chars, digit_zero, digit_one, tilde}, Pointers.slash}
 
 -- each token as its characters
 abbrev pub texts : List (CowStr Global) → List (List ℕ)

@@ -1,12 +1,8 @@
 -- A file that is changed in its place.
-use Rattle.std.proofs.Common.{◌≡◌, ℕ, ◌<◌, List, length, get_or, set, map, Option, Some, None, sym, ◌∙◌, ap, arith}
-use Rattle.std.proofs.lemmas.List.{map-set, get_or-map, length-map}
-use Rattle.conf_disk.specs.Folder.{File, empty_file, Folder, under}
-use Rattle.conf_disk.specs.Image.{IsMade, IsWhole}
-use Rattle.conf_disk.specs.LogLaws.{now_staged}
-use Rattle.conf_disk.specs.declared.disk.Name.{Name}
-use Rattle.conf_disk.specs.declared.disk.Name.TheVariants.{Store, Next}
-use Rattle.test_disks.specs.Replay.{file_of}
+use Rattle.std.proofs.{Common.{◌≡◌, ℕ, ◌<◌, List, length, get_or, set, map, Option, Some, None, sym, ◌∙◌, ap, arith}, lemmas.List.map-set}
+use Rattle.std.proofs.lemmas.List.{get_or-map, length-map}
+use Rattle.conf_disk.specs.{Folder.{File, empty_file, Folder, under}, Image.{IsMade, IsWhole}, LogLaws.now_staged, declared.disk.Name.Name}
+use Rattle.{conf_disk.specs.declared.disk.Name.TheVariants.{Store, Next}, test_disks.specs.Replay.file_of}
 use Rattle.test_disks.specs.declared.folder.FileData.{FileData}
 
 -- the data at a place is replaced, and the file there is changed so

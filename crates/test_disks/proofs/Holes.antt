@@ -1,10 +1,7 @@
 -- Zeros in places of bytes, one after another.
-use Rattle.std.proofs.Common.{◌≡◌, ℕ, zero, suc, ◌≤◌, ◌+◌, List, [], ◌∷◌, ◌++◌, length, get_or, set}
-use Rattle.std.proofs.Common.{Some, true, refl, ◌∙◌, ap, subst, arith}
-use Rattle.std.proofs.lemmas.List.{get_or_past}
-use Rattle.std.proofs.lemmas.Bool.{leb-true}
-use Rattle.conf_disk.specs.Folder.{File, empty_file}
-use Rattle.conf_disk.specs.Image.{with_zeros, holed_bytes, fits_at, torn_at}
+use Rattle.std.proofs.Common.{◌≡◌, ℕ, zero, suc, ◌≤◌, ◌+◌, List, [], ◌∷◌, ◌++◌, length, get_or, set, Some, true, refl, ◌∙◌, ap, subst}
+use Rattle.std.proofs.{Common.arith, lemmas.{List.get_or_past, Bool.leb-true}}
+use Rattle.conf_disk.specs.{Folder.{File, empty_file}, Image.{with_zeros, holed_bytes, fits_at, torn_at}}
 
 -- one place more
 pub with_zeros-push : (places : List ℕ) (place : ℕ) (bytes : List ℕ)

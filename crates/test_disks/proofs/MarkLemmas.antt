@@ -1,16 +1,11 @@
 -- The marks of a folder after a step.
-use Rattle.std.proofs.Common.{◌≡◌, ℕ, ◌-◌, List, [], ◌∷◌, ◌++◌, length, get_or, set, Bool, false, not, ◌&&◌, ◌||◌}
-use Rattle.std.proofs.Common.{Option, Some, None, option_map, refl, sym, ◌∙◌, ap, arith}
-use Rattle.std.proofs.lemmas.List.{get_or-set_same, get_or-set_other, get_or_append_left, get_or-append_right}
-use Rattle.std.proofs.lemmas.Bool.{eq-eqb}
-use Rattle.conf_disk.specs.Folder.{File, empty_file, Folder, Step, CreateNext, Append, Sync, RenameNext, RemoveNext, SyncFolder}
-use Rattle.conf_disk.specs.Folder.{after, after_rename, after_remove, with_file, with_notes, with_pending}
-use Rattle.conf_disk.specs.Folder.{synced_whole, noted_at, noted_behind}
-use Rattle.conf_disk.specs.Image.{IsMade, IsApartFrom, IsWhole}
-use Rattle.conf_disk.specs.LogLaws.{now_staged}
-use Rattle.conf_disk.specs.declared.disk.Name.TheVariants.{Store, Next}
-use Rattle.test_disks.specs.Marks.{waits_at, marks_of, marks_after, noted_after}
-use Rattle.test_disks.specs.Replay.{any_bytes}
+use Rattle.std.proofs.Common.{◌≡◌, ℕ, ◌-◌, List, [], ◌∷◌, ◌++◌, length, get_or, set, Bool, false, not, ◌&&◌, ◌||◌, Option, Some, None}
+use Rattle.std.proofs.{Common.{option_map, refl, sym, ◌∙◌, ap, arith}, lemmas.List.{get_or-set_same, get_or-set_other, get_or_append_left}}
+use Rattle.std.proofs.lemmas.{List.get_or-append_right, Bool.eq-eqb}
+use Rattle.conf_disk.specs.Folder.{File, empty_file, Folder, Step, CreateNext, Append, Sync, RenameNext, RemoveNext, SyncFolder, after}
+use Rattle.conf_disk.specs.Folder.{after_rename, after_remove, with_file, with_notes, with_pending, synced_whole, noted_at, noted_behind}
+use Rattle.conf_disk.specs.{Image.{IsMade, IsApartFrom, IsWhole}, LogLaws.now_staged, declared.disk.Name.TheVariants.{Store, Next}}
+use Rattle.test_disks.specs.{Marks.{waits_at, marks_of, marks_after, noted_after}, Replay.any_bytes}
 
 -- a file more
 waits-created : (files : List File) (place : Option ℕ) → IsMade (length files) place

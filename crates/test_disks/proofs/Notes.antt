@@ -1,13 +1,9 @@
 -- The notes of the files of the code.
-use Rattle.std.proofs.Common.{◌≡◌, inl, inr, ℕ, ◌<◌, List, [], ◌∷◌, length, get_or, set, Bool, true, false, not, ◌&&◌, ◌||◌}
-use Rattle.std.proofs.Common.{Option, Some, None, refl, sym, ◌∙◌, ap}
-use Rattle.std.proofs.Math.Bool.{or-false, or-true}
-use Rattle.std.proofs.lemmas.List.{get_or-set_same, get_or-set_other, set-get_or}
-use Rattle.std.proofs.lemmas.Bool.{cases_eq, eq-eqb, ne_eqb}
+use Rattle.std.proofs.Common.{◌≡◌, inl, inr, ℕ, ◌<◌, List, [], ◌∷◌, length, get_or, set, Bool, true, false, not, ◌&&◌, ◌||◌, Option, Some}
+use Rattle.std.proofs.{Common.{None, refl, sym, ◌∙◌, ap}, Math.Bool.{or-false, or-true}, lemmas.List.{get_or-set_same, get_or-set_other}}
+use Rattle.std.proofs.lemmas.{List.set-get_or, Bool.{cases_eq, eq-eqb, ne_eqb}}
 use Rattle.conf_disk.specs.Folder.{Folder, empty_file, is_place, noted_but, noted_at, noted_behind, under, with_pending, with_file}
-use Rattle.conf_disk.specs.Folder.{with_notes, after_append}
-use Rattle.conf_disk.specs.declared.disk.Name.{Name}
-use Rattle.conf_disk.specs.declared.disk.Name.TheVariants.{Store, Next}
+use Rattle.conf_disk.specs.{Folder.{with_notes, after_append}, declared.disk.Name.{Name, TheVariants.{Store, Next}}}
 use Rattle.test_disks.specs.Replay.{notes_of, noted_then}
 
 set_at : (notes : List Bool) (id : ℕ) (others : Bool) → id < length notes → (place : Option ℕ)

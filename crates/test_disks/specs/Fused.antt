@@ -1,20 +1,11 @@
 -- A disk with a fuse: which calls pass to the disk below, and what becomes of the others.
 use Rattle.std.specs.Prelude.{◌≡◌, ◌≢◌, ℕ, ◌+◌, ◌-◌, min, Result, Err, ◌==◌, nat_lt, if◌then◌else◌}
-use Rattle.conf_disk.specs.Folder.{Step, CreateNext, Append, Sync, RenameNext, RemoveNext, SyncFolder, Performs}
-use Rattle.conf_disk.specs.Models.{DiskModel}
-use Rattle.conf_disk.specs.Moments.{CountsFailures, greatest}
-use Rattle.conf_disk.specs.declared.disk.Name.{Name}
-use Rattle.conf_disk.specs.declared.disk.Content.{Content}
-use Rattle.conf_disk.specs.declared.disk.DiskFault.{DiskFault}
-use Rattle.conf_disk.specs.declared.disk.DiskFault.TheVariants.{Device, OutOfMemory}
-use Rattle.test_disks.specs.declared.fused.Fuse.{Fuse}
-use Rattle.test_disks.specs.declared.fused.Fuse.TheVariants.{Stop, FailOnce}
-use Rattle.test_disks.specs.declared.fused.FusedDisk.{FusedDisk}
-use Rattle.test_disks.specs.declared.fused.FuseCounter.{FuseCounter}
-use Rattle.test_disks.specs.declared.fused.Call.{Call}
+use Rattle.conf_disk.specs.{Folder.{Step, CreateNext, Append, Sync, RenameNext, RemoveNext, SyncFolder, Performs}, Models.DiskModel}
+use Rattle.conf_disk.specs.{Moments.{CountsFailures, greatest}, declared.disk.{Name.Name, Content.Content, DiskFault.DiskFault}}
+use Rattle.{conf_disk.specs.declared.disk.DiskFault.TheVariants.{Device, OutOfMemory}, test_disks.specs.declared.fused.Fuse.Fuse}
+use Rattle.test_disks.specs.declared.fused.{Fuse.TheVariants.{Stop, FailOnce}, FusedDisk.FusedDisk, FuseCounter.FuseCounter, Call.Call}
+use Rattle.test_disks.specs.declared.fused.Outcome.{Outcome, TheVariants.{Passes, Fails, FailsDone}}
 use Rattle.test_disks.specs.declared.fused.Call.TheVariants as call
-use Rattle.test_disks.specs.declared.fused.Outcome.{Outcome}
-use Rattle.test_disks.specs.declared.fused.Outcome.TheVariants.{Passes, Fails, FailsDone}
 
 -- what a call does
 abbrev pub call_step : Call → Step

@@ -1,9 +1,7 @@
 -- What of a folder decides whether several appends to `store.yaml` wait for one sync.
 use Rattle.std.specs.Prelude.{ℕ, List, get_or, Bool, false, ◌||◌, Option, Some, None, option_map}
 use Rattle.conf_disk.specs.Folder.{File, empty_file, Folder, several_waited, Step, CreateNext, Append, Sync, RenameNext, RemoveNext}
-use Rattle.conf_disk.specs.Folder.{SyncFolder}
-use Rattle.conf_disk.specs.declared.disk.Name.TheVariants.{Store, Next}
-use Rattle.test_disks.specs.Replay.{any_bytes}
+use Rattle.{conf_disk.specs.{Folder.SyncFolder, declared.disk.Name.TheVariants.{Store, Next}}, test_disks.specs.Replay.any_bytes}
 use Rattle.test_disks.specs.declared.marks.Marks.{Marks}
 
 -- whether bytes of a file are pending, where there is one

@@ -1,12 +1,7 @@
 -- A disk in memory, as the list of steps that it keeps.
 use Rattle.std.specs.Prelude.{◌≡◌, ℕ, ◌+◌, min, List, [], ◌∷◌, ◌++◌, map, Option, option_map, slice_get, Result, OnOk, OnErr}
-use Rattle.conf_disk.specs.Folder.{Folder, Step, stages, under}
-use Rattle.conf_disk.specs.Image.{folder_of_image}
-use Rattle.conf_disk.specs.Log.{folder_after}
-use Rattle.conf_disk.specs.Moments.{greatest}
-use Rattle.test_disks.specs.Replay.{step_of, image_of, pending_in}
-use Rattle.conf_disk.specs.declared.disk.Name.{Name}
-use Rattle.conf_disk.specs.declared.disk.DiskFault.{DiskFault}
+use Rattle.conf_disk.specs.{Folder.{Folder, Step, stages, under}, Image.folder_of_image, Log.folder_after, Moments.greatest}
+use Rattle.{conf_disk.specs.declared.disk.{Name.Name, DiskFault.DiskFault}, test_disks.specs.Replay.{step_of, image_of, pending_in}}
 use Rattle.test_disks.specs.declared.memory.MemoryDisk.{MemoryDisk}
 
 -- the steps that were done, the first of them first

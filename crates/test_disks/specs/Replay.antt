@@ -2,14 +2,8 @@
 use Rattle.std.specs.Prelude.{ℕ, List, [], ◌∷◌, ◌++◌, length, get_or, map, Bool, true, false, ◌||◌, Option, Some, None, Vec}
 use Rattle.std.specs.declared.alloc.Global.{Global}
 use Rattle.conf_disk.specs.Folder.{File, empty_file, Stage, Folder, Step, CreateNext, Append, Sync, RenameNext, RemoveNext, SyncFolder}
-use Rattle.conf_disk.specs.Image.{Image, synced_file}
-use Rattle.conf_disk.specs.declared.disk.Name.{Name}
-use Rattle.conf_disk.specs.declared.disk.Name.TheVariants.{Store, Next}
-use Rattle.test_disks.specs.declared.folder.FileData.{FileData}
-use Rattle.test_disks.specs.declared.folder.FolderData.{FolderData}
-use Rattle.test_disks.specs.declared.folder.StageData.{StageData}
-use Rattle.test_disks.specs.declared.folder.Left.{Left}
-use Rattle.test_disks.specs.declared.folder.Change.{Change}
+use Rattle.conf_disk.specs.{Image.{Image, synced_file}, declared.disk.Name.{Name, TheVariants.{Store, Next}}}
+use Rattle.test_disks.specs.declared.folder.{FileData.FileData, FolderData.FolderData, StageData.StageData, Left.Left, Change.Change}
 use Rattle.test_disks.specs.declared.folder.Change.TheVariants as change
 
 -- there are bytes

@@ -1,14 +1,9 @@
 -- What is kept where there is no memory: it changes nothing more once it was made.
-use Rattle.std.specs.Prelude.{option_map}
-use Rattle.std.proofs.Common.{◌≡◌, refl, sym, ◌∙◌, ap, arith, ℕ, ◌+◌, Option, Some, None, ◌⊎◌, inl, inr, subst}
-use Rattle.std.proofs.Common.{Bool, true, false, ◌||◌, List, []}
-use Rattle.std.proofs.lemmas.List.{append-nil}
-use Rattle.conf_system.specs.Machine.{with_pending, failed_sync, is_any}
-use Rattle.file_calls.specs.Machine.{File, Machine, Write, after, with_version}
-use Rattle.test_files.specs.Spares.{has_spent, is_any_spent, spend, room_of, rooms, IsSpent, spared}
-use Rattle.test_files.specs.declared.spares.Spare.{Spare}
-use Rattle.test_files.specs.declared.spares.Spare.TheVariants.{FailedSync, Refused, Left}
-use Rattle.test_files.specs.declared.spares.Spent.{Spent}
+use Rattle.std.{specs.Prelude.option_map, proofs.Common.{◌≡◌, refl, sym, ◌∙◌, ap, arith, ℕ, ◌+◌, Option, Some, None, ◌⊎◌, inl, inr, subst}}
+use Rattle.std.proofs.{Common.{Bool, true, false, ◌||◌, List, []}, lemmas.List.append-nil}
+use Rattle.{conf_system.specs.Machine.{with_pending, failed_sync, is_any}, file_calls.specs.Machine.{File, Machine, Write, after}}
+use Rattle.{file_calls.specs.Machine.with_version, test_files.specs.Spares.{has_spent, is_any_spent, spend, room_of, rooms, IsSpent}}
+use Rattle.test_files.specs.{Spares.spared, declared.spares.{Spare.{Spare, TheVariants.{FailedSync, Refused, Left}}, Spent.Spent}}
 
 -- a write that adds nothing
 file-nothing : (file : Option File) → option_map (with_version (with_pending [])) file ≡ file

@@ -1,13 +1,8 @@
 -- What a test chooses of a crash, a crash may leave.
-use Rattle.std.specs.Prelude.{option_map, if◌then◌else◌, Contains}
-use Rattle.std.proofs.Common.{◌≡◌, ◌⊎◌, ◌<◌, ◌≤◌, ◌+◌, zero, suc, arith, add-one, take, refl, sym, ap, subst, inl, inr, ℕ}
-use Rattle.std.proofs.Common.{List, [], ◌∷◌, ◌++◌, length, get_or, Option, Some, None, Bool, true, false}
-use Rattle.std.proofs.lemmas.Bool.{cases_lt}
-use Rattle.std.proofs.lemmas.List.{get_or_default, get_or_past}
-use Rattle.std.proofs.lemmas.List.Elements.{Contains-append_right}
-use Rattle.conf_disk.specs.Image.{IsWorn}
-use Rattle.file_calls.specs.Machine.{File, Machine, file_at, stages}
-use Rattle.file_calls.specs.Crash.{IsLeft}
+use Rattle.std.{specs.Prelude.{option_map, if◌then◌else◌, Contains}, proofs.Common.{◌≡◌, ◌⊎◌, ◌<◌, ◌≤◌, ◌+◌, zero, suc, arith, add-one}}
+use Rattle.std.proofs.Common.{take, refl, sym, ap, subst, inl, inr, ℕ, List, [], ◌∷◌, ◌++◌, length, get_or, Option, Some, None, Bool, true}
+use Rattle.std.proofs.{Common.false, lemmas.{Bool.cases_lt, List.{get_or_default, get_or_past, Elements.Contains-append_right}}}
+use Rattle.{conf_disk.specs.Image.IsWorn, file_calls.specs.{Machine.{File, Machine, file_at, stages}, Crash.IsLeft}}
 use Rattle.test_files.specs.Crashes.{worn, torn_bytes, left_of, MayBeLeft}
 
 worn-is : (pending : List ℕ) (kept : List Bool) → IsWorn pending (worn pending kept)

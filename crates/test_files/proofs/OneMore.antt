@@ -1,22 +1,13 @@
 -- One call more.
-use Rattle.std.specs.Prelude.{Result, Ok, Err}
-use Rattle.std.proofs.Common.{◌≡◌, refl, sym, ◌∙◌, ap, subst, arith, ◌⊎◌, inl, inr, ⊎_elim, ℕ, zero, suc, ◌+◌, ◌≤◌, min}
-use Rattle.std.proofs.Common.{List, [], ◌∷◌, ◌++◌, length, take, Some, None, length-append}
-use Rattle.std.proofs.lemmas.List.{take_all, take-append-le, take-take, length-take}
-use Rattle.std.proofs.lemmas.Bool.{cases_lt}
-use Rattle.file_calls.specs.declared.calls.Creation.TheVariants.{Made}
-use Rattle.file_calls.specs.declared.calls.Rights.{Rights}
-use Rattle.file_calls.specs.Machine.{Leads, Machine, Call, CreateBeside, CreateGiven, Write, IsNamed, after, failing, rights_at}
-use Rattle.file_calls.specs.Machine.Leads.{Nothing}
-use Rattle.file_calls.specs.Models.{Passes, Goes, Wrote, IsPrivate, CreatesBeside, CreatesGiven, TellsRights}
-use Rattle.test_files.specs.declared.memory.MemoryFileCalls.{MemoryFileCalls}
-use Rattle.test_files.specs.declared.spares.Spare.{Spare}
-use Rattle.test_files.specs.Log.{KeepsSpare}
-use Rattle.test_files.specs.Memory.{memory_model, memory_machine, kept_calls}
-use Rattle.test_files.specs.Replay.{Entry, History, machine_made, machine_after, machine_in, with_entry, then}
-use Rattle.test_files.specs.Runs.{WasSince}
-use Rattle.test_files.specs.Spares.{spare_entry, spared}
-use Rattle.test_files.proofs.Failures.{writes-nothing}
+use Rattle.std.{specs.Prelude.{Result, Ok, Err}, proofs.Common.{◌≡◌, refl, sym, ◌∙◌, ap, subst, arith, ◌⊎◌, inl, inr, ⊎_elim, ℕ, zero, suc}}
+use Rattle.std.proofs.{Common.{◌+◌, ◌≤◌, min, List, [], ◌∷◌, ◌++◌, length, take, Some, None, length-append}, lemmas.List.take_all}
+use Rattle.std.proofs.lemmas.{List.{take-append-le, take-take, length-take}, Bool.cases_lt}
+use Rattle.file_calls.specs.{declared.calls.{Creation.TheVariants.Made, Rights.Rights}, Machine.{Leads, Machine, Call, CreateBeside}}
+use Rattle.file_calls.specs.{Machine.{CreateGiven, Write, IsNamed, after, failing, rights_at, Leads.Nothing}, Models.{Passes, Goes, Wrote}}
+use Rattle.file_calls.specs.Models.{IsPrivate, CreatesBeside, CreatesGiven, TellsRights}
+use Rattle.test_files.specs.{declared.{memory.MemoryFileCalls.MemoryFileCalls, spares.Spare.Spare}, Log.KeepsSpare, Memory.memory_model}
+use Rattle.test_files.specs.{Memory.{memory_machine, kept_calls}, Replay.{Entry, History, machine_made, machine_after, machine_in}}
+use Rattle.test_files.{specs.{Replay.{with_entry, then}, Runs.WasSince, Spares.{spare_entry, spared}}, proofs.Failures.writes-nothing}
 use Rattle.test_files.proofs.Pushes.{machine_after-push}
 
 -- what one call more makes of the machine

@@ -1,12 +1,7 @@
 -- What is known of kept calls, when one is added.
-use Rattle.std.proofs.Common.{◌≡◌, List, [], ◌∷◌, ◌++◌, map, refl, sym, ◌∙◌, ap, subst}
-use Rattle.std.proofs.lemmas.List.{map-append}
-use Rattle.file_calls.specs.Machine.{Machine}
-use Rattle.test_files.specs.Replay.{Entry, entry_of, machine_after, machine_made}
-use Rattle.test_files.specs.Spares.{IsSpent, spend, spare_entry}
-use Rattle.test_files.specs.declared.change.Made.{Made}
-use Rattle.test_files.specs.declared.spares.Spent.{Spent}
-use Rattle.test_files.specs.declared.spares.Spare.{Spare}
+use Rattle.std.proofs.{Common.{◌≡◌, List, [], ◌∷◌, ◌++◌, map, refl, sym, ◌∙◌, ap, subst}, lemmas.List.map-append}
+use Rattle.{file_calls.specs.Machine.Machine, test_files.specs.{Replay.{Entry, entry_of, machine_after, machine_made}, Spares.IsSpent}}
+use Rattle.test_files.specs.{Spares.{spend, spare_entry}, declared.{change.Made.Made, spares.{Spent.Spent, Spare.Spare}}}
 use Rattle.test_files.proofs.Failures.{spare-more}
 
 pub machine_after-push : (entries : List Entry) (x : Entry) (m : Machine)

@@ -1,8 +1,6 @@
 -- What a crash leaves, as a test chooses it.
-use Rattle.std.specs.Prelude.{◌≡◌, ℕ, List, [], ◌∷◌, ◌++◌, length, get_or, Option, Some, None, option_map}
-use Rattle.std.specs.Prelude.{Bool, if◌then◌else◌}
-use Rattle.file_calls.specs.Machine.{File, Leads, Machine, file_at, stages}
-use Rattle.file_calls.specs.Crash.{Image, CrashLeaves}
+use Rattle.std.specs.Prelude.{◌≡◌, ℕ, List, [], ◌∷◌, ◌++◌, length, get_or, Option, Some, None, option_map, Bool, if◌then◌else◌}
+use Rattle.file_calls.specs.{Machine.{File, Leads, Machine, file_at, stages}, Crash.{Image, CrashLeaves}}
 
 -- of bytes, as many as there are tests, or all, each as it is or zero
 abbrev pub worn : List ℕ → List Bool → List ℕ

@@ -1,10 +1,7 @@
 -- Which calls fail.
 use Rattle.std.specs.Prelude.{ℕ, min, Option, Some, None, Bool, false, if◌then◌else◌, ◌==◌, nat_lt}
-use Rattle.test_files.specs.declared.fault.Fault.{Fault}
+use Rattle.test_files.specs.declared.fault.{Fault.Fault, Outcome.{Outcome, TheVariants.{Done, Fails}}, Plan.Plan}
 use Rattle.test_files.specs.declared.fault.Fault.TheVariants as fault
-use Rattle.test_files.specs.declared.fault.Outcome.{Outcome}
-use Rattle.test_files.specs.declared.fault.Outcome.TheVariants.{Done, Fails}
-use Rattle.test_files.specs.declared.fault.Plan.{Plan}
 
 -- no write is short
 abbrev pub whole : Outcome

@@ -1,10 +1,7 @@
 -- The calls that a system keeps.
 use Rattle.std.specs.Prelude.{◌≡◌, ◌⊎◌}
-use Rattle.file_calls.specs.Machine.{Machine}
-use Rattle.test_files.specs.Replay.{History, entries_of, start_of, machine_in, with_entry}
-use Rattle.test_files.specs.Spares.{spare_entry, spared}
-use Rattle.test_files.specs.declared.log.CallLog.{CallLog}
-use Rattle.test_files.specs.declared.spares.Spare.{Spare}
+use Rattle.{file_calls.specs.Machine.Machine, test_files.specs.Replay.{History, entries_of, start_of, machine_in, with_entry}}
+use Rattle.test_files.specs.{Spares.{spare_entry, spared}, declared.{log.CallLog.CallLog, spares.Spare.Spare}}
 
 abbrev pub history_of : CallLog → History
 history_of log = record { first = start_of log.start; entries = entries_of log.calls }

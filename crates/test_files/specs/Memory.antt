@@ -1,13 +1,8 @@
 -- A system in memory, as contracts see it.
 use Rattle.std.specs.Prelude.{length, ⊤}
-use Rattle.file_calls.specs.Machine.{Machine}
-use Rattle.file_calls.specs.Models.{FileModel}
-use Rattle.test_files.specs.declared.fault.Plan.{Plan}
+use Rattle.{file_calls.specs.{Machine.Machine, Models.FileModel}, test_files.specs.declared.fault.Plan.Plan}
+use Rattle.test_files.specs.{declared.memory.MemoryFileCalls.MemoryFileCalls, Log.history_of, Replay.{History, machine_in}, Runs.WasSince}
 use Rattle.test_files.specs.declared.fault.Fault.TheVariants as fault
-use Rattle.test_files.specs.declared.memory.MemoryFileCalls.{MemoryFileCalls}
-use Rattle.test_files.specs.Log.{history_of}
-use Rattle.test_files.specs.Replay.{History, machine_in}
-use Rattle.test_files.specs.Runs.{WasSince}
 
 -- what was there first, and the calls since
 abbrev pub kept_calls : MemoryFileCalls → History

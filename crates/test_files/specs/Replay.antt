@@ -1,19 +1,12 @@
 -- The data of the code as the calls and the machine of the model.
-use Rattle.std.specs.Prelude.{ℕ, List, [], ◌∷◌, ◌++◌, map, Option, Some, None, option_map, Vec, false}
-use Rattle.std.specs.declared.alloc.Global.{Global}
-use Rattle.file_calls.specs.declared.calls.Rights.{Rights}
-use Rattle.file_calls.specs.Machine.{File, Leads, Names, Machine, Call, CreateBeside, CreateGiven, Write, GiveOwner, GiveGroup, SetMode}
-use Rattle.file_calls.specs.Machine.{SyncNew, Rename, UnlinkBeside, UnlinkGiven, SyncFolder, after, failing}
-use Rattle.file_calls.specs.Machine.Leads.{Nothing, Old, New}
-use Rattle.test_files.specs.declared.change.Change.{Change}
-use Rattle.test_files.specs.declared.change.Change.TheVariants as change
-use Rattle.test_files.specs.declared.change.Made.{Made}
-use Rattle.test_files.specs.declared.file.FileData.{FileData}
-use Rattle.test_files.specs.declared.machine.MachineData.{MachineData}
-use Rattle.test_files.specs.declared.machine.NamesData.{NamesData}
-use Rattle.test_files.specs.declared.start.LeadsTo.{LeadsTo}
-use Rattle.test_files.specs.declared.start.LeadsTo.TheVariants as to
+use Rattle.std.specs.{Prelude.{ℕ, List, [], ◌∷◌, ◌++◌, map, Option, Some, None, option_map, Vec, false}, declared.alloc.Global.Global}
+use Rattle.file_calls.specs.{declared.calls.Rights.Rights, Machine.{File, Leads, Names, Machine, Call, CreateBeside, CreateGiven, Write}}
+use Rattle.file_calls.specs.Machine.{GiveOwner, GiveGroup, SetMode, SyncNew, Rename, UnlinkBeside, UnlinkGiven, SyncFolder, after, failing}
+use Rattle.{file_calls.specs.Machine.Leads.{Nothing, Old, New}, test_files.specs.declared.change.{Change.Change, Made.Made}}
+use Rattle.test_files.specs.declared.{file.FileData.FileData, machine.{MachineData.MachineData, NamesData.NamesData}, start.LeadsTo.LeadsTo}
 use Rattle.test_files.specs.declared.start.Start.{Start}
+use Rattle.test_files.specs.declared.change.Change.TheVariants as change
+use Rattle.test_files.specs.declared.start.LeadsTo.TheVariants as to
 
 -- a call of the code
 abbrev pub call_of : Change → Call

@@ -1,9 +1,6 @@
 -- What the machine was while calls were made.
-use Rattle.std.specs.Prelude.{◌≡◌, ℕ, ◌≤◌, List, length, take}
-use Rattle.std.proofs.Common.{sym, ◌∙◌, ap, arith}
-use Rattle.std.proofs.lemmas.List.{take_all}
-use Rattle.file_calls.specs.Machine.{Machine}
-use Rattle.test_files.specs.Replay.{Entry, History, machine_after, machine_in}
+use Rattle.std.{specs.Prelude.{◌≡◌, ℕ, ◌≤◌, List, length, take}, proofs.{Common.{sym, ◌∙◌, ap, arith}, lemmas.List.take_all}}
+use Rattle.{file_calls.specs.Machine.Machine, test_files.specs.Replay.{Entry, History, machine_after, machine_in}}
 
 -- it was this machine when so many of the calls were made, or more
 pub record WasSince (history : History) (t : ℕ) (m : Machine) : Type 0 where

@@ -1,13 +1,8 @@
 -- What is kept where there is no memory for a call. A sync that fails makes a file unsure, and a call that fails may be
 -- one that a caller has to know of, so each of these is to be kept also then.
-use Rattle.std.specs.Prelude.{ℕ, ◌+◌, ◌≡◌, Some, Bool, true, if◌then◌else◌, ◌||◌}
-use Rattle.std.specs.Coded.{Π_prop, →_prop}
-use Rattle.std.proofs.Props.{props}
+use Rattle.std.{specs.{Prelude.{ℕ, ◌+◌, ◌≡◌, Some, Bool, true, if◌then◌else◌, ◌||◌}, Coded.{Π_prop, →_prop}}, proofs.Props.props}
 use Rattle.file_calls.specs.Machine.{Machine, Call, GiveGroup, SyncNew, UnlinkBeside, failing}
-use Rattle.test_files.specs.declared.spares.Spare.{Spare}
-use Rattle.test_files.specs.declared.spares.Spare.TheVariants.{FailedSync, Refused, Left}
-use Rattle.test_files.specs.declared.spares.Spent.{Spent}
-use Rattle.test_files.specs.Replay.{Entry}
+use Rattle.test_files.specs.{declared.spares.{Spare.{Spare, TheVariants.{FailedSync, Refused, Left}}, Spent.Spent}, Replay.Entry}
 
 abbrev pub spare_call : Spare → Call
 spare_call FailedSync = SyncNew

@@ -1,11 +1,7 @@
 -- One entry of a list is set.
-use Rattle.std.specs.Prelude.{if◌then◌else◌}
-use Rattle.std.proofs.Common.{◌≡◌, ◌≢◌, ℕ, zero, suc, List, [], ◌∷◌, ◌++◌, get_or, Bool, inl, inr}
-use Rattle.std.proofs.Common.{refl, sym, ◌∙◌, ap}
-use Rattle.std.proofs.lemmas.Bool.{cases_eq}
-use Rattle.std.proofs.lemmas.Bool.Decides.{eqb_tells}
-use Rattle.conf_locks.specs.Locks.{with_entry}
-use Rattle.conf_locks.proofs.Staying.{entry-same}
+use Rattle.std.{specs.Prelude.if◌then◌else◌, proofs.Common.{◌≡◌, ◌≢◌, ℕ, zero, suc, List, [], ◌∷◌, ◌++◌, get_or, Bool, inl, inr, refl, sym}}
+use Rattle.std.proofs.{Common.{◌∙◌, ap}, lemmas.Bool.{cases_eq, Decides.eqb_tells}}
+use Rattle.conf_locks.{specs.Locks.with_entry, proofs.Staying.entry-same}
 
 pub entry-other : {X : Type 0} (key at : ℕ) (value : X) (entries : ℕ → X) → at ≢ key → with_entry key value entries at ≡ entries at
 entry-other {X} key at value entries differ = elim (eqb_tells at key) [

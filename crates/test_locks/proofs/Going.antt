@@ -1,12 +1,9 @@
 -- What a run goes by after a call of it, before which others made theirs.
 use Rattle.std.proofs.Common.{◌≡◌, ◌≢◌, ℕ, List, [], ◌∷◌, ◌++◌, Some, Bool, true, false, ◌⊎◌, inr, refl, sym, ◌∙◌, ap, subst}
-use Rattle.conf_locks.specs.Locks.{Locks, Call, Event, after, after_all, IsFree, MayBeCalled, AreMade, AreOfOthers, Others, Reaches}
-use Rattle.conf_locks.specs.Locks.{Make, Mark}
+use Rattle.conf_locks.specs.Locks.{Locks, Call, Event, after, after_all, IsFree, MayBeCalled, AreMade, AreOfOthers, Others, Reaches, Make}
+use Rattle.{conf_locks.specs.{Locks.Mark, Models.{Goes, MayDo, IsMade}}, test_locks.specs.Memory.{locks_in, memory_model, OnlyTable}}
+use Rattle.test_locks.specs.{Memory.Passed, Tables.{Does, DoesOther}, declared.locks.MemoryLocks.MemoryLocks}
 use Rattle.conf_locks.specs.declared.system.Making.TheVariants as making
-use Rattle.conf_locks.specs.Models.{Goes, MayDo, IsMade}
-use Rattle.test_locks.specs.Memory.{locks_in, memory_model, OnlyTable, Passed}
-use Rattle.test_locks.specs.Tables.{Does, DoesOther}
-use Rattle.test_locks.specs.declared.locks.MemoryLocks.{MemoryLocks}
 
 all-more : (events : List Event) (event : Event) (locks : Locks)
     → after_all (events ++ event ∷ []) locks ≡ after event.run event.call (after_all events locks)

@@ -1,16 +1,10 @@
 -- A run lets its locks go.
-use Rattle.std.proofs.Common.{◌≡◌, ◌≢◌, ◌⊎◌, ◌<◌, ◌+◌, ◌≤◌, ℕ, List, [], ◌∷◌, get_or, length, Option, Some, None, inl, inr, ⊎_elim}
-use Rattle.std.proofs.Common.{sym, ◌∙◌, ap, subst, arith, false}
-use Rattle.std.proofs.lemmas.Bool.{cases_eq, cases_lt}
-use Rattle.std.proofs.lemmas.List.{get_or_past}
+use Rattle.std.proofs.Common.{◌≡◌, ◌≢◌, ◌⊎◌, ◌<◌, ◌+◌, ◌≤◌, ℕ, List, [], ◌∷◌, get_or, length, Option, Some, None, inl, inr, ⊎_elim, sym}
+use Rattle.std.proofs.{Common.{◌∙◌, ap, subst, arith, false}, lemmas.{Bool.{cases_eq, cases_lt}, List.get_or_past}}
 use Rattle.conf_locks.specs.Locks.{Locks, LetGoFile, LetGoFolder, LetGoShare, Call, after, IsFree, MayBeCalled, HoldsNone, Reaches}
-use Rattle.conf_locks.specs.Locks.{with_entry}
-use Rattle.conf_locks.proofs.Going.{reach-same, reach-then}
-use Rattle.conf_locks.proofs.Staying.{entry-same}
-use Rattle.test_locks.specs.Tables.{LetsFileGo, LetsFolderGo}
+use Rattle.conf_locks.{specs.Locks.with_entry, proofs.{Going.{reach-same, reach-then}, Staying.entry-same}}
+use Rattle.test_locks.{specs.Tables.{LetsFileGo, LetsFolderGo, no_file}, proofs.Entries.entry-other}
 use Rattle.test_locks.specs.declared.table.LockFile as file
-use Rattle.test_locks.specs.Tables.{no_file}
-use Rattle.test_locks.proofs.Entries.{entry-other}
 
 none-some : (run : ℕ) → None ≢ Some run
 none-some run is = cc

@@ -1,8 +1,6 @@
 -- The locks in memory, as contracts see them.
 use Rattle.std.specs.Prelude.{◌≡◌, ⊤}
-use Rattle.conf_locks.specs.Locks.{Locks, Others}
-use Rattle.conf_locks.specs.Models.{LockModel}
-use Rattle.test_locks.specs.Tables.{locks_of}
+use Rattle.{conf_locks.specs.{Locks.{Locks, Others}, Models.LockModel}, test_locks.specs.Tables.locks_of}
 use Rattle.test_locks.specs.declared.locks.MemoryLocks.{MemoryLocks}
 
 abbrev pub locks_in : MemoryLocks → Locks

@@ -1,11 +1,10 @@
 -- The data of the code as the locks and the calls of the model.
 use Rattle.std.specs.Prelude.{◌≡◌, ◌≢◌, ◌⊎◌, ℕ, get_or, Some, None, Bool, true, false}
 use Rattle.conf_locks.specs.Locks.{Locks, Call, LockFile, LockFolder, ShareFolder, Make, Remove, Mark, LetGoFile, LetGoFolder, LetGoShare}
-use Rattle.conf_locks.specs.Locks.{after, IsFree, MayBeCalled}
-use Rattle.test_locks.specs.declared.call.LockCall.{LockCall}
+use Rattle.{conf_locks.specs.Locks.{after, IsFree, MayBeCalled}, test_locks.specs.declared.call.LockCall.LockCall}
+use Rattle.test_locks.specs.declared.table.LockTable.{LockTable}
 use Rattle.test_locks.specs.declared.call.LockCall.TheVariants as call
 use Rattle.test_locks.specs.declared.table.LockFile as file
-use Rattle.test_locks.specs.declared.table.LockTable.{LockTable}
 
 abbrev pub call_of : LockCall → Call
 call_of (call.LockFile file) = LockFile file

@@ -1,12 +1,10 @@
 -- No call reads the note by which a run goes.
 use Rattle.std.proofs.Common.{◌≡◌, refl, ap, ℕ, zero, suc, take, Option, Some, None}
-use Rattle.conf_system.specs.declared.system.FileName.{FileName}
-use Rattle.conf_system.specs.declared.system.FileName.TheVariants.{Store, Next, Copy}
-use Rattle.conf_system.specs.Machine.{Version, Held, Machine, Call, CreateNext, CreateCopy, Write, WriteRest, Sync, RenameNext, LinkNext}
-use Rattle.conf_system.specs.Machine.{UnlinkNext, PlaceCopy, UnlinkCopy, SyncFolder, WriteNote, SyncNote}
-use Rattle.conf_system.specs.Machine.{with_file, with_version, with_copy}
-use Rattle.conf_system.specs.Machine.{with_pending, synced, failed_sync, replaced, after, failing}
-use Rattle.test_system.specs.Replay.{Entry, Called, NoteRead, NoteUnread, bare, machine_made}
+use Rattle.conf_system.specs.{declared.system.FileName.{FileName, TheVariants.{Store, Next, Copy}}, Machine.{Version, Held, Machine, Call}}
+use Rattle.conf_system.specs.Machine.{CreateNext, CreateCopy, Write, WriteRest, Sync, RenameNext, LinkNext, UnlinkNext, PlaceCopy}
+use Rattle.conf_system.specs.Machine.{UnlinkCopy, SyncFolder, WriteNote, SyncNote, with_file, with_version, with_copy, with_pending, synced}
+use Rattle.{conf_system.specs.Machine.{failed_sync, replaced, after, failing}, test_system.specs.Replay.{Entry, Called, NoteRead}}
+use Rattle.test_system.specs.Replay.{NoteUnread, bare, machine_made}
 
 file-bare : (m : Machine) (place : Option ℕ) (change : Held → Held)
     → bare (with_file (bare m) place change) ≡ bare (with_file m place change)

@@ -1,12 +1,7 @@
 -- A write that the fault lets fail is kept with all its bytes.
-use Rattle.std.proofs.Common.{◌≡◌, refl, ◌∙◌, ap, arith, ℕ, List, length, take, Some}
-use Rattle.std.proofs.lemmas.List.{take_all}
-use Rattle.conf_system.specs.Machine.{Call}
-use Rattle.test_system.specs.Faults.{failed_of, offered_count}
-use Rattle.test_system.specs.Log.{then}
-use Rattle.test_system.specs.Memory.{FailsAsChosen, kept_calls, next_outcome}
-use Rattle.test_system.specs.declared.fault.Outcome.{Outcome}
-use Rattle.test_system.specs.declared.fault.Outcome.TheVariants.{Done, Fails}
+use Rattle.std.proofs.{Common.{◌≡◌, refl, ◌∙◌, ap, arith, ℕ, List, length, take, Some}, lemmas.List.take_all}
+use Rattle.{conf_system.specs.Machine.Call, test_system.specs.{Faults.{failed_of, offered_count}, Log.then, Memory.FailsAsChosen}}
+use Rattle.test_system.specs.{Memory.{kept_calls, next_outcome}, declared.fault.Outcome.{Outcome, TheVariants.{Done, Fails}}}
 use Rattle.test_system.specs.declared.memory.MemorySystem.{MemorySystem}
 
 offered-fails : (outcome : Outcome) (count part : ℕ) → failed_of outcome ≡ Some part → offered_count outcome count ≡ count

@@ -1,21 +1,14 @@
 -- What is kept where there is no memory: syncs that fail, and writes that add nothing. Each changes nothing more once it
 -- was made.
-use Rattle.std.proofs.Common.{◌≡◌, refl, sym, ◌∙◌, ap, arith, ℕ, zero, suc, ◌+◌, List, [], ◌∷◌, ◌++◌}
-use Rattle.std.proofs.Common.{get_or, set, map, Option, Some, None}
-use Rattle.std.proofs.Common.{Bool, true, false, ◌||◌, ◌⊎◌, inl, inr, subst}
+use Rattle.std.proofs.Common.{◌≡◌, refl, sym, ◌∙◌, ap, arith, ℕ, zero, suc, ◌+◌, List, [], ◌∷◌, ◌++◌, get_or, set, map, Option, Some, None}
+use Rattle.std.proofs.{Common.{Bool, true, false, ◌||◌, ◌⊎◌, inl, inr, subst}, lemmas.List.{set-get_or, append-nil}}
 use Rattle.std.specs.Prelude.{option_map, if◌then◌else◌}
-use Rattle.std.proofs.lemmas.List.{set-get_or, append-nil}
-use Rattle.conf_disk.specs.Folder.{File, Stage, noted_at, noted_behind, is_place}
-use Rattle.conf_system.specs.declared.system.FileName.{FileName}
-use Rattle.conf_system.specs.declared.system.FileName.TheVariants.{Store, Next, Copy}
-use Rattle.conf_system.specs.declared.system.Note.{Note}
-use Rattle.conf_system.specs.Machine.{Version, Held, Machine, empty_held, Sync, Write, after, failing, with_file, with_version, file_of}
-use Rattle.conf_system.specs.Machine.{with_now, with_pending, is_any, failed_sync, noted_by_write, notes_of, all_several}
-use Rattle.test_system.specs.Replay.{machine_made}
+use Rattle.{conf_disk.specs.Folder.{File, Stage, noted_at, noted_behind, is_place}, conf_system.specs.declared.system.FileName.FileName}
+use Rattle.conf_system.specs.{declared.system.{FileName.TheVariants.{Store, Next, Copy}, Note.Note}, Machine.{Version, Held, Machine}}
+use Rattle.conf_system.specs.Machine.{empty_held, Sync, Write, after, failing, with_file, with_version, file_of, with_now, with_pending}
+use Rattle.{conf_system.specs.Machine.{is_any, failed_sync, noted_by_write, notes_of, all_several}, test_system.specs.Replay.machine_made}
 use Rattle.test_system.specs.Spares.{spare_entry, has_spent, is_any_spent, spend, room_of, rooms, ChangesNothing}
-use Rattle.test_system.specs.declared.spares.Spare.{Spare}
-use Rattle.test_system.specs.declared.spares.Spare.TheVariants.{FailedSync, EmptyWrite}
-use Rattle.test_system.specs.declared.spares.Spent.{Spent}
+use Rattle.test_system.specs.declared.spares.{Spare.{Spare, TheVariants.{FailedSync, EmptyWrite}}, Spent.Spent}
 
 -- a write that adds nothing
 pending-nothing : (version : Version) → with_pending [] version ≡ version

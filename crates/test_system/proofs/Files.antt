@@ -1,10 +1,7 @@
 -- A file that is changed in its place.
 use Rattle.std.proofs.Common.{◌≡◌, ℕ, ◌<◌, ◌+◌, List, ◌++◌, length, get_or, set, map, take, drop, sym, ◌∙◌, ap, arith}
-use Rattle.std.proofs.lemmas.List.{map-set, get_or-map, get_or_default, length-map}
-use Rattle.std.proofs.lemmas.List.Edits.{map_over_more}
-use Rattle.conf_system.specs.Machine.{Held, empty_held, settled}
-use Rattle.test_system.specs.Replay.{held_of}
-use Rattle.test_system.specs.declared.version.HeldData.{HeldData}
+use Rattle.std.proofs.lemmas.List.{map-set, get_or-map, get_or_default, length-map, Edits.map_over_more}
+use Rattle.{conf_system.specs.Machine.{Held, empty_held, settled}, test_system.specs.{Replay.held_of, declared.version.HeldData.HeldData}}
 
 -- the data at a place is replaced, and the file there is changed so
 pub map-set-change : (xs : List HeldData) (i : ℕ) (x y : HeldData) (change : Held → Held) → i < length xs

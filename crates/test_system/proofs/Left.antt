@@ -1,19 +1,12 @@
 -- What a test chooses of a crash, a crash may leave.
-use Rattle.std.proofs.Common.{◌≡◌, ◌<◌, ◌≤◌, ◌+◌, zero, suc, arith, add-one, take, refl, sym, ap, inl, inr, ℕ}
-use Rattle.std.proofs.Common.{List, [], ◌∷◌, ◌++◌, length, get_or, Option, Some, None}
-use Rattle.std.proofs.Common.{Bool, true, false, ◌&&◌}
-use Rattle.std.specs.Prelude.{slice_get, if◌then◌else◌}
-use Rattle.std.specs.List.{Contains}
-use Rattle.std.proofs.lemmas.Option.{slice_get_within, get_or_from_slice_get}
-use Rattle.conf_disk.specs.Folder.{Stage}
-use Rattle.conf_disk.specs.Image.{IsWorn}
-use Rattle.conf_system.specs.declared.system.Note.{Note}
-use Rattle.conf_system.specs.Machine.{Version, Held, Machine, empty_version, empty_held, versions, stages, apart, notes_of}
-use Rattle.conf_system.specs.Crash.{IsTorn, IsLeftOf, IsLeftAt, CrashLeaves, machine_of}
-use Rattle.test_system.specs.declared.crash.Crash.{Crash}
-use Rattle.test_system.specs.declared.crash.Torn.{Torn}
-use Rattle.test_system.specs.Crashes.{worn, torn_bytes, pending_of, has_room, fits_at, version_in, torn_at, left_of}
-use Rattle.test_system.specs.Crashes.{copy_of, found_with, found_after, Restarts}
+use Rattle.std.proofs.Common.{◌≡◌, ◌<◌, ◌≤◌, ◌+◌, zero, suc, arith, add-one, take, refl, sym, ap, inl, inr, ℕ, List, [], ◌∷◌, ◌++◌, length}
+use Rattle.std.proofs.{Common.{get_or, Option, Some, None, Bool, true, false, ◌&&◌}, lemmas.Option.slice_get_within}
+use Rattle.std.{proofs.lemmas.Option.get_or_from_slice_get, specs.{Prelude.{slice_get, if◌then◌else◌}, List.Contains}}
+use Rattle.{conf_disk.specs.{Folder.Stage, Image.IsWorn}, conf_system.specs.{declared.system.Note.Note, Machine.{Version, Held, Machine}}}
+use Rattle.conf_system.specs.{Machine.{empty_version, empty_held, versions, stages, apart, notes_of}, Crash.{IsTorn, IsLeftOf, IsLeftAt}}
+use Rattle.{conf_system.specs.Crash.{CrashLeaves, machine_of}, test_system.specs.{declared.crash.{Crash.Crash, Torn.Torn}, Crashes.worn}}
+use Rattle.test_system.specs.Crashes.{torn_bytes, pending_of, has_room, fits_at, version_in, torn_at, left_of, copy_of, found_with}
+use Rattle.test_system.specs.Crashes.{found_after, Restarts}
 
 worn-is : (pending : List ℕ) (kept : List Bool) → IsWorn pending (worn pending kept)
 worn-is [] [] = tt

@@ -1,21 +1,12 @@
 -- One call more.
-use Rattle.std.proofs.Common.{◌≡◌, refl, sym, ◌∙◌, ap, subst, arith, ◌⊎◌, inl, inr, ⊎_elim, ℕ, ◌+◌, ◌≤◌, List, [], ◌∷◌, ◌++◌}
-use Rattle.std.proofs.Common.{length, take, Some, None, Ok, Err, length-append}
-use Rattle.std.proofs.lemmas.List.{take_all, take-append-le}
-use Rattle.std.proofs.lemmas.Bool.{cases_lt}
-use Rattle.conf_system.specs.declared.system.FileName.TheVariants.{Store}
-use Rattle.conf_system.specs.declared.system.Note.{Note}
-use Rattle.conf_system.specs.Machine.{Machine, Call, Write, Sync, after, after_reading, failing}
-use Rattle.conf_system.specs.Crash.{IsSound}
-use Rattle.conf_system.specs.Models.{Passes, Goes, ReadsNote, Wrote}
-use Rattle.conf_system.specs.declared.system.FileName.{FileName}
-use Rattle.conf_system.proofs.Sound.{call-sound, failure-sound}
-use Rattle.test_system.specs.Replay.{Entry, Called, NoteRead, NoteUnread, machine_made, machine_after, new_machine, MayBeMade}
-use Rattle.test_system.specs.Runs.{IsAlwaysSound, WasSince, sound_now}
-use Rattle.test_system.specs.Log.{then, KeepsSpare}
-use Rattle.test_system.specs.declared.spares.Spare.TheVariants.{FailedSync, EmptyWrite}
-use Rattle.test_system.specs.Memory.{memory_model, memory_machine, kept_calls}
-use Rattle.test_system.specs.declared.memory.MemorySystem.{MemorySystem}
+use Rattle.std.proofs.Common.{◌≡◌, refl, sym, ◌∙◌, ap, subst, arith, ◌⊎◌, inl, inr, ⊎_elim, ℕ, ◌+◌, ◌≤◌, List, [], ◌∷◌, ◌++◌, length, take}
+use Rattle.std.proofs.{Common.{Some, None, Ok, Err, length-append}, lemmas.{List.{take_all, take-append-le}, Bool.cases_lt}}
+use Rattle.conf_system.specs.{declared.system.{FileName.{FileName, TheVariants.Store}, Note.Note}, Machine.{Machine, Call, Write, Sync}}
+use Rattle.conf_system.specs.{Machine.{after, after_reading, failing}, Crash.IsSound, Models.{Passes, Goes, ReadsNote, Wrote}}
+use Rattle.{conf_system.proofs.Sound.{call-sound, failure-sound}, test_system.specs.Replay.{Entry, Called, NoteRead, NoteUnread}}
+use Rattle.test_system.specs.{Replay.{machine_made, machine_after, new_machine, MayBeMade}, Runs.{IsAlwaysSound, WasSince, sound_now}}
+use Rattle.test_system.specs.{Log.{then, KeepsSpare}, declared.spares.Spare.TheVariants.{FailedSync, EmptyWrite}}
+use Rattle.test_system.specs.{declared.memory.MemorySystem.MemorySystem, Memory.{memory_model, memory_machine, kept_calls}}
 
 machine_after-push : (entries : List Entry) (x : Entry) (m : Machine)
     → machine_after (entries ++ x ∷ []) m ≡ machine_made x (machine_after entries m)

@@ -1,19 +1,10 @@
 -- What is known of kept calls, when one is added, or only memory changes.
-use Rattle.std.proofs.Common.{◌≡◌, ℕ, List, [], ◌∷◌, ◌++◌, map, take, min, sym, ◌∙◌, ap, subst, arith}
-use Rattle.std.proofs.Common.{inl, inr, ⊎_elim, Bool, true, false, cond}
-use Rattle.std.proofs.lemmas.List.{map-append, take-map, take-take, take_all, length-take}
-use Rattle.std.proofs.lemmas.Bool.{cases_lt}
-use Rattle.conf_system.specs.Crash.{IsSound}
-use Rattle.test_system.specs.Replay.{Entry, entry_of, machine_after, machine_made, new_machine, MayBeMade}
-use Rattle.test_system.specs.Runs.{IsAlwaysSound}
-use Rattle.test_system.specs.Spares.{ChangesNothing, spend, spare_entry}
-use Rattle.test_system.specs.declared.change.Made.{Made}
-use Rattle.test_system.specs.declared.spares.Spent.{Spent}
-use Rattle.test_system.specs.declared.spares.Spare.{Spare}
-use Rattle.test_system.specs.declared.log.CallLog.{CallLog}
-use Rattle.test_system.specs.Log.{entries, KeepsSpare}
-use Rattle.test_system.proofs.OneMore.{always_sound-push, made_last}
-use Rattle.test_system.proofs.Failures.{spare-more}
+use Rattle.std.proofs.Common.{◌≡◌, ℕ, List, [], ◌∷◌, ◌++◌, map, take, min, sym, ◌∙◌, ap, subst, arith, inl, inr, ⊎_elim, Bool, true, false}
+use Rattle.std.proofs.{Common.cond, lemmas.{List.{map-append, take-map, take-take, take_all, length-take}, Bool.cases_lt}}
+use Rattle.{conf_system.specs.Crash.IsSound, test_system.specs.Replay.{Entry, entry_of, machine_after, machine_made, new_machine}}
+use Rattle.test_system.specs.{Replay.MayBeMade, Runs.IsAlwaysSound, Spares.{ChangesNothing, spend, spare_entry}, declared.change.Made.Made}
+use Rattle.test_system.specs.{declared.{spares.{Spent.Spent, Spare.Spare}, log.CallLog.CallLog}, Log.{entries, KeepsSpare}}
+use Rattle.test_system.proofs.{OneMore.{always_sound-push, made_last}, Failures.spare-more}
 
 pub entries-pushed : (old new : List Made) (x : Made) → new ≡ old ++ x ∷ [] → map entry_of new ≡ map entry_of old ++ entry_of x ∷ []
 entries-pushed old new x is = ap (map entry_of) is ∙ map-append entry_of old (x ∷ [])

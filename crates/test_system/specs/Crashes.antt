@@ -1,17 +1,10 @@
 -- What a crash leaves, as a test chooses it.
-use Rattle.std.specs.Prelude.{◌≡◌, ℕ, List, [], ◌∷◌, ◌++◌, length, get_or, Option, Some, None}
-use Rattle.std.specs.Prelude.{option_map, slice_get, Bool, true, false}
-use Rattle.std.specs.Prelude.{if◌then◌else◌, ◌&&◌, nat_le}
-use Rattle.std.specs.Borrow.{Bor}
-use Rattle.conf_disk.specs.Folder.{Stage}
-use Rattle.conf_system.specs.declared.system.FileName.{FileName}
-use Rattle.conf_system.specs.declared.system.FileName.TheVariants.{Store, Next, Copy}
-use Rattle.conf_disk.specs.Image.{Image}
-use Rattle.conf_system.specs.declared.system.Note.{Note}
-use Rattle.conf_system.specs.Machine.{Version, Held, Machine, empty_version, empty_held, versions, stages, apart, notes_of}
-use Rattle.conf_system.specs.Crash.{CrashLeaves, machine_of}
-use Rattle.test_system.specs.declared.crash.Crash.{Crash}
-use Rattle.test_system.specs.declared.crash.Torn.{Torn}
+use Rattle.std.specs.Prelude.{◌≡◌, ℕ, List, [], ◌∷◌, ◌++◌, length, get_or, Option, Some, None, option_map, slice_get, Bool, true, false}
+use Rattle.std.specs.{Prelude.{if◌then◌else◌, ◌&&◌, nat_le}, Borrow.Bor}
+use Rattle.{conf_disk.specs.{Folder.Stage, Image.Image}, conf_system.specs.declared.system.FileName.{FileName, TheVariants.{Store, Next}}}
+use Rattle.conf_system.specs.{declared.system.{FileName.TheVariants.Copy, Note.Note}, Machine.{Version, Held, Machine, empty_version}}
+use Rattle.conf_system.specs.{Machine.{empty_held, versions, stages, apart, notes_of}, Crash.{CrashLeaves, machine_of}}
+use Rattle.test_system.specs.declared.crash.{Crash.Crash, Torn.Torn}
 
 -- of bytes, as many as there are tests, each as it is or zero
 abbrev pub worn : List ℕ → List Bool → List ℕ

@@ -1,10 +1,7 @@
 -- The calls that a system keeps.
 use Rattle.std.specs.Prelude.{◌≡◌, ◌⊎◌, ℕ, List, [], ◌∷◌, ◌++◌, Option}
-use Rattle.conf_system.specs.Machine.{Machine, Call}
-use Rattle.test_system.specs.Replay.{Entry, Called, entries_of, machine_after, machine_made, new_machine}
-use Rattle.test_system.specs.Spares.{spare_entry}
-use Rattle.test_system.specs.declared.log.CallLog.{CallLog}
-use Rattle.test_system.specs.declared.spares.Spare.{Spare}
+use Rattle.{conf_system.specs.Machine.{Machine, Call}, test_system.specs.Replay.{Entry, Called, entries_of, machine_after, machine_made}}
+use Rattle.test_system.specs.{Replay.new_machine, Spares.spare_entry, declared.{log.CallLog.CallLog, spares.Spare.Spare}}
 
 abbrev pub entries : CallLog → List Entry
 entries log = entries_of log.calls

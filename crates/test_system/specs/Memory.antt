@@ -1,22 +1,11 @@
 -- A system in memory, as contracts see it.
-use Rattle.std.specs.Prelude.{◌≡◌, ◌≢◌, ℕ, List, [], ◌∷◌, ◌++◌, length, take, Some, None, Result, Ok, Err}
-use Rattle.std.specs.Prelude.{MatchResult, IfErr, IsErr, IsTrue, ⊤}
-use Rattle.std.specs.declared.io.Error.{Error}
-use Rattle.std.specs.declared.io.ErrorKind.TheVariants.{OutOfMemory}
-use Rattle.std.specs.IoError.{error_kind}
-use Rattle.conf_system.specs.declared.system.Linking.{Linking}
-use Rattle.conf_system.specs.declared.system.Linking.TheVariants.{Unsupported}
-use Rattle.conf_system.specs.declared.system.Note.{Note}
-use Rattle.conf_system.specs.Machine.{Machine, Call, LinkNext}
-use Rattle.conf_system.specs.Models.{SystemModel}
-use Rattle.test_system.specs.declared.fault.Outcome.{Outcome}
+use Rattle.std.specs.Prelude.{◌≡◌, ◌≢◌, ℕ, List, [], ◌∷◌, ◌++◌, length, take, Some, None, Result, Ok, Err, MatchResult, IfErr, IsErr}
+use Rattle.std.specs.{Prelude.{IsTrue, ⊤}, declared.io.{Error.Error, ErrorKind.TheVariants.OutOfMemory}, IoError.error_kind}
+use Rattle.conf_system.specs.{declared.system.{Linking.{Linking, TheVariants.Unsupported}, Note.Note}, Machine.{Machine, Call, LinkNext}}
+use Rattle.{conf_system.specs.Models.SystemModel, test_system.specs.declared.fault.{Outcome.Outcome, Plan.Plan}}
+use Rattle.test_system.specs.{declared.memory.MemorySystem.MemorySystem, Replay.{Entry, NoteRead, NoteUnread, machine_after, new_machine}}
+use Rattle.test_system.specs.{Faults.{outcome_at, failed_of, offered_count, fails_to_read}, Runs.WasSince, Log.{entries, then}}
 use Rattle.test_system.specs.declared.fault.Fault.TheVariants as fault
-use Rattle.test_system.specs.declared.fault.Plan.{Plan}
-use Rattle.test_system.specs.declared.memory.MemorySystem.{MemorySystem}
-use Rattle.test_system.specs.Replay.{Entry, NoteRead, NoteUnread, machine_after, new_machine}
-use Rattle.test_system.specs.Faults.{outcome_at, failed_of, offered_count, fails_to_read}
-use Rattle.test_system.specs.Runs.{WasSince}
-use Rattle.test_system.specs.Log.{entries, then}
 
 -- the calls that were made
 abbrev pub kept_calls : MemorySystem → List Entry

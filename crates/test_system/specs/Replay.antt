@@ -1,21 +1,15 @@
 -- The data of the code as the calls and the machine of the model.
 use Rattle.std.specs.Prelude.{ℕ, List, [], ◌∷◌, map, set, get_or, Option, Some, None, option_map, Vec, false}
 use Rattle.std.specs.declared.alloc.Global.{Global}
-use Rattle.conf_disk.specs.Folder.{Stage}
-use Rattle.conf_system.specs.Machine.{Version, Held, Machine, empty_held, Call, CreateNext, CreateCopy, Write, WriteRest, Sync}
-use Rattle.conf_system.specs.Machine.{RenameNext, LinkNext, UnlinkNext, PlaceCopy, UnlinkCopy, SyncFolder, WriteNote, SyncNote}
-use Rattle.conf_system.specs.Machine.{with_pending, synced, failed_sync, after, after_reading, failing, MayBeCalled}
-use Rattle.conf_system.specs.declared.system.Note.{Note}
-use Rattle.test_system.specs.declared.change.Change.{Change}
+use Rattle.{conf_disk.specs.Folder.Stage, conf_system.specs.Machine.{Version, Held, Machine, empty_held, Call, CreateNext, CreateCopy}}
+use Rattle.conf_system.specs.Machine.{Write, WriteRest, Sync, RenameNext, LinkNext, UnlinkNext, PlaceCopy, UnlinkCopy, SyncFolder}
+use Rattle.conf_system.specs.Machine.{WriteNote, SyncNote, with_pending, synced, failed_sync, after, after_reading, failing, MayBeCalled}
+use Rattle.{conf_system.specs.declared.system.Note.Note, test_system.specs.declared.change.{Change.Change, Made.Made}}
+use Rattle.test_system.specs.declared.version.{VersionData.VersionData, VersionChange.VersionChange, HeldData.HeldData}
+use Rattle.test_system.specs.declared.machine.{StageData.StageData, MachineData.MachineData}
 use Rattle.test_system.specs.declared.change.Change.TheVariants as change
-use Rattle.test_system.specs.declared.change.Made.{Made}
 use Rattle.test_system.specs.declared.change.Made.TheVariants as made
-use Rattle.test_system.specs.declared.version.VersionData.{VersionData}
-use Rattle.test_system.specs.declared.version.VersionChange.{VersionChange}
 use Rattle.test_system.specs.declared.version.VersionChange.TheVariants as version
-use Rattle.test_system.specs.declared.version.HeldData.{HeldData}
-use Rattle.test_system.specs.declared.machine.StageData.{StageData}
-use Rattle.test_system.specs.declared.machine.MachineData.{MachineData}
 
 -- a call of the code
 abbrev pub call_of : Change → Call

@@ -1,13 +1,8 @@
 -- What the machine was while calls were made.
-use Rattle.std.specs.Prelude.{◌≡◌, ℕ, ◌≤◌, List, length, take, Option, Some, None}
-use Rattle.std.proofs.Common.{sym, ◌∙◌, ap, subst, arith}
-use Rattle.std.proofs.lemmas.List.{take_all}
-use Rattle.std.specs.Coded.{Π_prop}
-use Rattle.std.proofs.Props.{props}
-use Rattle.conf_disk.specs.Image.{IsMade, IsApartFrom}
-use Rattle.conf_system.specs.Machine.{Machine}
-use Rattle.conf_system.specs.Crash.{IsSound}
-use Rattle.test_system.specs.Replay.{Entry, machine_after, new_machine}
+use Rattle.std.{specs.{Prelude.{◌≡◌, ℕ, ◌≤◌, List, length, take, Option, Some, None}, Coded.Π_prop}, proofs.Common.{sym, ◌∙◌, ap, subst}}
+use Rattle.std.proofs.{Common.arith, lemmas.List.take_all, Props.props}
+use Rattle.{conf_disk.specs.Image.{IsMade, IsApartFrom}, conf_system.specs.{Machine.Machine, Crash.IsSound}, test_system.specs.Replay.Entry}
+use Rattle.test_system.specs.Replay.{machine_after, new_machine}
 
 -- after each of the calls the machine is sound
 abbrev pub IsAlwaysSound : List Entry → Type 0

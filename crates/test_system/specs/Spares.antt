@@ -1,14 +1,9 @@
 -- What is kept where there is no memory for a call. A sync that fails makes a file unsure, and a write that adds nothing
 -- may count as one that waits, so each of these is to be kept also then.
-use Rattle.std.specs.Prelude.{ℕ, ◌+◌, ◌≡◌, List, [], Some, Bool, true, if◌then◌else◌, ◌||◌}
-use Rattle.conf_system.specs.declared.system.FileName.TheVariants.{Store, Next, Copy}
-use Rattle.conf_system.specs.Machine.{Machine, Sync, Write}
-use Rattle.std.specs.Coded.{Π_prop, →_prop}
-use Rattle.std.proofs.Props.{props}
-use Rattle.test_system.specs.declared.spares.Spare.{Spare}
-use Rattle.test_system.specs.declared.spares.Spare.TheVariants.{FailedSync, EmptyWrite}
-use Rattle.test_system.specs.declared.spares.Spent.{Spent}
-use Rattle.test_system.specs.Replay.{Entry, Called, machine_made, machine_after, new_machine}
+use Rattle.std.{specs.{Prelude.{ℕ, ◌+◌, ◌≡◌, List, [], Some, Bool, true, if◌then◌else◌, ◌||◌}, Coded.{Π_prop, →_prop}}, proofs.Props.props}
+use Rattle.conf_system.specs.{declared.system.FileName.TheVariants.{Store, Next, Copy}, Machine.{Machine, Sync, Write}}
+use Rattle.test_system.specs.{declared.spares.{Spare.{Spare, TheVariants.{FailedSync, EmptyWrite}}, Spent.Spent}, Replay.{Entry, Called}}
+use Rattle.test_system.specs.Replay.{machine_made, machine_after, new_machine}
 
 abbrev pub spare_entry : Spare → Entry
 spare_entry (FailedSync name) = Called (Sync name) (Some 0)

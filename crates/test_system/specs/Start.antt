@@ -1,9 +1,7 @@
 -- What the calls that leave given files make of an empty folder, one file after the other.
-use Rattle.std.specs.Prelude.{ℕ, List, Option, Some, None}
-use Rattle.std.specs.Borrow.{Bor}
-use Rattle.conf_system.specs.declared.system.FileName.TheVariants.{Next, Copy}
-use Rattle.conf_system.specs.Machine.{Machine, after, CreateNext, CreateCopy, Write, Sync, RenameNext}
-use Rattle.test_system.specs.Replay.{new_machine}
+use Rattle.std.specs.{Prelude.{ℕ, List, Option, Some, None}, Borrow.Bor}
+use Rattle.conf_system.specs.{declared.system.FileName.TheVariants.{Next, Copy}, Machine.{Machine, after, CreateNext, CreateCopy, Write}}
+use Rattle.{conf_system.specs.Machine.{Sync, RenameNext}, test_system.specs.Replay.new_machine}
 
 abbrev pub with_next : List ℕ → Machine → Machine
 with_next bytes m = after (Sync Next) (after (Write Next bytes) (after CreateNext m))

@@ -1,16 +1,10 @@
 -- A folder of one stage that reads as empty.
 use Rattle.std.proofs.Common.{◌≡◌, sym, ap, subst, refl, arith, ℕ, List, [], ◌∷◌, ◌++◌, length, map, Option, Some, None, length-append}
 use Rattle.std.specs.List.{Contains}
-use Rattle.conf_disk.specs.Folder.{File, Stage, bytes_at, bytes_under}
-use Rattle.conf_disk.specs.Image.{IsTornAt}
-use Rattle.conf_disk.specs.declared.disk.Name.TheVariants.{Store, Next}
-use Rattle.conf_system.specs.Machine.{Machine, stages}
-use Rattle.conf_system.specs.Folders.{folder_of, stages_before, stage_of}
-use Rattle.conf_disk.specs.declared.disk.Name.{Name}
-use Rattle.conf_protocol.specs.Keeps.{IsSafe}
-use Rattle.conf_system.proofs.Torn.{the_only}
-use Rattle.test_system.specs.Replay.{new_machine}
-use Rattle.test_worlds.specs.Entries.{IsBlank}
+use Rattle.conf_disk.specs.{Folder.{File, Stage, bytes_at, bytes_under}, Image.IsTornAt, declared.disk.Name.{Name, TheVariants.Store}}
+use Rattle.{conf_disk.specs.declared.disk.Name.TheVariants.Next, conf_system.specs.{Machine.{Machine, stages}, Folders.folder_of}}
+use Rattle.{conf_system.{specs.Folders.{stages_before, stage_of}, proofs.Torn.the_only}, conf_protocol.specs.Keeps.IsSafe}
+use Rattle.{test_system.specs.Replay.new_machine, test_worlds.specs.Entries.IsBlank}
 
 none-at : (files : List File) (place : Option ℕ) (left : Option (List ℕ))
     → bytes_at files place ≡ None → IsTornAt files place left → left ≡ None

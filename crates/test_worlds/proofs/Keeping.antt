@@ -1,14 +1,9 @@
 -- What becomes of the images of folders when one changes, or is added.
-use Rattle.std.proofs.Common.{◌≡◌, ◌≢◌, inl, inr, ℕ, ◌<◌, ◌+◌, List, [], ◌∷◌, ◌++◌}
-use Rattle.std.proofs.Common.{length, set, Option, Some, None}
-use Rattle.std.proofs.Common.{refl, sym, ◌∙◌, ap, subst, arith, length-append}
-use Rattle.std.proofs.lemmas.List.{get_or-set_same, get_or-set_other, length-set, get_or_append_left}
-use Rattle.std.proofs.Math.Seq.{get_or-append_seam}
-use Rattle.std.proofs.lemmas.Bool.{cases_lt, cases_eq}
-use Rattle.std.specs.List.{Contains}
-use Rattle.conf_disk.specs.Folder.{Stage, Folder, empty_folder}
-use Rattle.conf_disk.specs.Image.{Image, IsImage, IsTornAt}
-use Rattle.test_worlds.specs.Entries.{Entry, no_entry, entry_at, IsFirst, IsNowhere, Leaves, Changes, Adds, IsBlank}
+use Rattle.std.proofs.Common.{◌≡◌, ◌≢◌, inl, inr, ℕ, ◌<◌, ◌+◌, List, [], ◌∷◌, ◌++◌, length, set, Option, Some, None, refl, sym, ◌∙◌, ap}
+use Rattle.std.proofs.{Common.{subst, arith, length-append}, lemmas.List.{get_or-set_same, get_or-set_other, length-set}}
+use Rattle.std.{proofs.{lemmas.{List.get_or_append_left, Bool.{cases_lt, cases_eq}}, Math.Seq.get_or-append_seam}, specs.List.Contains}
+use Rattle.{conf_disk.specs.{Folder.{Stage, Folder, empty_folder}, Image.{Image, IsImage, IsTornAt}}, test_worlds.specs.Entries.Entry}
+use Rattle.test_worlds.specs.Entries.{no_entry, entry_at, IsFirst, IsNowhere, Leaves, Changes, Adds, IsBlank}
 
 -- the only one is there
 Contains-only : (stage : Stage) → Contains (stage ∷ []) stage

@@ -1,22 +1,12 @@
 -- The world in memory keeps its folders.
 use Rattle.std.proofs.Common.{◌≡◌, refl, ◌⊎◌, inl, inr, ℕ, ◌<◌, List, length, Option, Some, None, subst, arith}
-use Rattle.conf_disk.specs.Folder.{Folder}
-use Rattle.conf_disk.specs.Image.{image_now}
-use Rattle.conf_disk.specs.Laws.{ReadingIsAnImage}
-use Rattle.conf_folder.specs.declared.fault.FolderFault.{FolderFault}
-use Rattle.conf_folder.specs.declared.fault.FolderFault.TheVariants.{Device, Locked, NotAStore, StoreExists, OutOfMemory}
-use Rattle.conf_runs.specs.FoldersRead.{MayLackStore, IsUnread, GivesStore, ShowsFolders}
-use Rattle.test_worlds.specs.Files.{remaining_of}
-use Rattle.test_worlds.specs.Shown.{ShowsIn, SaysNothing}
-use Rattle.test_worlds.specs.declared.file.MemoryFile.{MemoryFile}
-use Rattle.conf_disk.specs.Models.{DiskModel}
-use Rattle.conf_runs.specs.Folders.{KeepsFolders, LeavesNoMore, IsDiskOf, HandsOutNone}
-use Rattle.conf_tools.specs.declared.world.Access.{Access}
-use Rattle.test_worlds.specs.Entries.{Entry, IsFirst, Leaves, Adds, entry_at}
-use Rattle.test_worlds.specs.Places.{HandsOut}
-use Rattle.test_worlds.specs.Worlds.{entries_in, GivesBack, memory_world, memory_leaves}
-use Rattle.test_worlds.specs.declared.world.MemoryWorld.{MemoryWorld}
-use Rattle.test_worlds.proofs.Keeping.{given_back, elsewhere, added}
+use Rattle.conf_disk.specs.{Folder.Folder, Image.image_now, Laws.ReadingIsAnImage, Models.DiskModel}
+use Rattle.conf_folder.specs.declared.fault.FolderFault.{FolderFault, TheVariants.{Device, Locked, NotAStore, StoreExists, OutOfMemory}}
+use Rattle.conf_runs.specs.{FoldersRead.{MayLackStore, IsUnread, GivesStore, ShowsFolders}, Folders.{KeepsFolders, LeavesNoMore, IsDiskOf}}
+use Rattle.{conf_runs.specs.Folders.HandsOutNone, test_worlds.specs.{Files.remaining_of, Shown.{ShowsIn, SaysNothing}}}
+use Rattle.test_worlds.specs.{declared.{file.MemoryFile.MemoryFile, world.MemoryWorld.MemoryWorld}, Entries.{Entry, IsFirst, Leaves, Adds}}
+use Rattle.test_worlds.specs.{Entries.entry_at, Places.HandsOut, Worlds.{entries_in, GivesBack, memory_world, memory_leaves}}
+use Rattle.{test_worlds.proofs.Keeping.{given_back, elsewhere, added}, conf_tools.specs.declared.world.Access.Access}
 
 module _ {D : Type 0} (model : DiskModel D) (honest : model.honest) where
   abbrev kept : MemoryWorld D → List Entry

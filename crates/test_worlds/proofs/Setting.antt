@@ -1,13 +1,8 @@
 -- A place of the code is set.
-use Rattle.std.proofs.Common.{◌≡◌, ℕ, ◌<◌, List, length, get_or, set, map, sym, ◌∙◌, ap, subst, arith, Option}
-use Rattle.std.specs.Prelude.{string_bytes}
-use Rattle.std.proofs.lemmas.List.{map-set, get_or-map, length-map, set-get_or}
-use Rattle.conf_disk.specs.Folder.{Folder}
-use Rattle.conf_disk.specs.Models.{DiskModel}
-use Rattle.test_worlds.specs.Entries.{Entry, Changes, entry_at, no_entry}
-use Rattle.test_worlds.specs.Places.{entry_of, folder_in}
-use Rattle.test_worlds.specs.declared.places.Place.{Place}
-use Rattle.test_worlds.proofs.Keeping.{set-changes}
+use Rattle.std.proofs.{Common.{◌≡◌, ℕ, ◌<◌, List, length, get_or, set, map, sym, ◌∙◌, ap, subst, arith, Option}, lemmas.List.map-set}
+use Rattle.std.{proofs.lemmas.List.{get_or-map, length-map, set-get_or}, specs.Prelude.string_bytes}
+use Rattle.{conf_disk.specs.{Folder.Folder, Models.DiskModel}, test_worlds.specs.Entries.{Entry, Changes, entry_at, no_entry}}
+use Rattle.test_worlds.{specs.{Places.{entry_of, folder_in}, declared.places.Place.Place}, proofs.Keeping.set-changes}
 
 module _ {D : Type 0} (model : DiskModel D) where
   -- the entry of a place

@@ -1,7 +1,6 @@
 -- Folders by their paths.
 use Rattle.std.specs.Prelude.{◌≡◌, ◌≢◌, ◌⊎◌, ℕ, ◌<◌, List, [], ◌∷◌, ◌++◌, length, get_or, Option, Some, None}
-use Rattle.conf_disk.specs.Folder.{Folder, empty_folder}
-use Rattle.conf_disk.specs.Image.{Image, IsImage}
+use Rattle.conf_disk.specs.{Folder.{Folder, empty_folder}, Image.{Image, IsImage}}
 
 -- a folder at a path; none while its disk is handed out
 pub record Entry : Type 0 where

@@ -1,9 +1,6 @@
 -- Open files, as contracts see them.
-use Rattle.std.specs.Prelude.{ℕ, List, Vec, Option, Some, Bool}
-use Rattle.std.specs.Io.Cursor.{cursor_remaining}
-use Rattle.std.specs.declared.alloc.Global.{Global}
-use Rattle.conf_store.specs.Holes.{is_several}
-use Rattle.test_worlds.specs.declared.file.MemoryFile.{MemoryFile}
+use Rattle.std.specs.{Prelude.{ℕ, List, Vec, Option, Some, Bool}, Io.Cursor.cursor_remaining, declared.alloc.Global.Global}
+use Rattle.{conf_store.specs.Holes.is_several, test_worlds.specs.declared.file.MemoryFile.MemoryFile}
 
 abbrev pub bytes_of : Vec ℕ Global → Option (List ℕ)
 bytes_of bytes = Some bytes.items

@@ -1,13 +1,8 @@
 -- The places of a world, as contracts see them.
 use Rattle.std.specs.Prelude.{◌≡◌, ℕ, ◌<◌, List, length, map, Option, Some, None, option_map, string_bytes}
-use Rattle.conf_disk.specs.Folder.{Folder, bytes_under}
-use Rattle.conf_disk.specs.Models.{DiskModel}
-use Rattle.conf_disk.specs.declared.disk.Name.TheVariants.{Store}
-use Rattle.test_worlds.specs.Entries.{Entry, IsFirst, Changes, entry_at}
-use Rattle.conf_tools.specs.declared.world.Access.{Access}
-use Rattle.conf_tools.specs.declared.world.Access.TheVariants.{New}
-use Rattle.test_worlds.specs.declared.places.Place.{Place}
-use Rattle.test_worlds.specs.declared.places.Places.{Places}
+use Rattle.conf_disk.specs.{Folder.{Folder, bytes_under}, Models.DiskModel, declared.disk.Name.TheVariants.Store}
+use Rattle.test_worlds.specs.{Entries.{Entry, IsFirst, Changes, entry_at}, declared.places.{Place.Place, Places.Places}}
+use Rattle.conf_tools.specs.declared.world.Access.{Access, TheVariants.New}
 
 -- where a new store is to be made, there is none
 abbrev pub HasWanted : Access → Folder → Type 0

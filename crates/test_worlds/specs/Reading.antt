@@ -1,18 +1,9 @@
 -- What runs read of the stores of a world in memory.
 use Rattle.std.specs.Prelude.{ℕ, List, ◌∷◌}
-use Rattle.conf_disk.specs.Models.{DiskModel}
-use Rattle.conf_runs.specs.Runs.{AreRuns}
-use Rattle.conf_runs.specs.Reads.{Writes, TurnInto, Asks, Shows}
-use Rattle.conf_tools.specs.Performs.{Performs}
-use Rattle.conf_tools.specs.Reads.{ShowsTree}
-use Rattle.conf_tools.specs.Worlds.{Around}
-use Rattle.conf_tools.specs.declared.program.Status.{Status}
-use Rattle.conf_words.specs.declared.invocation.Invocation.{Invocation}
-use Rattle.conf_words.specs.declared.invocation.ValueForm.{ValueForm}
-use Rattle.test_worlds.specs.Files.{remaining_of}
-use Rattle.test_worlds.specs.Runs.{MemoryEvent}
-use Rattle.test_worlds.specs.Worlds.{memory_world, memory_leaves}
-use Rattle.test_worlds.specs.declared.world.MemoryWorld.{MemoryWorld}
+use Rattle.{conf_disk.specs.Models.DiskModel, conf_runs.specs.{Runs.AreRuns, Reads.{Writes, TurnInto, Asks, Shows}}}
+use Rattle.conf_tools.specs.{Performs.Performs, Reads.ShowsTree, Worlds.Around, declared.program.Status.Status}
+use Rattle.{conf_words.specs.declared.invocation.{Invocation.Invocation, ValueForm.ValueForm}, test_worlds.specs.Files.remaining_of}
+use Rattle.test_worlds.specs.{Runs.MemoryEvent, Worlds.{memory_world, memory_leaves}, declared.world.MemoryWorld.MemoryWorld}
 use Rattle.yaml_grammar.specs.Trees.{Tree}
 
 module _ {D : Type 0} (model : DiskModel D) (honest : model.honest) (path name pointer : List ℕ) where

@@ -1,12 +1,7 @@
 -- Runs of the program in a world in memory.
 use Rattle.std.specs.Prelude.{ℕ, List}
-use Rattle.conf_disk.specs.Image.{Image}
-use Rattle.conf_disk.specs.Models.{DiskModel}
-use Rattle.conf_state.specs.States.{Contents}
-use Rattle.conf_store.specs.Meaning.{ImageMeans}
-use Rattle.conf_runs.specs.Runs.{Event, AreRuns, Holds}
-use Rattle.test_worlds.specs.Files.{remaining_of}
-use Rattle.test_worlds.specs.Worlds.{memory_world, memory_leaves}
+use Rattle.{conf_disk.specs.{Image.Image, Models.DiskModel}, conf_state.specs.States.Contents, conf_store.specs.Meaning.ImageMeans}
+use Rattle.{conf_runs.specs.Runs.{Event, AreRuns, Holds}, test_worlds.specs.{Files.remaining_of, Worlds.{memory_world, memory_leaves}}}
 use Rattle.test_worlds.specs.declared.world.MemoryWorld.{MemoryWorld}
 
 module _ {D : Type 0} (model : DiskModel D) (honest : model.honest) (path : List ℕ) where

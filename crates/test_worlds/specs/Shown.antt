@@ -1,12 +1,8 @@
 -- What is read of the folders of a world.
 use Rattle.std.specs.Prelude.{◌≡◌, ◌≢◌, ℕ, List, Option, Some, None}
-use Rattle.conf_disk.specs.Folder.{Folder, bytes_under, several_waited}
-use Rattle.conf_disk.specs.declared.disk.Name.TheVariants.{Store}
-use Rattle.conf_folder.specs.declared.fault.FolderFault.{FolderFault}
-use Rattle.conf_folder.specs.declared.fault.FolderFault.TheVariants.{NotAStore, StoreExists}
-use Rattle.test_worlds.specs.Entries.{Entry, IsFirst, entry_at}
-use Rattle.test_worlds.specs.Files.{remaining_of, waiting_of}
-use Rattle.test_worlds.specs.declared.file.MemoryFile.{MemoryFile}
+use Rattle.conf_disk.specs.{Folder.{Folder, bytes_under, several_waited}, declared.disk.Name.TheVariants.Store}
+use Rattle.conf_folder.specs.declared.fault.FolderFault.{FolderFault, TheVariants.{NotAStore, StoreExists}}
+use Rattle.test_worlds.specs.{Entries.{Entry, IsFirst, entry_at}, Files.{remaining_of, waiting_of}, declared.file.MemoryFile.MemoryFile}
 
 -- the file gives what `store.yaml` reads as, with the note of it
 pub record IsStoreOf (folder : Folder) (file : MemoryFile) : Type 0 where

@@ -1,18 +1,9 @@
 -- A world in memory, as contracts see it.
-use Rattle.std.specs.Prelude.{◌≡◌, ◌⊎◌, ℕ, List, Option, Result, IfOk, IfErr, MatchResult, String}
-use Rattle.std.specs.declared.alloc.Global.{Global}
-use Rattle.conf_disk.specs.Image.{Image}
-use Rattle.conf_disk.specs.Models.{DiskModel}
-use Rattle.conf_folder.specs.declared.fault.FolderFault.{FolderFault}
-use Rattle.conf_tools.specs.Worlds.{WorldModel}
-use Rattle.conf_tools.specs.declared.world.Access.{Access}
-use Rattle.conf_tools.specs.declared.world.Access.TheVariants.{Reading}
-use Rattle.test_worlds.specs.Files.{waiting_of}
-use Rattle.test_worlds.specs.Shown.{ShowsAt, SaysNothing}
-use Rattle.test_worlds.specs.declared.file.MemoryFile.{MemoryFile}
-use Rattle.test_worlds.specs.Entries.{Entry, Adds, Leaves}
-use Rattle.test_worlds.specs.Places.{entries_of, HandsOut, TakesBack}
-use Rattle.test_worlds.specs.declared.world.MemoryWorld.{MemoryWorld}
+use Rattle.std.specs.{Prelude.{◌≡◌, ◌⊎◌, ℕ, List, Option, Result, IfOk, IfErr, MatchResult, String}, declared.alloc.Global.Global}
+use Rattle.{conf_disk.specs.{Image.Image, Models.DiskModel}, conf_folder.specs.declared.fault.FolderFault.FolderFault}
+use Rattle.{conf_tools.specs.{Worlds.WorldModel, declared.world.Access.{Access, TheVariants.Reading}}, test_worlds.specs.Files.waiting_of}
+use Rattle.test_worlds.specs.{Shown.{ShowsAt, SaysNothing}, declared.{file.MemoryFile.MemoryFile, world.MemoryWorld.MemoryWorld}}
+use Rattle.test_worlds.specs.{Entries.{Entry, Adds, Leaves}, Places.{entries_of, HandsOut, TakesBack}}
 
 module _ {D : Type 0} (model : DiskModel D) where
   abbrev pub entries_in : MemoryWorld D → List Entry

@@ -1,9 +1,6 @@
 -- What a cutter holds closes nothing, unless it was just fed up to a closing line.
-use Rattle.std.proofs.Common.{◌≡◌, ℕ, false, List, [], ◌++◌, sym, ap, ◌∙◌, subst, arith}
-use Rattle.std.proofs.lemmas.List.{take_all}
-use Rattle.yaml_docs.specs.Cutting.{Held, Unclosed, Takes, Feeds}
-use Rattle.yaml_docs.specs.declared.cutter.Fed.{Fed}
-use Rattle.yaml_docs.proofs.ClosingLines.{lies_within}
+use Rattle.std.proofs.{Common.{◌≡◌, ℕ, false, List, [], ◌++◌, sym, ap, ◌∙◌, subst, arith}, lemmas.List.take_all}
+use Rattle.yaml_docs.{specs.{Cutting.{Held, Unclosed, Takes, Feeds}, declared.cutter.Fed.Fed}, proofs.ClosingLines.lies_within}
 
 -- no bytes close nothing
 pub unclosed_none : Unclosed []

@@ -1,11 +1,8 @@
 -- Steps behind a missing key, and values under keys.
-use Rattle.std.proofs.Common.{◌≡◌, ℕ, suc, ◌+◌, Bool, true, false, cond, not, ◌||◌, List, [], ◌∷◌, length}
-use Rattle.std.proofs.Common.{Option, Some, None, option_map, Result, Ok, Err, refl, sym, ap, ap₂, ◌∙◌, arith}
-use Rattle.std.specs.Option.{is_some}
-use Rattle.tree_edits.proofs.Prelude.{Members, Tree, depth, distinct, has_key}
-use Rattle.tree_edits.proofs.Prelude.{Pair, PathFault, key_in, path_of, pointer_text, mapping, member, members_of, no_member}
-use Rattle.tree_edits.proofs.Prelude.{place_of, same_text}
-use Rattle.tree_edits.specs.Changes.{IsSpelled, SetAt, by_path}
+use Rattle.std.proofs.Common.{◌≡◌, ℕ, suc, ◌+◌, Bool, true, false, cond, not, ◌||◌, List, [], ◌∷◌, length, Option, Some, None, option_map}
+use Rattle.std.{proofs.Common.{Result, Ok, Err, refl, sym, ap, ap₂, ◌∙◌, arith}, specs.Option.is_some}
+use Rattle.tree_edits.proofs.Prelude.{Members, Tree, depth, distinct, has_key, Pair, PathFault, key_in, path_of, pointer_text, mapping}
+use Rattle.tree_edits.{proofs.Prelude.{member, members_of, no_member, place_of, same_text}, specs.Changes.{IsSpelled, SetAt, by_path}}
 use Rattle.tree_edits.specs.Parents.{keys_behind, lacks, set_below, steps_behind, under_keys, with_parents, without_last}
 
 -- ---- a missing key

@@ -1,12 +1,10 @@
 -- A pointer that is cut before its last `/` is the pointer to the steps before its last one.
-use Rattle.std.proofs.Common.{◌≡◌, ◌==◌, ℕ, ◌≤◌, true, false, List, [], ◌∷◌, ◌++◌, take, drop}
-use Rattle.std.proofs.Common.{Option, Some, None, refl, sym, ap, ap₂, subst, ◌∙◌, arith}
-use Rattle.std.specs.Option.{MatchOption, unwrap_or}
-use Rattle.tree_edits.proofs.Prelude.{IsCharBoundary, IsUtf8, NonePass, RFindsChar, HasCharAt, append_assoc, as_itself, as_slash}
-use Rattle.tree_edits.proofs.Prelude.{as_tilde, chars, chars-append, chars-nil, chars_from_encodes, chars_past_char, encodes-chars}
-use Rattle.tree_edits.proofs.Prelude.{IsUtf8-drop, IsUtf8-take, length-append, parents_of, pointer_text, spelling}
-use Rattle.tree_edits.proofs.Prelude.{take-append-drop}
-use Rattle.tree_edits.proofs.Prelude.{take_all, take_at, token_text}
+use Rattle.std.proofs.Common.{◌≡◌, ◌==◌, ℕ, ◌≤◌, true, false, List, [], ◌∷◌, ◌++◌, take, drop, Option, Some, None, refl, sym, ap, ap₂}
+use Rattle.std.{proofs.Common.{subst, ◌∙◌, arith}, specs.Option.{MatchOption, unwrap_or}}
+use Rattle.tree_edits.proofs.Prelude.{IsCharBoundary, IsUtf8, NonePass, RFindsChar, HasCharAt, append_assoc, as_itself, as_slash, as_tilde}
+use Rattle.tree_edits.proofs.Prelude.{chars, chars-append, chars-nil, chars_from_encodes, chars_past_char, encodes-chars, IsUtf8-drop}
+use Rattle.tree_edits.proofs.Prelude.{IsUtf8-take, length-append, parents_of, pointer_text, spelling, take-append-drop, take_all, take_at}
+use Rattle.tree_edits.proofs.Prelude.{token_text}
 use lib.Utf8.{encodes}
 
 -- ---- lists of steps

@@ -1,12 +1,11 @@
 -- A list with one element more: where it is inserted, how deep the list is then, and that its keys differ.
-use Rattle.std.proofs.Common.{◌≡◌, ℕ, zero, suc, ◌<◌, ◌≤◌, max, nat_le, Bool, true, false, cond, ◌&&◌, List, [], ◌∷◌}
-use Rattle.std.proofs.Common.{length, get_or, codes, Option, Some, None, Vec, Global, option_map, refl, sym, ap, ap₂, subst, ◌∙◌, arith}
+use Rattle.std.proofs.Common.{◌≡◌, ℕ, zero, suc, ◌<◌, ◌≤◌, max, nat_le, Bool, true, false, cond, ◌&&◌, List, [], ◌∷◌, length, get_or, codes}
+use Rattle.std.proofs.Common.{Option, Some, None, Vec, Global, option_map, refl, sym, ap, ap₂, subst, ◌∙◌, arith}
 use Rattle.tree_edits.proofs.Prelude.{Elements, Index, Tree, after_last, as_usize, depth, distinct, element, elements_depth}
 use Rattle.tree_edits.proofs.Prelude.{elements_distinct, elements_of, index_of, insert, is_number, nat_tests, no_element, no_index, number}
 use Rattle.tree_edits.proofs.Prelude.{number_after, number_of, option_map-Some, push_element, same_text, sequence, tree_of, tree_of-Seq}
-use Rattle.yaml_data.specs.declared.tree.Tree.{Tree as Node}
-use Rattle.yaml_data.specs.declared.tree.Tree.TheVariants.{Seq}
 use Rattle.tree_edits.specs.Insertions.{insert_at, insert_element, list_with, place_in, place_of}
+use Rattle.yaml_data.specs.declared.tree.Tree.{Tree as Node, TheVariants.Seq}
 
 -- ---- the element among those of a list of the code
 

@@ -1,7 +1,7 @@
 -- Parts of a tree that may be kept may be kept.
 use Rattle.std.proofs.Common.{◌≡◌, ℕ, suc, ◌≤◌, true, List, [], ◌∷◌, Ok, subst, arith}
-use Rattle.tree_edits.proofs.Prelude.{Tree, at, at_from, at_step-Ok, byte_len, child, child-distinct, child-within, depth}
-use Rattle.tree_edits.proofs.Prelude.{distinct, style_text}
+use Rattle.tree_edits.proofs.Prelude.{Tree, at, at_from, at_step-Ok, byte_len, child, child-distinct, child-within, depth, distinct}
+use Rattle.tree_edits.proofs.Prelude.{style_text}
 
 -- u is no larger than t, and its keys differ if those of t do
 pub record IsPart (t u : Tree) : Type 0 where

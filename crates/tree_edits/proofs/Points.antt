@@ -1,18 +1,12 @@
 -- Points of insertion, and the sets of lists with a value there.
 use Rattle.std.proofs.Common.{◌≡◌, ◌⊎◌, inl, inr, ℕ, ◌-◌, ◌≤◌, List, [], ◌∷◌, ◌++◌, length, get_or, Option, Some, None, IfSome, option_map}
 use Rattle.std.proofs.Common.{Result, Ok, Err, Global, refl, sym, ap, ap₂, subst, ◌∙◌, arith}
-use Rattle.tree_edits.proofs.Prelude.{CowStr, IsKept, IsLastAndRest, PathFault, Tree, at, chars, cow_str_bytes, elements_of}
-use Rattle.tree_edits.proofs.Prelude.{length-append, parents_of, path_of, pointer_text, sequence, split, take_at, texts, tree_of}
-use Rattle.tree_edits.proofs.Prelude.{tree_of-IsTextTree}
-use Rattle.tree_edits.specs.Changes.{IsRefused, IsSpelled, SetAt, by_path, found}
-use Rattle.tree_edits.specs.declared.fault.EditFault.{EditFault}
-use Rattle.json_pointer.specs.declared.fault.PathFault.TheVariants.{OutOfMemory}
-use Rattle.tree_edits.specs.Insertions.{in_value, insert_element, inserted, last_of, list_at, list_with, place_in}
-use Rattle.tree_edits.specs.Insertions.{set_or}
-use Rattle.tree_edits.proofs.Elements.{at_place, insert_element-there, place_in-inserts}
-use Rattle.tree_edits.proofs.Kept.{at-IsPart}
-use Rattle.yaml_data.specs.declared.tree.Tree.{Tree as Node}
-use Rattle.tree_edits.specs.declared.insertion.Point.{Point}
+use Rattle.tree_edits.proofs.Prelude.{CowStr, IsKept, IsLastAndRest, PathFault, Tree, at, chars, cow_str_bytes, elements_of, length-append}
+use Rattle.tree_edits.proofs.Prelude.{parents_of, path_of, pointer_text, sequence, split, take_at, texts, tree_of, tree_of-IsTextTree}
+use Rattle.tree_edits.{proofs.{Elements.{at_place, insert_element-there, place_in-inserts}, Kept.at-IsPart}, specs.Changes.IsRefused}
+use Rattle.tree_edits.specs.{Changes.{IsSpelled, SetAt, by_path, found}, declared.{fault.EditFault.EditFault, insertion.Point.Point}}
+use Rattle.tree_edits.specs.Insertions.{in_value, insert_element, inserted, last_of, list_at, list_with, place_in, set_or}
+use Rattle.{json_pointer.specs.declared.fault.PathFault.TheVariants.OutOfMemory, yaml_data.specs.declared.tree.Tree.Tree as Node}
 
 -- ---- the last step and those before it
 

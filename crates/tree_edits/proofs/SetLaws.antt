@@ -1,20 +1,13 @@
 -- What is set with its parents is found there; and what is inserted is between the others.
-use Rattle.std.proofs.Common.{◌≡◌, ◌⊎◌, inl, inr, get_or, ℕ, zero, suc, ◌-◌, ◌<◌, ◌≤◌, Bool, true, false, cond, List, [], ◌∷◌, ◌++◌}
-use Rattle.std.proofs.Common.{length, take, drop}
-use Rattle.std.proofs.Common.{Some, None, Result, Ok, Err, refl, sym, ap, subst, ◌∙◌, arith}
-use Rattle.std.proofs.lemmas.List.{take_all}
-use Rattle.json_pointer.proofs.Pointers.{path_of-pointer_text}
-use Rattle.tree_path.proofs.{Descents.edit_path, EditLaws.and_then-Ok, EditLaws.at_step-Ok, EditLaws.set-at, EditLaws.same_Ok}
-use Rattle.tree_path.proofs.StepLaws.{child-put, same_text-same, value_of-put_member, option_map-Some}
-use Rattle.tree_path.specs.Paths.{at_step, edit_from, present, put_member}
-use Rattle.tree_path.specs.Paths.{put}
-use Rattle.tree_edits.proofs.Prelude.{Elements, Miss, Tree, after_last, at, at_from, child, element, index_of}
-use Rattle.tree_edits.proofs.Prelude.{mapping, member, no_element, no_member, pointer_text, push_element, sequence, text}
-use Rattle.tree_edits.proofs.Points.{found-Ok}
-use Rattle.tree_edits.specs.Changes.{after_set, by_path, found}
-use Rattle.tree_edits.specs.Insertions.{insert_element, items, last_of}
-use Rattle.tree_edits.specs.Parents.{behind, lacks, set_below, steps_behind, under_keys, with_parents, without_last}
-use Rattle.tree_edits.specs.Prelude.{set}
+use Rattle.std.proofs.Common.{◌≡◌, ◌⊎◌, inl, inr, get_or, ℕ, zero, suc, ◌-◌, ◌<◌, ◌≤◌, Bool, true, false, cond, List, [], ◌∷◌, ◌++◌, length}
+use Rattle.std.proofs.{Common.{take, drop, Some, None, Result, Ok, Err, refl, sym, ap, subst, ◌∙◌, arith}, lemmas.List.take_all}
+use Rattle.{json_pointer.proofs.Pointers.path_of-pointer_text, tree_path.proofs.{Descents.edit_path, EditLaws.{and_then-Ok, at_step-Ok}}}
+use Rattle.tree_path.proofs.{EditLaws.{set-at, same_Ok}, StepLaws.{child-put, same_text-same, value_of-put_member, option_map-Some}}
+use Rattle.{tree_path.specs.Paths.{at_step, edit_from, present, put_member, put}, tree_edits.proofs.Prelude.{Elements, Miss, Tree}}
+use Rattle.tree_edits.proofs.Prelude.{after_last, at, at_from, child, element, index_of, mapping, member, no_element, no_member}
+use Rattle.tree_edits.{proofs.{Prelude.{pointer_text, push_element, sequence, text}, Points.found-Ok}, specs.Changes.{after_set, by_path}}
+use Rattle.tree_edits.specs.{Changes.found, Insertions.{insert_element, items, last_of}, Parents.{behind, lacks, set_below, steps_behind}}
+use Rattle.tree_edits.specs.{Parents.{under_keys, with_parents, without_last}, Prelude.set}
 
 -- ---- lists
 

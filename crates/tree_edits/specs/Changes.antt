@@ -1,11 +1,9 @@
 -- What edits are made of, with texts as code points and trees as the grammar's; and which values they can't have.
 use Rattle.std.specs.Prelude.{◌≡◌, ℕ, ◌<◌, ◌≤◌, List, Option, Some, None, Result, Ok, Err, String, string_bytes}
 use Rattle.std.specs.declared.alloc.Global.{Global}
-use Rattle.tree_edits.specs.Prelude.{PathFault, path_of, pointer_text, chars, set, own_limits, tree_of}
-use Rattle.tree_edits.specs.Prelude.{style_text, byte_len, Tree, depth}
+use Rattle.tree_edits.specs.Prelude.{PathFault, path_of, pointer_text, chars, set, own_limits, tree_of, style_text, byte_len, Tree, depth}
+use Rattle.tree_edits.specs.declared.fault.EditFault.{EditFault, TheVariants.{TooDeep, TooLarge, OutOfMemory}}
 use Rattle.tree_edits.specs.declared.changes.PlainSet as code
-use Rattle.tree_edits.specs.declared.fault.EditFault.{EditFault}
-use Rattle.tree_edits.specs.declared.fault.EditFault.TheVariants.{TooDeep, TooLarge, OutOfMemory}
 
 -- a value that is set at a pointer
 pub record SetAt : Type 0 where

@@ -1,11 +1,9 @@
 -- A value inserted into a list (RFC 6902, 4.1), as a set of the whole list.
-use Rattle.std.specs.Prelude.{◌≡◌, ℕ, zero, suc, ◌-◌, ◌≤◌, nat_le, if◌then◌else◌, List, [], ◌∷◌, length, get_or}
-use Rattle.std.specs.Prelude.{Option, Some, None, IfSome, option_map}
-use Rattle.tree_edits.specs.Prelude.{path_of, pointer_text, at, index_of, push_element, parents_of, Tree, text}
-use Rattle.tree_edits.specs.Prelude.{sequence, mapping, Elements, no_element, element, elements_of, IsKept}
-use Rattle.tree_path.specs.Paths.{Index, number, after_last, no_index}
-use Rattle.tree_edits.specs.declared.insertion.Point.{Point}
-use Rattle.tree_edits.specs.Changes.{IsSpelled, SetAt, by_path, found}
+use Rattle.std.specs.Prelude.{◌≡◌, ℕ, zero, suc, ◌-◌, ◌≤◌, nat_le, if◌then◌else◌, List, [], ◌∷◌, length, get_or, Option, Some, None, IfSome}
+use Rattle.std.specs.Prelude.{option_map}
+use Rattle.tree_edits.specs.Prelude.{path_of, pointer_text, at, index_of, push_element, parents_of, Tree, text, sequence, mapping, Elements}
+use Rattle.tree_edits.specs.{Prelude.{no_element, element, elements_of, IsKept}, declared.insertion.Point.Point, Changes.{IsSpelled, SetAt}}
+use Rattle.{tree_edits.specs.Changes.{by_path, found}, tree_path.specs.Paths.{Index, number, after_last, no_index}}
 
 -- the elements with one more before the element at an index, or behind the last one
 abbrev pub insert_element : Elements → ℕ → Tree → Option Elements

@@ -1,9 +1,8 @@
 -- A value taken to another pointer (RFC 6902, 4.4).
 use Rattle.std.specs.Prelude.{ℕ, List, Option, Some, None, if◌then◌else◌}
-use Rattle.tree_edits.specs.Prelude.{path_of, at, tree_of, same_text, Tree}
-use Rattle.tree_edits.specs.Changes.{text_of, by_path, found}
-use Rattle.tree_edits.specs.declared.changes.Move as code
+use Rattle.tree_edits.specs.{Prelude.{path_of, at, tree_of, same_text, Tree}, Changes.{text_of, by_path, found}}
 use Rattle.tree_edits.specs.declared.changes.Move.TheVariants.{Stays, Goes, Missing}
+use Rattle.tree_edits.specs.declared.changes.Move as code
 
 -- a set of the value where it is; a delete at `from`, and then a set at `to`; a delete alone, as there is no value
 pub data Move : Type 0 where

@@ -1,7 +1,6 @@
 -- A value set at a pointer together with the mappings that the pointer needs.
 use Rattle.std.specs.Prelude.{ℕ, ◌-◌, Bool, false, not, if◌then◌else◌, List, [], ◌∷◌, length, take, Option, Some, None}
-use Rattle.tree_edits.specs.Prelude.{path_of, pointer_text, child, Tree, text, sequence, mapping, member, no_member}
-use Rattle.tree_edits.specs.Prelude.{has_key}
+use Rattle.tree_edits.specs.Prelude.{path_of, pointer_text, child, Tree, text, sequence, mapping, member, no_member, has_key}
 use Rattle.tree_edits.specs.Changes.{SetAt, by_path, found}
 
 -- a mapping that lacks the key

@@ -1,11 +1,7 @@
 -- Paths in lists of the code.
 use Rattle.std.proofs.Common.{◌≡◌, ℕ, suc, false, nat_eq, List, [], ◌∷◌, ◌++◌, length, refl, ap, ◌∙◌, append_assoc, arith}
-use Rattle.std.specs.Prelude.{Some, None}
-use Rattle.std.proofs.lemmas.Bool.Decides.{nat_tests}
-use Rattle.std.specs.declared.alloc.Global.{Global}
-use Rattle.std.specs.declared.borrow.CowStr.{CowStr}
-use Rattle.tree_hidden.proofs.Prelude.{Bor, Text, chars, cow_str_bytes, text_bytes, texts}
-use Rattle.tree_hidden.specs.Hidden.{below, is_whole, path_below}
+use Rattle.std.{proofs.lemmas.Bool.Decides.nat_tests, specs.{Prelude.{Some, None}, declared.{alloc.Global.Global, borrow.CowStr.CowStr}}}
+use Rattle.tree_hidden.{proofs.Prelude.{Bor, Text, chars, cow_str_bytes, text_bytes, texts}, specs.Hidden.{below, is_whole, path_below}}
 use Rattle.tree_hidden.specs.Tokens.{paths_of, tokens_of}
 
 -- a path leads to the whole if it has no token

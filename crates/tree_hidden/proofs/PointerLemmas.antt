@@ -1,10 +1,8 @@
 -- Pointers that are read one after the other.
-use Rattle.std.proofs.Common.{◌≡◌, ℕ, List, [], ◌∷◌, ◌++◌, map, refl, sym, ap, ◌∙◌, append_assoc}
-use Rattle.std.specs.Prelude.{Result, Ok, Err, Vec}
+use Rattle.std.{proofs.Common.{◌≡◌, ℕ, List, [], ◌∷◌, ◌++◌, map, refl, sym, ap, ◌∙◌, append_assoc}, specs.Prelude.{Result, Ok, Err, Vec}}
 use Rattle.std.specs.declared.alloc.Global.{Global}
-use Rattle.tree_hidden.specs.Prelude.{PathFault, chars, path_of}
+use Rattle.tree_hidden.specs.{Prelude.{PathFault, chars, path_of}, Pointers.{owned_paths, path_and, paths_or}, Tokens.tokens_of}
 use Rattle.tree_hidden.proofs.Prelude.{Bor, Text, append-nil}
-use Rattle.tree_hidden.specs.{Pointers.owned_paths, Pointers.path_and, Pointers.paths_or, Tokens.tokens_of}
 
 -- paths before others, or a fault
 abbrev pub after_paths : List (List (List ℕ)) → Result (List (List (List ℕ))) PathFault → Result (List (List (List ℕ))) PathFault

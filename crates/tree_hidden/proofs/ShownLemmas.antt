@@ -1,12 +1,10 @@
 -- What is shown of a value of which not the whole is hidden, and texts of ASCII, by a test that computes.
-use Rattle.std.proofs.Common.{◌≡◌, ◌<◌, ◌+◌, nat_lt, arith, codes, [], ◌++◌, refl, ap, ap₂}
+use Rattle.std.proofs.{Common.{◌≡◌, ◌<◌, ◌+◌, nat_lt, arith, codes, [], ◌++◌, refl, ap, ap₂}, lemmas.Bool.Decides.nat_tests}
 use Rattle.std.specs.Prelude.{ℕ, true, false, List}
-use Rattle.yaml_grammar.specs.Trees.{Elements, no_element, element, Members, no_member, member, text, sequence, mapping}
-use Rattle.tree_hidden.proofs.Prelude.{list_all, IsUtf8, IsUtf8-from_ascii, every-IsAscii, json_member}
-use Rattle.yaml_forms.specs.Json.{json_elements, json_members, json_text, more_elements, more_members}
-use Rattle.tree_hidden.specs.Hidden.{hides_whole, shown_elements, shown_json, shown_members}
-use Rattle.yaml_grammar.specs.Trees.{Tree}
-use Rattle.std.proofs.lemmas.Bool.Decides.{nat_tests}
+use Rattle.yaml_grammar.specs.Trees.{Elements, no_element, element, Members, no_member, member, text, sequence, mapping, Tree}
+use Rattle.tree_hidden.{proofs.Prelude.{list_all, IsUtf8, IsUtf8-from_ascii, every-IsAscii, json_member}, specs.Hidden.hides_whole}
+use Rattle.{tree_hidden.specs.Hidden.{shown_elements, shown_json, shown_members}, yaml_forms.specs.Json.{json_elements, json_members}}
+use Rattle.yaml_forms.specs.Json.{json_text, more_elements, more_members}
 
 pub ascii-text : (cs : List ℕ) → list_all (λ c. nat_lt c 128) cs ≡ true → IsUtf8 cs
 ascii-text cs e = IsUtf8-from_ascii cs (every-IsAscii (λ c. nat_lt c 128) below cs e)

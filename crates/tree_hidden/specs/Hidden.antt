@@ -1,9 +1,9 @@
 -- The JSON text of a value in which what is at some paths, and below them, is hidden: a mark stands for it. A path is the
 -- list of its tokens, from the value on.
-use Rattle.std.specs.Prelude.{◌||◌, ◌+◌, ℕ, Bool, true, false, if◌then◌else◌, List, [], ◌∷◌, ◌++◌, codes, decimal}
-use Rattle.std.specs.Prelude.{Option, Some, None, Result, Ok, Err}
-use Rattle.tree_hidden.specs.Prelude.{PathFault, json_member, json_string, same_text, Tree, text, sequence, mapping}
-use Rattle.tree_hidden.specs.Prelude.{Elements, no_element, element, Members, no_member, member}
+use Rattle.std.specs.Prelude.{◌||◌, ◌+◌, ℕ, Bool, true, false, if◌then◌else◌, List, [], ◌∷◌, ◌++◌, codes, decimal, Option, Some, None}
+use Rattle.std.specs.Prelude.{Result, Ok, Err}
+use Rattle.tree_hidden.specs.Prelude.{PathFault, json_member, json_string, same_text, Tree, text, sequence, mapping, Elements, no_element}
+use Rattle.tree_hidden.specs.Prelude.{element, Members, no_member, member}
 
 -- ---- paths
 

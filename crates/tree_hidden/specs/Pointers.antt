@@ -1,8 +1,6 @@
 -- The paths that pointers mean.
-use Rattle.std.specs.Prelude.{ℕ, List, [], ◌∷◌, Result, Ok, Err, Vec}
-use Rattle.std.specs.declared.alloc.Global.{Global}
-use Rattle.tree_hidden.specs.Prelude.{PathFault, Text, chars, path_of}
-use Rattle.tree_hidden.specs.Tokens.{tokens_of}
+use Rattle.std.specs.{Prelude.{ℕ, List, [], ◌∷◌, Result, Ok, Err, Vec}, declared.alloc.Global.Global}
+use Rattle.tree_hidden.specs.{Prelude.{PathFault, Text, chars, path_of}, Tokens.tokens_of}
 
 -- a path before others, or the first fault
 abbrev pub path_and : Result (List (List ℕ)) PathFault → Result (List (List (List ℕ))) PathFault

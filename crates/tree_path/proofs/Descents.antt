@@ -2,10 +2,9 @@
 use Rattle.std.proofs.Common.{◌≡◌, ℕ, suc, ◌+◌, ◌-◌, ◌≤◌, List, [], ◌∷◌, ◌++◌, length, Result, Ok, Err, Global, take, drop, get_or, ◌<◌}
 use Rattle.std.proofs.Common.{refl, sym, ap, subst, ◌∙◌, add-zero, arith}
 use Rattle.tree_path.proofs.Prelude.{cow_str_bytes, CowStr, chars, take_more, at_drop_more, take-append-drop, length-map, length-take-le}
-use Rattle.tree_path.proofs.Prelude.{Tree, texts, PathFault}
-use Rattle.tree_path.specs.{Steps.Lowered, Steps.Rebuilt, declared.place.Miss.Miss}
-use Rattle.tree_path.specs.Paths.{child, put, refusal, at_step, and_then, at_from, edit_from, key_in, last_key, in_child}
-use Rattle.tree_path.proofs.StepLaws.{child-put, put-put, put-child}
+use Rattle.tree_path.{proofs.{Prelude.{Tree, texts, PathFault}, StepLaws.{child-put, put-put, put-child}}, specs.Steps.{Lowered, Rebuilt}}
+use Rattle.tree_path.specs.{declared.place.Miss.Miss, Paths.{child, put, refusal, at_step, and_then, at_from, edit_from, key_in, last_key}}
+use Rattle.tree_path.specs.Paths.{in_child}
 
 -- ---- one step more, and one less
 

@@ -2,13 +2,12 @@
 use Rattle.std.proofs.Common.{◌≡◌, ℕ, zero, suc, Bool, true, false, cond, not, ◌&&◌, ◌||◌, ◌==◌, List, [], ◌∷◌, ◌++◌, Some, option_map}
 use Rattle.std.proofs.Common.{Result, Ok, Err, refl, sym, ap, ap₂, subst, ◌∙◌, arith}
 use Rattle.tree_path.proofs.Prelude.{nat_tests, same_text, Tree, text, sequence, mapping, Elements, no_element, element, Members, no_member}
-use Rattle.tree_path.proofs.Prelude.{member, distinct, elements_distinct, members_distinct, has_key, PathFault}
-use Rattle.tree_path.specs.{declared.place.Miss.Miss, declared.place.Miss.TheVariants.Absent}
-use Rattle.tree_path.specs.Paths.{Index, number, after_last, no_index, index_of, at_index, present, element_at, put_element, cut_element}
+use Rattle.tree_path.proofs.{Prelude.{member, distinct, elements_distinct, members_distinct, has_key, PathFault}, Descents.edit_path}
+use Rattle.tree_path.proofs.{Descents.edit_path-step, Edits.set-edit, StepLaws.{option_map-Some, present-Ok, element_at-put_element}}
+use Rattle.tree_path.{proofs.StepLaws.{value_of-put_member, child-put}, specs.{declared.place.Miss.{Miss, TheVariants.Absent}, Paths.Index}}
+use Rattle.tree_path.specs.Paths.{number, after_last, no_index, index_of, at_index, present, element_at, put_element, cut_element}
 use Rattle.tree_path.specs.Paths.{push_element, value_of, put_member, cut_member, child, put, cut, at_step, and_then, at_from, at}
 use Rattle.tree_path.specs.Paths.{edit_from, set, delete}
-use Rattle.tree_path.proofs.{Descents.edit_path, Descents.edit_path-step, Edits.set-edit}
-use Rattle.tree_path.proofs.StepLaws.{option_map-Some, present-Ok, element_at-put_element, value_of-put_member, child-put}
 
 both : (a b : Bool) → (a && b) ≡ true → (a ≡ true) × (b ≡ true)
 both true b is = (refl, is)

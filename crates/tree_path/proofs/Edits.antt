@@ -1,9 +1,8 @@
 -- An edit at the end of a path, from what the code did: down to the parent, the edit there, and back up.
 use Rattle.std.proofs.Common.{◌≡◌, ℕ, ◌+◌, List, [], ◌∷◌, ◌++◌, length, Result, Ok, Err, refl, ap, ◌∙◌, arith}
-use Rattle.tree_path.proofs.Prelude.{OnOk, Tree, PathFault}
-use Rattle.tree_path.specs.{Steps.Lowered, Steps.Rebuilt, declared.place.Miss.Miss}
+use Rattle.tree_path.proofs.{Prelude.{OnOk, Tree, PathFault}, Descents.{edit_path, edit_path-Rebuilt, edit_path-missed, edit_path-refused}}
+use Rattle.tree_path.{proofs.Descents.{at_from-append, at_from-Lowered}, specs.{Steps.{Lowered, Rebuilt}, declared.place.Miss.Miss}}
 use Rattle.tree_path.specs.Paths.{child, put, cut, refusal, at_step, at, set, delete}
-use Rattle.tree_path.proofs.Descents.{edit_path, edit_path-Rebuilt, edit_path-missed, edit_path-refused, at_from-append, at_from-Lowered}
 
 -- a result that is no error
 pub IfOk-default : {T E : Type 0} {P : Type 0} (r : Result T E) → OnOk r P → ((e : E) → r ≡ Err e → ⊥) → P

@@ -4,16 +4,14 @@ use Rattle.std.proofs.Common.{Bor, Global, Option, Some, None, is_some, option_m
 use Rattle.std.proofs.Common.{rules}
 use Rattle.tree_path.proofs.Prelude.{remove, chars, cow_str_bytes, option_copied, CowStr, take_more, at_drop_more, take-append-drop}
 use Rattle.tree_path.proofs.Prelude.{length-map, length-take-le, length-drop, compares_Decides, same_text, Tree, text, sequence, mapping}
-use Rattle.tree_path.proofs.Prelude.{Members, no_member, member, Pair, members_of, text_bytes, Text, texts}
-use Rattle.tree_path.specs.{declared.key_index.KeyIndex.KeyIndex, declared.key_table.KeyTable.KeyTable, declared.place.Miss.Miss}
-use Rattle.tree_path.specs.{declared.step_places.StepPlaces.StepPlaces}
-use Rattle.tree_path.specs.Paths.{present, value_of, put_member, cut_member, place_of, key_in, last_key, child, put, cut, at_step, and_then}
-use Rattle.tree_path.specs.Paths.{at_from, at, edit_from, set, delete}
-use Rattle.tree_path.specs.Steps.{key_place, step_place, parents_of, ArePlaces, Leads}
-use Rattle.tree_path.specs.Tables.{keys_of, steps_of, Lists, ListsIn, Indexes, Leaves, chain_of, on_chain, place_at}
-use Rattle.tree_path.proofs.{EditLaws.at_step-Ok, EditLaws.and_then-Ok, EditLaws.same_Ok, Ways.parents-more, Ways.Leads-step}
-use Rattle.tree_path.proofs.StepLaws.{option_map-Some, option_map-None, present-Ok, child-put}
-use Rattle.tree_path.proofs.Descents.{edit_path, Ok-same, at_from-append, last_key-parent, texts-split}
+use Rattle.tree_path.proofs.{Prelude.{Members, no_member, member, Pair, members_of, text_bytes, Text, texts}, EditLaws.at_step-Ok}
+use Rattle.tree_path.proofs.{EditLaws.{and_then-Ok, same_Ok}, Ways.{parents-more, Leads-step}, StepLaws.{option_map-Some, option_map-None}}
+use Rattle.tree_path.proofs.{StepLaws.{present-Ok, child-put}, Descents.{edit_path, Ok-same, at_from-append, last_key-parent, texts-split}}
+use Rattle.tree_path.specs.declared.{key_index.KeyIndex.KeyIndex, key_table.KeyTable.KeyTable, place.Miss.Miss}
+use Rattle.tree_path.specs.{declared.step_places.StepPlaces.StepPlaces, Paths.{present, value_of, put_member, cut_member, place_of, key_in}}
+use Rattle.tree_path.specs.{Paths.{last_key, child, put, cut, at_step, and_then, at_from, at, edit_from, set, delete}, Steps.key_place}
+use Rattle.tree_path.specs.{Steps.{step_place, parents_of, ArePlaces, Leads}, Tables.{keys_of, steps_of, Lists, ListsIn, Indexes, Leaves}}
+use Rattle.tree_path.specs.Tables.{chain_of, on_chain, place_at}
 
 pub same_key : (key other : List ℕ) → same_text key other ≡ true → key ≡ other
 same_key key other same = (compares_Decides same_text (search rules) key other).0 same

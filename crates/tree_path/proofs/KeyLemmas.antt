@@ -2,9 +2,7 @@
 use Rattle.std.proofs.Common.{◌≡◌, ℕ, zero, suc, ◌<◌, Bool, true, false, cond, not, ◌&&◌, ◌||◌, List, [], ◌∷◌, length, get_or, Some}
 use Rattle.std.proofs.Common.{option_map, refl, ap, subst, arith, rules}
 use Rattle.tree_path.proofs.Prelude.{chars, and_parts, compares_Decides, same_text, distinct, members_distinct, has_key, Pair, tree_of}
-use Rattle.tree_path.proofs.Prelude.{members_of, text_bytes}
-use Rattle.tree_path.specs.Steps.{key_place}
-use Rattle.tree_path.proofs.StepLaws.{option_map-Some}
+use Rattle.tree_path.{proofs.{Prelude.{members_of, text_bytes}, StepLaws.option_map-Some}, specs.Steps.key_place}
 
 or_right : (a b : Bool) → b ≡ true → (a || b) ≡ true
 or_right true b is = refl

@@ -1,9 +1,8 @@
 -- Indices read digit by digit: a number so far, and what the digits after it make of it.
 use Rattle.std.proofs.Common.{◌≡◌, ℕ, zero, suc, ◌+◌, ◌-◌, ◌*◌, ◌<◌, Bool, true, false, cond, ◌&&◌, ◌==◌, List, [], ◌∷◌, length, get_or}
-use Rattle.std.proofs.Common.{drop, Option, Some, None, option_map, refl, sym, ap, subst, ◌∙◌, arith}
-use Rattle.tree_path.proofs.Prelude.{option_and_then, eqb-true, nat_tests, at_drop_more, list_all, is_empty}
-use Rattle.std.specs.Char.{digit_value}
-use Rattle.tree_path.specs.{Paths.digit, Paths.number_after, Steps.number_of, Steps.as_usize}
+use Rattle.std.{proofs.Common.{drop, Option, Some, None, option_map, refl, sym, ap, subst, ◌∙◌, arith}, specs.Char.digit_value}
+use Rattle.tree_path.{proofs.Prelude.{option_and_then, eqb-true, nat_tests, at_drop_more, list_all, is_empty}, specs.Paths.digit}
+use Rattle.tree_path.specs.{Paths.number_after, Steps.{number_of, as_usize}}
 
 -- the number with one more digit; nothing comes after a leading zero
 abbrev pub digit_after : Option ℕ → ℕ → Option ℕ

@@ -5,10 +5,8 @@ use Rattle.tree_path.proofs.Prelude.{remove, chars, IsUtf8, bytes_eq, same_from_
 use Rattle.tree_path.proofs.Prelude.{compares_Decides, encodes-chars, same_text, element, member, Pair, tree_of, elements_of, members_of}
 use Rattle.tree_path.proofs.Prelude.{text_bytes, Text}
 use lib.Utf8.{encodes}
-use Rattle.yaml_data.specs.declared.tree.Tree.{Tree}
-use Rattle.tree_path.specs.Paths.{element_at, put_element, cut_element, push_element, value_of, put_member, cut_member, place_of}
-use Rattle.tree_path.specs.Steps.{key_place}
-use Rattle.tree_path.proofs.StepLaws.{option_map-Some, option_map-None}
+use Rattle.{yaml_data.specs.declared.tree.Tree.Tree, tree_path.specs.Paths.{element_at, put_element, cut_element, push_element, value_of}}
+use Rattle.tree_path.{specs.{Paths.{put_member, cut_member, place_of}, Steps.key_place}, proofs.StepLaws.{option_map-Some, option_map-None}}
 use Rattle.yaml_grammar.specs.Trees as grammar
 
 -- ---- texts that are equal have equal bytes

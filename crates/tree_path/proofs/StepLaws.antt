@@ -2,9 +2,8 @@
 use Rattle.std.proofs.Common.{◌≡◌, ℕ, zero, suc, Bool, true, false, cond, ◌&&◌, List, [], ◌∷◌, Option, Some, None, option_map, Result, Ok}
 use Rattle.std.proofs.Common.{Err, refl, sym, ap, ap₂, subst, eq-eqb}
 use Rattle.tree_path.proofs.Prelude.{same_text, Tree, text, sequence, mapping, Elements, no_element, element, Members, no_member, member}
-use Rattle.tree_path.specs.{declared.place.Miss.Miss, declared.place.Miss.TheVariants.Absent}
-use Rattle.tree_path.specs.Paths.{Index, number, after_last, no_index, index_of, at_index, present, element_at, put_element, push_element}
-use Rattle.tree_path.specs.Paths.{value_of, put_member, child, put}
+use Rattle.tree_path.specs.{declared.place.Miss.{Miss, TheVariants.Absent}, Paths.{Index, number, after_last, no_index, index_of, at_index}}
+use Rattle.tree_path.specs.Paths.{present, element_at, put_element, push_element, value_of, put_member, child, put}
 
 -- ---- options and texts
 

@@ -5,11 +5,9 @@ use Rattle.tree_path.proofs.Prelude.{remove, ok_or, chars, IsUtf8, bytes_eq, nat
 use Rattle.tree_path.proofs.Prelude.{compares_Decides, encodes-chars, same_text, sequence, mapping, Pair, tree_of, elements_of, members_of}
 use Rattle.tree_path.proofs.Prelude.{text_bytes, Text}
 use lib.Utf8.{encodes, encode}
-use Rattle.yaml_data.specs.declared.tree.Tree.{Tree}
-use Rattle.tree_path.specs.{declared.place.Miss.Miss, declared.place.Miss.TheVariants.Absent, declared.place.Miss.TheVariants.NoIndex}
+use Rattle.{yaml_data.specs.declared.tree.Tree.Tree, tree_path.specs.declared.place.Miss.{Miss, TheVariants.{Absent, NoIndex}}}
 use Rattle.tree_path.specs.Paths.{Index, number, after_last, no_index, is_number, number_after, index_of, at_index, present, element_at}
-use Rattle.tree_path.specs.Paths.{put_element, cut_element, push_element, child, put, cut}
-use Rattle.tree_path.specs.Steps.{number_of, index_below, key_place}
+use Rattle.tree_path.specs.{Paths.{put_element, cut_element, push_element, child, put, cut}, Steps.{number_of, index_below, key_place}}
 use Rattle.tree_path.proofs.Places.{value_of-place, put_member-place, cut_member-place, value_of-absent, put_member-absent}
 use Rattle.tree_path.proofs.Places.{cut_member-absent, element_at-index, put_element-index, cut_element-index, element_at-past}
 use Rattle.tree_path.proofs.Places.{put_element-past, cut_element-past, push_element-last}

@@ -1,13 +1,11 @@
 -- What a table of keys lists after a key was added or removed, and what follows for a key that no chain has.
 use Rattle.std.proofs.Common.{◌≡◌, ℕ, zero, suc, ◌+◌, ◌-◌, ◌<◌, ◌≤◌, ◌==◌, Bool, true, false, cond, ◌||◌, List, [], ◌∷◌, ◌++◌, length}
 use Rattle.std.proofs.Common.{get_or, set, drop, ◌⊎◌, inl, inr, ⊎_elim, refl, sym, ap, ap₂, subst, ◌∙◌, arith, eq-eqb, nat_lt, Result, Ok}
-use Rattle.std.proofs.Common.{Err, is_ok}
+use Rattle.std.proofs.{Common.{Err, is_ok}, lemmas.List.Edits.{length-insert, length-remove, get_or-remove_below, get_or-remove_above}}
 use Rattle.tree_path.proofs.Prelude.{OnOk, insert, remove, eqb-true, eqb-false, get_or-set_same, get_or-set_other, length-set}
-use Rattle.tree_path.proofs.Prelude.{get_or_append_left, length_push, at_drop_more}
-use Rattle.std.proofs.lemmas.List.Edits.{length-insert, length-remove, get_or-remove_below, get_or-remove_above}
-use Rattle.tree_path.specs.{declared.key_table.KeyTable.KeyTable, Chains.KeepsOthers, Chains.LeadsTo}
-use Rattle.tree_path.specs.Tables.{below, place_at, Rise, StandsAt, on_chain, chain_of, bucket_of, next_hash, hash_after, IsListed, Lists}
-use Rattle.tree_path.proofs.Steps.{below_true, below_false}
+use Rattle.tree_path.proofs.{Prelude.{get_or_append_left, length_push, at_drop_more}, Steps.{below_true, below_false}}
+use Rattle.tree_path.specs.{declared.key_table.KeyTable.KeyTable, Chains.{KeepsOthers, LeadsTo}, Tables.{below, place_at, Rise, StandsAt}}
+use Rattle.tree_path.specs.Tables.{on_chain, chain_of, bucket_of, next_hash, hash_after, IsListed, Lists}
 
 or_right : (a b : Bool) → b ≡ true → (a || b) ≡ true
 or_right true b is = refl

@@ -3,14 +3,11 @@ use Rattle.std.proofs.Common.{◌≡◌, ℕ, zero, suc, ◌+◌, ◌-◌, ◌<�
 use Rattle.std.proofs.Common.{get_or, Option, Some, None, option_map, Ok, Err, refl, sym, ap, subst, ◌∙◌, arith}
 use Rattle.tree_path.proofs.Prelude.{take_more, take-append-drop, length-take-le, at_drop_more, same_text, Tree, text, sequence, mapping}
 use Rattle.tree_path.proofs.Prelude.{Elements, no_element, element, Members, no_member, member, Pair, elements_of, members_of, tree_of}
+use Rattle.tree_path.proofs.{StepLaws.{child-put, put-put, put-child}, Ways.{place-put, Leads-step}, Descents.{Ok-same, at_from-Lowered}}
+use Rattle.tree_path.{proofs.Descents.Lowered-pop, specs.Paths.{Index, number, after_last, no_index, index_of, at_index, present}}
+use Rattle.tree_path.specs.Paths.{element_at, put_element, push_element, value_of, put_member, child, put, at_step, at_from}
+use Rattle.tree_path.specs.{Steps.{step_place, Leads, Lowered, Rebuilt}, declared.place.Miss.TheVariants.Absent}
 use Rattle.yaml_data.specs.declared.tree.Tree.{Tree as Node}
-use Rattle.tree_path.specs.Paths.{Index, number, after_last, no_index, index_of, at_index, present, element_at, put_element, push_element}
-use Rattle.tree_path.specs.Paths.{value_of, put_member, child, put, at_step, at_from}
-use Rattle.tree_path.specs.Steps.{step_place, Leads, Lowered, Rebuilt}
-use Rattle.tree_path.specs.declared.place.Miss.TheVariants.{Absent}
-use Rattle.tree_path.proofs.StepLaws.{child-put, put-put, put-child}
-use Rattle.tree_path.proofs.Ways.{place-put, Leads-step}
-use Rattle.tree_path.proofs.Descents.{Ok-same, at_from-Lowered, Lowered-pop}
 
 -- ---- one step
 

@@ -3,17 +3,13 @@ use Rattle.std.proofs.Common.{◌≡◌, ℕ, zero, suc, ◌+◌, ◌-◌, ◌<�
 use Rattle.std.proofs.Common.{get_or, Option, Some, None, option_map, Ok, Err, Global, refl, sym, ap, subst, ◌∙◌, arith}
 use Rattle.tree_path.proofs.Prelude.{cow_str_bytes, CowStr, ok_or, chars, length-append, length-map, length-take-le, take_at, same_text}
 use Rattle.tree_path.proofs.Prelude.{Tree, text, sequence, mapping, Elements, Members, no_member, member, Pair, elements_of, members_of}
-use Rattle.tree_path.proofs.Prelude.{texts}
-use Rattle.yaml_data.specs.declared.tree.Tree.{Tree as Node}
-use Rattle.tree_path.specs.{declared.place.Miss.Miss, declared.step_places.Known.Known}
-use Rattle.tree_path.specs.Paths.{Index, number, after_last, no_index, index_of, at_index, present, element_at, put_element, value_of}
-use Rattle.tree_path.specs.Paths.{put_member, push_element, place_of, child, put, at_step, at_from, last_key, key_in}
-use Rattle.tree_path.specs.Steps.{index_below, key_place, step_place, Leads, parents_of, Knows, KnowsWay, KnowsStep, KnowsLast}
-use Rattle.tree_path.specs.declared.place.Miss.TheVariants.{Absent, NoIndex}
-use Rattle.tree_path.specs.declared.step_places.Known.TheVariants.{Found, Nothing}
-use Rattle.tree_path.proofs.{Descents.last_key-parent, Descents.texts-split, Places.place_of-pairs, Places.element_at-past}
-use Rattle.tree_path.proofs.{Steps.below_true, Steps.below_false}
-use Rattle.tree_path.proofs.StepLaws.{option_map-Some, option_map-None, present-Ok, element_at-put_element}
+use Rattle.tree_path.proofs.{Prelude.texts, Descents.{last_key-parent, texts-split}, Places.{place_of-pairs, element_at-past}}
+use Rattle.tree_path.proofs.{Steps.{below_true, below_false}, StepLaws.{option_map-Some, option_map-None, present-Ok}}
+use Rattle.tree_path.{proofs.StepLaws.element_at-put_element, specs.declared.place.Miss.{Miss, TheVariants.{Absent, NoIndex}}}
+use Rattle.tree_path.specs.{declared.step_places.Known.{Known, TheVariants.{Found, Nothing}}, Paths.{Index, number, after_last, no_index}}
+use Rattle.tree_path.specs.Paths.{index_of, at_index, present, element_at, put_element, value_of, put_member, push_element, place_of, child}
+use Rattle.tree_path.specs.{Paths.{put, at_step, at_from, last_key, key_in}, Steps.{index_below, key_place, step_place, Leads, parents_of}}
+use Rattle.{tree_path.specs.Steps.{Knows, KnowsWay, KnowsStep, KnowsLast}, yaml_data.specs.declared.tree.Tree.Tree as Node}
 
 -- ---- the place of a step
 

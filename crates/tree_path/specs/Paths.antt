@@ -1,15 +1,11 @@
 -- What paths do in trees: the value at a place, and the trees after a `set` and a `delete`. Each is a tree, or the
 -- first refusal on the way; steps count from 1.
-use Rattle.std.specs.Prelude.{ℕ, zero, suc, ◌+◌, ◌-◌, ◌*◌, Bool, false, ◌==◌, if◌then◌else◌, List, [], ◌∷◌, codes}
-use Rattle.std.specs.Prelude.{Option, Some, None, option_map, Result, Ok, Err}
-use Rattle.tree_path.specs.Prelude.{list_all, is_empty, same_text, Tree, text, sequence, mapping, Elements, no_element}
-use Rattle.tree_path.specs.Prelude.{element, Members, no_member, member}
-use Rattle.yaml_chars.specs.Signs.{digit_zero}
-use Rattle.yaml_chars.specs.Classes.{in_range}
-use Rattle.json_pointer.specs.declared.fault.PathFault.{PathFault}
+use Rattle.std.specs.Prelude.{ℕ, zero, suc, ◌+◌, ◌-◌, ◌*◌, Bool, false, ◌==◌, if◌then◌else◌, List, [], ◌∷◌, codes, Option, Some, None}
+use Rattle.std.specs.Prelude.{option_map, Result, Ok, Err}
+use Rattle.tree_path.specs.Prelude.{list_all, is_empty, same_text, Tree, text, sequence, mapping, Elements, no_element, element, Members}
+use Rattle.tree_path.specs.{Prelude.{no_member, member}, declared.place.Miss.{Miss, TheVariants.{Absent, NoIndex}}}
+use Rattle.{yaml_chars.specs.{Signs.digit_zero, Classes.in_range}, json_pointer.specs.declared.fault.PathFault.PathFault}
 use Rattle.json_pointer.specs.declared.fault.PathFault.TheVariants.{NoSuchPlace, NotIndex}
-use Rattle.tree_path.specs.declared.place.Miss.{Miss}
-use Rattle.tree_path.specs.declared.place.Miss.TheVariants.{Absent, NoIndex}
 
 -- ---- indices (RFC 6901, 4)
 

@@ -1,12 +1,10 @@
 -- What the parts of one step are: the number that a token is, the element and the pair that it leads to.
-use Rattle.std.specs.Prelude.{◌≡◌, ◌<◌, ◌-◌, ℕ, suc, List, [], ◌∷◌, length, take, get_or, Option, Some, None}
-use Rattle.std.specs.Prelude.{option_map, min, Result, Ok, Err, if◌then◌else◌, nat_lt}
-use Rattle.tree_path.specs.Prelude.{chars, same_text, Tree, text, sequence, mapping, Pair, text_bytes}
-use Rattle.tree_path.specs.{declared.step_places.Known.Known, declared.step_places.StepPlaces.StepPlaces}
-use Rattle.tree_path.specs.{declared.place.Miss.Miss, declared.place.Miss.TheVariants.Absent}
-use Rattle.tree_path.specs.Paths.{is_number, number_after, index_of, at_index, present, element_at, place_of, child}
-use Rattle.tree_path.specs.Paths.{put, last_key}
-use Rattle.tree_path.specs.declared.step_places.Known.TheVariants.{Found, Nothing}
+use Rattle.std.specs.Prelude.{◌≡◌, ◌<◌, ◌-◌, ℕ, suc, List, [], ◌∷◌, length, take, get_or, Option, Some, None, option_map, min, Result, Ok}
+use Rattle.std.specs.Prelude.{Err, if◌then◌else◌, nat_lt}
+use Rattle.tree_path.specs.{Prelude.{chars, same_text, Tree, text, sequence, mapping, Pair, text_bytes}, declared.step_places.Known.Known}
+use Rattle.tree_path.specs.declared.{step_places.{Known.TheVariants.{Found, Nothing}, StepPlaces.StepPlaces}, place.Miss.Miss}
+use Rattle.tree_path.specs.{declared.place.Miss.TheVariants.Absent, Paths.{is_number, number_after, index_of, at_index, present}}
+use Rattle.tree_path.specs.Paths.{element_at, place_of, child, put, last_key}
 
 -- the number that a token spells
 abbrev pub number_of : List ℕ → Option ℕ

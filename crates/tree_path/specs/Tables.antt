@@ -1,13 +1,10 @@
 -- What a table of keys says of a mapping: each key has a number, the numbers grow with the places, and the chain of a
 -- key's bucket has its number. So a key that is on no chain is in the mapping nowhere.
-use Rattle.std.specs.Prelude.{◌≡◌, ◌<◌, ◌≤◌, ◌+◌, ◌++◌, ◌-◌, ◌*◌, ◌%◌, ◌^◌, ℕ, zero, suc, List, [], ◌∷◌, length, get_or}
-use Rattle.std.specs.Prelude.{Ok, IfSome, Bool, true, false, ◌||◌, if◌then◌else◌, ◌==◌, nat_lt}
-use Rattle.tree_path.specs.Prelude.{chars, same_text, Tree, text, sequence, mapping, Members, no_member, member}
-use Rattle.tree_path.specs.Prelude.{text_bytes}
-use Rattle.yaml_data.specs.declared.text.Text.{Text}
-use Rattle.tree_path.specs.{Paths.at, declared.key_index.KeyIndex.KeyIndex, declared.key_index.Reach.Reach}
-use Rattle.tree_path.specs.{declared.key_table.KeyTable.KeyTable}
-use Rattle.tree_path.specs.declared.key_index.Reach.TheVariants.{Around, Key, Below, Apart}
+use Rattle.std.specs.Prelude.{◌≡◌, ◌<◌, ◌≤◌, ◌+◌, ◌++◌, ◌-◌, ◌*◌, ◌%◌, ◌^◌, ℕ, zero, suc, List, [], ◌∷◌, length, get_or, Ok, IfSome, Bool}
+use Rattle.std.specs.Prelude.{true, false, ◌||◌, if◌then◌else◌, ◌==◌, nat_lt}
+use Rattle.tree_path.specs.{Prelude.{chars, same_text, Tree, text, sequence, mapping, Members, no_member, member, text_bytes}, Paths.at}
+use Rattle.tree_path.specs.declared.key_index.{KeyIndex.KeyIndex, Reach.{Reach, TheVariants.{Around, Key, Below, Apart}}}
+use Rattle.{tree_path.specs.declared.key_table.KeyTable.KeyTable, yaml_data.specs.declared.text.Text.Text}
 
 -- ---- buckets
 

@@ -1,11 +1,7 @@
 -- What takes a set back.
 use Rattle.std.specs.Prelude.{◌≡◌, ℕ, List, length, Ok, Err}
-use Rattle.tree_path.specs.Prelude.{Tree, tree_of}
-use Rattle.tree_path.specs.{Paths.at, Paths.child, Paths.put, Steps.Leads, Steps.Rebuilt, Steps.step_place}
-use Rattle.tree_path.specs.declared.place.Miss.TheVariants.{Absent}
-use Rattle.tree_path.specs.declared.undo.Displaced.{Displaced}
-use Rattle.tree_path.specs.declared.undo.Displaced.TheVariants.{Value, Nothing}
-use Rattle.tree_path.specs.declared.undo.Undo.{Undo}
+use Rattle.tree_path.specs.{Prelude.{Tree, tree_of}, Paths.{at, child, put}, Steps.{Leads, Rebuilt, step_place}}
+use Rattle.tree_path.specs.declared.{place.Miss.TheVariants.Absent, undo.{Displaced.{Displaced, TheVariants.{Value, Nothing}}, Undo.Undo}}
 
 -- With what a value displaced back in its place, u is v. Where it displaced nothing, it was added to v by a step.
 abbrev pub PutsBack : Displaced → Tree → Tree → Type 0

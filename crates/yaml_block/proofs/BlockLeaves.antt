@@ -1,16 +1,14 @@
 -- A leaf or the first key of a mapping, from one reading of a flow node in the widest context.
-use Rattle.std.proofs.Common.{ap, inl, inr, refl, subst, sym, ◌∙◌, ◌≡◌}
-use Rattle.std.specs.Prelude.{Bool, List, None, Option, Some, [], false, if◌then◌else◌, is_some, true, ℕ, ◌&&◌, ◌++◌, ◌==◌, ◌∷◌}
+use Rattle.std.{proofs.Common.{ap, inl, inr, refl, subst, sym, ◌∙◌, ◌≡◌}, specs.Prelude.{Bool, List, None, Option, Some, [], false}}
+use Rattle.std.specs.Prelude.{if◌then◌else◌, is_some, true, ℕ, ◌&&◌, ◌++◌, ◌==◌, ◌∷◌}
 use Rattle.yaml_block.proofs.Prelude.{and_left, and_right, eqb-true, false≢true, or_cases, white, Indented, Node, Pair, block, flow, node}
 use Rattle.yaml_block.proofs.Prelude.{Flow, flow_text, short_key, block_key, outer, LineEnd, Sep, first, Sits, close_pairs, key_on_line}
 use Rattle.yaml_block.proofs.Prelude.{keyed_part, plug, waits_key, waits_value, bar, flow_with, key_after, opens_pair, read_block}
 use Rattle.yaml_block.proofs.Prelude.{all_comments, closes_line, solid, drop_while, past, sign, take_while, Read, on, StandsFlow}
 use Rattle.yaml_block.proofs.Prelude.{block_indented_at, block_key_in, block_pairs_at, flow_leaf_at, flow_node_at, asked_opens, key_opens}
 use Rattle.yaml_block.proofs.Prelude.{no_key, no_comments, stands, take_while_every, take_while_split, is_key, leaf_is_key, leaf_no_key}
-use Rattle.yaml_block.proofs.Prelude.{no_leaf_no_key, flow_one_line, unbroken, head_of}
-use Rattle.yaml_recognizers.specs.OneLine.{on_one_line}
-use Rattle.yaml_recognizers.proofs.Flow.FlowNodesBegin.{Opens, flow_opens}
-use Rattle.yaml_block.specs.BlockParts.{as_part, leaf_part, part_at}
+use Rattle.yaml_block.{proofs.Prelude.{no_leaf_no_key, flow_one_line, unbroken, head_of}, specs.BlockParts.{as_part, leaf_part, part_at}}
+use Rattle.yaml_recognizers.{specs.OneLine.on_one_line, proofs.Flow.FlowNodesBegin.{Opens, flow_opens}}
 
 -- ---- where there is no leaf
 

@@ -1,7 +1,6 @@
 -- What starts a line of a block, after comments or at the start of a line.
-use Rattle.std.proofs.Common.{ap, arith, inl, inr, length-append, refl, sym, ◌<◌, ◌∙◌, ◌≡◌, ◌≤◌, ◌⊎◌}
-use Rattle.std.specs.Prelude.{Bool, List, None, Option, Some, [], false, if◌then◌else◌, length, nat_le, not, suc, true, zero, ℕ, ◌&&◌, ◌++◌}
-use Rattle.std.specs.Prelude.{◌==◌, ◌||◌, ◌∷◌}
+use Rattle.std.{proofs.Common.{ap, arith, inl, inr, length-append, refl, sym, ◌<◌, ◌∙◌, ◌≡◌, ◌≤◌, ◌⊎◌}, specs.Prelude.{Bool, List, None}}
+use Rattle.std.specs.Prelude.{Option, Some, [], false, if◌then◌else◌, length, nat_le, not, suc, true, zero, ℕ, ◌&&◌, ◌++◌, ◌==◌, ◌||◌, ◌∷◌}
 use Rattle.yaml_block.proofs.Prelude.{and_cases, and_from, and_left, and_right, cases_Bool, false≢true, le-leb, leb-true, not-false}
 use Rattle.yaml_block.proofs.Prelude.{or_cases, nat_tests, white, Items, Node, Pairs, items, pairs, past_spaces, spaces_before, LineEnd}
 use Rattle.yaml_block.proofs.Prelude.{Sep, comments_text, indents, sep_text, list_all, begins, first, is_empty, spaces, starts_line}
@@ -9,10 +8,9 @@ use Rattle.yaml_block.proofs.Prelude.{close_items, close_pairs, on_lines, plug, 
 use Rattle.yaml_block.proofs.Prelude.{sep_at, read_block, all_comments, more_comments, read_line_end, solid, drop_while, past, sign}
 use Rattle.yaml_block.proofs.Prelude.{take_while, Read, on, block_indented_at, block_items_at, block_key_in, block_pairs_at, flow_leaf_at}
 use Rattle.yaml_block.proofs.Prelude.{items_open, lead_deep, comments_step, LineOf, all_sound, line_sound, shorter, take_while_every}
-use Rattle.yaml_block.proofs.Prelude.{take_while_split, starts_joined, Sound}
+use Rattle.yaml_block.proofs.{Prelude.{take_while_split, starts_joined, Sound}, BlockLeaves.no_leaf_unsolid, BlockSigns.white_after_spaces}
+use Rattle.yaml_block.proofs.BlockSigns.{no_pair_there, untabbed, untabbed_taken, white_starts, white_unsolid_first}
 use Rattle.yaml_block.specs.BlockParts.{as_part, leaf_part, part_at, sep_after}
-use Rattle.yaml_block.proofs.BlockLeaves.{no_leaf_unsolid}
-use Rattle.yaml_block.proofs.BlockSigns.{white_after_spaces, no_pair_there, untabbed, untabbed_taken, white_starts, white_unsolid_first}
 
 -- a node after these comments
 abbrev pub node_after : ℕ → Bool → Bool → List LineEnd → List ℕ → Read Node

@@ -1,6 +1,6 @@
 -- A block scalar in a node: from what its scanners find to what the recognizer reads, and the comments after it.
-use Rattle.std.proofs.Common.{ap, append_assoc, refl, sym, ◌∙◌, ◌≡◌}
-use Rattle.std.specs.Prelude.{Bool, List, None, Option, Some, [], false, if◌then◌else◌, ℕ, ◌++◌, ◌+◌, ◌∷◌}
+use Rattle.std.{proofs.Common.{ap, append_assoc, refl, sym, ◌∙◌, ◌≡◌}, specs.Prelude.{Bool, List, None, Option, Some, [], false}}
+use Rattle.std.specs.Prelude.{if◌then◌else◌, ℕ, ◌++◌, ◌+◌, ◌∷◌}
 use Rattle.yaml_block.proofs.Prelude.{and_parts, not-true, BlockScalar, Body, Chomping, Header, bare_block_text, block_events, block_text}
 use Rattle.yaml_block.proofs.Prelude.{block_value, goes_on, folded_style, literal_style, scalar_event, LineEnd, comments_text, byte_len}
 use Rattle.yaml_block.proofs.Prelude.{IsBody, IsHeader, NoBody, NoHeader, block_of, read_block, read_body, read_header, read_trail, Read}

@@ -1,20 +1,14 @@
 -- The steps of the reader at a block scalar, and the line after it.
-use Rattle.std.proofs.Common.{Global, ap, arith, subst, sym, ◌∙◌, ◌≡◌}
-use Rattle.std.specs.Prelude.{codes, length, ◌*◌, ◌-◌, Bool, List, Some, [], false, if◌then◌else◌, true, ℕ, ◌++◌, ◌+◌, ◌∷◌, ◌≤◌}
+use Rattle.std.{proofs.Common.{Global, ap, arith, subst, sym, ◌∙◌, ◌≡◌}, specs.Prelude.{codes, length, ◌*◌, ◌-◌, Bool, List, Some, []}}
+use Rattle.std.specs.{Prelude.{false, if◌then◌else◌, true, ℕ, ◌++◌, ◌+◌, ◌∷◌, ◌≤◌}, declared.borrow.CowStr.CowStr}
 use Rattle.yaml_block.proofs.Prelude.{cow_str_bytes, IsCharBoundary, IsUtf8, chars, rest, BlockScalar, bare_block_text, block_events}
 use Rattle.yaml_block.proofs.Prelude.{block_text, LineEnd, line_end_text, byte_len, first, optional, bar, NoBody, NoHeader, read_block}
-use Rattle.yaml_block.proofs.Prelude.{read_trail, blocks_read, BorrowsPlain, event_of, style_of, Event, Scalar}
-use Rattle.std.specs.declared.borrow.CowStr.{CowStr}
-use Rattle.yaml_events.specs.declared.event.Span.{Span}
-use Rattle.yaml_events.specs.declared.event.Style.{Style}
-use Rattle.yaml_block_scalars.specs.Found.{IsBodyAt, IsHeaderAt}
-use Rattle.yaml_block_scalars.specs.Meant.{chomping_of}
-use Rattle.yaml_block_scalars.specs.declared.parts.Header.{Header}
-use Rattle.yaml_block.specs.{Bodies.IsAfterScalar, Bodies.IsBlockStyle, Frames.AtLine, declared.frame.Collection.Collection}
-use Rattle.yaml_block.specs.{declared.frame.Leaf.Leaf, declared.next_line.NextLine.NextLine, declared.reader.Reader.Reader}
-use Rattle.yaml_block.specs.States.{Onward, BeforeLeaf, Fails, Leads, Stack}
-use Rattle.yaml_block.proofs.{Stacks.appended_one, LeafSteps.block_read, LeafSteps.no_block, TextPlaces.spelled}
-use Rattle.yaml_block.proofs.BlockScalarReads.{BlockReads, block_no_body, block_no_header, block_reads}
+use Rattle.yaml_block.proofs.{Prelude.{read_trail, blocks_read, BorrowsPlain, event_of, style_of, Event, Scalar}, Stacks.appended_one}
+use Rattle.yaml_block.proofs.{LeafSteps.{block_read, no_block}, TextPlaces.spelled, BlockScalarReads.{BlockReads, block_no_body}}
+use Rattle.yaml_block.{proofs.BlockScalarReads.{block_no_header, block_reads}, specs.{Bodies.{IsAfterScalar, IsBlockStyle}, Frames.AtLine}}
+use Rattle.yaml_block.specs.declared.{frame.{Collection.Collection, Leaf.Leaf}, next_line.NextLine.NextLine, reader.Reader.Reader}
+use Rattle.{yaml_block.specs.States.{Onward, BeforeLeaf, Fails, Leads, Stack}, yaml_events.specs.declared.event.{Span.Span, Style.Style}}
+use Rattle.yaml_block_scalars.specs.{Found.{IsBodyAt, IsHeaderAt}, Meant.chomping_of, declared.parts.Header.Header}
 use Rattle.yaml_grammar.specs.Events as grammar
 use Rattle.yaml_grammar.specs.BlockScalars as grammar_scalars
 use Rattle.yaml_block.specs.declared.frame.Next.TheVariants as next

@@ -1,7 +1,6 @@
 -- What comes after a sign: on its line, or on a later one, or nothing.
-use Rattle.std.proofs.Common.{ap, arith, inl, inr, refl, sym, ◌∙◌, ◌≡◌}
-use Rattle.std.specs.Prelude.{Bool, List, None, Some, [], false, if◌then◌else◌, is_some, length, nat_le, nat_lt, not, suc, true, ℕ, ◌&&◌}
-use Rattle.std.specs.Prelude.{◌+◌, ◌==◌, ◌||◌, ◌∷◌}
+use Rattle.std.{proofs.Common.{ap, arith, inl, inr, refl, sym, ◌∙◌, ◌≡◌}, specs.Prelude.{Bool, List, None, Some, [], false, if◌then◌else◌}}
+use Rattle.std.specs.Prelude.{is_some, length, nat_le, nat_lt, not, suc, true, ℕ, ◌&&◌, ◌+◌, ◌==◌, ◌||◌, ◌∷◌}
 use Rattle.yaml_block.proofs.Prelude.{and_from, and_left, and_parts, and_right, cases_Bool, cases_eq, eqb-true, false≢true, lt-ltb}
 use Rattle.yaml_block.proofs.Prelude.{not-false, not_from_false, or_from, or_parts, nat_tests, line_break, white, Indented, Node}
 use Rattle.yaml_block.proofs.Prelude.{compact_items, compact_pairs, node, omitted, past_spaces, spaces_before, LineEnd, inline, list_all}
@@ -11,9 +10,8 @@ use Rattle.yaml_block.proofs.Prelude.{more_comments, read_line_end, block_node_s
 use Rattle.yaml_block.proofs.Prelude.{block_items_at, block_key_in, block_node_at, block_pairs_at, flow_leaf_at, node_after_sign}
 use Rattle.yaml_block.proofs.Prelude.{comments_closed, tail_fit, comments_step, CommentsOf, all_sound, comments_end, take_while_every}
 use Rattle.yaml_block.proofs.Prelude.{no_leaf_no_key, dash_unmarked, unsolid_sign, white_unsolid, marker_unspaced, none_spaced}
-use Rattle.yaml_block.proofs.Prelude.{indented_steps, node_steps}
-use Rattle.yaml_block.specs.BlockParts.{LineGoesOn, as_part, leaf_part, part_at, part_after_sign}
-use Rattle.yaml_block.proofs.BlockLeaves.{no_leaf_unsolid}
+use Rattle.yaml_block.{proofs.{Prelude.{indented_steps, node_steps}, BlockLeaves.no_leaf_unsolid}, specs.BlockParts.{LineGoesOn, as_part}}
+use Rattle.yaml_block.specs.BlockParts.{leaf_part, part_at, part_after_sign}
 
 -- ---- white and spaces
 

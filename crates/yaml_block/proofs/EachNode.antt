@@ -1,8 +1,7 @@
 -- What is read is the block node that is there.
-use Rattle.std.proofs.Common.{ap, ℕ, ◌∙◌}
-use Rattle.std.specs.Prelude.{Bool, List, ◌++◌}
-use Rattle.yaml_block.proofs.Prelude.{map-append, rest, block_only, event_of, events_of, line_starts, Event}
-use Rattle.yaml_block.specs.Found.{BlockNodeRead, BlockNodeIs}
+use Rattle.std.{proofs.Common.{ap, ℕ, ◌∙◌}, specs.Prelude.{Bool, List, ◌++◌}}
+use Rattle.yaml_block.{proofs.Prelude.{map-append, rest, block_only, event_of, events_of, line_starts, Event}, specs.Found.BlockNodeRead}
+use Rattle.yaml_block.specs.Found.{BlockNodeIs}
 
 -- a node that is read is the one that stands there
 pub each_node : (m : ℕ) (shallow : Bool) (text : List ℕ) (at : ℕ) (old new : List Event) (end : ℕ)

@@ -1,13 +1,11 @@
 -- No further line of a plain scalar comes where the next line with something solid is less deep.
-use Rattle.std.proofs.Common.{ap, arith, refl, ◌<◌, ◌∙◌, ◌≡◌}
-use Rattle.std.specs.Prelude.{List, None, Some, [], false, is_some, not, true, ℕ, ◌++◌, ◌-◌, ◌||◌}
+use Rattle.std.{proofs.Common.{ap, arith, refl, ◌<◌, ◌∙◌, ◌≡◌}, specs.Prelude.{List, None, Some, [], false, is_some, not, true, ℕ, ◌++◌}}
+use Rattle.std.specs.Prelude.{◌-◌, ◌||◌}
 use Rattle.yaml_block.proofs.Prelude.{and_parts, false≢true, lt-ltb, or_right, rest, spaces_before, Line, outer, plain, LineEnd}
 use Rattle.yaml_block.proofs.Prelude.{comments_text, is_empty, marker, canonical_comments, all_comments, closes_line, less_deep}
 use Rattle.yaml_block.proofs.Prelude.{scalar_ends, plain_ends, read_plain_line, Read, tail_fit, no_more_lines, all_sound, IsSolidLine}
-use Rattle.yaml_block.proofs.Prelude.{NoNextLine}
-use Rattle.yaml_recognizers.proofs.Block.BlockKeys.{before_comments_stops}
-use Rattle.yaml_recognizers.proofs.Scalars.ScalarsInNodes.{stops_end}
-use Rattle.yaml_scan.specs.declared.lines.Line.{Line as NextLine}
+use Rattle.{yaml_block.proofs.Prelude.NoNextLine, yaml_recognizers.proofs.Block.BlockKeys.before_comments_stops}
+use Rattle.{yaml_recognizers.proofs.Scalars.ScalarsInNodes.stops_end, yaml_scan.specs.declared.lines.Line.Line as NextLine}
 
 -- where a plain scalar ends no further line of it is read
 no_line : (n : ℕ) (after : List ℕ) → scalar_ends n outer (plain [] []) after ≡ true

@@ -1,23 +1,17 @@
 -- The steps of the reader at a flow node: a leaf, the first key of a mapping, or the key of a further pair.
-use Rattle.std.proofs.Common.{ap, arith, inl, inr, length, refl, subst, sym, ◌<◌, ◌∙◌, ◌≡◌, ◌≤◌, ◌⊎◌}
-use Rattle.std.specs.Prelude.{Bool, IfSome, List, None, Option, Some, [], false, insert, is_some, nat_le, true, ℕ, ◌&&◌, ◌*◌, ◌++◌, ◌+◌}
-use Rattle.std.specs.Prelude.{◌-◌, ◌∷◌}
+use Rattle.std.{proofs.Common.{ap, arith, inl, inr, length, refl, subst, sym, ◌<◌, ◌∙◌, ◌≡◌, ◌≤◌, ◌⊎◌}, specs.Prelude.{Bool, IfSome, List}}
+use Rattle.std.specs.Prelude.{None, Option, Some, [], false, insert, is_some, nat_le, true, ℕ, ◌&&◌, ◌*◌, ◌++◌, ◌+◌, ◌-◌, ◌∷◌}
 use Rattle.yaml_block.proofs.Prelude.{IsCharBoundary, IsUtf8, and_left, and_parts, and_right, no_break, white, between, rest, Indented}
 use Rattle.yaml_block.proofs.Prelude.{flow_events, flow_text, short_key, block_key, outer, list_all, byte_len, first, BlockFrame}
 use Rattle.yaml_block.proofs.Prelude.{key_on_line, waits_key, waits_value, bar, all_comments, closes_line, drop_while, sign, take_while}
 use Rattle.yaml_block.proofs.Prelude.{Read, flow_node_at, unbroken, none_some, line_starts, Event, MapStart, IsSolidLine, AreTaken}
-use Rattle.yaml_block.proofs.Prelude.{Appended, FlowNodeRead}
-use Rattle.yaml_scan.specs.declared.lines.Line.{Line}
-use Rattle.yaml_block.specs.{declared.frame.Collection.Collection, declared.frame.Leaf.Leaf, declared.frame.Next.Next}
-use Rattle.yaml_block.specs.{declared.line_sign.Sign.Sign, declared.reader.Reader.Reader}
-use Rattle.yaml_block.specs.Frames.{AfterSign, AtLeaf, AtLine, indent_of, waits_of}
-use Rattle.yaml_block.specs.States.{BeforeColon, BeforeLeaf, BeforePair, Fails, Holds, Leads, Onward, Stack}
-use Rattle.yaml_block.specs.declared.line_sign.Sign.TheVariants.{Asked, Colon}
-use Rattle.yaml_block.specs.declared.frame.Waits.TheVariants.{Key, Value}
-use Rattle.yaml_block.proofs.{Stacks.appended_before, Stacks.appended_more, Stacks.opened, TextPlaces.IsPastSign, TextPlaces.past_sign}
-use Rattle.yaml_block.proofs.LeafSteps.{first_key, leaf_goes_on, leaf_read, next_asked, next_key, no_first_key, no_leaf, no_next_key}
-use Rattle.yaml_block.proofs.LeafSteps.{no_next_node, second_key}
-use Rattle.yaml_block.proofs.PlaceSteps.{WhiteTo, comments_to, flow_to, short_is, unbroken_is, white_to}
+use Rattle.yaml_block.proofs.{Prelude.{Appended, FlowNodeRead}, Stacks.{appended_before, appended_more, opened}, TextPlaces.IsPastSign}
+use Rattle.yaml_block.proofs.{TextPlaces.past_sign, LeafSteps.{first_key, leaf_goes_on, leaf_read, next_asked, next_key, no_first_key}}
+use Rattle.yaml_block.proofs.{LeafSteps.{no_leaf, no_next_key, no_next_node, second_key}, PlaceSteps.{WhiteTo, comments_to, flow_to}}
+use Rattle.yaml_block.{proofs.PlaceSteps.{short_is, unbroken_is, white_to}, specs.declared.frame.{Collection.Collection, Leaf.Leaf}}
+use Rattle.yaml_block.specs.declared.{frame.{Next.Next, Waits.TheVariants.{Key, Value}}, line_sign.Sign.{Sign, TheVariants.{Asked, Colon}}}
+use Rattle.yaml_block.specs.{declared.reader.Reader.Reader, Frames.{AfterSign, AtLeaf, AtLine, indent_of, waits_of}, States.BeforeColon}
+use Rattle.{yaml_block.specs.States.{BeforeLeaf, BeforePair, Fails, Holds, Leads, Onward, Stack}, yaml_scan.specs.declared.lines.Line.Line}
 use Rattle.yaml_grammar.specs.Events as grammar
 use Rattle.yaml_block.specs.declared.frame.Next.TheVariants as next
 

@@ -1,20 +1,17 @@
 -- The steps of the scanner at a leaf, at the first pair of a mapping, and at a further pair.
-use Rattle.std.proofs.Common.{ap, append_assoc, arith, refl, subst, sym, ◌∙◌, ◌≡◌}
-use Rattle.std.specs.Prelude.{Bool, List, None, Option, Some, [], false, is_some, true, ℕ, ◌&&◌, ◌++◌, ◌+◌, ◌==◌, ◌∷◌}
+use Rattle.std.{proofs.Common.{ap, append_assoc, arith, refl, subst, sym, ◌∙◌, ◌≡◌}, specs.Prelude.{Bool, List, None, Option, Some, []}}
+use Rattle.std.specs.Prelude.{false, is_some, true, ℕ, ◌&&◌, ◌++◌, ◌+◌, ◌==◌, ◌∷◌}
 use Rattle.yaml_block.proofs.Prelude.{and_from, and_right, white, rest, Indented, Node, Pair, block, flow, node, BlockScalar}
 use Rattle.yaml_block.proofs.Prelude.{bare_block_text, block_events, block_text, map_start, Flow, flow_events, flow_text, short_key}
 use Rattle.yaml_block.proofs.Prelude.{block_key, LineEnd, comments_text, sep_text, byte_len, first, BlockFrame, PairKey, Sits, key_asked}
 use Rattle.yaml_block.proofs.Prelude.{key_on_line, keyed_part, plug, unwind, waits_item, waits_key, waits_value, bar, read_block}
 use Rattle.yaml_block.proofs.Prelude.{all_comments, closes_line, drop_while, past, sign, take_while, Read, on, block_indented_at}
 use Rattle.yaml_block.proofs.Prelude.{flow_leaf_at, flow_node_at, asked_opens, unwind_none, done_pairs_events, is_key, byte_len_joined}
-use Rattle.yaml_block.proofs.Prelude.{unbroken, line_starts}
-use Rattle.yaml_grammar.specs.Events.{Event}
-use Rattle.yaml_block.proofs.BlockLeaves.{leaf_goes_on as leaf_unclosed}
-use Rattle.yaml_block.specs.{declared.line_sign.Sign.TheVariants.Asked, declared.line_sign.Sign.TheVariants.Colon, BlockParts.part_at}
-use Rattle.yaml_block.specs.Frames.{AfterSign, AtLeaf, AtLine, AtPair, MaySit, Seated, events_in, fits_frames, pairs_of, place_in}
-use Rattle.yaml_block.specs.Frames.{sign_after, sits_place}
-use Rattle.yaml_block.proofs.BlockLeaves.{bar_part, first_key_opens, leaf_before_colon, leaf_closes, leaf_missing, leaf_one_line}
-use Rattle.yaml_block.proofs.BlockLeaves.{next_key_missing, next_key_opens, next_key_unfit, question_opens}
+use Rattle.yaml_block.proofs.{Prelude.{unbroken, line_starts}, BlockLeaves.{leaf_goes_on as leaf_unclosed, bar_part, first_key_opens}}
+use Rattle.yaml_block.proofs.BlockLeaves.{leaf_before_colon, leaf_closes, leaf_missing, leaf_one_line, next_key_missing, next_key_opens}
+use Rattle.yaml_block.{proofs.BlockLeaves.{next_key_unfit, question_opens}, specs.declared.line_sign.Sign.TheVariants.{Asked, Colon}}
+use Rattle.yaml_block.specs.{BlockParts.part_at, Frames.{AfterSign, AtLeaf, AtLine, AtPair, MaySit, Seated, events_in, fits_frames}}
+use Rattle.{yaml_block.specs.Frames.{pairs_of, place_in, sign_after, sits_place}, yaml_grammar.specs.Events.Event}
 
 -- ---- where the mapping may sit
 

@@ -1,29 +1,24 @@
 -- The steps of the reader at a value that is the rest of its line.
-use Rattle.std.proofs.Common.{ap, append_assoc, arith, inl, length, refl, subst, sym, ◌<◌, ◌∙◌, ◌≡◌, ◌≤◌}
-use Rattle.std.specs.Prelude.{Bool, IfSome, List, None, Option, Some, [], false, nat_le, true, ℕ, ◌*◌, ◌++◌, ◌+◌, ◌-◌, ◌∷◌, ◌&&◌, insert}
+use Rattle.std.proofs.{Common.{ap, append_assoc, arith, inl, length, refl, subst, sym, ◌<◌, ◌∙◌, ◌≡◌, ◌≤◌}, Math.Seq.drop-append_seam}
+use Rattle.std.{proofs.Math.Seq.take-append_seam, specs.Prelude.{Bool, IfSome, List, None, Option, Some, [], false, nat_le, true, ℕ, ◌*◌}}
+use Rattle.std.specs.Prelude.{◌++◌, ◌+◌, ◌-◌, ◌∷◌, ◌&&◌, insert}
 use Rattle.yaml_block.proofs.Prelude.{IsCharBoundary, IsUtf8, and_from, false≢true, list_all, no_break, white, between, rest, Indented}
 use Rattle.yaml_block.proofs.Prelude.{plain_style, flow_events, flow_text, block_key, outer, byte_len, first, BlockFrame, all_comments}
 use Rattle.yaml_block.proofs.Prelude.{closes_line, read_line_end, solid, drop_while, sign, take_while, Read, take_while_every}
 use Rattle.yaml_block.proofs.Prelude.{take_while_split, sign_head, sign_solid, no_line_no_join, no_more_lines, solid_no_line, line_starts}
 use Rattle.yaml_block.proofs.Prelude.{Event, MapStart, AreTaken, is_sign, IsSign, sign_there, no_comments_at, open_line, IsFirstLine}
-use Rattle.yaml_block.proofs.Prelude.{NoNextLine, ends_inside_line, FlowNodeRead}
-use Rattle.std.proofs.Math.Seq.{drop-append_seam, take-append_seam}
-use Rattle.yaml_recognizers.proofs.Basics.Breaks.{unbroken}
-use Rattle.yaml_recognizers.proofs.Scalars.JoinSteps.{no_break as no_break_joins}
-use Rattle.yaml_recognizers.specs.Joins.{read_join}
-use Rattle.yaml_scan.specs.declared.lines.Line.{Line}
-use Rattle.yaml_scan.proofs.GapSteps.{no_white_taken, solid_no_end, space_taken}
+use Rattle.yaml_block.proofs.{Prelude.{NoNextLine, ends_inside_line, FlowNodeRead}, LeafSteps.leaf_read, PlaceSteps.{comments_to, flow_to}}
+use Rattle.yaml_block.proofs.{PlainStarts.plain_start, SignsAndLines.{leaf_there, onward_from}, Stacks.{appended_before, appended_more}}
+use Rattle.yaml_block.proofs.{TextPlaces.{IsPastSign, past_sign}, UnwindSteps.pair_of, KeysAndPairs.{key_waits, leaf_key, leaf_line}}
+use Rattle.yaml_block.{proofs.KeysAndPairs.leaf_waits, specs.{Frames.{AfterPair, AtLeaf, AtLine}, Lines.IsNextLine}}
+use Rattle.yaml_block.specs.declared.frame.{Collection.Collection, Leaf.Leaf, Next.Next, Waits.TheVariants.Value}
+use Rattle.yaml_block.specs.declared.{line_sign.Sign.TheVariants.Colon, line_value.LineValue.LineValue, next_line.NextLine.NextLine}
+use Rattle.yaml_block.specs.{declared.reader.Reader.Reader, Turns.{IsPart, MayGoOn, PairRead, Turns}, LineValues.{IsFirstKey, IsLeadIn}}
+use Rattle.yaml_block.specs.{LineValues.{IsLineValue, IsPlainLine, IsRestOfLine}, States.{BeforeColon, BeforeLeaf, BeforeLineValue, Holds}}
+use Rattle.{yaml_block.specs.States.{IsAfterSign, Leads, Onward, Stack}, yaml_recognizers.proofs.Basics.Breaks.unbroken}
+use Rattle.yaml_recognizers.{proofs.Scalars.JoinSteps.no_break as no_break_joins, specs.Joins.read_join}
+use Rattle.yaml_scan.{specs.declared.lines.Line.Line, proofs.GapSteps.{no_white_taken, solid_no_end, space_taken}}
 use Rattle.yaml_flow_scalars.proofs.PlainLines.{key_no_line}
-use Rattle.yaml_block.specs.{Frames.AfterPair, Frames.AtLeaf, Frames.AtLine, Lines.IsNextLine, declared.frame.Collection.Collection}
-use Rattle.yaml_block.specs.{Turns.IsPart, Turns.MayGoOn, Turns.PairRead, Turns.Turns, declared.frame.Leaf.Leaf, declared.frame.Next.Next}
-use Rattle.yaml_block.specs.{declared.frame.Waits.TheVariants.Value, declared.line_sign.Sign.TheVariants.Colon}
-use Rattle.yaml_block.specs.{declared.line_value.LineValue.LineValue, declared.next_line.NextLine.NextLine, declared.reader.Reader.Reader}
-use Rattle.yaml_block.specs.LineValues.{IsFirstKey, IsLeadIn, IsLineValue, IsPlainLine, IsRestOfLine}
-use Rattle.yaml_block.specs.States.{BeforeColon, BeforeLeaf, BeforeLineValue, Holds, IsAfterSign, Leads, Onward, Stack}
-use Rattle.yaml_block.proofs.{LeafSteps.leaf_read, PlaceSteps.comments_to, PlaceSteps.flow_to, PlainStarts.plain_start}
-use Rattle.yaml_block.proofs.{SignsAndLines.leaf_there, SignsAndLines.onward_from, Stacks.appended_before, Stacks.appended_more}
-use Rattle.yaml_block.proofs.{TextPlaces.IsPastSign, TextPlaces.past_sign, UnwindSteps.pair_of}
-use Rattle.yaml_block.proofs.KeysAndPairs.{key_waits, leaf_key, leaf_line, leaf_waits}
 use Rattle.yaml_grammar.specs.Events as grammar
 use Rattle.yaml_block.specs.declared.frame.Next.TheVariants as next
 

@@ -1,11 +1,9 @@
 -- The loop over what is read next, and the whole node.
-use Rattle.std.proofs.Common.{◌≡◌, refl, subst, ℕ, ◌≤◌}
-use Rattle.std.specs.Prelude.{Bool, List, [], Option, Some, None}
-use Rattle.yaml_block.proofs.Prelude.{rest, Node, Indented, Read, block_node_at, line_starts, Event, Appended}
-use Rattle.yaml_block.specs.{BlockParts.as_part, Found.BlockNodeRead, Lines.IsLine, Turns.IsPart, Turns.Unwinds, declared.frame.Next.Next}
-use Rattle.yaml_block.specs.{declared.next_line.NextLine.NextLine, declared.line_sign.Sign.Sign, declared.reader.Reader.Reader}
+use Rattle.std.{proofs.Common.{◌≡◌, refl, subst, ℕ, ◌≤◌}, specs.Prelude.{Bool, List, [], Option, Some, None}}
+use Rattle.yaml_block.proofs.{Prelude.{rest, Node, Indented, Read, block_node_at, line_starts, Event, Appended}, Stacks.appended_none}
+use Rattle.yaml_block.{proofs.Unwinding.whole, specs.{BlockParts.as_part, Found.BlockNodeRead, Lines.IsLine, Turns.{IsPart, Unwinds}}}
+use Rattle.yaml_block.specs.declared.{frame.Next.Next, next_line.NextLine.NextLine, line_sign.Sign.Sign, reader.Reader.Reader}
 use Rattle.yaml_block.specs.States.{BeforeNode, BeforePair, BeforePart, Fails, GoesOn, Holds, Leads}
-use Rattle.yaml_block.proofs.{Stacks.appended_none, Unwinding.whole}
 use Rattle.yaml_grammar.specs.Events as grammar
 use Rattle.yaml_block.specs.declared.frame.Next.TheVariants as next
 

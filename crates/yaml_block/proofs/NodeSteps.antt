@@ -1,17 +1,16 @@
 -- The steps of the scanner before a node: at the start of a line, and on a line that goes on.
-use Rattle.std.proofs.Common.{ap, arith, refl, sym, ◌∙◌, ◌≡◌, ◌⊎◌}
-use Rattle.std.specs.Prelude.{Bool, List, None, Some, [], false, if◌then◌else◌, nat_le, not, suc, true, ℕ, ◌&&◌, ◌++◌, ◌+◌, ◌||◌, ◌∷◌}
+use Rattle.std.{proofs.Common.{ap, arith, refl, sym, ◌∙◌, ◌≡◌, ◌⊎◌}, specs.Prelude.{Bool, List, None, Some, [], false, if◌then◌else◌}}
+use Rattle.std.specs.Prelude.{nat_le, not, suc, true, ℕ, ◌&&◌, ◌++◌, ◌+◌, ◌||◌, ◌∷◌}
 use Rattle.yaml_block.proofs.Prelude.{and_left, and_right, not_from_true, or_left, or_right, white, rest, Indented, past_spaces}
 use Rattle.yaml_block.proofs.Prelude.{spaces_before, seq_start, LineEnd, comments_text, inline, sep_text, byte_len, first, is_empty}
 use Rattle.yaml_block.proofs.Prelude.{starts_line, BlockFrame, Sits, on_lines, plug, unwind, waits_item, node_below, read_block}
 use Rattle.yaml_block.proofs.Prelude.{all_comments, drop_while, past, sign, take_while, Read, on, block_indented_at, block_items_at}
 use Rattle.yaml_block.proofs.Prelude.{block_key_in, block_pairs_at, flow_leaf_at, unwind_none, byte_len_joined, node_steps, line_starts}
+use Rattle.yaml_block.proofs.BlockLines.{is_deep, leaf_alone_after, mapping_or_leaf_after, nothing_after, sep_after_text, sequence_after}
+use Rattle.yaml_block.proofs.{BlockLines.too_shallow_after, BlockSigns.{leaf_on_line, nothing_on_line, untabbed_taken}}
+use Rattle.yaml_block.{proofs.SignSteps.{byte_len_spaces, untaken}, specs.{declared.line_sign.Sign.TheVariants.Dash, BlockParts.as_part}}
+use Rattle.yaml_block.specs.{BlockParts.{part_at, sep_after}, Frames.{AfterSign, AtLeaf, AtNode, AtNodeLine, place_in}}
 use Rattle.yaml_grammar.specs.Events.{Event}
-use Rattle.yaml_block.specs.{declared.line_sign.Sign.TheVariants.Dash, BlockParts.as_part, BlockParts.part_at, BlockParts.sep_after}
-use Rattle.yaml_block.specs.Frames.{AfterSign, AtLeaf, AtNode, AtNodeLine, place_in}
-use Rattle.yaml_block.proofs.{BlockLines.is_deep, BlockLines.leaf_alone_after, BlockLines.mapping_or_leaf_after, BlockLines.nothing_after}
-use Rattle.yaml_block.proofs.{BlockLines.sep_after_text, BlockLines.sequence_after, BlockLines.too_shallow_after, BlockSigns.leaf_on_line}
-use Rattle.yaml_block.proofs.{BlockSigns.nothing_on_line, BlockSigns.untabbed_taken, SignSteps.byte_len_spaces, SignSteps.untaken}
 
 -- a separation after comments ends where its white does
 sep_end : (from start lead : ℕ) (comments : List LineEnd) (blank : List ℕ)

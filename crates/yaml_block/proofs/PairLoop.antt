@@ -1,7 +1,6 @@
 -- The loop over the pairs that are whole lines.
 use Rattle.std.specs.Prelude.{ℕ, List}
-use Rattle.yaml_block.specs.{declared.frame.Next.Next, declared.reader.Reader.Reader}
-use Rattle.yaml_block.specs.States.{BeforePair, Fails, GoesOn, Leads}
+use Rattle.yaml_block.specs.{declared.{frame.Next.Next, reader.Reader.Reader}, States.{BeforePair, Fails, GoesOn, Leads}}
 use Rattle.yaml_block.specs.declared.frame.Next.TheVariants as next
 
 module _ (text : List ℕ) (k at : ℕ) (first : Reader) where

@@ -1,12 +1,12 @@
 -- What the scanners of lines and flow nodes say of places of a text, in the words of the steps.
-use Rattle.std.proofs.Common.{ap, arith, inl, inr, length, refl, sym, ◌<◌, ◌∙◌, ◌≡◌}
-use Rattle.std.specs.Prelude.{Bool, List, Some, [], false, nat_le, true, ℕ, ◌++◌, ◌+◌, ◌∷◌}
+use Rattle.std.{proofs.Common.{ap, arith, inl, inr, length, refl, sym, ◌<◌, ◌∙◌, ◌≡◌}, specs.Prelude.{Bool, List, Some, [], false, nat_le}}
+use Rattle.std.specs.Prelude.{true, ℕ, ◌++◌, ◌+◌, ◌∷◌}
 use Rattle.yaml_block.proofs.Prelude.{IsCharBoundary, IsUtf8, and_parts, cases_Bool, false≢true, nat_tests, no_break, line_break, white}
 use Rattle.yaml_block.proofs.Prelude.{between, rest, between-append, same_place, Flow, flow_text, short_key, FlowContext, LineEnd}
 use Rattle.yaml_block.proofs.Prelude.{comments_text, list_all, byte_len, first, is_empty, starts_line, all_comments, drop_while, take_while}
 use Rattle.yaml_block.proofs.Prelude.{flow_node_at, all_sound, stands, take_while_every, unbroken, line_starts, AreSpaces, AreTaken}
-use Rattle.yaml_block.proofs.BlockSigns.{untabbed, white_starts}
-use Rattle.yaml_block.proofs.TextPlaces.{between_is, comments_unmarked, spelled, starts_over, white_inside, white_spelled}
+use Rattle.yaml_block.proofs.{BlockSigns.{untabbed, white_starts}, TextPlaces.{between_is, comments_unmarked, spelled, starts_over}}
+use Rattle.yaml_block.proofs.TextPlaces.{white_inside, white_spelled}
 
 -- ---- white space
 

@@ -1,12 +1,9 @@
 -- What a plain scalar starts with.
-use Rattle.std.proofs.Common.{inl, inr, refl, subst, sym, ◌∙◌, ◌≡◌}
-use Rattle.std.specs.Prelude.{Bool, List, Some, [], false, true, ℕ, ◌&&◌, ◌==◌, ◌∷◌}
+use Rattle.std.{proofs.Common.{inl, inr, refl, subst, sym, ◌∙◌, ◌≡◌}, specs.Prelude.{Bool, List, Some, [], false, true, ℕ, ◌&&◌, ◌==◌, ◌∷◌}}
 use Rattle.yaml_block.proofs.Prelude.{and_parts, cases_Bool, cases_eq, false≢true, ne_eqb, rest, plain_style, FlowContext, plain_first}
 use Rattle.yaml_block.proofs.Prelude.{first, no_marker, solid, read_scalar, read_plain, chosen, none_some, plain_solid, line_starts}
-use Rattle.yaml_block.proofs.Prelude.{ScalarAt, double_there, single_there}
-use Rattle.yaml_grammar.specs.FlowScalars.{Scalar, style_of}
-use Rattle.yaml_recognizers.proofs.Scalars.FlowScalars.{complete}
-use Rattle.yaml_recognizers.proofs.Scalars.WholeScalars.{whole_stands}
+use Rattle.{yaml_block.proofs.Prelude.{ScalarAt, double_there, single_there}, yaml_grammar.specs.FlowScalars.{Scalar, style_of}}
+use Rattle.yaml_recognizers.proofs.Scalars.{FlowScalars.complete, WholeScalars.whole_stands}
 
 -- The text starts with neither whitespace, a break or `#`, nor with an opening bracket.
 pub record PlainStart (text : List ℕ) : Type 0 where

@@ -1,13 +1,11 @@
 -- The line after a block scalar: the comments that belong to it are those that the scanner passes.
-use Rattle.std.proofs.Common.{ap, arith, inl, inr, refl, subst, sym, ◌<◌, ◌∙◌, ◌≡◌}
-use Rattle.std.specs.Prelude.{Bool, List, None, Some, [], false, if◌then◌else◌, is_some, nat_lt, true, ℕ, ◌&&◌, ◌∷◌}
+use Rattle.std.{proofs.Common.{ap, arith, inl, inr, refl, subst, sym, ◌<◌, ◌∙◌, ◌≡◌}, specs.Prelude.{Bool, List, None, Some, [], false}}
+use Rattle.std.specs.Prelude.{if◌then◌else◌, is_some, nat_lt, true, ℕ, ◌&&◌, ◌∷◌}
 use Rattle.yaml_block.proofs.Prelude.{IsCharBoundary, and_from, and_left, and_parts, and_right, cases_eq, cases_lt, eq-eqb, eqb-true}
 use Rattle.yaml_block.proofs.Prelude.{false≢true, lt-ltb, not_from_false, nb, rest, goes_on, past_spaces, spaces_before, LineEnd, first}
 use Rattle.yaml_block.proofs.Prelude.{marker, no_marker, read_trail, trail_here, hash, is_line_end, all_comments, read_line_end, Read}
 use Rattle.yaml_block.proofs.Prelude.{marker_first, Ended, ended_parts, none_spaced, spaced_unmarked, no_line, no_line_end, IsLineStart}
-use Rattle.yaml_block.proofs.Prelude.{IsSolidLine, AreSpaces}
-use Rattle.yaml_scan.specs.declared.lines.Line.{Line}
-use Rattle.yaml_block.specs.Bodies.{IsAfterScalar}
+use Rattle.{yaml_block.{proofs.Prelude.{IsSolidLine, AreSpaces}, specs.Bodies.IsAfterScalar}, yaml_scan.specs.declared.lines.Line.Line}
 
 -- ---- a line of white space or a comment
 

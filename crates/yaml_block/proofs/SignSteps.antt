@@ -1,22 +1,19 @@
 -- The steps of the scanner after a sign: to the part on its line, to a node on a later line, or to
 -- a value that is left out.
-use Rattle.std.proofs.Common.{ap, arith, inl, inr, refl, sym, ◌∙◌, ◌≡◌, ◌⊎◌, ◌≤◌}
-use Rattle.std.specs.Prelude.{Bool, List, None, Some, [], false, nat_le, not, suc, true, zero, ℕ, ◌&&◌, ◌++◌, ◌+◌, ◌∷◌}
+use Rattle.std.{proofs.Common.{ap, arith, inl, inr, refl, sym, ◌∙◌, ◌≡◌, ◌⊎◌, ◌≤◌}, specs.Prelude.{Bool, List, None, Some, [], false}}
+use Rattle.std.specs.Prelude.{nat_le, not, suc, true, zero, ℕ, ◌&&◌, ◌++◌, ◌+◌, ◌∷◌}
 use Rattle.yaml_block.proofs.Prelude.{and_from, and_left, and_right, false≢true, le-leb, not_from_false, not_from_true, white, rest}
 use Rattle.yaml_block.proofs.Prelude.{Indented, omitted, past_spaces, spaces_before, omitted_at, seq_start, LineEnd, comments_text, inline}
 use Rattle.yaml_block.proofs.Prelude.{byte_len, first, is_empty, spaces, starts_line, BlockFrame, key_asked, key_on_line, on_sign_line}
 use Rattle.yaml_block.proofs.Prelude.{plug, unwind, waits_item, waits_key, waits_value, node_below, read_block, all_comments, closes_line}
 use Rattle.yaml_block.proofs.Prelude.{block_node_stops, drop_while, past, sign, take_while, Read, on, block_indented_at, block_items_at}
 use Rattle.yaml_block.proofs.Prelude.{block_key_in, block_pairs_at, flow_leaf_at, asked_for_nothing, items_open, sequence_on_sign_line}
-use Rattle.yaml_block.proofs.Prelude.{unwind_none, node_steps, line_starts}
-use Rattle.yaml_grammar.specs.Events.{Event}
-use Rattle.yaml_block.proofs.BlockSigns.{node_on_lines as node_after_lines}
-use Rattle.yaml_block.specs.{declared.line_sign.Sign.Sign, declared.frame.Waits.TheVariants.Key, Signs.is_colon, Signs.is_shallow}
-use Rattle.yaml_block.specs.declared.line_sign.Sign.TheVariants.{Asked, Colon, Dash}
-use Rattle.yaml_block.specs.BlockParts.{as_part, part_at, part_after_sign}
-use Rattle.yaml_block.specs.Frames.{AfterSign, AtLeaf, AtLine, AtNodeLine, Awaits, Seated, events_in, fits_frame, part_after, waits_of}
+use Rattle.yaml_block.proofs.{Prelude.{unwind_none, node_steps, line_starts}, BlockSigns.node_on_lines as node_after_lines}
 use Rattle.yaml_block.proofs.BlockSigns.{compact_or_leaf, leaf_on_sign_line, nothing_on_sign_line, omitted_after, unclosed_goes_on}
-use Rattle.yaml_block.proofs.BlockSigns.{untabbed, untabbed_taken}
+use Rattle.yaml_block.{proofs.BlockSigns.{untabbed, untabbed_taken}, specs.declared.line_sign.Sign.{Sign, TheVariants.{Asked, Colon, Dash}}}
+use Rattle.yaml_block.specs.{declared.frame.Waits.TheVariants.Key, Signs.{is_colon, is_shallow}, BlockParts.{as_part, part_at}}
+use Rattle.yaml_block.specs.{BlockParts.part_after_sign, Frames.{AfterSign, AtLeaf, AtLine, AtNodeLine, Awaits, Seated, events_in}}
+use Rattle.{yaml_block.specs.Frames.{fits_frame, part_after, waits_of}, yaml_grammar.specs.Events.Event}
 
 -- after a sign, by what may be there
 after_is : (before : Sign) (k : ℕ) (t : List ℕ) → part_after before k t ≡ part_after_sign (not (is_colon before))

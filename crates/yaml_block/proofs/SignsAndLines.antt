@@ -9,24 +9,19 @@ use Rattle.yaml_block.proofs.Prelude.{closes_line, more_comments, read_line_end,
 use Rattle.yaml_block.proofs.Prelude.{block_pairs_at, flow_leaf_at, unwind_none, comments_step, node_steps, rest-end, block_node_stops}
 use Rattle.yaml_block.proofs.Prelude.{drop_while, sign, take_while, Read, on, Indented, Sits, on_sign_line, BlockFrame, waits_item}
 use Rattle.yaml_block.proofs.Prelude.{waits_key, unwind, BorrowsPlain, event_of, line_starts, Event, SeqStart, MapStart, ScanFault}
-use Rattle.yaml_block.proofs.Prelude.{faults_so, ok_so, AreSpaces, AreTaken, IsLineEnd, IsSolidLine}
-use Rattle.yaml_events.specs.declared.context.BlockContext.{BlockContext}
+use Rattle.yaml_block.proofs.{Prelude.{faults_so, ok_so, AreSpaces, AreTaken, IsLineEnd, IsSolidLine}, Stacks.{appended_one, opened}}
+use Rattle.yaml_block.proofs.{PlaceSteps.{WhiteTo, white_to, comments_to}, TextPlaces.{IsPastSign, white_spelled}}
+use Rattle.yaml_block.proofs.{BlockLeaves.no_leaf_unsolid, BlockLines.no_comments, BlockSigns.{no_pair_there, white_after_spaces}}
+use Rattle.yaml_block.proofs.{UnwindSteps.left_out, LeafSteps.asked_pair, SignSteps.{compact_leaf, compact_sequence, no_white}}
+use Rattle.yaml_block.proofs.{SignSteps.{node_on_lines, omits_value, sign_leaf}, NodeSteps.{line_leaf, line_leaf_after_tab}}
+use Rattle.yaml_block.proofs.NodeSteps.{line_leaf_alone, line_too_shallow, node_line, node_no_white, node_on_line, sequence_opens}
+use Rattle.yaml_block.specs.{Signs.{is_shallow as is_shallow_after, is_colon}, BlockParts.as_part}
+use Rattle.yaml_block.specs.declared.{indentation.Indentation.Indentation, frame.{Leaf.Leaf, Next.Next, Waits.TheVariants.{Item, Key}}}
+use Rattle.yaml_block.specs.{declared.{line_sign.Sign.{Sign, TheVariants.{Dash, Asked}}, reader.Reader.Reader}, Frames.{AfterSign, AtLeaf}}
+use Rattle.yaml_block.specs.{Frames.{AtLine, AtNodeLine, AtNode, waits_of}, States.{Before, BeforePart, BeforeLeaf, BeforeNodeLine}}
+use Rattle.yaml_block.specs.{States.{BeforeNode, Leads, Fails, FailsBy, Holds, Stack, GoesOn, IsAfterSign, Onward}, Lines.IsLine}
+use Rattle.{yaml_block.specs.Lines.is_shallow, yaml_events.specs.declared.context.BlockContext.BlockContext}
 use Rattle.yaml_scan.specs.declared.lines.Line.{Line}
-use Rattle.yaml_block.specs.Signs.{is_shallow as is_shallow_after}
-use Rattle.yaml_block.specs.{BlockParts.as_part, Signs.is_colon, declared.indentation.Indentation.Indentation, declared.frame.Leaf.Leaf}
-use Rattle.yaml_block.specs.{declared.frame.Next.Next, declared.line_sign.Sign.Sign, declared.reader.Reader.Reader}
-use Rattle.yaml_block.specs.Frames.{AfterSign, AtLeaf, AtLine, AtNodeLine, AtNode, waits_of}
-use Rattle.yaml_block.specs.States.{Before, BeforePart, BeforeLeaf, BeforeNodeLine, BeforeNode, Leads, Fails, FailsBy, Holds, Stack, GoesOn}
-use Rattle.yaml_block.specs.States.{IsAfterSign, Onward}
-use Rattle.yaml_block.specs.Lines.{IsLine, is_shallow}
-use Rattle.yaml_block.specs.declared.line_sign.Sign.TheVariants.{Dash, Asked}
-use Rattle.yaml_block.specs.declared.frame.Waits.TheVariants.{Item, Key}
-use Rattle.yaml_block.proofs.{Stacks.appended_one, Stacks.opened, PlaceSteps.WhiteTo, PlaceSteps.white_to, PlaceSteps.comments_to}
-use Rattle.yaml_block.proofs.{TextPlaces.IsPastSign, TextPlaces.white_spelled, BlockLeaves.no_leaf_unsolid, BlockLines.no_comments}
-use Rattle.yaml_block.proofs.{BlockSigns.no_pair_there, BlockSigns.white_after_spaces, UnwindSteps.left_out, LeafSteps.asked_pair}
-use Rattle.yaml_block.proofs.SignSteps.{compact_leaf, compact_sequence, no_white, node_on_lines, omits_value, sign_leaf}
-use Rattle.yaml_block.proofs.NodeSteps.{line_leaf, line_leaf_after_tab, line_leaf_alone, line_too_shallow, node_line, node_no_white}
-use Rattle.yaml_block.proofs.NodeSteps.{node_on_line, sequence_opens}
 use Rattle.yaml_grammar.specs.Events as grammar
 use Rattle.yaml_block.specs.declared.frame.Next.TheVariants as next
 

@@ -1,13 +1,9 @@
 -- The events that a step appends, and the stack of open collections.
-use Rattle.std.proofs.Common.{◌≡◌, refl, sym, ◌∙◌, ap, subst, arith, ℕ, ◌-◌, length, append_assoc}
-use Rattle.std.specs.Prelude.{List, [], ◌∷◌, ◌++◌, slice_index_or}
+use Rattle.std.proofs.{Common.{◌≡◌, refl, sym, ◌∙◌, ap, subst, arith, ℕ, ◌-◌, length, append_assoc}, lemmas.List.Elements.All-append}
+use Rattle.std.{proofs.lemmas.List.{Elements.All-nil, Edits.insert-append_right}, specs.Prelude.{List, [], ◌∷◌, ◌++◌, slice_index_or}}
 use Rattle.yaml_block.proofs.Prelude.{append-nil, All, insert, map-append, length-append, BlockFrame, BorrowsPlain, event_of, events_of}
-use Rattle.yaml_block.proofs.Prelude.{Event, MapStart, Appended}
-use Rattle.std.proofs.lemmas.List.Elements.{All-append, All-nil}
-use Rattle.std.proofs.lemmas.List.Edits.{insert-append_right}
-use Rattle.yaml_flow.proofs.Stacks.{snoc_same}
-use Rattle.yaml_block.specs.{declared.frame.Collection.Collection, declared.reader.Reader.Reader}
-use Rattle.yaml_block.specs.States.{Grown, Holds, Keeps, Stack}
+use Rattle.yaml_block.{proofs.Prelude.{Event, MapStart, Appended}, specs.declared.{frame.Collection.Collection, reader.Reader.Reader}}
+use Rattle.{yaml_block.specs.States.{Grown, Holds, Keeps, Stack}, yaml_flow.proofs.Stacks.snoc_same}
 use Rattle.yaml_grammar.specs.Events as grammar
 
 -- ---- events

@@ -1,13 +1,12 @@
 -- Places of a text, from the characters that are between two of them.
 use Rattle.std.proofs.Common.{ap, arith, get_or, inl, inr, length, length-append, length-drop, refl, sym, ◌<◌, ◌∙◌, ◌≡◌, ◌⊎◌}
-use Rattle.std.specs.Prelude.{Bool, List, None, [], drop, false, suc, true, zero, ℕ, ◌++◌, ◌+◌, ◌==◌, ◌∷◌}
+use Rattle.std.specs.{Prelude.{Bool, List, None, [], drop, false, suc, true, zero, ℕ, ◌++◌, ◌+◌, ◌==◌, ◌∷◌}, Char.len_utf8}
 use Rattle.yaml_block.proofs.Prelude.{IsCharBoundary, IsUtf8, and_parts, cases_Bool, cases_lt, false≢true, nat_tests, append_cancel_right}
 use Rattle.yaml_block.proofs.Prelude.{line_break, white, between, rest, between-append, char_at, encodes-rest, rest-ascii, rest-between}
 use Rattle.yaml_block.proofs.Prelude.{rest-end, past_spaces, spaces_before, LineEnd, comments_text, list_all, byte_len, first, is_empty}
 use Rattle.yaml_block.proofs.Prelude.{spaces, starts_line, all_comments, more_comments, read_line_end, drop_while, past, sign, take_while}
 use Rattle.yaml_block.proofs.Prelude.{comments_step, all_sound, spaces_split, take_while_every, take_while_split, starts_joined, sign_head}
 use Rattle.yaml_block.proofs.Prelude.{line_starts, without_mark}
-use Rattle.std.specs.Char.{len_utf8}
 use lib.Utf8.{encode, encodes}
 use Rattle.std.proofs.lemmas.Str.{IsCharBoundary-after_ascii, IsCharBoundary-start, encodes-append, length-encode}
 use Rattle.yaml_block.proofs.{BlockLines.spaces_start, BlockSigns.white_starts}

@@ -1,20 +1,16 @@
 -- The steps of `unwind`: a collection goes on at the line after its part, or it ends.
-use Rattle.std.proofs.Common.{◌≡◌, refl, sym, ◌∙◌, ap, subst, arith, ℕ, ◌+◌, ◌-◌, ◌*◌, ◌<◌, ◌≤◌, length}
-use Rattle.std.specs.Prelude.{true, false, not, ◌&&◌, ◌==◌, List, [], ◌∷◌, ◌++◌, Option, Some, None}
+use Rattle.std.{proofs.Common.{◌≡◌, refl, sym, ◌∙◌, ap, subst, arith, ℕ, ◌+◌, ◌-◌, ◌*◌, ◌<◌, ◌≤◌, length}, specs.Prelude.{true, false, not}}
+use Rattle.std.specs.Prelude.{◌&&◌, ◌==◌, List, [], ◌∷◌, ◌++◌, Option, Some, None}
 use Rattle.yaml_block.proofs.Prelude.{IsUtf8, and_parts, eqb-true, false≢true, is_empty, line_break, rest, past_spaces, spaces_before}
 use Rattle.yaml_block.proofs.Prelude.{Indented, block_node_stops, sign, Read, BlockFrame, waits_item, waits_key, waits_value, key_asked}
-use Rattle.yaml_block.proofs.Prelude.{event_of, line_starts, BorrowsPlain, Event, SeqEnd, MapEnd, Appended}
-use Rattle.yaml_scan.specs.declared.lines.Line.{Line}
-use Rattle.yaml_block.specs.{Lines.IsLine, declared.frame.Next.Next, declared.frame.Collection.Collection}
-use Rattle.yaml_block.specs.{declared.next_line.NextLine.NextLine, declared.line_sign.Sign.Sign, declared.line_sign.Sign.TheVariants.Dash}
-use Rattle.yaml_block.specs.{declared.line_sign.Sign.TheVariants.Asked, declared.frame.Waits.Waits, declared.reader.Reader.Reader}
-use Rattle.yaml_block.specs.Frames.{AfterSign, AtLine, AfterPair, waits_of, indent_of}
-use Rattle.yaml_block.specs.States.{Holds, Stack, GoesOn, Onward}
-use Rattle.yaml_block.specs.Turns.{IsPart, ItemRead, KeyRead, PairRead, PartRead, Turns, StillPart, Unwound}
-use Rattle.yaml_block.specs.declared.frame.Waits.TheVariants.{Item, Key, Value}
-use Rattle.yaml_block.proofs.TextPlaces.{pair_starts, IsPastSign, past_sign}
-use Rattle.yaml_block.proofs.Stacks.{Popped, appended_one, emptied, opened, popped}
+use Rattle.yaml_block.proofs.{Prelude.{event_of, line_starts, BorrowsPlain, Event, SeqEnd, MapEnd, Appended}, TextPlaces.pair_starts}
+use Rattle.yaml_block.proofs.{TextPlaces.{IsPastSign, past_sign}, Stacks.{Popped, appended_one, emptied, opened, popped}}
 use Rattle.yaml_block.proofs.Unwinding.{item_goes_on, sequence_ends, value_opens, key_alone, value_read, pair_goes_on, mapping_ends}
+use Rattle.yaml_block.specs.{Lines.IsLine, declared.frame.{Next.Next, Collection.Collection, Waits.{Waits, TheVariants.{Item, Key, Value}}}}
+use Rattle.yaml_block.specs.declared.{next_line.NextLine.NextLine, line_sign.Sign.{Sign, TheVariants.{Dash, Asked}}, reader.Reader.Reader}
+use Rattle.yaml_block.specs.{Frames.{AfterSign, AtLine, AfterPair, waits_of, indent_of}, States.{Holds, Stack, GoesOn, Onward}}
+use Rattle.yaml_block.specs.Turns.{IsPart, ItemRead, KeyRead, PairRead, PartRead, Turns, StillPart, Unwound}
+use Rattle.yaml_scan.specs.declared.lines.Line.{Line}
 use Rattle.yaml_grammar.specs.Events as grammar
 use Rattle.yaml_block.specs.declared.frame.Next.TheVariants as next
 

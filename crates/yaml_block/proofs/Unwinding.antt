@@ -1,7 +1,7 @@
 -- The steps of the scanner at a line after a part: a collection goes on, or it ends and is the part
 -- of the collection around it.
-use Rattle.std.proofs.Common.{ap, append-nil, append_assoc, arith, refl, subst, sym, ◌∙◌, ◌≡◌}
-use Rattle.std.specs.Prelude.{Bool, List, Some, [], codes, false, not, true, ℕ, ◌&&◌, ◌++◌, ◌+◌, ◌==◌, ◌∷◌}
+use Rattle.std.{proofs.Common.{ap, append-nil, append_assoc, arith, refl, subst, sym, ◌∙◌, ◌≡◌}, specs.Prelude.{Bool, List, Some, []}}
+use Rattle.std.specs.Prelude.{codes, false, not, true, ℕ, ◌&&◌, ◌++◌, ◌+◌, ◌==◌, ◌∷◌}
 use Rattle.yaml_block.proofs.Prelude.{eq-eqb, false≢true, not-true, rest, Indented, Items, Node, Pair, Pairs, asked, asked_alone}
 use Rattle.yaml_block.proofs.Prelude.{compact_items, compact_pairs, indented_end, indented_events, indented_text, item, items_end}
 use Rattle.yaml_block.proofs.Prelude.{items_events, items_text, keyed, keyed_alone, node, node_events, node_text, omitted, pair, pair_end}
@@ -13,13 +13,11 @@ use Rattle.yaml_block.proofs.Prelude.{waits_item, waits_key, waits_value, block_
 use Rattle.yaml_block.proofs.Prelude.{block_node_at, block_pairs_at, asked_for_alone, item_last, item_next, pair_last, pair_next}
 use Rattle.yaml_block.proofs.Prelude.{done_items_end, done_items_events, done_pairs_end, done_pairs_events, item_place, items_end_last}
 use Rattle.yaml_block.proofs.Prelude.{items_prefix, pair_place, pairs_end_last, pairs_prefix, byte_len_joined, on_parts, some_parts}
-use Rattle.yaml_block.proofs.Prelude.{line_starts}
-use Rattle.yaml_grammar.specs.Events.{Event}
+use Rattle.yaml_block.proofs.{Prelude.line_starts, LeafSteps.node_fits_frames, SignSteps.byte_len_spaces}
+use Rattle.yaml_block.specs.{declared.line_sign.Sign.TheVariants.{Asked, Dash}, BlockParts.as_part, Frames.{AfterPair, AfterSign, AtLine}}
+use Rattle.yaml_block.specs.Frames.{AtPair, Seated, events_in, fits_frame, fits_frames, inner_indent, key_events, place_in, sits_place}
+use Rattle.{yaml_block.specs.Frames.value_place, yaml_grammar.specs.Events.Event}
 use Rattle.yaml_recognizers.proofs.Block.BlockFrames.{value_opens as value_next}
-use Rattle.yaml_block.specs.{declared.line_sign.Sign.TheVariants.Asked, declared.line_sign.Sign.TheVariants.Dash, BlockParts.as_part}
-use Rattle.yaml_block.specs.Frames.{AfterPair, AfterSign, AtLine, AtPair, Seated, events_in, fits_frame, fits_frames, inner_indent}
-use Rattle.yaml_block.specs.Frames.{key_events, place_in, sits_place, value_place}
-use Rattle.yaml_block.proofs.{LeafSteps.node_fits_frames, SignSteps.byte_len_spaces}
 
 -- ---- one more item, one more pair
 

@@ -1,9 +1,8 @@
 -- What the recognizers read at the places where the scanner of block nodes looks for a part (YAML 1.2.2, 8.2).
 use Rattle.std.specs.Prelude.{◌≡◌, ℕ, suc, Bool, true, false, List, [], ◌∷◌, Option, Some, None, if◌then◌else◌}
-use Rattle.yaml_block.specs.Prelude.{first, is_empty, LineEnd, Sep, inline, lines, Node, block, Indented, node, Read}
-use Rattle.yaml_block.specs.Prelude.{on, all_comments, read_block, bar, flow_with, indented_node, opens_pair, Sits}
-use Rattle.yaml_block.specs.Prelude.{close_pairs, block_indented_at, block_key_in, block_node_at, block_pairs_at}
-use Rattle.yaml_block.specs.Prelude.{flow_leaf_at}
+use Rattle.yaml_block.specs.Prelude.{first, is_empty, LineEnd, Sep, inline, lines, Node, block, Indented, node, Read, on, all_comments}
+use Rattle.yaml_block.specs.Prelude.{read_block, bar, flow_with, indented_node, opens_pair, Sits, close_pairs, block_indented_at}
+use Rattle.yaml_block.specs.Prelude.{block_key_in, block_node_at, block_pairs_at, flow_leaf_at}
 
 -- a node, as a part
 abbrev pub as_part : Read Node → Read Indented

@@ -1,9 +1,7 @@
 -- Block scalars at places of a text.
 use Rattle.std.specs.Prelude.{◌≡◌, ℕ, ◌≤◌, Bool, false, List, if◌then◌else◌}
-use Rattle.yaml_block.specs.Prelude.{rest, goes_on, read_trail}
-use Rattle.yaml_events.specs.declared.event.Style.{Style}
-use Rattle.yaml_events.specs.declared.event.Style.TheVariants.{Literal, Folded}
-use Rattle.yaml_block.specs.{Lines.IsNextLine, declared.next_line.NextLine.NextLine}
+use Rattle.yaml_block.specs.{Prelude.{rest, goes_on, read_trail}, Lines.IsNextLine, declared.next_line.NextLine.NextLine}
+use Rattle.yaml_events.specs.declared.event.Style.{Style, TheVariants.{Literal, Folded}}
 
 -- literal or folded
 abbrev pub IsBlockStyle : Bool → Style → Type 0

@@ -1,9 +1,7 @@
 -- A block node at a place of a text, which counts bytes.
 use Rattle.std.specs.Prelude.{◌≡◌, ℕ, ◌≤◌, Bool, List, ◌++◌, length, Some, None}
-use Rattle.yaml_block.specs.Prelude.{IsCharBoundary, rest, Node, node_events, block_node_at, line_starts, Event}
-use Rattle.yaml_block.specs.Prelude.{IsLineStart, Appended}
-use Rattle.yaml_recognizers.specs.StandingNodes.{IsBlockNode, NoBlockNode}
-use Rattle.yaml_events.specs.Meant.{events_of}
+use Rattle.yaml_block.specs.Prelude.{IsCharBoundary, rest, Node, node_events, block_node_at, line_starts, Event, IsLineStart, Appended}
+use Rattle.{yaml_recognizers.specs.StandingNodes.{IsBlockNode, NoBlockNode}, yaml_events.specs.Meant.events_of}
 
 -- The block node at the place is read up to the end, where a line starts or the text ends, and its events are appended.
 pub record BlockNodeRead (m : ℕ) (shallow : Bool) (text : List ℕ) (at : ℕ) (old new : List Event) (end : ℕ) : Type 0

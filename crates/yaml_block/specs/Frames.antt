@@ -1,20 +1,16 @@
 -- The state of the scanner of block nodes: the open collections around a place, what is read of each, and their events
 -- so far.
 use Rattle.std.specs.Prelude.{◌≡◌, ℕ, ◌+◌, Bool, true, false, not, ◌||◌, ◌==◌, List, [], ◌∷◌, ◌++◌, Option, Some, None}
-use Rattle.yaml_block.specs.Prelude.{rest, is_empty, starts_line, byte_len, LineEnd, comments_text, Sep, sep_text, Flow}
-use Rattle.yaml_block.specs.Prelude.{flow_text, flow_events, block_key, Pair, Indented, compact_items, compact_pairs}
-use Rattle.yaml_block.specs.Prelude.{node, omitted, is_omitted, indented_text, indented_end, indented_events, pair_text}
-use Rattle.yaml_block.specs.Prelude.{pair_end, pair_events, seq_start, map_start, Read, node_below, read_block}
-use Rattle.yaml_block.specs.Prelude.{block_key_in, flow_leaf_at, flow_node_at, block_node_at, block_items_at}
-use Rattle.yaml_block.specs.Prelude.{block_pairs_at, block_indented_at, Sits, on_sign_line, on_lines, PairKey}
-use Rattle.yaml_block.specs.Prelude.{key_asked, key_on_line, BlockFrame, waits_item, waits_key, waits_value}
-use Rattle.yaml_block.specs.Prelude.{close_pairs, pairs_after, keyed_part, unwind, line_starts}
-use Rattle.yaml_grammar.specs.Events.{Event}
-use Rattle.yaml_recognizers.proofs.Meanings.EventPrefixes.{done_items_end, done_items_events, done_pairs_end, done_pairs_events}
-use Rattle.yaml_block.specs.{Signs.is_colon, declared.frame.Waits.Waits, declared.line_sign.Sign.Sign}
-use Rattle.yaml_block.specs.BlockParts.{as_part, part_at}
-use Rattle.yaml_block.specs.declared.frame.Waits.TheVariants.{Item, Key, Value}
-use Rattle.yaml_block.specs.declared.line_sign.Sign.TheVariants.{Dash, Asked, Colon}
+use Rattle.yaml_block.specs.Prelude.{rest, is_empty, starts_line, byte_len, LineEnd, comments_text, Sep, sep_text, Flow, flow_text}
+use Rattle.yaml_block.specs.Prelude.{flow_events, block_key, Pair, Indented, compact_items, compact_pairs, node, omitted, is_omitted}
+use Rattle.yaml_block.specs.Prelude.{indented_text, indented_end, indented_events, pair_text, pair_end, pair_events, seq_start, map_start}
+use Rattle.yaml_block.specs.Prelude.{Read, node_below, read_block, block_key_in, flow_leaf_at, flow_node_at, block_node_at, block_items_at}
+use Rattle.yaml_block.specs.Prelude.{block_pairs_at, block_indented_at, Sits, on_sign_line, on_lines, PairKey, key_asked, key_on_line}
+use Rattle.yaml_block.specs.Prelude.{BlockFrame, waits_item, waits_key, waits_value, close_pairs, pairs_after, keyed_part, unwind}
+use Rattle.yaml_block.specs.{Prelude.line_starts, Signs.is_colon, declared.frame.Waits.{Waits, TheVariants.{Item, Key, Value}}}
+use Rattle.yaml_block.specs.{declared.line_sign.Sign.{Sign, TheVariants.{Dash, Asked, Colon}}, BlockParts.{as_part, part_at}}
+use Rattle.{yaml_grammar.specs.Events.Event, yaml_recognizers.proofs.Meanings.EventPrefixes.{done_items_end, done_items_events}}
+use Rattle.yaml_recognizers.proofs.Meanings.EventPrefixes.{done_pairs_end, done_pairs_events}
 
 -- ---- frames
 

@@ -1,11 +1,9 @@
 -- The value of a pair where it is the rest of its line (YAML 1.2.2, 8.2.2).
 use Rattle.std.specs.Prelude.{◌≡◌, ℕ, ◌+◌, ◌<◌, nat_le, true, false, List, length}
-use Rattle.yaml_block.specs.Prelude.{IsCharBoundary, rest, between, colon, plain_style, key_limit, FlowContext, outer}
-use Rattle.yaml_block.specs.Prelude.{all_comments, closes_line, sign, line_starts, AreTaken, unbroken_between}
-use Rattle.yaml_block.specs.Prelude.{IsLineStart, IsSolidLine, IsFirstLine}
-use Rattle.yaml_chars.specs.Classes.{white}
+use Rattle.yaml_block.specs.Prelude.{IsCharBoundary, rest, between, colon, plain_style, key_limit, FlowContext, outer, all_comments}
+use Rattle.yaml_block.specs.Prelude.{closes_line, sign, line_starts, AreTaken, unbroken_between, IsLineStart, IsSolidLine, IsFirstLine}
+use Rattle.{yaml_block.specs.declared.line_value.LineValue.LineValue, yaml_chars.specs.Classes.white}
 use Rattle.yaml_flow_scalars.specs.Standing.{ScalarAt}
-use Rattle.yaml_block.specs.declared.line_value.LineValue.{LineValue}
 
 -- A plain scalar on one line is between the two places, and no further line of it follows.
 pub record IsPlainLine (n : ℕ) (c : FlowContext) (text : List ℕ) (start end : ℕ) : Type 0 where

@@ -1,10 +1,8 @@
 -- Lines of a text, and how deep the nodes on them are.
 use Rattle.std.specs.Prelude.{◌≡◌, ℕ, suc, Bool, true, false, not, nat_le, List, if◌then◌else◌}
-use Rattle.yaml_block.specs.Prelude.{IsCharBoundary, rest, is_line_end, AreSpaces, IsLineStart}
-use Rattle.yaml_events.specs.declared.context.BlockContext.{BlockContext}
-use Rattle.yaml_events.specs.declared.context.BlockContext.TheVariants.{Bin, Bout}
+use Rattle.yaml_block.specs.{Prelude.{IsCharBoundary, rest, is_line_end, AreSpaces, IsLineStart}, declared.next_line.NextLine.NextLine}
+use Rattle.yaml_events.specs.declared.context.BlockContext.{BlockContext, TheVariants.{Bin, Bout}}
 use Rattle.yaml_scan.specs.declared.lines.Line.{Line}
-use Rattle.yaml_block.specs.declared.next_line.NextLine.{NextLine}
 
 -- whether a sequence may be as deep as its parent
 abbrev pub is_shallow : BlockContext → Bool

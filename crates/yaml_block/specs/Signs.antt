@@ -1,7 +1,6 @@
 -- What may come after a sign of a collection (YAML 1.2.2, 8.2.1 and 8.2.2).
 use Rattle.std.specs.Prelude.{Bool, true, false}
-use Rattle.yaml_block.specs.declared.line_sign.Sign.{Sign}
-use Rattle.yaml_block.specs.declared.line_sign.Sign.TheVariants.{Dash, Asked, Colon}
+use Rattle.yaml_block.specs.declared.line_sign.Sign.{Sign, TheVariants.{Dash, Asked, Colon}}
 
 -- the sign is `:`
 abbrev pub is_colon : Sign → Bool

@@ -1,14 +1,11 @@
 -- The reader's own state, in terms of what is read of the open collections, and what a step of it leads to.
-use Rattle.std.specs.Prelude.{◌≡◌, ℕ, ◌+◌, ◌-◌, ◌*◌, ◌<◌, ◌≤◌, Bool, false, ◌&&◌, nat_le, List, [], ◌∷◌, ◌++◌, length}
-use Rattle.std.specs.Prelude.{None, if◌then◌else◌}
-use Rattle.yaml_block.specs.Prelude.{IsCharBoundary, between, Indented, key_limit, Read, BlockFrame, line_starts}
-use Rattle.yaml_block.specs.Prelude.{Refuses, Event, unbroken_between, Appended}
+use Rattle.std.specs.Prelude.{◌≡◌, ℕ, ◌+◌, ◌-◌, ◌*◌, ◌<◌, ◌≤◌, Bool, false, ◌&&◌, nat_le, List, [], ◌∷◌, ◌++◌, length, None, if◌then◌else◌}
+use Rattle.yaml_block.specs.Prelude.{IsCharBoundary, between, Indented, key_limit, Read, BlockFrame, line_starts, Refuses, Event}
+use Rattle.yaml_block.specs.{Prelude.{unbroken_between, Appended}, Lines.{is_shallow, IsNextLine}, declared.frame.Waits.Waits}
+use Rattle.yaml_block.specs.declared.{frame.{Waits.TheVariants.Value, Collection.Collection, Leaf.Leaf, Next.Next}, line_sign.Sign.Sign}
+use Rattle.yaml_block.specs.{declared.{indentation.Indentation.Indentation, reader.Reader.Reader}, Frames.{waits_of, indent_of, AfterSign}}
+use Rattle.yaml_block.specs.Frames.{AtColon, AtPair, AtLine, AtNode, AtNodeLine, AtLeaf}
 use Rattle.yaml_events.specs.declared.fault.ScanFault.{ScanFault}
-use Rattle.yaml_block.specs.{Lines.is_shallow, Lines.IsNextLine, declared.frame.Waits.Waits}
-use Rattle.yaml_block.specs.{declared.frame.Waits.TheVariants.Value, declared.line_sign.Sign.Sign}
-use Rattle.yaml_block.specs.{declared.frame.Collection.Collection, declared.indentation.Indentation.Indentation}
-use Rattle.yaml_block.specs.{declared.frame.Leaf.Leaf, declared.frame.Next.Next, declared.reader.Reader.Reader}
-use Rattle.yaml_block.specs.Frames.{waits_of, indent_of, AfterSign, AtColon, AtPair, AtLine, AtNode, AtNodeLine, AtLeaf}
 use Rattle.yaml_grammar.specs.Events as grammar
 use Rattle.yaml_block.specs.declared.frame.Next.TheVariants as next
 

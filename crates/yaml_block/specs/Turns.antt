@@ -1,11 +1,8 @@
 -- What the reader makes of the line after a part.
 use Rattle.std.specs.Prelude.{◌≡◌, ℕ, ◌+◌, ◌-◌, ◌*◌, List, [], ◌∷◌, length, Option, MatchOption}
-use Rattle.yaml_block.specs.Prelude.{Read, Indented, BlockFrame, Event}
-use Rattle.yaml_block.specs.{declared.frame.Collection.Collection, declared.next_line.NextLine.NextLine}
-use Rattle.yaml_block.specs.{declared.frame.Next.Next, declared.reader.Reader.Reader}
-use Rattle.yaml_block.specs.Frames.{AfterPair, AtLine, waits_of, indent_of}
-use Rattle.yaml_block.specs.States.{Holds, GoesOn, Keeps, Onward}
-use Rattle.yaml_block.specs.declared.frame.Waits.TheVariants.{Item, Key}
+use Rattle.yaml_block.specs.{Prelude.{Read, Indented, BlockFrame, Event}, declared.frame.{Collection.Collection, Next.Next}}
+use Rattle.yaml_block.specs.declared.{frame.Waits.TheVariants.{Item, Key}, next_line.NextLine.NextLine, reader.Reader.Reader}
+use Rattle.yaml_block.specs.{Frames.{AfterPair, AtLine, waits_of, indent_of}, States.{Holds, GoesOn, Keeps, Onward}}
 use Rattle.yaml_grammar.specs.Events as grammar
 
 -- what is read of a collection whose frame is not on the stack any more

@@ -1,15 +1,13 @@
 -- The lines of a scalar, with the empty lines before them, and its whole body.
 use Rattle.std.proofs.Common.{◌≡◌, ℕ, Bool, true, false, List, [], ◌∷◌, ◌++◌, Option, Some, None, refl, ap, sym, ◌∙◌, subst, arith, length}
-use Rattle.std.proofs.Common.{drop}
-use Rattle.std.specs.Prelude.{◌&&◌, ◌==◌, slice_range}
+use Rattle.std.{proofs.Common.drop, specs.Prelude.{◌&&◌, ◌==◌, slice_range}}
 use Rattle.yaml_block_scalars.proofs.Prelude.{IsUtf8, chars, and_right, false≢true, chars-nil, between, rest, between-append, Chomping}
 use Rattle.yaml_block_scalars.proofs.Prelude.{strip, clip, keep, BlockEmptyLine, TextLine, block_value, trailing_line_feeds, goes_on}
 use Rattle.yaml_block_scalars.proofs.Prelude.{value_without_lines, text_value, Body, line_feeds, begins, is_empty, body_found, body_is}
 use Rattle.yaml_block_scalars.proofs.Prelude.{no_body, lines_step, on_parts, some_parts, body_at, find_indent, empties_at, lines_at}
-use Rattle.yaml_block_scalars.proofs.Prelude.{read_body, read_text_line, BodyStands, IsBody, NoBody, Read, on}
-use Rattle.yaml_block_scalars.specs.{declared.line.Line.Line, Found.AreLines, Found.ArePiece, Pieces.is_one_piece, Pieces.text_after}
+use Rattle.yaml_block_scalars.proofs.{Prelude.{read_body, read_text_line, BodyStands, IsBody, NoBody, Read, on}, Values.chars_feeds}
+use Rattle.yaml_block_scalars.specs.{declared.line.Line.Line, Found.{AreLines, ArePiece}, Pieces.{is_one_piece, text_after}}
 use Rattle.yaml_block_scalars.specs.Lines.{AreEmpties, ArePushed, IsLine, IsNoPiece, IsPastEmpties, IsPiece, value_from}
-use Rattle.yaml_block_scalars.proofs.Values.{chars_feeds}
 
 -- ---- one piece
 

@@ -1,12 +1,10 @@
 -- Lines of spaces, by the places where they end.
 use Rattle.std.proofs.Common.{◌≡◌, ℕ, suc, ◌+◌, ◌-◌, ◌<◌, ◌≤◌, Bool, true, false, List, [], ◌∷◌, None, refl, ap, sym, ◌∙◌, subst, arith}
-use Rattle.std.proofs.Common.{length}
-use Rattle.std.specs.Prelude.{max, is_some}
+use Rattle.std.{proofs.Common.length, specs.Prelude.{max, is_some}}
 use Rattle.yaml_block_scalars.proofs.Prelude.{IsUtf8, IsCharBoundary, and_left, and_right, le-leb, lt-leb, line_break, rest, BlockEmptyLine}
 use Rattle.yaml_block_scalars.proofs.Prelude.{spaces_before, widest, first, empties_step, empties_stop, empties_of_sound, at_most}
-use Rattle.yaml_block_scalars.proofs.Prelude.{all_empties, empties_at, empties_of, read_break, AreSpaces, IsBreak}
-use Rattle.yaml_recognizers.proofs.Basics.Breaks.{break_some}
-use Rattle.yaml_block_scalars.specs.Lines.{AreEmpties, AreLeading, IsPastEmpties}
+use Rattle.yaml_block_scalars.{proofs.Prelude.{all_empties, empties_at, empties_of, read_break, AreSpaces, IsBreak}, specs.Lines.AreEmpties}
+use Rattle.{yaml_block_scalars.specs.Lines.{AreLeading, IsPastEmpties}, yaml_recognizers.proofs.Basics.Breaks.break_some}
 
 -- ---- one of them
 

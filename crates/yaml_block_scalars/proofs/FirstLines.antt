@@ -1,14 +1,11 @@
 -- The first line of a block scalar, by what is at its places.
 use Rattle.std.proofs.Common.{◌≡◌, ℕ, ◌+◌, ◌-◌, ◌<◌, ◌≤◌, ◌⊎◌, Bool, true, false, List, [], ◌∷◌, Option, Some, None, refl, ap, sym, ◌∙◌}
-use Rattle.std.proofs.Common.{arith, length, inl, inr, get_or}
-use Rattle.std.specs.Prelude.{◌||◌, ◌==◌, cond, IfNone, IfSome}
+use Rattle.std.{proofs.Common.{arith, length, inl, inr, get_or}, specs.{Prelude.{◌||◌, ◌==◌, cond, IfNone, IfSome}, Char.len_utf8}}
 use Rattle.yaml_block_scalars.proofs.Prelude.{IsUtf8, IsCharBoundary, and_from, cond-true, cond-false, le-leb, false≢true, nat_tests}
 use Rattle.yaml_block_scalars.proofs.Prelude.{in_range, rest, char_at, rest-end, IsBlind, Chomping, strip, clip, keep, Header, LineEnd}
 use Rattle.yaml_block_scalars.proofs.Prelude.{first, header_is, no_header, IsHeader, NoHeader, read_digit, read_mark, after_digit}
 use Rattle.yaml_block_scalars.proofs.Prelude.{read_header, read_header_end, read_line_end, Read, on, IsLineEnd, ascii_prefix, first_at_end}
-use Rattle.yaml_block_scalars.proofs.Prelude.{first_there}
-use Rattle.std.specs.Char.{len_utf8}
-use Rattle.yaml_block_scalars.specs.HeaderPlaces.{AreSigns, IsDigit, IsHeaderEnd, IsMark}
+use Rattle.yaml_block_scalars.{proofs.Prelude.first_there, specs.HeaderPlaces.{AreSigns, IsDigit, IsHeaderEnd, IsMark}}
 
 -- ---- the digit
 

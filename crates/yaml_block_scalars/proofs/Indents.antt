@@ -1,6 +1,6 @@
 -- The indentation that lines set, by the places of the lines of spaces and of the first other line.
-use Rattle.std.proofs.Common.{◌≡◌, ℕ, ◌-◌, ◌<◌, ◌≤◌, true, false, List, Option, Some, None, ap, ◌∙◌, arith, length}
-use Rattle.std.specs.Prelude.{◌&&◌, ◌||◌, max, not, nat_le, nat_lt, if◌then◌else◌}
+use Rattle.std.{proofs.Common.{◌≡◌, ℕ, ◌-◌, ◌<◌, ◌≤◌, true, false, List, Option, Some, None, ap, ◌∙◌, arith, length}, specs.Prelude.◌&&◌}
+use Rattle.std.specs.Prelude.{◌||◌, max, not, nat_le, nat_lt, if◌then◌else◌}
 use Rattle.yaml_block_scalars.proofs.Prelude.{IsUtf8, and_from, and_left, and_right, cond-true, cond-false, le-leb, le-ltb, lt-leb, lt-ltb}
 use Rattle.yaml_block_scalars.proofs.Prelude.{or_from, or_left, or_right, nb, rest, char_at, rest-end, last_spaces, past_spaces, sets_none}
 use Rattle.yaml_block_scalars.proofs.Prelude.{spaces_before, first, is_empty, marker, all_empties, find_indent, AreSpaces, IsNb}

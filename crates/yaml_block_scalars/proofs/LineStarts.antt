@@ -1,14 +1,13 @@
 -- A line starts after a header, and after the body of a scalar, or the text ends there.
-use Rattle.std.proofs.Common.{◌≡◌, refl, sym, ◌∙◌, ap, arith, inl, inr}
-use Rattle.std.specs.Prelude.{ℕ, ◌≤◌, Bool, true, false, ◌⊎◌, ◌==◌, List, [], ◌∷◌, ◌++◌, Option, Some, None}
+use Rattle.std.{proofs.Common.{◌≡◌, refl, sym, ◌∙◌, ap, arith, inl, inr}, specs.Prelude.{ℕ, ◌≤◌, Bool, true, false, ◌⊎◌, ◌==◌, List, []}}
+use Rattle.std.specs.Prelude.{◌∷◌, ◌++◌, Option, Some, None}
 use Rattle.yaml_block_scalars.proofs.Prelude.{IsUtf8, IsCharBoundary, and_parts, cond_both, false≢true, append_cancel_right}
 use Rattle.yaml_block_scalars.proofs.Prelude.{IsCharBoundary-start, line_break, rest, between, between-append, rest-between, line_starts}
 use Rattle.yaml_block_scalars.proofs.Prelude.{without_mark, Body, BlockEmptyLine, TextLine, body_text, block_empty_text, block_empties_text}
 use Rattle.yaml_block_scalars.proofs.Prelude.{text_line_fits, text_line_text, text_lines_fit, text_lines_text, Break, break_text, cr, cr_lf}
 use Rattle.yaml_block_scalars.proofs.Prelude.{lf, stop_fits, is_empty, optional, spaces, starts_line, BodyStands, IsLineStart}
+use Rattle.yaml_block_scalars.specs.{declared.parts.Header.Header as ScannedHeader, Found.IsBodyAt}
 use Rattle.yaml_recognizers.proofs.Basics.LineStarts.{starts_joined}
-use Rattle.yaml_block_scalars.specs.declared.parts.Header.{Header as ScannedHeader}
-use Rattle.yaml_block_scalars.specs.Found.{IsBodyAt}
 
 -- ---- texts: a line starts after xs, or nothing comes after it
 

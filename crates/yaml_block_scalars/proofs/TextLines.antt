@@ -1,18 +1,15 @@
 -- Text lines, by the places where they start and end.
 use Rattle.std.proofs.Common.{◌≡◌, ℕ, ◌+◌, ◌-◌, ◌<◌, ◌≤◌, true, false, List, [], ◌∷◌, Option, Some, ◌++◌, refl, ap, sym, ◌∙◌, append_assoc}
-use Rattle.std.proofs.Common.{arith, inl, inr}
-use Rattle.std.specs.Prelude.{◌&&◌, ◌==◌, not, nat_lt}
+use Rattle.std.{proofs.Common.{arith, inl, inr}, specs.Prelude.{◌&&◌, ◌==◌, not, nat_lt}}
 use Rattle.yaml_block_scalars.proofs.Prelude.{IsUtf8, IsCharBoundary, and_from, and_left, and_right, cases_Bool, cases_lt, cond-true}
 use Rattle.yaml_block_scalars.proofs.Prelude.{cond-false, eq-eqb, false≢true, le-ltb, lt-ltb, ne_eqb, or_from, or_left, or_right, nb, white}
 use Rattle.yaml_block_scalars.proofs.Prelude.{between, rest, between-nil, TextLine, block_empties_text, goes_on, past_spaces, spaces_before}
 use Rattle.yaml_block_scalars.proofs.Prelude.{Break, break_text, first, marker, no_marker, optional, lines_step, empties_of_sound, sound_is}
 use Rattle.yaml_block_scalars.proofs.Prelude.{at_most, goes_on_text, empties_at, lines_at, read_text_line, read_stop, Read, on, AreSpaces}
-use Rattle.yaml_block_scalars.proofs.Prelude.{AreTaken, IsStop, spaces_dropped_at}
-use Rattle.yaml_chars.proofs.Classes.{white_is_nb}
-use Rattle.yaml_recognizers.proofs.Separation.CommentsSound.{StopOf, stop_sound}
+use Rattle.yaml_block_scalars.proofs.{Prelude.{AreTaken, IsStop, spaces_dropped_at}, EmptyLines.empties_past}
+use Rattle.yaml_block_scalars.specs.{declared.line.Line.Line, Lines.{AreEmpties, IsLine, IsPastEmpties, IsTextStart}}
+use Rattle.{yaml_chars.proofs.Classes.white_is_nb, yaml_recognizers.proofs.Separation.CommentsSound.{StopOf, stop_sound}}
 use Rattle.yaml_recognizers.specs.Prefixes.{drop_while, take_while}
-use Rattle.yaml_block_scalars.specs.{declared.line.Line.Line, Lines.AreEmpties, Lines.IsLine, Lines.IsPastEmpties, Lines.IsTextStart}
-use Rattle.yaml_block_scalars.proofs.EmptyLines.{empties_past}
 
 -- ---- where a line goes on
 

@@ -1,12 +1,10 @@
 -- The value of lines, a line at a time.
 use Rattle.std.proofs.Common.{◌≡◌, ℕ, zero, suc, ◌≤◌, Bool, List, [], ◌∷◌, ◌++◌, Some, None, refl, ap, sym, ◌∙◌, arith, length}
-use Rattle.std.proofs.Common.{append_assoc, slice_range}
-use Rattle.std.specs.Prelude.{◌||◌, not}
+use Rattle.std.{proofs.Common.{append_assoc, slice_range}, specs.Prelude.{◌||◌, not}}
 use Rattle.yaml_block_scalars.proofs.Prelude.{IsAscii, IsUtf8, chars, cond_both, chars-append, chars-IsAscii, white, between, rest}
 use Rattle.yaml_block_scalars.proofs.Prelude.{Chomping, TextLine, between_lines, trailing_line_feeds, text_value, folded_break, line_feeds}
-use Rattle.yaml_block_scalars.proofs.Prelude.{first, lines_at, Read, on}
-use Rattle.yaml_block_scalars.specs.declared.line.Line.{Line}
-use Rattle.yaml_block_scalars.specs.Lines.{ArePushed, Describes, IsLine, IsPlaced, value_from}
+use Rattle.yaml_block_scalars.{proofs.Prelude.{first, lines_at, Read, on}, specs.{declared.line.Line.Line, Lines.{ArePushed, Describes}}}
+use Rattle.yaml_block_scalars.specs.Lines.{IsLine, IsPlaced, value_from}
 
 -- ---- line feeds
 

@@ -1,8 +1,8 @@
 -- What the scanner finds at a place.
 use Rattle.std.specs.Prelude.{◌≡◌, ℕ, ◌≤◌, Bool, true, List, Some}
-use Rattle.yaml_block_scalars.specs.Prelude.{IsCharBoundary, chars, rest, Body, BlockEmptyLine, TextLine, block_value}
-use Rattle.yaml_block_scalars.specs.Prelude.{empties_at, lines_at, IsHeader, IsBody, BodyStands, on}
-use Rattle.yaml_block_scalars.specs.{Meant.chomping_of, Pieces.is_one_piece, declared.parts.Header.Header}
+use Rattle.yaml_block_scalars.specs.Prelude.{IsCharBoundary, chars, rest, Body, BlockEmptyLine, TextLine, block_value, empties_at, lines_at}
+use Rattle.yaml_block_scalars.specs.{Prelude.{IsHeader, IsBody, BodyStands, on}, Meant.chomping_of, Pieces.is_one_piece}
+use Rattle.yaml_block_scalars.specs.declared.parts.Header.{Header}
 use Rattle.yaml_grammar.specs.BlockScalars as grammar
 
 -- the header at a place, up to a later one

@@ -1,11 +1,9 @@
 -- The lines of a block scalar at places of a text, in terms of the recognizers.
-use Rattle.std.specs.Prelude.{◌≡◌, ℕ, ◌+◌, ◌<◌, ◌≤◌, Bool, true, false, ◌&&◌, nat_le, List, [], ◌∷◌, ◌++◌, length, drop}
-use Rattle.std.specs.Prelude.{Some, is_some}
-use Rattle.yaml_block_scalars.specs.Prelude.{IsCharBoundary, chars, rest, between, Chomping, BlockEmptyLine, TextLine}
-use Rattle.yaml_block_scalars.specs.Prelude.{trailing_line_feeds, goes_on, spaces_before, past_spaces, text_value}
-use Rattle.yaml_block_scalars.specs.Prelude.{widest, line_feeds, first, all_empties, empties_at, lines_at, Read, on}
+use Rattle.std.specs.Prelude.{◌≡◌, ℕ, ◌+◌, ◌<◌, ◌≤◌, Bool, true, false, ◌&&◌, nat_le, List, [], ◌∷◌, ◌++◌, length, drop, Some, is_some}
+use Rattle.yaml_block_scalars.specs.Prelude.{IsCharBoundary, chars, rest, between, Chomping, BlockEmptyLine, TextLine, trailing_line_feeds}
+use Rattle.yaml_block_scalars.specs.Prelude.{goes_on, spaces_before, past_spaces, text_value, widest, line_feeds, first, all_empties}
+use Rattle.yaml_block_scalars.specs.{Prelude.{empties_at, lines_at, Read, on}, Pieces.{is_one_piece, text_after}, declared.line.Line.Line}
 use Rattle.yaml_chars.specs.Classes.{white, line_break}
-use Rattle.yaml_block_scalars.specs.{Pieces.is_one_piece, Pieces.text_after, declared.line.Line.Line}
 
 -- no empty line of the indentation q is at the start
 abbrev pub IsPastEmpties : ℕ → List ℕ → Type 0

@@ -1,7 +1,6 @@
 -- What the types of src/ mean in the grammar.
 use Rattle.std.specs.Prelude.{ℕ, ◌+◌, ℤ, pos, negsuc, Bool, true, false}
-use Rattle.yaml_block_scalars.specs.{declared.parts.Chomping.Chomping, declared.scalar.Form.Form}
-use Rattle.yaml_block_scalars.specs.declared.parts.Chomping.TheVariants.{Strip, Clip, Keep}
+use Rattle.yaml_block_scalars.specs.declared.{parts.Chomping.{Chomping, TheVariants.{Strip, Clip, Keep}}, scalar.Form.Form}
 use Rattle.yaml_block_scalars.specs.declared.scalar.Form.TheVariants.{Literal, Folded}
 use Rattle.yaml_grammar.specs.BlockScalars as grammar
 

@@ -1,8 +1,7 @@
 -- Values that the text has in one piece.
 use Rattle.std.specs.Prelude.{Bool, false, ◌&&◌, List, [], ◌∷◌, ◌++◌, ℕ, length}
-use Rattle.yaml_block_scalars.specs.Prelude.{Chomping, BlockEmptyLine, TextLine, value_without_lines}
-use Rattle.yaml_block_scalars.specs.Prelude.{trailing_line_feeds, block_empties_text, break_text, begins, is_empty}
-use Rattle.yaml_block_scalars.specs.Prelude.{optional}
+use Rattle.yaml_block_scalars.specs.Prelude.{Chomping, BlockEmptyLine, TextLine, value_without_lines, trailing_line_feeds}
+use Rattle.yaml_block_scalars.specs.Prelude.{block_empties_text, break_text, begins, is_empty, optional}
 
 -- what comes after the text of a text line, up to the next text line
 abbrev pub text_after : TextLine → List ℕ

@@ -1,17 +1,11 @@
 -- A break in the bytes of a text is one in its characters.
-use Rattle.std.proofs.Common.{◌≡◌, ℕ, ◌+◌, ◌-◌, ◌<◌, ◌≤◌, true, List, ◌∷◌, Some, None, ap, sym, ◌∙◌, subst}
-use Rattle.std.proofs.Common.{arith, length, inl, inr, get_or, take, drop, drop-drop, length-drop, slice_range}
-use Rattle.std.proofs.Common.{slice_index, slice_get}
-use Rattle.std.specs.Str.{IsUtf8, IsCharBoundary, chars}
-use Rattle.std.proofs.lemmas.Bool.{cases_lt, not_from_false, false_from_ne_true}
-use Rattle.std.proofs.lemmas.List.{get_or_default, get_or-take, get_or-drop, length-take, take_rest}
-use Rattle.std.proofs.lemmas.Option.{slice_get-get_or}
-use Rattle.std.proofs.lemmas.Str.{IsUtf8-drop, IsUtf8-between, IsCharBoundary-before_ascii, IsCharBoundary-after_ascii}
-use Rattle.yaml_chars.specs.Classes.{line_break}
-use Rattle.yaml_chars.specs.Places.{rest}
-use Rattle.yaml_chars.specs.Breaks.{StartsWithBreak, cr_lf, lf, cr, no_break, NoBreak, IsNextBreak, EndsLine}
-use Rattle.yaml_chars.proofs.Places.{rest-ascii, rest-end, char_at}
-use Rattle.yaml_chars.proofs.Runs.{blind-no_break, AllPass-chars}
+use Rattle.std.proofs.Common.{◌≡◌, ℕ, ◌+◌, ◌-◌, ◌<◌, ◌≤◌, true, List, ◌∷◌, Some, None, ap, sym, ◌∙◌, subst, arith, length, inl, inr, get_or}
+use Rattle.std.proofs.{Common.{take, drop, drop-drop, length-drop, slice_range, slice_index, slice_get}, lemmas.Bool.cases_lt}
+use Rattle.std.proofs.lemmas.{Bool.{not_from_false, false_from_ne_true}, List.{get_or_default, get_or-take, get_or-drop, length-take}}
+use Rattle.std.proofs.lemmas.{List.take_rest, Option.slice_get-get_or, Str.{IsUtf8-drop, IsUtf8-between, IsCharBoundary-before_ascii}}
+use Rattle.std.{proofs.lemmas.Str.IsCharBoundary-after_ascii, specs.Str.{IsUtf8, IsCharBoundary, chars}}
+use Rattle.yaml_chars.specs.{Classes.line_break, Places.rest, Breaks.{StartsWithBreak, cr_lf, lf, cr, no_break, NoBreak, IsNextBreak}}
+use Rattle.yaml_chars.{specs.Breaks.EndsLine, proofs.{Places.{rest-ascii, rest-end, char_at}, Runs.{blind-no_break, AllPass-chars}}}
 
 -- ---- no break
 

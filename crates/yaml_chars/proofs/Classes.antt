@@ -1,6 +1,5 @@
 -- What a class of characters says of another: which hold each other's members, and which share none.
-use Rattle.std.proofs.Common.{◌≡◌, ℕ, true, false, arith}
-use Rattle.std.proofs.lemmas.Bool.Decides.{nat_tests}
+use Rattle.std.proofs.{Common.{◌≡◌, ℕ, true, false, arith}, lemmas.Bool.Decides.nat_tests}
 use Rattle.yaml_chars.specs.Classes.{line_break, nb, white}
 
 -- ---- members that are bytes of their own in UTF-8

@@ -1,20 +1,14 @@
 -- Places in a text, the characters from there on, and how they change from place to place.
-use Rattle.std.proofs.Common.{◌≡◌, ℕ, ◌+◌, ◌-◌, ◌<◌, ◌≤◌, true, List, [], ◌∷◌, ◌++◌, refl, ap, sym, ◌∙◌, arith}
-use Rattle.std.proofs.Common.{length, inl, inr, get_or, take, drop, drop-drop, take-append-drop, length-drop}
-use Rattle.std.proofs.Common.{length-append, append_assoc, slice_range}
+use Rattle.std.proofs.Common.{◌≡◌, ℕ, ◌+◌, ◌-◌, ◌<◌, ◌≤◌, true, List, [], ◌∷◌, ◌++◌, refl, ap, sym, ◌∙◌, arith, length, inl, inr, get_or}
+use Rattle.std.proofs.Common.{take, drop, drop-drop, take-append-drop, length-drop, length-append, append_assoc, slice_range}
 use lib.Utf8.{encodes, encode, scalar, scalars, scalar_cases}
-use Rattle.std.specs.Char.{len_utf8}
-use Rattle.std.specs.List.{list_all}
-use Rattle.std.specs.Str.{IsUtf8, IsCharBoundary, chars}
-use Rattle.std.proofs.lemmas.Bool.{cases_lt, and_parts, and_from, le-leb, or_left, or_right}
-use Rattle.std.proofs.lemmas.List.{drop_more, drop_all, drop_at, take_at, get_or-drop, append_cancel_right}
-use Rattle.std.proofs.lemmas.Str.{chars-nil, chars-encodes, encodes-chars, encodes-append, scalars-chars}
-use Rattle.std.proofs.lemmas.Str.{chars-append, chars_past_char, cons_from_encodes, drop_past_char, IsUtf8-drop}
-use Rattle.std.proofs.lemmas.Str.{IsUtf8-between, encode_ascii, length-encode, len_utf8_bounds, byte_from_char}
-use Rattle.std.proofs.lemmas.Str.{char_from_byte, IsCharBoundary-before_ascii, IsCharBoundary-after_ascii}
-use Rattle.std.proofs.lemmas.Str.{IsCharBoundary-at_seam, IsCharBoundary-from_rest, IsCharBoundary-past_char}
-use Rattle.yaml_chars.specs.Classes.{code_point}
-use Rattle.yaml_chars.specs.Places.{rest, between}
+use Rattle.std.{specs.{Char.len_utf8, List.list_all, Str.{IsUtf8, IsCharBoundary, chars}}, proofs.lemmas.Bool.{cases_lt, and_parts}}
+use Rattle.std.proofs.lemmas.{Bool.{and_from, le-leb, or_left, or_right}, List.{drop_more, drop_all, drop_at, take_at, get_or-drop}}
+use Rattle.std.proofs.lemmas.{List.append_cancel_right, Str.{chars-nil, chars-encodes, encodes-chars, encodes-append, scalars-chars}}
+use Rattle.std.proofs.lemmas.Str.{chars-append, chars_past_char, cons_from_encodes, drop_past_char, IsUtf8-drop, IsUtf8-between}
+use Rattle.std.proofs.lemmas.Str.{encode_ascii, length-encode, len_utf8_bounds, byte_from_char, char_from_byte, IsCharBoundary-before_ascii}
+use Rattle.std.proofs.lemmas.Str.{IsCharBoundary-after_ascii, IsCharBoundary-at_seam, IsCharBoundary-from_rest, IsCharBoundary-past_char}
+use Rattle.yaml_chars.specs.{Classes.code_point, Places.{rest, between}}
 
 -- ---- the characters from a place on
 

@@ -3,20 +3,13 @@ use Rattle.std.proofs.Common.{◌≡◌, ℕ, zero, suc, ◌+◌, ◌-◌, ◌<�
 use Rattle.std.proofs.Common.{◌∷◌, ◌++◌, refl, ap, sym, ◌∙◌, subst, arith, length, inl, inr, get_or, drop}
 use Rattle.std.proofs.Common.{length-append, length-drop, append-nil, slice_range, slice_index, ltb, ltb-true}
 use lib.Utf8.{encodes, encode, scalar, scalars, scalar_cases}
-use Rattle.std.specs.Char.{len_utf8}
-use Rattle.std.specs.List.{AllPass, list_all}
-use Rattle.std.specs.Str.{IsUtf8, IsCharBoundary, chars}
-use Rattle.std.proofs.lemmas.Bool.{cases_lt, cases_Bool, and_parts, and_from, cond_both, false≢true}
-use Rattle.std.proofs.lemmas.Bool.Decides.{nat_tests}
-use Rattle.std.proofs.lemmas.List.{get_or-append-add, get_or-take, get_or-drop, get_or_past, length-take}
-use Rattle.std.proofs.lemmas.List.Sums.{AllPass-from_list_all}
-use Rattle.std.proofs.lemmas.Str.{chars-encodes, encodes-chars, scalars-chars, IsUtf8-between, encode_ascii}
-use Rattle.std.proofs.lemmas.Str.{byte_from_char, char_from_byte, length-encode, len_utf8_bounds}
-use Rattle.std.proofs.lemmas.Str.{IsCharBoundary-before_ascii, IsCharBoundary-after_ascii, IsCharBoundary-end}
-use Rattle.yaml_chars.specs.Classes.{line_break, white, space}
-use Rattle.yaml_chars.specs.Breaks.{no_break}
-use Rattle.yaml_chars.specs.Places.{rest, between, IsRun}
-use Rattle.yaml_chars.proofs.Places.{IsCharAt, char_at, rest-end}
+use Rattle.std.{specs.{Char.len_utf8, List.{AllPass, list_all}, Str.{IsUtf8, IsCharBoundary, chars}}, proofs.lemmas.Bool.cases_lt}
+use Rattle.std.proofs.lemmas.{Bool.{cases_Bool, and_parts, and_from, cond_both, false≢true, Decides.nat_tests}, List.get_or-append-add}
+use Rattle.std.proofs.lemmas.{List.{get_or-take, get_or-drop, get_or_past, length-take, Sums.AllPass-from_list_all}, Str.chars-encodes}
+use Rattle.std.proofs.lemmas.Str.{encodes-chars, scalars-chars, IsUtf8-between, encode_ascii, byte_from_char, char_from_byte, length-encode}
+use Rattle.std.proofs.lemmas.Str.{len_utf8_bounds, IsCharBoundary-before_ascii, IsCharBoundary-after_ascii, IsCharBoundary-end}
+use Rattle.yaml_chars.{specs.{Classes.{line_break, white, space}, Breaks.no_break, Places.{rest, between, IsRun}}, proofs.Places.IsCharAt}
+use Rattle.yaml_chars.proofs.Places.{char_at, rest-end}
 
 -- the test answers alike at all characters from 128 on
 abbrev pub IsBlind : (ℕ → Bool) → Type 0

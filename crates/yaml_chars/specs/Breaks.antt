@@ -1,11 +1,8 @@
 -- Line breaks (YAML 1.2.2, 5.4). LF and CR are single bytes in UTF-8, so the definitions on lists hold for bytes and
 -- for characters.
-use Rattle.std.specs.Prelude.{◌≡◌, ◌≢◌, ℕ, ◌+◌, ◌≤◌, Bool, not, List, ◌∷◌, Some, drop, slice_get, slice_range}
-use Rattle.std.specs.List.{AllPass}
+use Rattle.std.specs.{Prelude.{◌≡◌, ◌≢◌, ℕ, ◌+◌, ◌≤◌, Bool, not, List, ◌∷◌, Some, drop, slice_get, slice_range}, List.AllPass}
 use Rattle.std.specs.Str.{IsCharBoundary}
-use Rattle.yaml_chars.specs.Signs.{line_feed, carriage_return}
-use Rattle.yaml_chars.specs.Classes.{line_break}
-use Rattle.yaml_chars.specs.Places.{rest, between}
+use Rattle.yaml_chars.specs.{Signs.{line_feed, carriage_return}, Classes.line_break, Places.{rest, between}}
 
 -- [28] b-break: the list starts with a break of `len` elements, and the other elements come after it
 pub data StartsWithBreak (text : List ℕ) (len : ℕ) (after : List ℕ) : Type 0 where

@@ -1,7 +1,6 @@
 -- Places in a text, which count bytes from 0, and the characters there.
-use Rattle.std.specs.Prelude.{◌≡◌, ℕ, ◌<◌, ◌≤◌, Bool, false, List, length, drop, slice_range, slice_index}
-use Rattle.std.specs.List.{AllPass}
-use Rattle.std.specs.Str.{chars, IsCharBoundary}
+use Rattle.std.specs.{Prelude.{◌≡◌, ℕ, ◌<◌, ◌≤◌, Bool, false, List, length, drop, slice_range, slice_index}, List.AllPass, Str.chars}
+use Rattle.std.specs.Str.{IsCharBoundary}
 
 -- the characters of a text from a place on
 abbrev pub rest : List ℕ → ℕ → List ℕ

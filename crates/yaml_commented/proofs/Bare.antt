@@ -1,16 +1,12 @@
 -- Without comments and empty lines the text of a tree is that of the one style.
-use Rattle.std.proofs.Common.{◌≡◌, refl, ap}
-use Rattle.std.specs.Prelude.{ℕ, ◌+◌, Bool, true, false, cond, List, [], ◌∷◌, ◌++◌, codes}
-use Rattle.std.proofs.lemmas.Bool.{cond_both}
-use Rattle.std.proofs.lemmas.List.{append-nil}
-use Rattle.std.specs.List.{AllByRecursion}
+use Rattle.std.{proofs.{Common.{◌≡◌, refl, ap}, lemmas.{Bool.cond_both, List.append-nil}}, specs.Prelude.{ℕ, ◌+◌, Bool, true, false, cond}}
+use Rattle.std.specs.{Prelude.{List, [], ◌∷◌, ◌++◌, codes}, List.AllByRecursion}
 use Rattle.yaml_grammar.specs.Trees.{Tree, text, sequence, mapping, Elements, no_element, element, Members, no_member, member}
 use Rattle.yaml_grammar.specs.Style.{plain_in_style, literal_in_style, in_double_quotes, literal_mark, literal_lines, feeds_at_end}
 use Rattle.yaml_grammar.specs.Style.{long_key, key_lines, scalar_lines, elements_after, lines_after_dash, members_after, value_at}
-use Rattle.yaml_commented.specs.Trails.{Trail, no_trail, IsBare}
-use Rattle.yaml_commented.specs.Commented.{next_trail, later_trails, after_key, after_tree, after_value, after_elements, after_members}
-use Rattle.yaml_commented.specs.Commented.{scalar_with, key_with, element_with, value_with, elements_with, members_with}
-use Rattle.yaml_commented.specs.CommentedLaws.{BareIsStyle}
+use Rattle.yaml_commented.specs.{Trails.{Trail, no_trail, IsBare}, Commented.{next_trail, later_trails, after_key, after_tree, after_value}}
+use Rattle.yaml_commented.specs.Commented.{after_elements, after_members, scalar_with, key_with, element_with, value_with, elements_with}
+use Rattle.yaml_commented.specs.{Commented.members_with, CommentedLaws.BareIsStyle}
 
 -- each of the trails is bare
 abbrev Bare : List Trail → Type 0

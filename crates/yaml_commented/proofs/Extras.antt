@@ -1,21 +1,14 @@
 -- The lines of comments that are behind a line, or before a tree: what they spell, and that they fit.
-use Rattle.std.proofs.Common.{◌≡◌, refl, ap, arith, ◌≤◌, append_assoc}
-use Rattle.std.specs.Prelude.{ℕ, zero, suc, ◌+◌, true, false, not, List, [], ◌∷◌, ◌++◌, Option, Some, None, length}
-use Rattle.std.proofs.lemmas.Bool.{and_parts, and_from, lt-ltb, leb-true}
-use Rattle.std.proofs.lemmas.List.{length-replicate}
-use Rattle.std.specs.List.{list_all}
-use Rattle.yaml_chars.specs.Classes.{space}
-use Rattle.yaml_grammar.specs.Texts.{is_empty, spaces}
-use Rattle.yaml_grammar.specs.Separation.{line_end_text, comment_line_fits, comments_text, comments_fit}
-use Rattle.yaml_grammar.specs.BlockScalars.{block_empties_text, trail_fits}
-use Rattle.yaml_recognizers.proofs.Basics.Prefixes.{every_space}
-use Rattle.yaml_recognizers.proofs.Basics.Spaces.{spaces_added, spaces_past}
-use Rattle.yaml_recognizers.proofs.OneStyle.Presented.{bare_empties}
-use Rattle.yaml_recognizers.proofs.OneStyle.ScalarsFit.{Below}
-use Rattle.yaml_commented.specs.Trails.{Extra, empty_line, comment_line, Trail, end_text, extra_text, extras_text, trail_text}
-use Rattle.yaml_commented.specs.TrailsFit.{behind_fits, extra_fits, starts_low}
-use Rattle.yaml_commented.specs.TrailsFit as fit
+use Rattle.std.proofs.{Common.{◌≡◌, refl, ap, arith, ◌≤◌, append_assoc}, lemmas.Bool.{and_parts, and_from, lt-ltb, leb-true}}
+use Rattle.std.{proofs.lemmas.List.length-replicate, specs.Prelude.{ℕ, zero, suc, ◌+◌, true, false, not, List, [], ◌∷◌, ◌++◌, Option, Some}}
+use Rattle.std.specs.{Prelude.{None, length}, List.list_all}
+use Rattle.{yaml_chars.specs.Classes.space, yaml_grammar.specs.{Texts.{is_empty, spaces}, Separation.{line_end_text, comment_line_fits}}}
+use Rattle.yaml_grammar.specs.{Separation.{comments_text, comments_fit}, BlockScalars.{block_empties_text, trail_fits}}
+use Rattle.yaml_recognizers.proofs.{Basics.{Prefixes.every_space, Spaces.{spaces_added, spaces_past}}, OneStyle.Presented.bare_empties}
+use Rattle.{yaml_recognizers.proofs.OneStyle.ScalarsFit.Below, yaml_commented.specs.Trails.{Extra, empty_line, comment_line, Trail}}
+use Rattle.yaml_commented.specs.{Trails.{end_text, extra_text, extras_text, trail_text}, TrailsFit.{behind_fits, extra_fits, starts_low}}
 use Rattle.yaml_commented.proofs.Presented.{line_end, extra_line, extra_lines, ends, empties_first, past_empties}
+use Rattle.yaml_commented.specs.TrailsFit as fit
 
 -- ---- what they spell
 

@@ -1,38 +1,24 @@
 -- The presentation of a tree with comments that fit fits.
-use Rattle.std.proofs.Common.{◌≡◌, refl, sym, ◌∙◌, arith, ◌≤◌, append_assoc}
-use Rattle.std.specs.Prelude.{ℕ, suc, ◌+◌, Bool, true, false, cond, not, ◌||◌, ◌==◌, List, [], ◌∷◌, ◌++◌, Option, Some, None, codes, length}
-use Rattle.std.proofs.lemmas.List.{append-nil}
-use Rattle.std.proofs.lemmas.Bool.{and_parts, and_from, or_parts, not-true, le-leb, ltb-false, false≢true}
-use Rattle.std.specs.List.{list_all}
-use Rattle.yaml_chars.specs.Classes.{ns, line_break}
-use Rattle.yaml_grammar.specs.Texts.{IsText, first, spaces, starts_line}
-use Rattle.yaml_grammar.specs.Separation.{Sep, inline, sep_text, sep_fits, line_end_fits, comments_text}
-use Rattle.yaml_grammar.specs.FlowScalars.{FlowContext, outer, block_key, plain, double}
-use Rattle.yaml_grammar.specs.FlowNodes.{scalar, flow_text, flow_fits, short_key}
-use Rattle.yaml_grammar.specs.BlockScalars.{block_text, block_fits, body_text, spaces_before}
-use Rattle.yaml_grammar.specs.BlockNodes.{Node, flow, block, node_text, node_fits, items_text, items_fit, Indented}
-use Rattle.yaml_grammar.specs.BlockNodes.{indented_text, indented_fits, node, Pair, pair_fits, pairs_text}
-use Rattle.yaml_grammar.specs.BlockNodes.{pairs_fit, asked, keyed}
-use Rattle.yaml_grammar.specs.Streams.{fits}
-use Rattle.yaml_grammar.specs.Trees.{Tree, text, sequence, mapping, Elements, no_element, element, Members, no_member}
-use Rattle.yaml_grammar.specs.Trees.{member, IsTextTree, AreTextElements, AreTextMembers}
+use Rattle.std.proofs.{Common.{◌≡◌, refl, sym, ◌∙◌, arith, ◌≤◌, append_assoc}, lemmas.{List.append-nil, Bool.{and_parts, and_from}}}
+use Rattle.std.{proofs.lemmas.Bool.{or_parts, not-true, le-leb, ltb-false, false≢true}, specs.Prelude.{ℕ, suc, ◌+◌, Bool, true, false}}
+use Rattle.std.specs.{Prelude.{cond, not, ◌||◌, ◌==◌, List, [], ◌∷◌, ◌++◌, Option, Some, None, codes, length}, List.list_all}
+use Rattle.{yaml_chars.specs.Classes.{ns, line_break}, yaml_grammar.specs.{Texts.{IsText, first, spaces, starts_line}, Separation.Sep}}
+use Rattle.yaml_grammar.specs.{Separation.{inline, sep_text, sep_fits, line_end_fits, comments_text}, FlowScalars.{FlowContext, outer}}
+use Rattle.yaml_grammar.specs.{FlowScalars.{block_key, plain, double}, FlowNodes.{scalar, flow_text, flow_fits, short_key}}
+use Rattle.yaml_grammar.specs.{BlockScalars.{block_text, block_fits, body_text, spaces_before}, BlockNodes.{Node, flow, block, node_text}}
+use Rattle.yaml_grammar.specs.BlockNodes.{node_fits, items_text, items_fit, Indented, indented_text, indented_fits, node, Pair, pair_fits}
+use Rattle.yaml_grammar.specs.{BlockNodes.{pairs_text, pairs_fit, asked, keyed}, Streams.fits, Trees.{Tree, text, sequence, mapping}}
+use Rattle.yaml_grammar.specs.Trees.{Elements, no_element, element, Members, no_member, member, IsTextTree, AreTextElements, AreTextMembers}
 use Rattle.yaml_grammar.specs.Style.{plain_in_style, literal_in_style, letter, in_double_quotes, key_text, long_key}
-use Rattle.yaml_recognizers.proofs.Basics.Spaces.{spaces_added, spaces_past}
-use Rattle.yaml_recognizers.proofs.OneStyle.Presented.{one_space, items_of_text, word_flow}
-use Rattle.yaml_recognizers.proofs.OneStyle.Spelled.{word_flow_spelled, two_more}
-use Rattle.yaml_recognizers.proofs.OneStyle.Characters.{of_letter}
-use Rattle.yaml_recognizers.proofs.OneStyle.ScalarsFit.{Below, Wide, word_flow_fits}
-use Rattle.yaml_commented.specs.Trails.{Extra, Trail, trail_text}
-use Rattle.yaml_commented.specs.Commented.{next_trail, later_trails, after_key, after_tree, after_value, key_with}
-use Rattle.yaml_commented.specs.Commented.{elements_with, members_with}
-use Rattle.yaml_commented.specs.TrailsFit.{behind_fits, extra_fits, trail_fits, starts_low, literal_trail_fits}
-use Rattle.yaml_commented.specs.TrailsFit.{scalar_trail_fits, key_trail_fits, ElementFits, ValueFits, ElementsFit}
-use Rattle.yaml_commented.specs.TrailsFit.{MembersFit, TreeFits, Fits}
-use Rattle.yaml_commented.proofs.Presented.{line_end, extra_lines, ends, empties_first, past_empties}
-use Rattle.yaml_commented.proofs.Presented.{literal_block, scalar_node, pair_of, element_of, value_of, items_from, pairs_from}
-use Rattle.yaml_commented.proofs.Presented.{top_node, presentation_of}
-use Rattle.yaml_commented.proofs.Extras.{extra_lines_fit, ends_fit, below_trail, trail_fits_there}
-use Rattle.yaml_commented.proofs.Literals.{body_fits_there}
+use Rattle.yaml_recognizers.proofs.{Basics.Spaces.{spaces_added, spaces_past}, OneStyle.Presented.{one_space, items_of_text, word_flow}}
+use Rattle.yaml_recognizers.proofs.OneStyle.{Spelled.{word_flow_spelled, two_more}, Characters.of_letter, ScalarsFit.{Below, Wide}}
+use Rattle.{yaml_recognizers.proofs.OneStyle.ScalarsFit.word_flow_fits, yaml_commented.specs.Trails.{Extra, Trail, trail_text}}
+use Rattle.yaml_commented.specs.Commented.{next_trail, later_trails, after_key, after_tree, after_value, key_with, elements_with}
+use Rattle.yaml_commented.specs.{Commented.members_with, TrailsFit.{behind_fits, extra_fits, trail_fits, starts_low, literal_trail_fits}}
+use Rattle.yaml_commented.specs.TrailsFit.{scalar_trail_fits, key_trail_fits, ElementFits, ValueFits, ElementsFit, MembersFit, TreeFits}
+use Rattle.yaml_commented.{specs.TrailsFit.Fits, proofs.Presented.{line_end, extra_lines, ends, empties_first, past_empties, literal_block}}
+use Rattle.yaml_commented.proofs.Presented.{scalar_node, pair_of, element_of, value_of, items_from, pairs_from, top_node, presentation_of}
+use Rattle.yaml_commented.proofs.{Extras.{extra_lines_fit, ends_fit, below_trail, trail_fits_there}, Literals.body_fits_there}
 use Rattle.yaml_commented.proofs.Spelled.{element_spelled, elements_spelled, members_spelled, pair_spelled}
 
 -- ---- scalars

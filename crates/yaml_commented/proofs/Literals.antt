@@ -1,29 +1,19 @@
 -- A literal with empty lines directly behind it, which belong to its last text line: what it spells, that it fits, and
 -- that its value stays the same.
-use Rattle.std.proofs.Common.{◌≡◌, refl, sym, ap, inl, inr, arith, ◌≤◌, append_assoc}
-use Rattle.std.specs.Prelude.{ℕ, zero, suc, ◌+◌, Bool, true, false, cond, not, ◌&&◌, ◌||◌, ◌==◌, List, [], ◌∷◌, ◌++◌}
-use Rattle.std.specs.Prelude.{Some, None, nat_le, length}
-use Rattle.std.proofs.lemmas.Bool.{and_parts, and_from, cond_both, or_cases, leb-true, le-leb, false≢true}
-use Rattle.std.proofs.lemmas.List.{append-nil}
-use Rattle.std.proofs.lemmas.Grind.{flat_map-append}
-use Rattle.std.specs.List.{list_all}
-use Rattle.yaml_chars.specs.Classes.{nb}
-use Rattle.yaml_grammar.specs.Texts.{IsText, is_empty, spaces, optional}
-use Rattle.yaml_grammar.specs.Separation.{lf, break_text, break_fits}
-use Rattle.yaml_grammar.specs.FlowScalars.{line_feeds}
-use Rattle.yaml_grammar.specs.BlockScalars.{BlockEmptyLine, block_empty_text, block_empties_text, block_empties_fit}
-use Rattle.yaml_grammar.specs.BlockScalars.{TextLine, text_line_text, text_lines_text, text_line_fits, text_lines_fit}
-use Rattle.yaml_grammar.specs.BlockScalars.{strip, clip, keep, block_value, Body, is_detected_indent, body_fits, goes_on}
-use Rattle.yaml_grammar.specs.FlowScalars.{plain, double}
-use Rattle.yaml_grammar.specs.FlowNodes.{scalar}
-use Rattle.yaml_grammar.specs.BlockNodes.{flow, block, node_fits}
-use Rattle.yaml_grammar.specs.Style.{plain_in_style, literal_in_style}
-use Rattle.yaml_recognizers.proofs.OneStyle.Presented.{feed, one_space, items_of_text, bare_empties, lines_in}
-use Rattle.yaml_recognizers.proofs.OneStyle.Presented.{empties_in, chomping_of, literal_block}
+use Rattle.std.proofs.{Common.{◌≡◌, refl, sym, ap, inl, inr, arith, ◌≤◌, append_assoc}, lemmas.Bool.{and_parts, and_from, cond_both}}
+use Rattle.std.{proofs.lemmas.{Bool.{or_cases, leb-true, le-leb, false≢true}, List.append-nil, Grind.flat_map-append}, specs.Prelude.ℕ}
+use Rattle.std.specs.Prelude.{zero, suc, ◌+◌, Bool, true, false, cond, not, ◌&&◌, ◌||◌, ◌==◌, List, [], ◌∷◌, ◌++◌, Some, None, nat_le}
+use Rattle.std.specs.{Prelude.length, List.list_all}
+use Rattle.{yaml_chars.specs.Classes.nb, yaml_grammar.specs.{Texts.{IsText, is_empty, spaces, optional}, Separation.{lf, break_text}}}
+use Rattle.yaml_grammar.specs.{Separation.break_fits, FlowScalars.{line_feeds, plain, double}, BlockScalars.BlockEmptyLine}
+use Rattle.yaml_grammar.specs.BlockScalars.{block_empty_text, block_empties_text, block_empties_fit, TextLine, text_line_text}
+use Rattle.yaml_grammar.specs.BlockScalars.{text_lines_text, text_line_fits, text_lines_fit, strip, clip, keep, block_value, Body}
+use Rattle.yaml_grammar.specs.{BlockScalars.{is_detected_indent, body_fits, goes_on}, FlowNodes.scalar, BlockNodes.{flow, block, node_fits}}
+use Rattle.{yaml_grammar.specs.Style.{plain_in_style, literal_in_style}, yaml_recognizers.proofs.OneStyle.Presented.{feed, one_space}}
+use Rattle.yaml_recognizers.proofs.OneStyle.Presented.{items_of_text, bare_empties, lines_in, empties_in, chomping_of, literal_block}
 use Rattle.yaml_recognizers.proofs.OneStyle.ScalarsFit.{unmarked, no_marker_there, Below, scalar_node_fits}
-use Rattle.yaml_commented.specs.Trails.{Extra, empty_line, comment_line}
-use Rattle.yaml_commented.specs.TrailsFit.{starts_filled}
-use Rattle.yaml_commented.proofs.Presented.{with_empties, empties_first}
+use Rattle.yaml_commented.{specs.{Trails.{Extra, empty_line, comment_line}, TrailsFit.starts_filled}, proofs.Presented.with_empties}
+use Rattle.yaml_commented.proofs.Presented.{empties_first}
 
 -- ---- what it spells
 

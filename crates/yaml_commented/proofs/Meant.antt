@@ -1,36 +1,23 @@
 -- The presentation of a tree with comments means the events of that tree.
-use Rattle.std.proofs.Common.{◌≡◌, refl, sym, ◌∙◌, ap}
-use Rattle.std.specs.Prelude.{ℕ, ◌+◌, Bool, true, false, cond, ◌||◌, nat_le, List, [], ◌∷◌, ◌++◌, take, drop}
-use Rattle.std.proofs.lemmas.List.{append-nil}
-use Rattle.std.proofs.lemmas.Bool.{and_parts}
-use Rattle.yaml_grammar.specs.Texts.{IsText, byte_len}
-use Rattle.yaml_grammar.specs.Separation.{Sep, inline, comments_text}
-use Rattle.yaml_grammar.specs.FlowScalars.{plain, double}
-use Rattle.yaml_grammar.specs.FlowNodes.{scalar, flow_text, flow_events}
-use Rattle.yaml_grammar.specs.BlockNodes.{Node, flow, block, pairs, pair, node_events, items_events, Indented, indented_text}
-use Rattle.yaml_grammar.specs.BlockNodes.{indented_events, node, Pair, pair_text, pair_events, pairs_events, asked}
-use Rattle.yaml_grammar.specs.BlockNodes.{keyed}
-use Rattle.yaml_grammar.specs.Streams.{stream_events}
-use Rattle.yaml_grammar.specs.Events.{Event, as_document, document_end, seq_start, seq_end, map_start, map_end}
-use Rattle.yaml_grammar.specs.Trees.{Tree, text, sequence, mapping, Elements, no_element, element, Members, no_member}
-use Rattle.yaml_grammar.specs.Trees.{member, Shape, scalar_of, seq_to, map_to, seq_from, map_from, shape}
-use Rattle.yaml_grammar.specs.Trees.{document_from, document_to, shapes, tree_shapes, elements_shapes, members_shapes}
-use Rattle.yaml_grammar.specs.Trees.{IsTextTree, AreTextElements, AreTextMembers, IsTreeOf}
-use Rattle.yaml_grammar.specs.Style.{plain_in_style, literal_in_style, long_key, feeds_at_end}
-use Rattle.yaml_recognizers.proofs.OneStyle.Presented.{one_space, items_of_text, word_flow, lines_in, chomping_of}
-use Rattle.yaml_recognizers.proofs.OneStyle.Presented as style
-use Rattle.yaml_recognizers.proofs.OneStyle.Spelled.{two_more}
-use Rattle.yaml_recognizers.proofs.OneStyle.Literals.{literal_meant}
-use Rattle.yaml_recognizers.proofs.OneStyle.Meant.{presentation_meant as style_meant}
-use Rattle.yaml_commented.specs.Trails.{Extra, Trail}
-use Rattle.yaml_commented.specs.Commented.{next_trail, later_trails, after_key, after_tree, after_value}
-use Rattle.yaml_commented.specs.TrailsFit.{scalar_trail_fits, starts_filled, Fits, TreeFits}
-use Rattle.yaml_commented.specs.TrailsFit.{ElementFits, ValueFits, ElementsFit, MembersFit}
-use Rattle.yaml_commented.proofs.Presented.{ends, literal_block, scalar_node, pair_of}
-use Rattle.yaml_commented.proofs.Presented.{element_of, value_of, items_from, pairs_from, top_node, presentation_of, extra_lines}
-use Rattle.yaml_commented.proofs.Scalars.{literal_parts}
-use Rattle.yaml_commented.proofs.Literals.{value_kept}
+use Rattle.std.{proofs.{Common.{◌≡◌, refl, sym, ◌∙◌, ap}, lemmas.{List.append-nil, Bool.and_parts}}, specs.Prelude.{ℕ, ◌+◌, Bool, true}}
+use Rattle.std.specs.Prelude.{false, cond, ◌||◌, nat_le, List, [], ◌∷◌, ◌++◌, take, drop}
+use Rattle.yaml_grammar.specs.{Texts.{IsText, byte_len}, Separation.{Sep, inline, comments_text}, FlowScalars.{plain, double}}
+use Rattle.yaml_grammar.specs.{FlowNodes.{scalar, flow_text, flow_events}, BlockNodes.{Node, flow, block, pairs, pair, node_events}}
+use Rattle.yaml_grammar.specs.BlockNodes.{items_events, Indented, indented_text, indented_events, node, Pair, pair_text, pair_events}
+use Rattle.yaml_grammar.specs.{BlockNodes.{pairs_events, asked, keyed}, Streams.stream_events, Events.{Event, as_document, document_end}}
+use Rattle.yaml_grammar.specs.{Events.{seq_start, seq_end, map_start, map_end}, Trees.{Tree, text, sequence, mapping, Elements, no_element}}
+use Rattle.yaml_grammar.specs.Trees.{element, Members, no_member, member, Shape, scalar_of, seq_to, map_to, seq_from, map_from, shape}
+use Rattle.yaml_grammar.specs.Trees.{document_from, document_to, shapes, tree_shapes, elements_shapes, members_shapes, IsTextTree}
+use Rattle.yaml_grammar.specs.{Trees.{AreTextElements, AreTextMembers, IsTreeOf}, Style.{plain_in_style, literal_in_style, long_key}}
+use Rattle.{yaml_grammar.specs.Style.feeds_at_end, yaml_recognizers.proofs.OneStyle.Presented.{one_space, items_of_text, word_flow}}
+use Rattle.yaml_recognizers.proofs.OneStyle.{Presented.{lines_in, chomping_of}, Spelled.two_more, Literals.literal_meant}
+use Rattle.{yaml_recognizers.proofs.OneStyle.Meant.presentation_meant as style_meant, yaml_commented.specs.Trails.{Extra, Trail}}
+use Rattle.yaml_commented.specs.{Commented.{next_trail, later_trails, after_key, after_tree, after_value}, TrailsFit.scalar_trail_fits}
+use Rattle.yaml_commented.specs.TrailsFit.{starts_filled, Fits, TreeFits, ElementFits, ValueFits, ElementsFit, MembersFit}
+use Rattle.yaml_commented.proofs.Presented.{ends, literal_block, scalar_node, pair_of, element_of, value_of, items_from, pairs_from}
+use Rattle.yaml_commented.proofs.{Presented.{top_node, presentation_of, extra_lines}, Scalars.literal_parts, Literals.value_kept}
 use Rattle.yaml_commented.proofs.Fits.{literal_conditions}
+use Rattle.yaml_recognizers.proofs.OneStyle.Presented as style
 
 -- the shapes of events, joined, are the shapes of each, joined
 shapes_joined : (one other : List Event) → shapes (one ++ other) ≡ shapes one ++ shapes other

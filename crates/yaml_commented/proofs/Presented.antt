@@ -1,19 +1,14 @@
 -- A presentation of each tree with comments: that of the one style, in which the ends of lines have comments.
 use Rattle.std.specs.Prelude.{ℕ, suc, ◌+◌, true, false, List, [], ◌∷◌, ◌++◌, Option, Some, None, if◌then◌else◌}
-use Rattle.yaml_grammar.specs.Texts.{spaces}
-use Rattle.yaml_grammar.specs.Separation.{lf, LineEnd, Sep, inline}
-use Rattle.yaml_grammar.specs.FlowScalars.{plain, double}
-use Rattle.yaml_grammar.specs.FlowNodes.{scalar, seq, map as flow_map, none}
-use Rattle.yaml_grammar.specs.BlockScalars.{TextLine, BlockScalar}
-use Rattle.yaml_grammar.specs.BlockNodes.{Node, block, flow, items, pairs, Items, item, item_and, Pairs, pair}
-use Rattle.yaml_grammar.specs.BlockNodes.{pair_and, Pair, asked, keyed, Indented, compact_items, compact_pairs, node}
-use Rattle.yaml_grammar.specs.Streams.{Stream, bare}
-use Rattle.yaml_grammar.specs.Trees.{Tree, text, sequence, mapping, Elements, no_element, element, Members, no_member, member}
-use Rattle.yaml_grammar.specs.Style.{plain_in_style, literal_in_style, feeds_at_end, long_key}
-use Rattle.yaml_recognizers.proofs.OneStyle.Presented.{feed, one_space, items_of_text, word_flow, bare_empties}
-use Rattle.yaml_recognizers.proofs.OneStyle.Presented.{lines_in, chomping_of}
-use Rattle.yaml_commented.specs.Trails.{Extra, empty_line, comment_line, Trail}
-use Rattle.yaml_commented.specs.Commented.{next_trail, later_trails, after_key, after_tree, after_value}
+use Rattle.yaml_grammar.specs.{Texts.spaces, Separation.{lf, LineEnd, Sep, inline}, FlowScalars.{plain, double}, FlowNodes.{scalar, seq}}
+use Rattle.yaml_grammar.specs.{FlowNodes.{map as flow_map, none}, BlockScalars.{TextLine, BlockScalar}, BlockNodes.{Node, block, flow}}
+use Rattle.yaml_grammar.specs.BlockNodes.{items, pairs, Items, item, item_and, Pairs, pair, pair_and, Pair, asked, keyed, Indented}
+use Rattle.yaml_grammar.specs.{BlockNodes.{compact_items, compact_pairs, node}, Streams.{Stream, bare}, Trees.{Tree, text, sequence}}
+use Rattle.yaml_grammar.specs.{Trees.{mapping, Elements, no_element, element, Members, no_member, member}, Style.plain_in_style}
+use Rattle.{yaml_grammar.specs.Style.{literal_in_style, feeds_at_end, long_key}, yaml_recognizers.proofs.OneStyle.Presented.feed}
+use Rattle.yaml_recognizers.proofs.OneStyle.Presented.{one_space, items_of_text, word_flow, bare_empties, lines_in, chomping_of}
+use Rattle.yaml_commented.specs.{Trails.{Extra, empty_line, comment_line, Trail}, Commented.{next_trail, later_trails, after_key}}
+use Rattle.yaml_commented.specs.Commented.{after_tree, after_value}
 
 -- ---- ends of lines
 

@@ -1,16 +1,9 @@
 -- A tree with comments has a presentation that means the tree; where no text has two meanings its text reads as it.
 use Rattle.std.proofs.Common.{refl, ◌∙◌, ℕ, List}
-use Rattle.yaml_grammar.specs.Reads.{CanRead}
-use Rattle.yaml_grammar.specs.Streams.{stream_events}
-use Rattle.yaml_recognizers.specs.StyleLaws.{CanReadAs}
-use Rattle.yaml_recognizers.proofs.OneStyle.StyleRead.{Unambiguous}
-use Rattle.yaml_commented.specs.Commented.{commented_text}
-use Rattle.yaml_commented.specs.CommentedLaws.{CommentedPresents, CommentedReads}
-use Rattle.yaml_commented.proofs.Presented.{presentation_of}
-use Rattle.yaml_commented.proofs.Spelled.{presentation_spelled}
-use Rattle.yaml_commented.proofs.Fits.{presentation_fits}
-use Rattle.yaml_commented.proofs.Meant.{presentation_meant}
-use Rattle.yaml_commented.proofs.Texts.{commented_is_text}
+use Rattle.{yaml_grammar.specs.{Reads.CanRead, Streams.stream_events}, yaml_recognizers.specs.StyleLaws.CanReadAs}
+use Rattle.{yaml_recognizers.proofs.OneStyle.StyleRead.Unambiguous, yaml_commented.specs.Commented.commented_text}
+use Rattle.yaml_commented.{specs.CommentedLaws.{CommentedPresents, CommentedReads}, proofs.Presented.presentation_of}
+use Rattle.yaml_commented.proofs.{Spelled.presentation_spelled, Fits.presentation_fits, Meant.presentation_meant, Texts.commented_is_text}
 
 -- the text has a presentation that means the tree
 pub commented_presented : CommentedPresents

@@ -1,11 +1,8 @@
 -- A worked tree with comments, by computation.
-use Rattle.std.proofs.Common.{◌≡◌, refl}
-use Rattle.std.specs.Prelude.{◌++◌, true, [], ◌∷◌, Some, None, List, codes}
-use Rattle.yaml_grammar.specs.Streams.{stream_text, fits, stream_events}
-use Rattle.yaml_grammar.specs.Trees.{Tree, text, sequence, mapping, no_element, element, no_member, member, IsTreeOf}
-use Rattle.yaml_commented.specs.Trails.{empty_line, comment_line, Trail}
-use Rattle.yaml_commented.specs.Commented.{commented_text}
-use Rattle.yaml_commented.proofs.Presented.{presentation_of}
+use Rattle.std.{proofs.Common.{◌≡◌, refl}, specs.Prelude.{◌++◌, true, [], ◌∷◌, Some, None, List, codes}}
+use Rattle.yaml_grammar.specs.{Streams.{stream_text, fits, stream_events}, Trees.{Tree, text, sequence, mapping, no_element, element}}
+use Rattle.{yaml_grammar.specs.Trees.{no_member, member, IsTreeOf}, yaml_commented.specs.Trails.{empty_line, comment_line, Trail}}
+use Rattle.yaml_commented.{specs.Commented.commented_text, proofs.Presented.presentation_of}
 
 -- a tree with every form
 abbrev tree : Tree

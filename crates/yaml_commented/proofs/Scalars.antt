@@ -1,21 +1,13 @@
 -- What the presentations of scalars in the one style spell, and which parts of them fit, as the laws of that style have
 -- it.
-use Rattle.std.proofs.Common.{◌≡◌, refl, sym, ◌∙◌, ap}
+use Rattle.std.proofs.{Common.{◌≡◌, refl, sym, ◌∙◌, ap}, lemmas.{Bool.{and_parts, not-true, or_parts, false≢true}, List.append-nil}}
 use Rattle.std.specs.Prelude.{ℕ, zero, suc, ◌+◌, Bool, true, false, cond, not, ◌&&◌, ◌==◌, List, [], ◌∷◌, ◌++◌, codes, drop}
-use Rattle.std.proofs.lemmas.Bool.{and_parts, not-true, or_parts, false≢true}
-use Rattle.std.proofs.lemmas.List.{append-nil}
 use Rattle.std.specs.List.{list_all}
-use Rattle.yaml_chars.specs.Classes.{is_in}
-use Rattle.yaml_grammar.specs.Texts.{is_empty, first}
-use Rattle.yaml_grammar.specs.FlowScalars.{plain, double}
-use Rattle.yaml_grammar.specs.FlowNodes.{scalar, flow_text}
-use Rattle.yaml_grammar.specs.BlockScalars.{chomping_text, text_lines_text}
-use Rattle.yaml_grammar.specs.BlockNodes.{flow, block, node_text}
-use Rattle.yaml_grammar.specs.Trees.{text}
-use Rattle.yaml_grammar.specs.Style.{plain_in_style, literal_in_style, in_double_quotes, literal_mark, literal_lines}
-use Rattle.yaml_grammar.specs.Style.{feeds_at_end, shown_or_feed, space_or_feed}
-use Rattle.yaml_recognizers.proofs.OneStyle.Presented.{feed, one_space, items_of_text, lines_in, chomping_of}
-use Rattle.yaml_recognizers.proofs.OneStyle.Presented.{literal_block}
+use Rattle.{yaml_chars.specs.Classes.is_in, yaml_grammar.specs.{Texts.{is_empty, first}, FlowScalars.{plain, double}, FlowNodes.scalar}}
+use Rattle.yaml_grammar.specs.{FlowNodes.flow_text, BlockScalars.{chomping_text, text_lines_text}, BlockNodes.{flow, block, node_text}}
+use Rattle.yaml_grammar.specs.{Trees.text, Style.{plain_in_style, literal_in_style, in_double_quotes, literal_mark, literal_lines}}
+use Rattle.{yaml_grammar.specs.Style.{feeds_at_end, shown_or_feed, space_or_feed}, yaml_recognizers.proofs.OneStyle.Presented.feed}
+use Rattle.yaml_recognizers.proofs.OneStyle.Presented.{one_space, items_of_text, lines_in, chomping_of, literal_block}
 use Rattle.yaml_recognizers.proofs.OneStyle.Spelled.{word_flow_spelled, element_spelled}
 
 -- ---- words and quotes

@@ -1,30 +1,21 @@
 -- The presentation of a tree with comments spells the tree's text with them.
-use Rattle.std.proofs.Common.{◌≡◌, refl, sym, ◌∙◌, ap, append_assoc}
-use Rattle.std.specs.Prelude.{ℕ, ◌+◌, Bool, true, false, cond, List, [], ◌∷◌, ◌++◌, codes}
-use Rattle.std.proofs.lemmas.Bool.{false≢true}
-use Rattle.std.proofs.lemmas.List.{append-nil}
-use Rattle.yaml_grammar.specs.Texts.{is_empty, spaces}
-use Rattle.yaml_grammar.specs.Separation.{Sep, inline, sep_text, line_end_text, comments_text}
-use Rattle.yaml_grammar.specs.FlowScalars.{plain, double}
-use Rattle.yaml_grammar.specs.FlowNodes.{scalar}
-use Rattle.yaml_grammar.specs.BlockScalars.{TextLine, text_lines_text, block_empties_text, block_text}
-use Rattle.yaml_grammar.specs.BlockNodes.{flow, block, Node, node_text, Indented, indented_text, items_text, Pair}
-use Rattle.yaml_grammar.specs.BlockNodes.{pair_text, pairs_text, asked, keyed, node}
-use Rattle.yaml_grammar.specs.Trees.{Tree, text, sequence, mapping, Elements, no_element, element, Members, no_member, member}
-use Rattle.yaml_grammar.specs.Streams.{stream_text}
-use Rattle.yaml_grammar.specs.Style.{plain_in_style, literal_in_style, in_double_quotes, literal_mark, literal_lines}
-use Rattle.yaml_grammar.specs.Style.{feeds_at_end, key_text, long_key}
+use Rattle.std.{proofs.{Common.{◌≡◌, refl, sym, ◌∙◌, ap, append_assoc}, lemmas.{Bool.false≢true, List.append-nil}}, specs.Prelude.{ℕ, ◌+◌}}
+use Rattle.std.specs.Prelude.{Bool, true, false, cond, List, [], ◌∷◌, ◌++◌, codes}
+use Rattle.yaml_grammar.specs.{Texts.{is_empty, spaces}, Separation.{Sep, inline, sep_text, line_end_text, comments_text}}
+use Rattle.yaml_grammar.specs.{FlowScalars.{plain, double}, FlowNodes.scalar, BlockScalars.{TextLine, text_lines_text, block_empties_text}}
+use Rattle.yaml_grammar.specs.{BlockScalars.block_text, BlockNodes.{flow, block, Node, node_text, Indented, indented_text, items_text}}
+use Rattle.yaml_grammar.specs.{BlockNodes.{Pair, pair_text, pairs_text, asked, keyed, node}, Trees.{Tree, text, sequence, mapping}}
+use Rattle.yaml_grammar.specs.{Trees.{Elements, no_element, element, Members, no_member, member}, Streams.stream_text, Style.plain_in_style}
+use Rattle.yaml_grammar.specs.Style.{literal_in_style, in_double_quotes, literal_mark, literal_lines, feeds_at_end, key_text, long_key}
 use Rattle.yaml_recognizers.proofs.OneStyle.Presented.{one_space, items_of_text, word_flow, bare_empties, lines_in}
-use Rattle.yaml_recognizers.proofs.OneStyle.Spelled.{word_flow_spelled, two_more}
-use Rattle.yaml_commented.specs.Trails.{Extra, Trail, end_text, extras_text, trail_text}
-use Rattle.yaml_commented.specs.Commented.{next_trail, later_trails, after_key, after_tree, after_value, scalar_with, key_with}
-use Rattle.yaml_commented.specs.Commented.{element_with, value_with, elements_with, members_with, tree_with, commented_text}
-use Rattle.yaml_commented.proofs.Presented.{line_end, extra_lines, ends, empties_first, past_empties, with_empties}
-use Rattle.yaml_commented.proofs.Presented.{literal_block, scalar_node, pair_of, element_of, value_of, items_from, pairs_from}
-use Rattle.yaml_commented.proofs.Presented.{top_node, presentation_of}
-use Rattle.yaml_commented.proofs.Scalars.{word_spelled, quoted_spelled, literal_filled, literal_lines_spelled, mark_spelled}
-use Rattle.yaml_commented.proofs.Extras.{end_spelled, extras_spelled, ends_spelled, empties_spelled}
-use Rattle.yaml_commented.proofs.Literals.{lines_more}
+use Rattle.{yaml_recognizers.proofs.OneStyle.Spelled.{word_flow_spelled, two_more}, yaml_commented.specs.Trails.{Extra, Trail, end_text}}
+use Rattle.yaml_commented.specs.{Trails.{extras_text, trail_text}, Commented.{next_trail, later_trails, after_key, after_tree, after_value}}
+use Rattle.yaml_commented.specs.Commented.{scalar_with, key_with, element_with, value_with, elements_with, members_with, tree_with}
+use Rattle.yaml_commented.{specs.Commented.commented_text, proofs.Presented.{line_end, extra_lines, ends, empties_first, past_empties}}
+use Rattle.yaml_commented.proofs.Presented.{with_empties, literal_block, scalar_node, pair_of, element_of, value_of, items_from, pairs_from}
+use Rattle.yaml_commented.proofs.{Presented.{top_node, presentation_of}, Scalars.{word_spelled, quoted_spelled, literal_filled}}
+use Rattle.yaml_commented.proofs.{Scalars.{literal_lines_spelled, mark_spelled}, Extras.{end_spelled, extras_spelled, ends_spelled}}
+use Rattle.yaml_commented.proofs.{Extras.empties_spelled, Literals.lines_more}
 
 -- ---- literals
 

@@ -1,22 +1,17 @@
 -- A tree of texts with comments that fit is a text.
-use Rattle.std.proofs.Common.{◌≡◌, refl, ◌∙◌, ap, sym, inl, inr, arith, ◌≤◌}
-use Rattle.std.specs.Prelude.{ℕ, zero, suc, ◌+◌, Bool, true, false, cond, ◌||◌, ◌==◌, List, [], ◌∷◌, ◌++◌, Option, Some, None, codes}
-use Rattle.std.proofs.lemmas.Bool.{cond_both, and_parts, and_from, or_cases, or_left, or_right, eqb-true, false≢true}
-use Rattle.yaml_chars.specs.Classes.{in_range, is_in, code_point, printable, nb}
-use Rattle.std.specs.List.{list_all}
-use Rattle.yaml_grammar.specs.Texts.{IsText, spaces}
-use Rattle.yaml_grammar.specs.Trees.{Tree, text, sequence, mapping, Elements, no_element, element, Members, no_member}
-use Rattle.yaml_grammar.specs.Trees.{member, IsTextTree, AreTextElements, AreTextMembers}
-use Rattle.yaml_grammar.specs.Style.{in_double_quotes, plain_in_style, literal_in_style, literal_mark, literal_lines}
-use Rattle.yaml_grammar.specs.Style.{feeds_at_end, key_text, long_key, key_lines, value_at}
-use Rattle.yaml_recognizers.proofs.OneStyle.Characters.{every_joined, from_range, to_range}
-use Rattle.yaml_recognizers.proofs.OneStyle.StyleTexts.{style_is_text}
+use Rattle.std.proofs.{Common.{◌≡◌, refl, ◌∙◌, ap, sym, inl, inr, arith, ◌≤◌}, lemmas.Bool.{cond_both, and_parts, and_from, or_cases}}
+use Rattle.std.{proofs.lemmas.Bool.{or_left, or_right, eqb-true, false≢true}, specs.Prelude.{ℕ, zero, suc, ◌+◌, Bool, true, false, cond}}
+use Rattle.std.specs.{Prelude.{◌||◌, ◌==◌, List, [], ◌∷◌, ◌++◌, Option, Some, None, codes}, List.list_all}
+use Rattle.{yaml_chars.specs.Classes.{in_range, is_in, code_point, printable, nb}, yaml_grammar.specs.{Texts.{IsText, spaces}, Trees.Tree}}
+use Rattle.yaml_grammar.specs.Trees.{text, sequence, mapping, Elements, no_element, element, Members, no_member, member, IsTextTree}
+use Rattle.yaml_grammar.specs.{Trees.{AreTextElements, AreTextMembers}, Style.{in_double_quotes, plain_in_style, literal_in_style}}
+use Rattle.yaml_grammar.specs.Style.{literal_mark, literal_lines, feeds_at_end, key_text, long_key, key_lines, value_at}
+use Rattle.yaml_recognizers.proofs.OneStyle.{Characters.{every_joined, from_range, to_range}, StyleTexts.style_is_text}
 use Rattle.yaml_commented.specs.Trails.{Extra, empty_line, comment_line, Trail, end_text, extra_text, extras_text, trail_text}
 use Rattle.yaml_commented.specs.Commented.{next_trail, later_trails, after_key, after_tree, after_value, scalar_with, key_with}
 use Rattle.yaml_commented.specs.Commented.{element_with, value_with, elements_with, members_with, tree_with, commented_text}
-use Rattle.yaml_commented.specs.TrailsFit.{behind_fits, extra_fits, trail_fits, scalar_trail_fits, key_trail_fits, ElementFits}
-use Rattle.yaml_commented.specs.TrailsFit.{ValueFits, ElementsFit, MembersFit, TreeFits, Fits}
-use Rattle.yaml_commented.proofs.Fits.{long_trail}
+use Rattle.yaml_commented.specs.TrailsFit.{behind_fits, extra_fits, trail_fits, scalar_trail_fits, key_trail_fits, ElementFits, ValueFits}
+use Rattle.yaml_commented.{specs.TrailsFit.{ElementsFit, MembersFit, TreeFits, Fits}, proofs.Fits.long_trail}
 
 -- two texts, joined, are a text
 joined : (prefix after : List ℕ) → IsText prefix → IsText after → IsText (prefix ++ after)

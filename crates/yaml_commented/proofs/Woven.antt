@@ -1,16 +1,13 @@
 -- The text of a tree with comments is its rows, with a trail behind each.
-use Rattle.std.proofs.Common.{◌≡◌, refl, sym, ◌∙◌, ap, append_assoc, append-nil}
-use Rattle.std.specs.Prelude.{ℕ, ◌+◌, Bool, true, false, cond, List, [], ◌∷◌, ◌++◌, codes}
-use Rattle.yaml_grammar.specs.Texts.{spaces}
-use Rattle.yaml_grammar.specs.Trees.{Tree, text, sequence, mapping, Elements, no_element, element, Members, no_member, member}
-use Rattle.yaml_grammar.specs.Style.{plain_in_style, literal_in_style, in_double_quotes, literal_mark, literal_lines, feeds_at_end}
-use Rattle.yaml_grammar.specs.Style.{key_text, long_key}
-use Rattle.yaml_commented.specs.Trails.{Trail, end_text, extras_text, trail_text}
-use Rattle.yaml_commented.specs.Commented.{next_trail, later_trails, after_key, after_tree, after_value, after_elements, after_members}
-use Rattle.yaml_commented.specs.Commented.{scalar_with, key_with, element_with, value_with, elements_with, members_with}
-use Rattle.yaml_commented.specs.CommentedLaws.{RowsWoven}
-use Rattle.yaml_commented.specs.StyleRows.{Row, line_row, woven, scalar_row, key_rows, key_lead, element_rows, value_rows}
-use Rattle.yaml_commented.specs.StyleRows.{elements_rows, members_rows}
+use Rattle.std.{proofs.Common.{◌≡◌, refl, sym, ◌∙◌, ap, append_assoc, append-nil}, specs.Prelude.{ℕ, ◌+◌, Bool, true, false, cond, List}}
+use Rattle.std.specs.Prelude.{[], ◌∷◌, ◌++◌, codes}
+use Rattle.yaml_grammar.specs.{Texts.spaces, Trees.{Tree, text, sequence, mapping, Elements, no_element, element, Members, no_member}}
+use Rattle.yaml_grammar.specs.{Trees.member, Style.{plain_in_style, literal_in_style, in_double_quotes, literal_mark, literal_lines}}
+use Rattle.{yaml_grammar.specs.Style.{feeds_at_end, key_text, long_key}, yaml_commented.specs.Trails.{Trail, end_text, extras_text}}
+use Rattle.yaml_commented.specs.{Trails.trail_text, Commented.{next_trail, later_trails, after_key, after_tree, after_value}}
+use Rattle.yaml_commented.specs.Commented.{after_elements, after_members, scalar_with, key_with, element_with, value_with, elements_with}
+use Rattle.yaml_commented.specs.{Commented.members_with, CommentedLaws.RowsWoven, StyleRows.{Row, line_row, woven, scalar_row, key_rows}}
+use Rattle.yaml_commented.specs.StyleRows.{key_lead, element_rows, value_rows, elements_rows, members_rows}
 
 -- a line and what is behind it, regrouped
 line_grouped : (lead source end extras rest : List ℕ)

@@ -1,11 +1,10 @@
 -- The text of a tree in the one style with a trail behind each of its lines, in order. A literal's body belongs to the
 -- line of its header: the comment is behind the header, and the lines are behind the body.
 use Rattle.std.specs.Prelude.{ℕ, ◌+◌, true, List, [], ◌∷◌, ◌++◌, codes, if◌then◌else◌}
-use Rattle.yaml_grammar.specs.Texts.{spaces}
-use Rattle.yaml_grammar.specs.Trees.{Tree, text, sequence, mapping, Elements, no_element, element, Members, no_member, member}
-use Rattle.yaml_grammar.specs.Style.{plain_in_style, literal_in_style, in_double_quotes, literal_mark, feeds_at_end}
-use Rattle.yaml_grammar.specs.Style.{literal_lines, key_text, long_key}
-use Rattle.yaml_commented.specs.Trails.{Extra, Trail, no_trail, end_text, extras_text, trail_text}
+use Rattle.yaml_grammar.specs.{Texts.spaces, Trees.{Tree, text, sequence, mapping, Elements, no_element, element, Members, no_member}}
+use Rattle.yaml_grammar.specs.{Trees.member, Style.{plain_in_style, literal_in_style, in_double_quotes, literal_mark, feeds_at_end}}
+use Rattle.{yaml_grammar.specs.Style.{literal_lines, key_text, long_key}, yaml_commented.specs.Trails.{Extra, Trail, no_trail, end_text}}
+use Rattle.yaml_commented.specs.Trails.{extras_text, trail_text}
 
 -- ---- trails in order
 

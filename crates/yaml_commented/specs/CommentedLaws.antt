@@ -1,15 +1,8 @@
 -- The laws of commented trees, as statements.
-use Rattle.std.specs.Prelude.{◌≡◌, ◌≤◌, List, []}
-use Rattle.std.specs.List.{AllByRecursion}
-use Rattle.yaml_grammar.specs.Texts.{byte_len}
-use Rattle.yaml_grammar.specs.Trees.{Tree, IsTextTree}
-use Rattle.yaml_grammar.specs.Style.{style_text}
-use Rattle.yaml_grammar.specs.Reads.{Limits, Good, Gives}
-use Rattle.yaml_recognizers.specs.StyleLaws.{CanReadAs}
-use Rattle.yaml_commented.specs.Trails.{Extra, Trail, IsBare}
-use Rattle.yaml_commented.specs.Commented.{tree_with, commented_text}
-use Rattle.yaml_commented.specs.StyleRows.{tree_rows, woven}
-use Rattle.yaml_commented.specs.TrailsFit.{Fits}
+use Rattle.std.specs.{Prelude.{◌≡◌, ◌≤◌, List, []}, List.AllByRecursion}
+use Rattle.yaml_grammar.specs.{Texts.byte_len, Trees.{Tree, IsTextTree}, Style.style_text, Reads.{Limits, Good, Gives}}
+use Rattle.{yaml_recognizers.specs.StyleLaws.CanReadAs, yaml_commented.specs.{Trails.{Extra, Trail, IsBare}, Commented.tree_with}}
+use Rattle.yaml_commented.specs.{Commented.commented_text, StyleRows.{tree_rows, woven}, TrailsFit.Fits}
 
 -- each tree of texts can be read from its text with comments that fit
 abbrev pub CommentedPresents : Type 0

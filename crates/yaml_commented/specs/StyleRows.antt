@@ -1,11 +1,9 @@
 -- The lines of a tree in the one style, as rows. A row is a line up to its last token, and the body of the literal whose
 -- header it ends in.
 use Rattle.std.specs.Prelude.{ℕ, ◌+◌, true, List, [], ◌∷◌, ◌++◌, codes, if◌then◌else◌}
-use Rattle.yaml_grammar.specs.Texts.{spaces}
-use Rattle.yaml_grammar.specs.Trees.{Tree, text, sequence, mapping, Elements, no_element, element, Members, no_member, member}
-use Rattle.yaml_grammar.specs.Style.{plain_in_style, literal_in_style, in_double_quotes, literal_mark, feeds_at_end}
-use Rattle.yaml_grammar.specs.Style.{literal_lines, key_text, long_key}
-use Rattle.yaml_commented.specs.Trails.{Trail, end_text, extras_text}
+use Rattle.yaml_grammar.specs.{Texts.spaces, Trees.{Tree, text, sequence, mapping, Elements, no_element, element, Members, no_member}}
+use Rattle.yaml_grammar.specs.{Trees.member, Style.{plain_in_style, literal_in_style, in_double_quotes, literal_mark, feeds_at_end}}
+use Rattle.{yaml_grammar.specs.Style.{literal_lines, key_text, long_key}, yaml_commented.specs.Trails.{Trail, end_text, extras_text}}
 use Rattle.yaml_commented.specs.Commented.{next_trail, later_trails}
 
 -- a line up to its last token, and a literal's body

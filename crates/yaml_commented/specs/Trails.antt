@@ -1,8 +1,7 @@
 -- Comments and empty lines between the lines of a tree in the one style (YAML 1.2.2, 6.6). A comment is given by what is
 -- written behind its `#`.
 use Rattle.std.specs.Prelude.{◌≡◌, ℕ, List, [], ◌∷◌, ◌++◌, Option, Some, None, codes, flat_map}
-use Rattle.yaml_grammar.specs.Texts.{spaces}
-use Rattle.yaml_grammar.specs.Separation.{comment_text}
+use Rattle.yaml_grammar.specs.{Texts.spaces, Separation.comment_text}
 
 -- a line that is none of the tree's: an empty one, or a comment after so many spaces
 pub data Extra : Type 0 where

@@ -1,11 +1,9 @@
 -- What lines of comments and trails have to meet, so that they are no part of the tree.
-use Rattle.std.specs.Prelude.{◌≡◌, ℕ, ◌+◌, Bool, true, false, not, ◌&&◌, ◌||◌, nat_le, List, [], ◌∷◌, Option, Some, None}
-use Rattle.std.specs.List.{list_all}
-use Rattle.yaml_chars.specs.Classes.{nb}
-use Rattle.yaml_grammar.specs.Trees.{Tree, text, sequence, mapping, Elements, no_element, element, Members, no_member, member}
-use Rattle.yaml_grammar.specs.Style.{plain_in_style, literal_in_style, feeds_at_end, long_key}
-use Rattle.yaml_commented.specs.Trails.{Extra, empty_line, comment_line, Trail}
-use Rattle.yaml_commented.specs.Commented.{next_trail, later_trails, after_key, after_tree, after_value}
+use Rattle.std.specs.{Prelude.{◌≡◌, ℕ, ◌+◌, Bool, true, false, not, ◌&&◌, ◌||◌, nat_le, List, [], ◌∷◌, Option, Some, None}, List.list_all}
+use Rattle.{yaml_chars.specs.Classes.nb, yaml_grammar.specs.Trees.{Tree, text, sequence, mapping, Elements, no_element, element, Members}}
+use Rattle.yaml_grammar.specs.{Trees.{no_member, member}, Style.{plain_in_style, literal_in_style, feeds_at_end, long_key}}
+use Rattle.yaml_commented.specs.{Trails.{Extra, empty_line, comment_line, Trail}, Commented.{next_trail, later_trails, after_key}}
+use Rattle.yaml_commented.specs.Commented.{after_tree, after_value}
 
 -- a comment is on one line
 abbrev pub behind_fits : Option (List ℕ) → Bool

@@ -1,35 +1,24 @@
 -- The comments of block nodes are those of their text (YAML 1.2.2, 8.1 and 8.2).
-use Rattle.std.proofs.Common.{◌≡◌, refl, sym, ◌∙◌, ap, arith, ◌≤◌, append_assoc, append-nil}
-use Rattle.std.specs.Prelude.{ℕ, suc, zero, ◌+◌, Bool, true, false, not, ◌&&◌, ◌||◌, ◌==◌, List, [], ◌∷◌, ◌++◌}
-use Rattle.std.specs.Prelude.{Option, Some, None, codes, cond, nat_le}
-use Rattle.std.proofs.lemmas.Bool.{and_parts, and_from, cond_both, false≢true, not_from_false, ne_eqb, or_from}
-use Rattle.std.specs.List.{list_all}
-use Rattle.yaml_chars.specs.Classes.{white, line_break, ns}
-use Rattle.yaml_grammar.specs.Texts.{is_empty, first, spaces, optional, byte_len, starts_line}
-use Rattle.yaml_grammar.specs.Separation.{Break, lf, cr, cr_lf, break_text, stop_fits, LineEnd, comment_text, comment_fits, line_end_fits}
-use Rattle.yaml_grammar.specs.Separation.{comments_text, comments_fit, sep_text, sep_fits}
-use Rattle.yaml_grammar.specs.FlowScalars.{outer, block_key}
-use Rattle.yaml_grammar.specs.FlowNodes.{flow_text, flow_fits, short_key, flow_events}
-use Rattle.yaml_grammar.specs.BlockScalars.{Chomping, strip, clip, keep, Header, BlockScalar, digit_text, chomping_text, body_text}
-use Rattle.yaml_grammar.specs.BlockScalars.{bare_block_text, block_text, trail_fits, digit_fits, header_fits}
-use Rattle.yaml_grammar.specs.BlockScalars.{body_fits, block_fits, block_events}
-use Rattle.yaml_grammar.specs.BlockNodes.{Node, block, flow, items, pairs, Items, item, item_and, Pairs, pair, pair_and}
-use Rattle.yaml_grammar.specs.BlockNodes.{Pair, asked, asked_alone, keyed, keyed_alone, Indented, compact_items}
-use Rattle.yaml_grammar.specs.BlockNodes.{compact_pairs, node, omitted}
-use Rattle.yaml_grammar.specs.BlockNodes.{node_text, items_text, pairs_text, pair_text, indented_text, is_omitted}
-use Rattle.yaml_grammar.specs.BlockNodes.{node_fits, items_fit, pairs_fit}
-use Rattle.yaml_grammar.specs.BlockNodes.{pair_fits, indented_fits, indented_end, node_events, items_events}
-use Rattle.yaml_grammar.specs.BlockNodes.{pairs_events, pair_events, indented_events}
-use Rattle.yaml_grammar.specs.Events.{Event, literal_style, folded_style}
-use Rattle.yaml_recognizers.proofs.OneStyle.Characters.{every_joined, from_range}
-use Rattle.yaml_comments.specs.Presented.{line_comments, lines_comments, block_comments, node_comments}
-use Rattle.yaml_comments.specs.Presented.{items_comments, pairs_comments, pair_comments, indented_comments}
-use Rattle.yaml_comments.proofs.Segments.{no_mark, no_break, marked}
-use Rattle.yaml_comments.proofs.Parted.{Parted, scalar_ranges, HasNoBytes, nothing, join, texted, moved, meant}
-use Rattle.yaml_comments.proofs.Parted.{sequence_of, mapping_of, with_omitted}
-use Rattle.yaml_comments.proofs.Parted.{unmarked, option_is_nb, block_part}
-use Rattle.yaml_comments.proofs.LinesParted.{whites_unmarked, whites_unbroken, spaces_part, lines_part, sep_part}
-use Rattle.yaml_comments.proofs.FlowParted.{omitted_part, flow_part}
+use Rattle.std.proofs.{Common.{◌≡◌, refl, sym, ◌∙◌, ap, arith, ◌≤◌, append_assoc, append-nil}, lemmas.Bool.{and_parts, and_from, cond_both}}
+use Rattle.std.{proofs.lemmas.Bool.{false≢true, not_from_false, ne_eqb, or_from}, specs.Prelude.{ℕ, suc, zero, ◌+◌, Bool, true, false, not}}
+use Rattle.std.specs.{Prelude.{◌&&◌, ◌||◌, ◌==◌, List, [], ◌∷◌, ◌++◌, Option, Some, None, codes, cond, nat_le}, List.list_all}
+use Rattle.{yaml_chars.specs.Classes.{white, line_break, ns}, yaml_grammar.specs.Texts.{is_empty, first, spaces, optional, byte_len}}
+use Rattle.yaml_grammar.specs.{Texts.starts_line, Separation.{Break, lf, cr, cr_lf, break_text, stop_fits, LineEnd, comment_text}}
+use Rattle.yaml_grammar.specs.{Separation.{comment_fits, line_end_fits, comments_text, comments_fit, sep_text, sep_fits}, FlowScalars.outer}
+use Rattle.yaml_grammar.specs.{FlowScalars.block_key, FlowNodes.{flow_text, flow_fits, short_key, flow_events}, BlockScalars.Chomping}
+use Rattle.yaml_grammar.specs.BlockScalars.{strip, clip, keep, Header, BlockScalar, digit_text, chomping_text, body_text, bare_block_text}
+use Rattle.yaml_grammar.specs.BlockScalars.{block_text, trail_fits, digit_fits, header_fits, body_fits, block_fits, block_events}
+use Rattle.yaml_grammar.specs.BlockNodes.{Node, block, flow, items, pairs, Items, item, item_and, Pairs, pair, pair_and, Pair, asked}
+use Rattle.yaml_grammar.specs.BlockNodes.{asked_alone, keyed, keyed_alone, Indented, compact_items, compact_pairs, node, omitted, node_text}
+use Rattle.yaml_grammar.specs.BlockNodes.{items_text, pairs_text, pair_text, indented_text, is_omitted, node_fits, items_fit, pairs_fit}
+use Rattle.yaml_grammar.specs.BlockNodes.{pair_fits, indented_fits, indented_end, node_events, items_events, pairs_events, pair_events}
+use Rattle.yaml_grammar.specs.{BlockNodes.indented_events, Events.{Event, literal_style, folded_style}}
+use Rattle.{yaml_recognizers.proofs.OneStyle.Characters.{every_joined, from_range}, yaml_comments.specs.Presented.line_comments}
+use Rattle.yaml_comments.specs.Presented.{lines_comments, block_comments, node_comments, items_comments, pairs_comments, pair_comments}
+use Rattle.yaml_comments.{specs.Presented.indented_comments, proofs.{Segments.{no_mark, no_break, marked}, Parted.{Parted, scalar_ranges}}}
+use Rattle.yaml_comments.proofs.Parted.{HasNoBytes, nothing, join, texted, moved, meant, sequence_of, mapping_of, with_omitted, unmarked}
+use Rattle.yaml_comments.proofs.{Parted.{option_is_nb, block_part}, LinesParted.{whites_unmarked, whites_unbroken, spaces_part, lines_part}}
+use Rattle.yaml_comments.proofs.{LinesParted.sep_part, FlowParted.{omitted_part, flow_part}}
 
 -- ---- block scalars
 

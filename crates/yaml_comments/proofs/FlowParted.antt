@@ -1,21 +1,15 @@
 -- The comments of flow nodes are those of their text (YAML 1.2.2, 7.4 and 7.5).
-use Rattle.std.proofs.Common.{◌≡◌, refl, sym, ap, arith, append_assoc, append-nil}
-use Rattle.std.specs.Prelude.{ℕ, ◌+◌, Bool, true, false, not, ◌&&◌, ◌||◌, List, [], ◌++◌, Option, Some, None, codes, cond, is_some}
-use Rattle.std.proofs.lemmas.Bool.{and_parts}
-use Rattle.yaml_grammar.specs.Texts.{byte_len, starts_line}
-use Rattle.yaml_grammar.specs.Separation.{Sep, gap_text, gap_fits}
-use Rattle.yaml_grammar.specs.FlowScalars.{FlowContext, flow_key, in_flow, one_line, Scalar, plain, single, double}
-use Rattle.yaml_grammar.specs.FlowScalars.{scalar_text, scalar_events, scalar_value}
+use Rattle.std.{proofs.{Common.{◌≡◌, refl, sym, ap, arith, append_assoc, append-nil}, lemmas.Bool.and_parts}, specs.Prelude.{ℕ, ◌+◌, Bool}}
+use Rattle.std.specs.Prelude.{true, false, not, ◌&&◌, ◌||◌, List, [], ◌++◌, Option, Some, None, codes, cond, is_some}
+use Rattle.yaml_grammar.specs.{Texts.{byte_len, starts_line}, Separation.{Sep, gap_text, gap_fits}, FlowScalars.{FlowContext, flow_key}}
+use Rattle.yaml_grammar.specs.FlowScalars.{in_flow, one_line, Scalar, plain, single, double, scalar_text, scalar_events, scalar_value}
 use Rattle.yaml_grammar.specs.FlowNodes.{Flow, scalar, seq, map, Entries, none, last, next, Entry, entry, Value, absent, empty, given}
-use Rattle.yaml_grammar.specs.FlowNodes.{asked_text, flow_text, entries_text, entry_text, value_text, is_plain}
-use Rattle.yaml_grammar.specs.FlowNodes.{single_pair, short_key, before_colon}
-use Rattle.yaml_grammar.specs.FlowNodes.{flow_fits, entries_fit, entry_fits, value_fits, flow_events, entries_events}
-use Rattle.yaml_grammar.specs.FlowNodes.{entry_events, value_events}
-use Rattle.yaml_grammar.specs.Events.{Event, plain_style, single_style, double_style, omitted_at}
+use Rattle.yaml_grammar.specs.FlowNodes.{asked_text, flow_text, entries_text, entry_text, value_text, is_plain, single_pair, short_key}
+use Rattle.yaml_grammar.specs.FlowNodes.{before_colon, flow_fits, entries_fit, entry_fits, value_fits, flow_events, entries_events}
+use Rattle.yaml_grammar.specs.{FlowNodes.{entry_events, value_events}, Events.{Event, plain_style, single_style, double_style, omitted_at}}
 use Rattle.yaml_comments.specs.Presented.{gap_comments, flow_comments, entries_comments, entry_comments, value_comments}
-use Rattle.yaml_comments.proofs.Parted.{Parted, nothing, join, texted, moved, meant, told, sequence_of, mapping_of}
-use Rattle.yaml_comments.proofs.Parted.{with_omitted, unmarked, scalar_part}
-use Rattle.yaml_comments.proofs.LinesParted.{sep_part, gap_part}
+use Rattle.yaml_comments.proofs.Parted.{Parted, nothing, join, texted, moved, meant, told, sequence_of, mapping_of, with_omitted, unmarked}
+use Rattle.yaml_comments.proofs.{Parted.scalar_part, LinesParted.{sep_part, gap_part}}
 
 -- a scalar is a part
 scalar_there : (s : Scalar) (at : ℕ) (after : List ℕ) → Parted (scalar_text s) at (scalar_events at s) after []

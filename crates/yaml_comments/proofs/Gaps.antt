@@ -1,12 +1,8 @@
 -- The comments between two scalars, found one after another.
-use Rattle.std.proofs.Common.{◌≡◌, ◌≢◌, ℕ, ◌+◌, ◌<◌, ◌≤◌, List, [], ◌∷◌, ◌++◌, length, refl, sym, ◌∙◌, ap}
-use Rattle.std.proofs.Common.{subst, arith, ⊎_elim, append_assoc, append-nil}
-use Rattle.std.specs.Prelude.{slice_index, ◌⊎◌}
-use Rattle.std.proofs.lemmas.Bool.{cases_lt}
-use Rattle.yaml_comments.specs.declared.find.Comment.{Comment}
-use Rattle.yaml_comments.specs.Outside.{IsLineEnd}
-use Rattle.yaml_comments.specs.Comments.{Place, AreInGap, IsGapAdded}
-use Rattle.yaml_comments.specs.Found.{place_of, places_of}
+use Rattle.std.proofs.Common.{◌≡◌, ◌≢◌, ℕ, ◌+◌, ◌<◌, ◌≤◌, List, [], ◌∷◌, ◌++◌, length, refl, sym, ◌∙◌, ap, subst, arith, ⊎_elim}
+use Rattle.std.{proofs.{Common.{append_assoc, append-nil}, lemmas.Bool.cases_lt}, specs.Prelude.{slice_index, ◌⊎◌}}
+use Rattle.yaml_comments.specs.{declared.find.Comment.Comment, Outside.IsLineEnd, Comments.{Place, AreInGap, IsGapAdded}, Found.place_of}
+use Rattle.yaml_comments.specs.Found.{places_of}
 
 -- the places of one comment more
 pub places_joined : (cs : List Comment) (c : Comment) → places_of (cs ++ c ∷ []) ≡ places_of cs ++ place_of c ∷ []

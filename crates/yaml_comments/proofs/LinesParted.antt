@@ -1,15 +1,12 @@
 -- The comments of the ends of lines and of separations are those of their text (YAML 1.2.2, 6.6 and 6.7).
-use Rattle.std.proofs.Common.{◌≡◌, refl, sym, inl, inr, append_assoc, append-nil}
-use Rattle.std.specs.Prelude.{ℕ, suc, zero, Bool, true, false, not, ◌&&◌, ◌||◌, ◌==◌, List, [], ◌∷◌, ◌++◌, Option, Some, None}
-use Rattle.std.proofs.lemmas.Bool.{and_parts, and_from, or_cases, or_left, eqb-true}
-use Rattle.std.specs.List.{list_all}
-use Rattle.yaml_chars.specs.Classes.{white, line_break}
-use Rattle.yaml_grammar.specs.Texts.{is_empty, first, spaces, optional}
-use Rattle.yaml_grammar.specs.Separation.{Break, lf, cr, cr_lf, break_text, stop_fits, LineEnd, comment_text, line_end_text, comment_fits}
-use Rattle.yaml_grammar.specs.Separation.{line_end_fits, comment_line_fits, comments_text, comments_fit, Sep, inline, lines}
-use Rattle.yaml_grammar.specs.Separation.{sep_text, indents, sep_fits, gap_text, gap_fits}
-use Rattle.yaml_comments.specs.Presented.{optional_comment, line_comments, lines_comments, sep_comments, gap_comments}
-use Rattle.yaml_comments.proofs.Segments.{no_mark, no_break}
+use Rattle.std.proofs.{Common.{◌≡◌, refl, sym, inl, inr, append_assoc, append-nil}, lemmas.Bool.{and_parts, and_from, or_cases, or_left}}
+use Rattle.std.{proofs.lemmas.Bool.eqb-true, specs.Prelude.{ℕ, suc, zero, Bool, true, false, not, ◌&&◌, ◌||◌, ◌==◌, List, [], ◌∷◌, ◌++◌}}
+use Rattle.std.specs.{Prelude.{Option, Some, None}, List.list_all}
+use Rattle.{yaml_chars.specs.Classes.{white, line_break}, yaml_grammar.specs.{Texts.{is_empty, first, spaces, optional}, Separation.Break}}
+use Rattle.yaml_grammar.specs.Separation.{lf, cr, cr_lf, break_text, stop_fits, LineEnd, comment_text, line_end_text, comment_fits}
+use Rattle.yaml_grammar.specs.Separation.{line_end_fits, comment_line_fits, comments_text, comments_fit, Sep, inline, lines, sep_text}
+use Rattle.{yaml_grammar.specs.Separation.{indents, sep_fits, gap_text, gap_fits}, yaml_comments.specs.Presented.optional_comment}
+use Rattle.yaml_comments.{specs.Presented.{line_comments, lines_comments, sep_comments, gap_comments}, proofs.Segments.{no_mark, no_break}}
 use Rattle.yaml_comments.proofs.Parted.{Parted, nothing, join, texted, told, unmarked, comment_part}
 
 -- whitespace is no `#`

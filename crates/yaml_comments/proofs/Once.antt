@@ -1,17 +1,9 @@
 -- A text has one list of comments, and each is on one line.
-use Rattle.std.proofs.Common.{◌≡◌, refl, sym, ◌∙◌, ap, ap₂, subst, arith, ⊎_elim, length, encode_utf8_all}
-use Rattle.std.specs.Prelude.{ℕ, ◌<◌, ◌⊎◌, List, [], ◌∷◌, map, slice_index}
-use Rattle.std.specs.Str.{chars}
-use Rattle.std.proofs.lemmas.Str.{encodes-chars}
-use Rattle.yaml_grammar.specs.Streams.{Stream, stream_text, stream_events}
-use Rattle.std.proofs.lemmas.Bool.{cases_lt}
-use Rattle.yaml_grammar.specs.Events.{Event}
-use Rattle.yaml_grammar.specs.Reads.{CanRead}
-use Rattle.yaml_comments.specs.Outside.{IsLineEnd}
-use Rattle.yaml_comments.specs.Comments.{Place, IsNext, AreComments, comment_at}
-use Rattle.yaml_comments.specs.CommentLaws.{CommentsOnce, CommentsOnLines, HasItsComments}
-use Rattle.yaml_comments.specs.Presented.{stream_comments}
-use Rattle.yaml_comments.proofs.StreamParted.{presented}
+use Rattle.std.proofs.{Common.{◌≡◌, refl, sym, ◌∙◌, ap, ap₂, subst, arith, ⊎_elim, length, encode_utf8_all}, lemmas.Str.encodes-chars}
+use Rattle.std.{proofs.lemmas.Bool.cases_lt, specs.{Prelude.{ℕ, ◌<◌, ◌⊎◌, List, [], ◌∷◌, map, slice_index}, Str.chars}}
+use Rattle.yaml_grammar.specs.{Streams.{Stream, stream_text, stream_events}, Events.Event, Reads.CanRead}
+use Rattle.yaml_comments.specs.{Outside.IsLineEnd, Comments.{Place, IsNext, AreComments, comment_at}, CommentLaws.CommentsOnce}
+use Rattle.yaml_comments.{specs.{CommentLaws.{CommentsOnLines, HasItsComments}, Presented.stream_comments}, proofs.StreamParted.presented}
 
 -- a line that ends at the later of two places does not end at the earlier one
 end_kept : (bytes : List ℕ) (from to a b : ℕ) → IsLineEnd bytes from to a → IsLineEnd bytes from to b → a < b → ⊥

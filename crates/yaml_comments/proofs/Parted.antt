@@ -3,21 +3,15 @@ use Rattle.std.proofs.Common.{◌≡◌, refl, sym, ◌∙◌, ap, ap₂, subst,
 use Rattle.std.proofs.Common.{append-nil, length-append, encode_utf8, encode_utf8_all}
 use Rattle.std.specs.Prelude.{ℕ, map, ◌+◌, ◌⊎◌, Bool, true, false, ◌&&◌, ◌||◌, ◌==◌, List, [], ◌∷◌, ◌++◌, Option, Some, None, nat_lt}
 use lib.Utf8.{encode}
-use Rattle.std.proofs.lemmas.Bool.{and_parts, and_from, cond_both, or_cases, or_left, or_right, not_from_false}
-use Rattle.std.proofs.lemmas.Bool.{ne_eqb, or_from, false≢true, eqb-true}
-use Rattle.std.proofs.lemmas.List.{map-append}
-use Rattle.std.proofs.lemmas.Str.{encodes-append, encode_ascii, length-encode}
-use Rattle.std.specs.List.{list_all}
-use Rattle.yaml_chars.specs.Classes.{nb, line_break}
-use Rattle.yaml_grammar.specs.Texts.{is_empty, first, byte_len}
-use Rattle.yaml_grammar.specs.Events.{Event, Style, plain_style, single_style, double_style, literal_style, folded_style}
-use Rattle.yaml_grammar.specs.Events.{omitted_style, document_start, document_end, seq_start, seq_end, map_start}
-use Rattle.yaml_grammar.specs.Events.{map_end, scalar_event, as_seq, as_map, as_document, omitted_at}
-use Rattle.yaml_recognizers.proofs.Basics.Spaces.{nb_unbroken as line_of}
-use Rattle.yaml_recognizers.proofs.OneStyle.Characters.{every_joined}
-use Rattle.yaml_comments.specs.Presented.{optional_comment}
-use Rattle.yaml_comments.proofs.Segments.{Segment, quiet, comment, covered, block, marked, bytes, all_bytes, Range, range, ranges}
-use Rattle.yaml_comments.proofs.Segments.{written, all_written, held, marked_fits, no_mark, no_break, line_ends, fits, all_fit}
+use Rattle.std.proofs.lemmas.Bool.{and_parts, and_from, cond_both, or_cases, or_left, or_right, not_from_false, ne_eqb, or_from, false≢true}
+use Rattle.std.{proofs.lemmas.{Bool.eqb-true, List.map-append, Str.{encodes-append, encode_ascii, length-encode}}, specs.List.list_all}
+use Rattle.{yaml_chars.specs.Classes.{nb, line_break}, yaml_grammar.specs.{Texts.{is_empty, first, byte_len}, Events.{Event, Style}}}
+use Rattle.yaml_grammar.specs.Events.{plain_style, single_style, double_style, literal_style, folded_style, omitted_style, document_start}
+use Rattle.yaml_grammar.specs.Events.{document_end, seq_start, seq_end, map_start, map_end, scalar_event, as_seq, as_map, as_document}
+use Rattle.{yaml_grammar.specs.Events.omitted_at, yaml_recognizers.proofs.Basics.Spaces.nb_unbroken as line_of}
+use Rattle.{yaml_recognizers.proofs.OneStyle.Characters.every_joined, yaml_comments.specs.Presented.optional_comment}
+use Rattle.yaml_comments.proofs.Segments.{Segment, quiet, comment, covered, block, marked, bytes, all_bytes, Range, range, ranges, written}
+use Rattle.yaml_comments.proofs.Segments.{all_written, held, marked_fits, no_mark, no_break, line_ends, fits, all_fit}
 
 -- ---- scalars of events
 

@@ -1,20 +1,13 @@
 -- The search for the comments of a text, scalar after scalar.
-use Rattle.std.proofs.Common.{Bor, ◌≡◌, ℕ, ◌<◌, ◌≤◌, max, List, [], ◌∷◌, ◌++◌, length, refl, subst}
-use Rattle.std.proofs.Common.{sym, ◌∙◌, ap, inl, inr, arith, ⊎_elim}
-use Rattle.std.proofs.Common.{append_assoc, append-nil}
-use Rattle.std.specs.Prelude.{◌⊎◌, slice_index}
-use Rattle.std.proofs.lemmas.Bool.{cases_lt}
-use Rattle.yaml_grammar.specs.Events.{Event, Style, plain_style, single_style, double_style, literal_style}
-use Rattle.yaml_grammar.specs.Events.{folded_style, omitted_style, document_start, document_end, seq_start, seq_end}
-use Rattle.yaml_grammar.specs.Events.{map_start, map_end, scalar_event}
-use Rattle.yaml_events.specs.Meant.{event_ref_of}
-use Rattle.yaml_events.specs.declared.event.EventRef.{EventRef}
+use Rattle.std.proofs.Common.{Bor, ◌≡◌, ℕ, ◌<◌, ◌≤◌, max, List, [], ◌∷◌, ◌++◌, length, refl, subst, sym, ◌∙◌, ap, inl, inr, arith, ⊎_elim}
+use Rattle.std.{proofs.{Common.{append_assoc, append-nil}, lemmas.Bool.cases_lt}, specs.Prelude.{◌⊎◌, slice_index}}
+use Rattle.yaml_grammar.specs.Events.{Event, Style, plain_style, single_style, double_style, literal_style, folded_style, omitted_style}
+use Rattle.yaml_grammar.specs.Events.{document_start, document_end, seq_start, seq_end, map_start, map_end, scalar_event}
+use Rattle.yaml_events.specs.{Meant.event_ref_of, declared.event.{EventRef.EventRef, Span.Span}}
+use Rattle.{yaml_recognizers.specs.Ranges.RangesInOrder, yaml_comments.specs.Outside.{IsComment, IsLineEnd, IsOnHeader, IsOneLine}}
+use Rattle.yaml_comments.specs.{Outside.{IsOutside, IsTextStart}, Comments.{Place, IsNext, AreComments, AreInGap, IsGapAdded}}
 use Rattle.yaml_events.specs.declared.event.EventRef.TheVariants as ref
-use Rattle.yaml_events.specs.declared.event.Span.{Span}
 use Rattle.yaml_events.specs.declared.event.Style as declared
-use Rattle.yaml_recognizers.specs.Ranges.{RangesInOrder}
-use Rattle.yaml_comments.specs.Outside.{IsComment, IsLineEnd, IsOnHeader, IsOneLine, IsOutside, IsTextStart}
-use Rattle.yaml_comments.specs.Comments.{Place, IsNext, AreComments, AreInGap, IsGapAdded}
 
 -- ---- one scalar
 

@@ -1,17 +1,12 @@
 -- A text as a row of segments, in bytes: what is outside of scalars and has no `#`, comments, and scalars. The comments
 -- among them are those of the text.
 use Rattle.std.proofs.Common.{◌≡◌, refl, sym, ◌∙◌, ap, subst, inl, inr, arith, ◌<◌, ◌≤◌, length, get_or, append_assoc, length-append}
-use Rattle.std.specs.Prelude.{ℕ, zero, suc, map, ◌+◌, ◌-◌, ◌⊎◌, Bool, true, false, not, ◌&&◌, ◌||◌, ◌==◌, List, []}
-use Rattle.std.specs.Prelude.{◌∷◌, ◌++◌, Option, Some, None}
-use Rattle.std.proofs.Common.{⊎_elim, append-nil, ap₂, take, drop, slice_range}
-use Rattle.std.proofs.Math.Seq.{drop-append_seam, take-append_seam}
+use Rattle.std.proofs.{Common.{⊎_elim, append-nil, ap₂, take, drop, slice_range}, Math.Seq.{drop-append_seam, take-append_seam}}
 use Rattle.std.proofs.lemmas.Bool.{and_parts, or_cases, cases_lt, eqb-true, not-true, false≢true, eq-eqb, or_parts, or_left}
-use Rattle.std.proofs.lemmas.List.{get_or-append-add, get_or_append_left}
-use Rattle.std.specs.List.{list_all}
-use Rattle.yaml_chars.specs.Classes.{line_break}
-use Rattle.yaml_grammar.specs.Texts.{is_empty, first}
-use Rattle.yaml_comments.specs.Outside.{IsOneLine, IsLineEnd}
-use Rattle.yaml_comments.specs.Comments.{Place, comment_at}
+use Rattle.std.{proofs.lemmas.List.{get_or-append-add, get_or_append_left}, specs.Prelude.{ℕ, zero, suc, map, ◌+◌, ◌-◌, ◌⊎◌, Bool, true}}
+use Rattle.std.specs.{Prelude.{false, not, ◌&&◌, ◌||◌, ◌==◌, List, [], ◌∷◌, ◌++◌, Option, Some, None}, List.list_all}
+use Rattle.{yaml_chars.specs.Classes.line_break, yaml_grammar.specs.Texts.{is_empty, first}, yaml_comments.specs.Outside.IsOneLine}
+use Rattle.yaml_comments.specs.{Outside.IsLineEnd, Comments.{Place, comment_at}}
 
 -- ---- what a text is made of
 

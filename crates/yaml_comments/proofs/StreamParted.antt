@@ -1,29 +1,21 @@
 -- The comments of a stream are those of its text (YAML 1.2.2, 6.8 and chapter 9).
 use Rattle.std.proofs.Common.{◌≡◌, refl, sym, ◌∙◌, ap, subst, inl, inr, arith, append_assoc, append-nil, encode_utf8_all, ⊎_elim}
-use Rattle.std.specs.Prelude.{ℕ, map, ◌+◌, Bool, true, false, not, ◌&&◌, List, [], ◌∷◌, ◌++◌, Option, Some, None, codes, cond, flat_map}
-use Rattle.std.proofs.lemmas.Bool.{and_parts, cases_lt}
-use Rattle.std.specs.List.{list_all}
-use Rattle.yaml_chars.specs.Classes.{white}
-use Rattle.yaml_grammar.specs.Texts.{is_empty, marker, optional, byte_len, starts_line}
-use Rattle.yaml_grammar.specs.Separation.{LineEnd, comments_text, comments_fit}
-use Rattle.yaml_grammar.specs.BlockNodes.{node_fits}
-use Rattle.yaml_grammar.specs.Events.{Event, plain_style, single_style, double_style, literal_style, folded_style}
-use Rattle.yaml_grammar.specs.Events.{omitted_style, document_start, document_end, seq_start, seq_end, map_start, map_end, scalar_event}
-use Rattle.yaml_grammar.specs.Streams.{Explicit, content, nothing, Version, yaml_1_1, yaml_1_2, Document, bare, explicit, directed}
-use Rattle.yaml_grammar.specs.Streams.{Part, suffixes, line, further, Stream, explicit_text, version_text, directive_text, document_text}
-use Rattle.yaml_grammar.specs.Streams.{suffix_text, part_text, parts_text, mark_text, stream_text, explicit_fits, document_fits}
-use Rattle.yaml_grammar.specs.Streams.{optional_document_fits, suffix_fits, suffixes_fit, part_fits, parts_fit, fits, explicit_events}
-use Rattle.yaml_grammar.specs.Streams.{document_events, optional_document_events, part_events, parts_events, stream_events}
-use Rattle.yaml_comments.specs.Outside.{IsOutside, IsComment}
-use Rattle.yaml_comments.specs.Comments.{Place, AreComments, comment_at}
-use Rattle.yaml_comments.specs.CommentLaws.{PresentedComments}
-use Rattle.yaml_comments.specs.Presented.{lines_comments, explicit_comments, document_comments}
-use Rattle.yaml_comments.specs.Presented.{optional_document_comments, part_comments, stream_comments}
-use Rattle.yaml_comments.proofs.Segments.{all_bytes, ranges, places, Outside, Mark, Next, Are, all_found, all_cut}
-use Rattle.yaml_comments.proofs.Parted.{Parted, ranges_of, Empties, nothing as empty_part, join, texted, moved, document_of, unmarked}
-use Rattle.yaml_comments.proofs.LinesParted.{whites_unmarked, line_end_part, lines_part}
-use Rattle.yaml_comments.proofs.FlowParted.{omitted_part}
-use Rattle.yaml_comments.proofs.BlockParted.{node_part}
+use Rattle.std.{proofs.lemmas.Bool.{and_parts, cases_lt}, specs.Prelude.{ℕ, map, ◌+◌, Bool, true, false, not, ◌&&◌, List, [], ◌∷◌, ◌++◌}}
+use Rattle.std.specs.{Prelude.{Option, Some, None, codes, cond, flat_map}, List.list_all}
+use Rattle.{yaml_chars.specs.Classes.white, yaml_grammar.specs.Texts.{is_empty, marker, optional, byte_len, starts_line}}
+use Rattle.yaml_grammar.specs.{Separation.{LineEnd, comments_text, comments_fit}, BlockNodes.node_fits, Events.{Event, plain_style}}
+use Rattle.yaml_grammar.specs.Events.{single_style, double_style, literal_style, folded_style, omitted_style, document_start, document_end}
+use Rattle.yaml_grammar.specs.{Events.{seq_start, seq_end, map_start, map_end, scalar_event}, Streams.{Explicit, content, nothing, Version}}
+use Rattle.yaml_grammar.specs.Streams.{yaml_1_1, yaml_1_2, Document, bare, explicit, directed, Part, suffixes, line, further, Stream}
+use Rattle.yaml_grammar.specs.Streams.{explicit_text, version_text, directive_text, document_text, suffix_text, part_text, parts_text}
+use Rattle.yaml_grammar.specs.Streams.{mark_text, stream_text, explicit_fits, document_fits, optional_document_fits, suffix_fits}
+use Rattle.yaml_grammar.specs.Streams.{suffixes_fit, part_fits, parts_fit, fits, explicit_events, document_events, optional_document_events}
+use Rattle.{yaml_grammar.specs.Streams.{part_events, parts_events, stream_events}, yaml_comments.specs.Outside.{IsOutside, IsComment}}
+use Rattle.yaml_comments.specs.{Comments.{Place, AreComments, comment_at}, CommentLaws.PresentedComments, Presented.lines_comments}
+use Rattle.yaml_comments.specs.Presented.{explicit_comments, document_comments, optional_document_comments, part_comments, stream_comments}
+use Rattle.yaml_comments.proofs.{Segments.{all_bytes, ranges, places, Outside, Mark, Next, Are, all_found, all_cut}, Parted.Parted}
+use Rattle.yaml_comments.proofs.Parted.{ranges_of, Empties, nothing as empty_part, join, texted, moved, document_of, unmarked}
+use Rattle.yaml_comments.proofs.{LinesParted.{whites_unmarked, line_end_part, lines_part}, FlowParted.omitted_part, BlockParted.node_part}
 
 -- ---- documents
 

@@ -1,38 +1,22 @@
 -- The presentation of a tree with comments has the comments before the tree and behind its lines, in order.
 use Rattle.std.proofs.Common.{◌≡◌, refl, sym, ◌∙◌, ap, ap₂, subst, inl, inr, arith, ◌≤◌, append_assoc, append-nil, encode_utf8_all}
-use Rattle.std.specs.Prelude.{ℕ, ◌+◌, map, Bool, true, false, cond, List, [], ◌∷◌, ◌++◌, Option, Some, None, flat_map}
-use Rattle.std.specs.List.{list_all}
+use Rattle.std.specs.{Prelude.{ℕ, ◌+◌, map, Bool, true, false, cond, List, [], ◌∷◌, ◌++◌, Option, Some, None, flat_map}, List.list_all}
 use lib.Utf8
-use Rattle.std.proofs.lemmas.Bool.{and_parts, and_from, or_cases}
-use Rattle.std.proofs.lemmas.Bool.Decides.{nat_tests}
-use Rattle.yaml_chars.specs.Classes.{code_point}
-use Rattle.yaml_recognizers.proofs.OneStyle.Characters.{from_range}
-use Rattle.std.proofs.lemmas.Str.{chars-encodes}
-use Rattle.yaml_grammar.specs.Texts.{IsText}
-use Rattle.yaml_grammar.specs.Separation.{inline}
-use Rattle.yaml_grammar.specs.FlowScalars.{plain, double}
-use Rattle.yaml_grammar.specs.FlowNodes.{scalar}
-use Rattle.yaml_grammar.specs.BlockNodes.{Node, flow, block, Indented, Pair, asked, keyed, node}
-use Rattle.yaml_grammar.specs.Streams.{Stream, stream_text, stream_events}
-use Rattle.yaml_grammar.specs.Reads.{Reads, Presents}
+use Rattle.std.proofs.lemmas.{Bool.{and_parts, and_from, or_cases, Decides.nat_tests}, Str.chars-encodes}
+use Rattle.{yaml_chars.specs.Classes.code_point, yaml_recognizers.proofs.OneStyle.{Characters.from_range, StyleRead.Unambiguous}}
+use Rattle.{yaml_recognizers.proofs.OneStyle.Presented.{one_space, items_of_text, word_flow}, yaml_grammar.specs.Texts.IsText}
+use Rattle.yaml_grammar.specs.{Separation.inline, FlowScalars.{plain, double}, FlowNodes.scalar, BlockNodes.{Node, flow, block, Indented}}
+use Rattle.yaml_grammar.specs.{BlockNodes.{Pair, asked, keyed, node}, Streams.{Stream, stream_text, stream_events}, Reads.{Reads, Presents}}
 use Rattle.yaml_grammar.specs.Trees.{Tree, text, sequence, mapping, Elements, no_element, element, Members, no_member, member}
-use Rattle.yaml_grammar.specs.Style.{plain_in_style, literal_in_style, long_key}
-use Rattle.yaml_recognizers.proofs.OneStyle.StyleRead.{Unambiguous}
-use Rattle.yaml_recognizers.proofs.OneStyle.Presented.{one_space, items_of_text, word_flow}
-use Rattle.yaml_commented.specs.Trails.{Extra, empty_line, comment_line, Trail, behind_comments, extra_comments}
-use Rattle.yaml_commented.specs.Trails.{extras_comments, trail_comments}
-use Rattle.yaml_commented.specs.Commented.{next_trail, later_trails, after_key, after_tree, after_value}
-use Rattle.yaml_commented.specs.Commented.{after_elements, after_members, commented_text}
-use Rattle.yaml_commented.proofs.Presented.{line_end, extra_line, extra_lines, ends, past_empties, literal_block, scalar_node, pair_of}
-use Rattle.yaml_commented.proofs.Presented.{element_of, value_of, items_from, pairs_from, top_node, presentation_of}
-use Rattle.yaml_commented.proofs.Spelled.{presentation_spelled}
-use Rattle.yaml_commented.proofs.Fits.{presentation_fits}
-use Rattle.yaml_commented.proofs.Texts.{commented_is_text}
-use Rattle.yaml_comments.specs.Comments.{AreComments, comment_at}
-use Rattle.yaml_comments.specs.CommentLaws.{HasItsComments, comments_of, CommentedComments}
+use Rattle.{yaml_grammar.specs.Style.{plain_in_style, literal_in_style, long_key}, yaml_commented.specs.Trails.{Extra, empty_line}}
+use Rattle.yaml_commented.specs.Trails.{comment_line, Trail, behind_comments, extra_comments, extras_comments, trail_comments}
+use Rattle.yaml_commented.specs.Commented.{next_trail, later_trails, after_key, after_tree, after_value, after_elements, after_members}
+use Rattle.yaml_commented.{specs.Commented.commented_text, proofs.Presented.{line_end, extra_line, extra_lines, ends, past_empties}}
+use Rattle.yaml_commented.proofs.Presented.{literal_block, scalar_node, pair_of, element_of, value_of, items_from, pairs_from, top_node}
+use Rattle.yaml_commented.proofs.{Presented.presentation_of, Spelled.presentation_spelled, Fits.presentation_fits, Texts.commented_is_text}
+use Rattle.yaml_comments.specs.{Comments.{AreComments, comment_at}, CommentLaws.{HasItsComments, comments_of, CommentedComments}}
 use Rattle.yaml_comments.specs.Presented.{line_comments, lines_comments, node_comments, items_comments, pairs_comments, pair_comments}
-use Rattle.yaml_comments.specs.Presented.{indented_comments, stream_comments}
-use Rattle.yaml_comments.proofs.StreamParted.{presented}
+use Rattle.yaml_comments.{specs.Presented.{indented_comments, stream_comments}, proofs.StreamParted.presented}
 
 -- ---- lines and trails
 

@@ -1,15 +1,8 @@
 -- The laws of comments, as statements.
-use Rattle.std.specs.Prelude.{◌≡◌, true, List, ◌++◌, encode_utf8_all, map, flat_map, ℕ}
-use Rattle.std.specs.List.{list_all}
-use Rattle.std.specs.Str.{IsUtf8}
-use Rattle.yaml_chars.specs.Classes.{nb}
-use Rattle.yaml_grammar.specs.Streams.{Stream, stream_text, fits, stream_events}
-use Rattle.yaml_grammar.specs.Trees.{Tree, IsTextTree}
-use Rattle.yaml_commented.specs.Trails.{Extra, Trail, extras_comments, trail_comments}
-use Rattle.yaml_commented.specs.Commented.{commented_text}
-use Rattle.yaml_commented.specs.TrailsFit.{Fits}
-use Rattle.yaml_comments.specs.Comments.{Place, AreComments, comment_at, HasComments}
-use Rattle.yaml_comments.specs.Presented.{stream_comments}
+use Rattle.std.specs.{Prelude.{◌≡◌, true, List, ◌++◌, encode_utf8_all, map, flat_map, ℕ}, List.list_all, Str.IsUtf8}
+use Rattle.{yaml_chars.specs.Classes.nb, yaml_grammar.specs.{Streams.{Stream, stream_text, fits, stream_events}, Trees.{Tree, IsTextTree}}}
+use Rattle.yaml_commented.specs.{Trails.{Extra, Trail, extras_comments, trail_comments}, Commented.commented_text, TrailsFit.Fits}
+use Rattle.yaml_comments.specs.{Comments.{Place, AreComments, comment_at, HasComments}, Presented.stream_comments}
 
 -- The bytes of a presentation have its comments, by its events. Each is on one line, of characters that may be in a
 -- comment (6.6).

@@ -1,9 +1,6 @@
 -- The comments of a text, in order (YAML 1.2.2, 6.6), by the events that it reads as. Places are bytes from 0.
-use Rattle.std.specs.Prelude.{◌≡◌, ℕ, ◌+◌, ◌≤◌, max, List, [], ◌∷◌, ◌++◌, Some, length, map, slice_range}
-use Rattle.std.specs.Str.{chars}
-use Rattle.yaml_grammar.specs.Events.{Event}
-use Rattle.yaml_grammar.specs.Reads.{Reads}
-use Rattle.yaml_comments.specs.Outside.{IsComment, IsLineEnd, HasNoMark, IsFirstMark}
+use Rattle.std.specs.{Prelude.{◌≡◌, ℕ, ◌+◌, ◌≤◌, max, List, [], ◌∷◌, ◌++◌, Some, length, map, slice_range}, Str.chars}
+use Rattle.{yaml_grammar.specs.{Events.Event, Reads.Reads}, yaml_comments.specs.Outside.{IsComment, IsLineEnd, HasNoMark, IsFirstMark}}
 
 -- where a comment begins, at its `#`, and where its line ends
 pub record Place : Type 0 where

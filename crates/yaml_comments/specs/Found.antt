@@ -1,7 +1,6 @@
 -- The comments that were found, as places.
 use Rattle.std.specs.Prelude.{List, [], ◌∷◌}
-use Rattle.yaml_comments.specs.declared.find.Comment.{Comment}
-use Rattle.yaml_comments.specs.Comments.{Place}
+use Rattle.yaml_comments.specs.{declared.find.Comment.Comment, Comments.Place}
 
 -- the place of a comment
 abbrev pub place_of : Comment → Place

@@ -1,14 +1,11 @@
 -- The comments of a presentation, in order: those of the ends of its lines (YAML 1.2.2, 6.6). Each is what is written
 -- behind its `#`.
 use Rattle.std.specs.Prelude.{ℕ, List, [], ◌∷◌, ◌++◌, Option, Some, None, flat_map}
-use Rattle.yaml_grammar.specs.Separation.{LineEnd, Sep, inline, lines}
-use Rattle.yaml_grammar.specs.FlowNodes.{Flow, scalar, seq, map, Entries, none, last, next, Entry, entry, Value, absent, empty, given}
-use Rattle.yaml_grammar.specs.BlockScalars.{BlockScalar}
-use Rattle.yaml_grammar.specs.BlockNodes.{Node, block, flow, items, pairs, Items, item, item_and, Pairs, pair, pair_and}
-use Rattle.yaml_grammar.specs.BlockNodes.{Pair, asked, asked_alone, keyed, keyed_alone, Indented, compact_items}
-use Rattle.yaml_grammar.specs.BlockNodes.{compact_pairs, node, omitted}
-use Rattle.yaml_grammar.specs.Streams.{Explicit, content, nothing, Document, bare, explicit, directed, Part, suffixes}
-use Rattle.yaml_grammar.specs.Streams.{line, further, Stream}
+use Rattle.yaml_grammar.specs.{Separation.{LineEnd, Sep, inline, lines}, FlowNodes.{Flow, scalar, seq, map, Entries, none, last, next}}
+use Rattle.yaml_grammar.specs.{FlowNodes.{Entry, entry, Value, absent, empty, given}, BlockScalars.BlockScalar, BlockNodes.{Node, block}}
+use Rattle.yaml_grammar.specs.BlockNodes.{flow, items, pairs, Items, item, item_and, Pairs, pair, pair_and, Pair, asked, asked_alone, keyed}
+use Rattle.yaml_grammar.specs.{BlockNodes.{keyed_alone, Indented, compact_items, compact_pairs, node, omitted}, Streams.{Explicit, content}}
+use Rattle.yaml_grammar.specs.Streams.{nothing, Document, bare, explicit, directed, Part, suffixes, line, further, Stream}
 
 -- a comment that may be left out
 abbrev pub optional_comment : Option (List ℕ) → List (List ℕ)

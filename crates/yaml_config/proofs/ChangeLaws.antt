@@ -6,11 +6,10 @@ use Rattle.yaml_config.proofs.Prelude.{Members, no_member, member, key_lines, el
 use Rattle.yaml_config.proofs.Prelude.{members_after, value_at, style_text, length_at, element_size, value_size, Size, three, four}
 use Rattle.yaml_config.proofs.Prelude.{spaces_bytes, key_law, element_law, value_law, Index, number, after_last, no_index, index_of}
 use Rattle.yaml_config.proofs.Prelude.{at_index, present, put_element, cut_element, push_element, value_of, put_member, cut_member, child}
-use Rattle.yaml_config.proofs.Prelude.{put, cut, Miss, Absent, option_map-Some, present-Ok}
-use Rattle.yaml_data.proofs.CharacterLemmas.{same_text-true}
-use Rattle.tree_path.specs.Paths.{element_at as child_at}
-use Rattle.yaml_config.specs.{declared.change.Slot.Slot, declared.change.Slot.TheVariants.Value, declared.change.Slot.TheVariants.Element}
-use Rattle.yaml_config.specs.Changes.{IsCollection, node_at, node_length, slot_in, child_size, element_row, member_row, growth, first_row}
+use Rattle.yaml_config.{proofs.Prelude.{put, cut, Miss, Absent, option_map-Some, present-Ok}, specs.declared.change.Slot.Slot}
+use Rattle.yaml_config.specs.{declared.change.Slot.TheVariants.{Value, Element}, Changes.{IsCollection, node_at, node_length, slot_in}}
+use Rattle.yaml_config.specs.Changes.{child_size, element_row, member_row, growth, first_row}
+use Rattle.{yaml_data.proofs.CharacterLemmas.same_text-true, tree_path.specs.Paths.element_at as child_at}
 
 -- ---- a node in its slot
 

@@ -5,9 +5,7 @@ use Rattle.yaml_config.proofs.Prelude.{nat_tests, same_text, Tree, text, sequenc
 use Rattle.yaml_config.proofs.Prelude.{no_member, member, depth, elements_depth, members_depth, Index, number, after_last, no_index}
 use Rattle.yaml_config.proofs.Prelude.{index_of, at_index, put_element, cut_element, push_element, value_of, put_member, cut_member, child}
 use Rattle.yaml_config.proofs.Prelude.{put, cut, at_step, edit_from, set, delete, Absent, option_map-Some, present-Ok, at_step-Ok}
-use Rattle.yaml_config.proofs.Prelude.{and_then-Ok, same_Ok}
-use Rattle.tree_path.specs.Paths.{element_at as child_at}
-use Rattle.yaml_config.specs.Limits.{config_limits}
+use Rattle.{yaml_config.{proofs.Prelude.{and_then-Ok, same_Ok}, specs.Limits.config_limits}, tree_path.specs.Paths.element_at as child_at}
 
 -- a collection with a value of the depth v in it is this deep, where it was so deep before
 pub record Deepens (old v new : ℕ) : Type 0 where

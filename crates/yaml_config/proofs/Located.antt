@@ -1,16 +1,15 @@
 -- The length of a whole tree after an edit at the end of a path, from that of the node that is edited.
 use Rattle.std.proofs.Common.{◌≡◌, ℕ, zero, suc, ◌+◌, ◌*◌, ◌^◌, ◌<◌, ◌≤◌, Bool, true, false, if◌then◌else◌, List, [], ◌∷◌, ◌++◌, length}
-use Rattle.std.proofs.Common.{codes, Some, Result, Ok, Err, refl, sym, ap, subst, ◌∙◌, add-zero, arith}
+use Rattle.std.proofs.{Common.{codes, Some, Result, Ok, Err, refl, sym, ap, subst, ◌∙◌, add-zero, arith}, Math.Nat.mul-le-mul_left}
+use Rattle.std.proofs.Math.Nat.{mul-le-mul_right}
 use Rattle.yaml_config.proofs.Prelude.{byte_len, same_text, spaces, Tree, text, sequence, mapping, Elements, no_element, element, Members}
 use Rattle.yaml_config.proofs.Prelude.{no_member, member, depth, elements_depth, members_depth, key_lines, elements_at, elements_after}
 use Rattle.yaml_config.proofs.Prelude.{lines_after_dash, members_at, members_after, value_at, style_text, three, elements_law, members_law}
 use Rattle.yaml_config.proofs.Prelude.{Index, number, after_last, no_index, index_of, at_index, value_of, child, refusal, at_step, at_from}
-use Rattle.yaml_config.proofs.Prelude.{Miss, Absent, present-Ok, put-there, edit_path, edit_path-step}
-use Rattle.std.proofs.Math.Nat.{mul-le-mul_left, mul-le-mul_right}
-use Rattle.tree_path.specs.Paths.{element_at as child_at}
-use Rattle.yaml_config.specs.{declared.change.Change.Change, declared.change.Slot.Slot, declared.change.Slot.TheVariants.Value}
-use Rattle.yaml_config.specs.Changes.{IsCollection, Changes, ChangesSmall, node_length, slot_in, Located, shifted_change}
-use Rattle.yaml_config.proofs.ChangeLaws.{put-leads, put-collection, style-node, node-value}
+use Rattle.yaml_config.proofs.{Prelude.{Miss, Absent, present-Ok, put-there, edit_path, edit_path-step}, ChangeLaws.put-leads}
+use Rattle.yaml_config.{proofs.ChangeLaws.{put-collection, style-node, node-value}, specs.declared.change.{Change.Change, Slot.Slot}}
+use Rattle.yaml_config.specs.{declared.change.Slot.TheVariants.Value, Changes.{IsCollection, Changes, ChangesSmall, node_length, slot_in}}
+use Rattle.{yaml_config.specs.Changes.{Located, shifted_change}, tree_path.specs.Paths.element_at as child_at}
 
 -- ---- down a path
 

@@ -1,17 +1,14 @@
 -- The lengths that the code finds, as those of the definitions' edits.
 use Rattle.std.proofs.Common.{◌≡◌, ℕ, suc, ◌+◌, ◌-◌, ◌*◌, ◌^◌, ◌<◌, ◌≤◌, ◌==◌, Bool, true, false, if◌then◌else◌, List, [], ◌∷◌, ◌++◌}
 use Rattle.std.proofs.Common.{length, codes, Ok, Err, Global, Vec, vec_len, refl, sym, ap, subst, ◌∙◌, arith, rules}
-use Rattle.yaml_config.proofs.Prelude.{same_text, sequence, mapping, Pair, elements_of, members_of, length_at, Size, after_last}
-use Rattle.yaml_config.proofs.Prelude.{index_of, push_element, put_member, child, put, cut, refusal, set, delete, Miss, put-there, set-edit}
-use Rattle.yaml_config.proofs.Prelude.{delete-edit}
+use Rattle.yaml_config.proofs.Prelude.{same_text, sequence, mapping, Pair, elements_of, members_of, length_at, Size, after_last, index_of}
+use Rattle.yaml_config.proofs.Prelude.{push_element, put_member, child, put, cut, refusal, set, delete, Miss, put-there, set-edit}
+use Rattle.yaml_config.proofs.{Prelude.delete-edit, ChangeLaws.{element_count, member_count, put-replaces, push-grows, put-grows, put_last}}
+use Rattle.yaml_config.proofs.ChangeLaws.{put_new, cut_sequence-there, cut_mapping-there, put-collection, cut-collection}
+use Rattle.yaml_config.{proofs.Located.{edit-Located, missed-Located, changes-whole}, specs.declared.change.{Change.Change, Slot.Slot}}
+use Rattle.yaml_config.specs.{declared.change.Slot.TheVariants.{Value, Element}, Changes.{Changes, ChangesNode, ChangesSmall, Located}}
+use Rattle.yaml_config.specs.Changes.{slot_in, child_size, element_row, member_row, first_row, growth, reversed_change, shifted_change}
 use Rattle.yaml_data.specs.declared.tree.Tree.{Tree}
-use Rattle.yaml_config.specs.{declared.change.Change.Change, declared.change.Slot.Slot}
-use Rattle.yaml_config.specs.Changes.{Changes, ChangesNode, ChangesSmall, Located, slot_in, child_size, element_row, member_row, first_row}
-use Rattle.yaml_config.specs.Changes.{growth, reversed_change, shifted_change}
-use Rattle.yaml_config.specs.declared.change.Slot.TheVariants.{Value, Element}
-use Rattle.yaml_config.proofs.ChangeLaws.{element_count, member_count, put-replaces, push-grows, put-grows, put_last, put_new}
-use Rattle.yaml_config.proofs.ChangeLaws.{cut_sequence-there, cut_mapping-there, put-collection, cut-collection}
-use Rattle.yaml_config.proofs.Located.{edit-Located, missed-Located, changes-whole}
 use Rattle.yaml_grammar.specs.Trees as grammar
 
 -- ---- counts

@@ -1,11 +1,9 @@
 -- What a plan of an edit knows of its tokens: all but the last one lead to the node that the edit changes.
 use Rattle.std.proofs.Common.{◌≡◌, ℕ, ◌+◌, ◌*◌, ◌≤◌, List, [], ◌∷◌, ◌++◌, length, Global, sym, ap, subst, ◌∙◌, arith}
+use Rattle.std.{proofs.lemmas.List.length-map, specs.declared.borrow.CowStr.CowStr}
 use Rattle.yaml_config.proofs.Prelude.{cow_str_bytes, IsLastAndRest, chars, style_text, byte_len, Tree, depth, texts, texts-append}
-use Rattle.std.specs.declared.borrow.CowStr.{CowStr}
-use Rattle.std.proofs.lemmas.List.{length-map}
-use Rattle.yaml_config.specs.{Kept.IsKept, Kept.own_limits, Changes.Changes, Changes.Located, Changes.shifted_change}
-use Rattle.yaml_config.specs.{declared.change.Change.Change, declared.change.Slot.Slot, declared.change.Slot.TheVariants.Value}
-use Rattle.yaml_config.proofs.Located.{Located-within}
+use Rattle.yaml_config.{proofs.Located.Located-within, specs.{Kept.{IsKept, own_limits}, Changes.{Changes, Located, shifted_change}}}
+use Rattle.yaml_config.specs.declared.change.{Change.Change, Slot.{Slot, TheVariants.Value}}
 
 -- the tokens split into the last one and those before it, as texts
 pub record IsSplit (tokens : List (CowStr Global)) (last : CowStr Global) (parents : List (CowStr Global)) : Type 0 where

@@ -1,9 +1,8 @@
 -- The size of a tree in each context, and its length in the one style.
 use Rattle.std.proofs.Common.{◌≡◌, ◌^◌, ◌<◌, ◌≤◌, ap, arith}
-use Rattle.yaml_config.proofs.Prelude.{style_text, byte_len, Tree, element_size, value_size, Size}
+use Rattle.yaml_config.{proofs.Prelude.{style_text, byte_len, Tree, element_size, value_size, Size}, specs.Changes.child_size}
+use Rattle.yaml_config.specs.{Kept.own_limits, declared.change.Slot.{Slot, TheVariants.{Value, Element}}}
 use Rattle.yaml_writer.proofs.SizeBounds.{element_bound, element_small, value_bound, value_small}
-use Rattle.yaml_config.specs.{Changes.child_size, Kept.own_limits, declared.change.Slot.Slot}
-use Rattle.yaml_config.specs.declared.change.Slot.TheVariants.{Value, Element}
 
 -- the numbers of a size
 abbrev pub Fits : Size → Type 0

@@ -1,16 +1,10 @@
 -- Each text of a tree is a text.
-use Rattle.std.proofs.Common.{◌≡◌, ℕ, ◌<◌, ◌≤◌, ◌⊎◌, true, List, [], ◌∷◌, map, refl, sym, subst, arith}
+use Rattle.std.proofs.{Common.{◌≡◌, ℕ, ◌<◌, ◌≤◌, ◌⊎◌, true, List, [], ◌∷◌, map, refl, sym, subst, arith}, lemmas.Bool.{and_parts, and_from}}
+use Rattle.std.proofs.Math.Utf8.{scalar, scalars, scalar_cases}
 use Rattle.yaml_config.proofs.Prelude.{nat_tests, scalars-chars, chars, IsUtf8, list_all, IsText, IsTextTree, AreTextElements}
 use Rattle.yaml_config.proofs.Prelude.{AreTextMembers, Pair, tree_of, level, elements_from, members_from}
-use Rattle.std.proofs.lemmas.Bool.{and_parts, and_from}
-use Rattle.std.proofs.Math.Utf8.{scalar, scalars, scalar_cases}
-use Rattle.yaml_grammar.specs.Trees.{Tree as Seen}
-use Rattle.yaml_chars.specs.Classes.{code_point}
-use Rattle.yaml_data.specs.TextBytes.{text_bytes}
-use Rattle.yaml_data.specs.declared.text.Text.{Text}
-use Rattle.yaml_data.specs.declared.tree.Tree.{Tree}
-use Rattle.yaml_data.specs.declared.tree.Tree.TheFolds.{map-Tree, ind-Tree, fold-roll-Tree}
-use Rattle.yaml_data.specs.declared.tree.Tree.TheOpen.{Tree-F}
+use Rattle.{yaml_grammar.specs.Trees.Tree as Seen, yaml_chars.specs.Classes.code_point, yaml_data.specs.TextBytes.text_bytes}
+use Rattle.yaml_data.specs.declared.{text.Text.Text, tree.Tree.{Tree, TheFolds.{map-Tree, ind-Tree, fold-roll-Tree}, TheOpen.Tree-F}}
 use Rattle.yaml_data.proofs.TextLemmas.{IsUtf8-text_bytes}
 
 passes : (c : ℕ) → (c < 55296) ⊎ ((57344 ≤ c) × (c < 1114112)) → code_point c ≡ true

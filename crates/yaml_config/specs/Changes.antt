@@ -1,11 +1,9 @@
 -- How an edit changes the length of a tree in the one style.
 use Rattle.std.specs.Prelude.{◌≡◌, ℕ, ◌+◌, ◌-◌, ◌*◌, ◌^◌, ◌<◌, ◌==◌, List, [], ◌∷◌, Ok, if◌then◌else◌}
-use Rattle.yaml_config.specs.Prelude.{byte_len, Tree, text, sequence, mapping, no_element, element, no_member, member}
-use Rattle.yaml_config.specs.Prelude.{scalar_lines, elements_at, members_at, value_at, style_text, length_at}
-use Rattle.yaml_config.specs.Prelude.{element_size, value_size, key_size, child}
+use Rattle.yaml_config.specs.Prelude.{byte_len, Tree, text, sequence, mapping, no_element, element, no_member, member, scalar_lines}
+use Rattle.yaml_config.specs.Prelude.{elements_at, members_at, value_at, style_text, length_at, element_size, value_size, key_size, child}
+use Rattle.yaml_config.specs.declared.change.{Change.Change, Slot.{Slot, TheVariants.{Value, Element}}}
 use Rattle.yaml_writer.specs.declared.size.Size.{Size}
-use Rattle.yaml_config.specs.{declared.change.Change.Change, declared.change.Slot.Slot}
-use Rattle.yaml_config.specs.declared.change.Slot.TheVariants.{Value, Element}
 
 -- The change leads from the first tree to the second: what is taken out and what is put in make up for the difference,
 -- of the tree by itself and of the tree after the `:` of a key at any indentation.

@@ -1,8 +1,6 @@
 -- Edits inside a configuration.
 use Rattle.std.specs.Prelude.{ℕ, List, Result}
-use Rattle.yaml_config.specs.Prelude.{Tree, tree_of, set, delete, PathFault}
-use Rattle.yaml_config.specs.declared.edit.Edit.{Edit}
-use Rattle.yaml_config.specs.declared.edit.Edit.TheVariants.{Set, Delete}
+use Rattle.yaml_config.specs.{Prelude.{Tree, tree_of, set, delete, PathFault}, declared.edit.Edit.{Edit, TheVariants.{Set, Delete}}}
 
 -- the tree after an edit at a path
 abbrev pub tree_after_edit : Edit → Tree → List (List ℕ) → Result Tree PathFault

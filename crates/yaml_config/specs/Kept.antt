@@ -1,9 +1,7 @@
 -- Which trees are within limits, and the faults of the others.
 use Rattle.std.specs.Prelude.{◌≡◌, ◌<◌, ◌≤◌, IsTrue, false}
-use Rattle.yaml_config.specs.Prelude.{Good, style_text, byte_len, Tree, depth, distinct}
-use Rattle.yaml_events.specs.declared.read_fault.ReadFault.{ReadFault}
-use Rattle.yaml_events.specs.declared.read_fault.ReadFault.TheVariants.{KeyTwice, TooDeep, LargeInStyle, OutOfMemory}
-use Rattle.yaml_config.specs.declared.limits.Limits.{Limits}
+use Rattle.yaml_config.specs.{Prelude.{Good, style_text, byte_len, Tree, depth, distinct}, declared.limits.Limits.Limits}
+use Rattle.yaml_events.specs.declared.read_fault.ReadFault.{ReadFault, TheVariants.{KeyTwice, TooDeep, LargeInStyle, OutOfMemory}}
 use Rattle.yaml_grammar.specs.Reads as grammar
 pub use Rattle.yaml_data.specs.OwnLimits.{own_limits}
 

@@ -1,12 +1,9 @@
 -- Tests of a text's characters, and texts that are ASCII.
 use Rattle.std.proofs.Common.{◌≡◌, ℕ, zero, suc, ◌<◌, nat_lt, Bool, true, false, ◌&&◌, ◌||◌, ◌==◌, List, [], ◌∷◌, ◌++◌, length, drop}
 use Rattle.std.proofs.Common.{encode_utf8, encode_utf8_all, IsUtf8, IsAscii, zero-add, subst, refl, sym, ap, ap₂, ◌∙◌, arith}
+use Rattle.std.{proofs.lemmas.Bool.{and_parts, and_from, eqb-true, eq-eqb, ltb-true}, specs.{Char.len_utf8, Bool.Decides}}
 use Rattle.yaml_data.proofs.Prelude.{nat_tests, chars-IsAscii, chars-nil, encodes-chars, encodes-IsAscii, IsCharBoundary-past_char}
-use Rattle.yaml_data.proofs.Prelude.{drop_past_char, list_all, list_any, chars, IsCharBoundary}
-use Rattle.std.proofs.lemmas.Bool.{and_parts, and_from, eqb-true, eq-eqb, ltb-true}
-use Rattle.std.specs.Char.{len_utf8}
-use Rattle.std.specs.Bool.{Decides}
-use Rattle.yaml_chars.specs.Classes.{is_in}
+use Rattle.{yaml_data.proofs.Prelude.{drop_past_char, list_all, list_any, chars, IsCharBoundary}, yaml_chars.specs.Classes.is_in}
 use Rattle.yaml_grammar.specs.Texts.{same_text}
 
 -- one character more at the end, which passes

@@ -1,18 +1,12 @@
 -- The keys of a mapping, looked up one after another among those before.
 use Rattle.std.proofs.Common.{◌≡◌, ℕ, Bool, true, false, not, ◌&&◌, ◌||◌, List, [], ◌∷◌, Bor, Ordering, Less, Equal, Greater, nat_cmp}
-use Rattle.std.proofs.Common.{is_eq, IsUtf8, encode_utf8_all, refl, sym, ap, ap₂, ◌∙◌}
-use Rattle.yaml_data.proofs.Prelude.{same_from_decides, encodes-chars, list_any, chars, bytes_eq, Members, no_member, member, has_key}
-use Rattle.yaml_data.proofs.Prelude.{distinct, members_distinct}
-use Rattle.std.proofs.lemmas.Map.Text.{is_eq-slice_cmp}
-use Rattle.std.proofs.lemmas.Slice.Eq.{bytes_eq-Decides}
-use Rattle.std.specs.BTreeMap.{is_at}
-use Rattle.std.specs.BTreeSet.{insert_key}
-use Rattle.std.specs.Cmp.Lexicographic.{slice_cmp}
+use Rattle.std.proofs.{Common.{is_eq, IsUtf8, encode_utf8_all, refl, sym, ap, ap₂, ◌∙◌}, lemmas.Map.Text.is_eq-slice_cmp}
+use Rattle.std.{proofs.lemmas.Slice.Eq.bytes_eq-Decides, specs.{BTreeMap.is_at, BTreeSet.insert_key, Cmp.Lexicographic.slice_cmp}}
 use Rattle.std.specs.Ordering.{match_ordering}
-use Rattle.yaml_grammar.specs.Texts.{same_text}
-use Rattle.yaml_data.specs.{Seen.Pair, Seen.members_of, TextBytes.text_bytes, declared.text.Text.Text}
-use Rattle.yaml_data.specs.Keys.{key_members, keys_differ, values_distinct}
-use Rattle.yaml_data.proofs.{CharacterLemmas.same_text-Decides, TextLemmas.IsUtf8-text_bytes}
+use Rattle.yaml_data.proofs.Prelude.{same_from_decides, encodes-chars, list_any, chars, bytes_eq, Members, no_member, member, has_key}
+use Rattle.yaml_data.proofs.{Prelude.{distinct, members_distinct}, CharacterLemmas.same_text-Decides, TextLemmas.IsUtf8-text_bytes}
+use Rattle.yaml_data.specs.{Seen.{Pair, members_of}, TextBytes.text_bytes, declared.text.Text.Text, Keys.{key_members, keys_differ}}
+use Rattle.{yaml_data.specs.Keys.values_distinct, yaml_grammar.specs.Texts.same_text}
 
 -- a key among those that were seen
 abbrev pub Key : Type 0

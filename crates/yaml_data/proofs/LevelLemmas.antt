@@ -1,9 +1,8 @@
 -- A walk over the levels of a tree that looks at the keys of each mapping.
 use Rattle.std.proofs.Common.{◌≡◌, ◌+◌, Bool, true, false, ◌&&◌, List, [], ◌∷◌, ◌++◌, refl, sym, ap, ◌∙◌, arith}
-use Rattle.yaml_data.proofs.Prelude.{Tree, text, sequence, mapping, distinct}
+use Rattle.yaml_data.proofs.{Prelude.{Tree, text, sequence, mapping, distinct}, KeyLemmas.members_distinct-parts}
 use Rattle.yaml_data.specs.Keys.{own_keys_differ, values_distinct, level_distinct, levels_distinct, level_nodes, steps_left}
 use Rattle.yaml_data.specs.declared.keys.Level.{Level}
-use Rattle.yaml_data.proofs.KeyLemmas.{members_distinct-parts}
 
 -- the keys of levels with one more level differ where both parts' do
 pub levels_distinct-append : (ls : List Level) (l : Level) → levels_distinct (ls ++ l ∷ []) ≡ (levels_distinct ls && level_distinct l)

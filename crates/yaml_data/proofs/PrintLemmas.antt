@@ -1,15 +1,11 @@
 -- Keys whose prints differ, which they do if they ascend in some order, differ.
 use Rattle.std.proofs.Common.{◌≡◌, ℕ, zero, suc, ◌+◌, ◌<◌, ◌≤◌, Bool, true, false, cond, not, ◌&&◌, ◌||◌, ◌==◌, List, [], ◌∷◌, length}
 use Rattle.std.proofs.Common.{get_or, sum_by, IsPermutation, IsSorted, nat_cmp, IsUtf8, refl, sym, ap, ap₂, ◌∙◌, subst, le_of_eq, lt_trans}
-use Rattle.std.proofs.Common.{zero-add, true≢false, arith}
-use Rattle.yaml_data.proofs.Prelude.{nat_tests, AllAdjacentBelow, chars, has_key}
-use Rattle.std.proofs.lemmas.Bool.{eq-eqb, eqb-true}
-use Rattle.std.proofs.lemmas.List.Sorted.{sum_by-IsPermutation, IsNonDecreasingBy-from_sort}
-use Rattle.std.proofs.lemmas.List.Sums.{sum_by-cons}
-use Rattle.yaml_grammar.specs.Texts.{same_text}
-use Rattle.yaml_data.specs.{Keys.key_members, Keys.keys_differ, TextBytes.text_bytes, declared.text.Text.Text}
-use Rattle.yaml_data.specs.Prints.{print_of, key_prints, AreDistinct}
-use Rattle.yaml_data.proofs.{CharacterLemmas.same_text-Decides, KeyLemmas.same_bytes, TextLemmas.IsUtf8-text_bytes}
+use Rattle.std.proofs.{Common.{zero-add, true≢false, arith}, lemmas.{Bool.{eq-eqb, eqb-true}, List.Sorted.sum_by-IsPermutation}}
+use Rattle.std.proofs.lemmas.List.{Sorted.IsNonDecreasingBy-from_sort, Sums.sum_by-cons}
+use Rattle.yaml_data.proofs.{Prelude.{nat_tests, AllAdjacentBelow, chars, has_key}, CharacterLemmas.same_text-Decides, KeyLemmas.same_bytes}
+use Rattle.yaml_data.{proofs.TextLemmas.IsUtf8-text_bytes, specs.{Keys.{key_members, keys_differ}, TextBytes.text_bytes}}
+use Rattle.{yaml_data.specs.{declared.text.Text.Text, Prints.{print_of, key_prints, AreDistinct}}, yaml_grammar.specs.Texts.same_text}
 
 -- 1 for the print itself, and 0 for another
 abbrev one_for : ℕ → ℕ → ℕ

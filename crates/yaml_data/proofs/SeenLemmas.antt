@@ -1,10 +1,9 @@
 -- A tree, level by level, and lists of trees joined.
 use Rattle.std.proofs.Common.{◌≡◌, ℕ, ◌+◌, ◌<◌, List, [], ◌∷◌, ◌++◌, length, get_or, take, Vec, Global, rules, refl, sym, ap, ap₂, ◌∙◌}
-use Rattle.yaml_data.proofs.Prelude.{chars, Elements, no_element, element, Members, no_member, member}
 use Rattle.std.proofs.lemmas.List.{take_more}
-use Rattle.yaml_data.specs.declared.text.Text.{Text as Words}
-use Rattle.yaml_data.specs.{Seen.Pair, Seen.tree_of, Seen.elements_of, Seen.members_of, TextBytes.text_bytes}
-use Rattle.yaml_data.specs.declared.tree.Tree.{Tree, Text, Seq, Map, the_lemmas}
+use Rattle.yaml_data.proofs.Prelude.{chars, Elements, no_element, element, Members, no_member, member}
+use Rattle.yaml_data.specs.{declared.{text.Text.Text as Words, tree.Tree.{Tree, Text, Seq, Map, the_lemmas}}, Seen.{Pair, tree_of}}
+use Rattle.yaml_data.specs.{Seen.{elements_of, members_of}, TextBytes.text_bytes}
 use Rattle.yaml_grammar.specs.Trees as grammar
 
 -- a text of the code as the definitions have it

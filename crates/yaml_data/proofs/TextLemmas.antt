@@ -1,7 +1,7 @@
 -- Each text is UTF-8.
 use Rattle.std.proofs.Common.{take, IsUtf8}
-use Rattle.yaml_data.proofs.Prelude.{IsUtf8-had, IsUtf8-string_bytes}
-use Rattle.yaml_data.specs.{TextBytes.node_bytes, TextBytes.text_bytes, declared.text.Node.Node, declared.text.Text.Text}
+use Rattle.yaml_data.{proofs.Prelude.{IsUtf8-had, IsUtf8-string_bytes}, specs.{TextBytes.{node_bytes, text_bytes}, declared.text.Node.Node}}
+use Rattle.yaml_data.specs.declared.text.Text.{Text}
 use Rattle.yaml_data.specs.declared.text.Node.TheVariants as node
 
 IsUtf8-node_bytes : (n : Node) → IsUtf8 (node_bytes n)

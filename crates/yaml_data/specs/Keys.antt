@@ -1,10 +1,8 @@
 -- The two parts of `distinct` of a mapping: its own keys differ, and so do those in its values.
-use Rattle.std.specs.Prelude.{ℕ, ◌+◌, Bool, true, not, ◌&&◌, List, [], ◌∷◌}
-use Rattle.yaml_grammar.specs.Trees.{Tree, text, sequence, mapping, Elements, no_element, element, Members, no_member}
-use Rattle.yaml_grammar.specs.Trees.{member, has_key, distinct, elements_distinct}
-use Rattle.std.specs.Str.{chars}
-use Rattle.yaml_data.specs.declared.text.Text.{Text as Words}
-use Rattle.yaml_data.specs.{Seen.elements_of, Seen.members_of, TextBytes.text_bytes, declared.keys.Level.Level}
+use Rattle.std.specs.{Prelude.{ℕ, ◌+◌, Bool, true, not, ◌&&◌, List, [], ◌∷◌}, Str.chars}
+use Rattle.yaml_grammar.specs.Trees.{Tree, text, sequence, mapping, Elements, no_element, element, Members, no_member, member, has_key}
+use Rattle.{yaml_grammar.specs.Trees.{distinct, elements_distinct}, yaml_data.specs.declared.{text.Text.Text as Words, keys.Level.Level}}
+use Rattle.yaml_data.specs.{Seen.{elements_of, members_of}, TextBytes.text_bytes}
 use Rattle.yaml_data.specs.declared.keys.Level.TheVariants as levels
 
 -- the tree in place of a value that is not kept

@@ -1,6 +1,5 @@
 -- The print of a text: a number of 64 bits that is made of its bytes. Texts whose prints differ are different texts.
-use Rattle.std.specs.Prelude.{ℕ, ◌+◌, ◌*◌, ◌/◌, ◌%◌, ◌^◌, ◌≤◌, ◌==◌, List, [], ◌∷◌, length, drop, map, count_by}
-use Rattle.std.specs.Int.{from_le_bytes, w64}
+use Rattle.std.specs.{Prelude.{ℕ, ◌+◌, ◌*◌, ◌/◌, ◌%◌, ◌^◌, ◌≤◌, ◌==◌, List, [], ◌∷◌, length, drop, map, count_by}, Int.{from_le_bytes, w64}}
 use Rattle.std.specs.Simd.{first_chunks}
 use Rattle.yaml_data.specs.{TextBytes.text_bytes, declared.text.Text.Text}
 

@@ -1,8 +1,6 @@
 -- What a tree of src/ is in the grammar: the same, with texts as code points.
-use Rattle.std.specs.Prelude.{List, [], ◌∷◌, map}
-use Rattle.std.specs.Str.{chars}
-use Rattle.yaml_data.specs.{TextBytes.text_bytes, declared.text.Text.Text, declared.tree.Tree.TheOpen.Tree-F}
-use Rattle.yaml_data.specs.declared.tree.Tree.{Tree, fold-Tree}
+use Rattle.std.specs.{Prelude.{List, [], ◌∷◌, map}, Str.chars}
+use Rattle.yaml_data.specs.{TextBytes.text_bytes, declared.{text.Text.Text, tree.Tree.{Tree, fold-Tree, TheOpen.Tree-F}}}
 use Rattle.yaml_grammar.specs.Trees as grammar
 
 -- a member of a mapping: its key and its value

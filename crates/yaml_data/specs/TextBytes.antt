@@ -1,6 +1,6 @@
 -- The bytes of a text.
 use Rattle.std.specs.Prelude.{ℕ, List, take, string_bytes}
-use Rattle.yaml_data.specs.{declared.short.Short.Short, declared.text.Node.Node, declared.text.Text.Text}
+use Rattle.yaml_data.specs.declared.{short.Short.Short, text.{Node.Node, Text.Text}}
 use Rattle.yaml_data.specs.declared.text.Node.TheVariants as node
 
 -- of a text that is stored in the value itself

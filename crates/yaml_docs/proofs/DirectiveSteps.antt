@@ -1,16 +1,13 @@
 -- The `%YAML` directive at a place of a text, from its parts.
-use Rattle.std.proofs.Common.{ap, append_assoc, arith, refl, sym, ◌∙◌, ◌≡◌}
-use Rattle.std.specs.Prelude.{Bool, IfSome, List, None, Option, Some, [], codes, drop, false, true, ℕ, ◌++◌, ◌+◌, ◌∷◌}
+use Rattle.std.{proofs.Common.{ap, append_assoc, arith, refl, sym, ◌∙◌, ◌≡◌}, specs.Prelude.{Bool, IfSome, List, None, Option, Some, []}}
+use Rattle.std.specs.Prelude.{codes, drop, false, true, ℕ, ◌++◌, ◌+◌, ◌∷◌}
 use Rattle.yaml_docs.proofs.Prelude.{IsCharBoundary, IsUtf8, len_utf8_bounds, between, rest, Node, LineEnd, comments_text, directed}
 use Rattle.yaml_docs.proofs.Prelude.{directive_text, Version, yaml_1_1, yaml_1_2, version_text, begins, byte_len, is_empty, all_comments}
 use Rattle.yaml_docs.proofs.Prelude.{closes_line, Read, on, directed_with, read_directed, read_explicit, read_version, all_sound}
-use Rattle.yaml_docs.proofs.Prelude.{begins_split, IsLineStart, IsSolidLine, Line}
-use Rattle.yaml_chars.specs.Classes.{white}
-use Rattle.yaml_recognizers.specs.Prefixes.{drop_while, take_while}
-use Rattle.yaml_recognizers.proofs.Basics.Prefixes.{take_while_split}
+use Rattle.yaml_docs.proofs.{Prelude.{begins_split, IsLineStart, IsSolidLine, Line}, TextPlaces.{StandsUpTo, place_after, spelled_end}}
+use Rattle.{yaml_docs.specs.Directives.{IsDirective, IsVersion, NoDirective}, yaml_chars.specs.Classes.white}
+use Rattle.yaml_recognizers.{specs.Prefixes.{drop_while, take_while}, proofs.Basics.Prefixes.take_while_split}
 use Rattle.yaml_scan.specs.ScanPlaces.{AreTaken}
-use Rattle.yaml_docs.specs.Directives.{IsDirective, IsVersion, NoDirective}
-use Rattle.yaml_docs.proofs.TextPlaces.{StandsUpTo, place_after, spelled_end}
 
 -- ---- the recognizer of directives by its parts
 

@@ -1,22 +1,17 @@
 -- Documents at a place of a text, from what is there.
-use Rattle.std.proofs.Common.{ap, arith, refl, subst, sym, ◌<◌, ◌∙◌, ◌≡◌}
-use Rattle.std.specs.Prelude.{Bool, List, None, Some, [], codes, drop, false, length, nat_lt, true, ℕ, ◌&&◌, ◌++◌, ◌+◌, ◌∷◌}
+use Rattle.std.{proofs.Common.{ap, arith, refl, subst, sym, ◌<◌, ◌∙◌, ◌≡◌}, specs.Prelude.{Bool, List, None, Some, [], codes, drop, false}}
+use Rattle.std.specs.Prelude.{length, nat_lt, true, ℕ, ◌&&◌, ◌++◌, ◌+◌, ◌∷◌}
 use Rattle.yaml_docs.proofs.Prelude.{IsCharBoundary, IsUtf8, and_from, and_parts, nat_tests, rest, char_at, Node, node_events, as_document}
 use Rattle.yaml_docs.proofs.Prelude.{document_end, omitted_style, scalar_event, LineEnd, Document, Explicit, bare, content, directed}
 use Rattle.yaml_docs.proofs.Prelude.{explicit, explicit_events, nothing, is_empty, marker, BorrowsPlain, event_of, line_starts, Event}
 use Rattle.yaml_docs.proofs.Prelude.{is_line_end, document, suffix, all_comments, closes_line, Read, on, document_node_at, explicit_with}
 use Rattle.yaml_docs.proofs.Prelude.{marker_of, read_directed, read_explicit, suffix_with, begins_split, starts_after, Line, BlockNodeRead}
-use Rattle.yaml_docs.proofs.Prelude.{appended_none, appended_one, appended_then}
-use Rattle.yaml_grammar.specs.BlockScalars.{spaces_before}
-use Rattle.yaml_events.specs.declared.event.Event.TheVariants.{DocEnd, DocStart}
-use Rattle.yaml_recognizers.specs.BlockNodes.{omits}
-use Rattle.yaml_recognizers.specs.Ends.{block_node_stops}
-use Rattle.yaml_flow.specs.FlowNodes.{Appended}
-use Rattle.yaml_docs.specs.declared.documents.Section.TheVariants.{Explicit as ExplicitSection}
-use Rattle.yaml_docs.specs.{Directives.IsDirective, Sections.SectionRead, Sections.read_as}
-use Rattle.yaml_docs.specs.Documents.{DocumentRead, ExplicitNodeRead, ExplicitRead, IsOmitted, SuffixRead, after_dashes}
-use Rattle.yaml_docs.specs.declared.documents.Section.TheVariants.{Suffix, Directed, Bare}
-use Rattle.yaml_docs.proofs.TextPlaces.{StandsUpTo, place_after}
+use Rattle.yaml_docs.proofs.{Prelude.{appended_none, appended_one, appended_then}, TextPlaces.{StandsUpTo, place_after}}
+use Rattle.yaml_docs.specs.declared.documents.Section.TheVariants.{Explicit as ExplicitSection, Suffix, Directed, Bare}
+use Rattle.yaml_docs.specs.{Directives.IsDirective, Sections.{SectionRead, read_as}, Documents.{DocumentRead, ExplicitNodeRead}}
+use Rattle.{yaml_docs.specs.Documents.{ExplicitRead, IsOmitted, SuffixRead, after_dashes}, yaml_grammar.specs.BlockScalars.spaces_before}
+use Rattle.{yaml_events.specs.declared.event.Event.TheVariants.{DocEnd, DocStart}, yaml_recognizers.specs.BlockNodes.omits}
+use Rattle.{yaml_recognizers.specs.Ends.block_node_stops, yaml_flow.specs.FlowNodes.Appended}
 use Rattle.yaml_grammar.specs.Events as grammar
 
 -- ---- markers

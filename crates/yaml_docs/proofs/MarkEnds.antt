@@ -1,10 +1,10 @@
 -- The place after a byte order mark at the start of a text.
-use Rattle.std.proofs.Common.{ap, arith, inl, inr, refl, subst, sym, ◌∙◌, ◌≡◌}
-use Rattle.std.specs.Prelude.{List, None, Option, Some, [], false, true, ℕ, ◌==◌, ◌∷◌}
+use Rattle.std.{proofs.Common.{ap, arith, inl, inr, refl, subst, sym, ◌∙◌, ◌≡◌}, specs.Prelude.{List, None, Option, Some, [], false, true}}
+use Rattle.std.specs.Prelude.{ℕ, ◌==◌, ◌∷◌}
 use Rattle.yaml_docs.proofs.Prelude.{IsUtf8, chars, cases_Bool, eqb-true, IsCharBoundary-start, rest, first, starts_line, without_mark}
 use Rattle.yaml_docs.proofs.Prelude.{Section, sections_at, order_mark, with_mark, stream_steps, starts_at_beginning}
-use Rattle.yaml_docs.specs.{Documents.IsMarkEnd, Sections.flat_meaning, Sections.sections_meaning, Sections.stream_meaning}
-use Rattle.yaml_docs.proofs.TextPlaces.{StandsUpTo, place_after}
+use Rattle.yaml_docs.{proofs.TextPlaces.{StandsUpTo, place_after}, specs.{Documents.IsMarkEnd, Sections.{flat_meaning, sections_meaning}}}
+use Rattle.yaml_docs.specs.Sections.{stream_meaning}
 
 unmarked_meaning : (ps : Option (List Section)) → flat_meaning (with_mark false ps) ≡ sections_meaning 0 ps
 unmarked_meaning None = refl

@@ -1,20 +1,15 @@
 -- Each node of a presentation of a whole text is at its place in the bytes of the text.
-use Rattle.std.proofs.Common.{ap, append_assoc, refl, subst, sym, zero-add, ◌∙◌, ◌≡◌}
-use Rattle.std.specs.Prelude.{Bool, List, None, Option, Some, [], drop, false, true, ℕ, ◌++◌, ◌+◌, ◌∷◌, if◌then◌else◌}
+use Rattle.std.{proofs.Common.{ap, append_assoc, refl, subst, sym, zero-add, ◌∙◌, ◌≡◌}, specs.Prelude.{Bool, List, None, Option, Some, []}}
+use Rattle.std.specs.Prelude.{drop, false, true, ℕ, ◌++◌, ◌+◌, ◌∷◌, if◌then◌else◌}
 use Rattle.yaml_docs.proofs.Prelude.{All, IsCharBoundary, IsUtf8, chars, append_cancel_right, IsCharBoundary-start, rest, rest-start}
 use Rattle.yaml_docs.proofs.Prelude.{node_text, Presents, Stream, mark_text, stream_text, byte_len, first, starts_line, read_block}
 use Rattle.yaml_docs.proofs.Prelude.{FlatStream, Section, read_scalar, stream_at, sections_at, order_mark, with_mark, blocks_read}
-use Rattle.yaml_docs.proofs.Prelude.{form_found, stream_steps, reads_scalars, line_starts, without_mark}
-use Rattle.yaml_grammar.specs.FlowNodes.{flow_text}
-use Rattle.yaml_recognizers.specs.NodePlaces.{NodePlace, NodeSpelled, NodeStands, NodeStarts, SpelledAt, StartsAt}
-use Rattle.yaml_recognizers.specs.NodePlaces.{block_at, flow_at, stream_places}
-use Rattle.yaml_recognizers.specs.StandingNodes.{BlockNodeStands, FlowNodeStands}
-use Rattle.yaml_recognizers.proofs.Documents.StreamsForm.{stream_form}
-use Rattle.yaml_recognizers.proofs.Meanings.NodePlaces.{stream_stand}
-use Rattle.yaml_recognizers.proofs.Meanings.NodesSpelled.{stream_spelled}
+use Rattle.yaml_docs.proofs.{Prelude.{form_found, stream_steps, reads_scalars, line_starts, without_mark}, TextPlaces.StandsUpTo}
+use Rattle.{yaml_docs.{proofs.TextPlaces.place_after, specs.NodesInBytes.NodeIsAt}, yaml_grammar.specs.FlowNodes.flow_text}
+use Rattle.yaml_recognizers.specs.NodePlaces.{NodePlace, NodeSpelled, NodeStands, NodeStarts, SpelledAt, StartsAt, block_at, flow_at}
+use Rattle.yaml_recognizers.specs.{NodePlaces.stream_places, StandingNodes.{BlockNodeStands, FlowNodeStands}}
+use Rattle.yaml_recognizers.proofs.{Documents.StreamsForm.stream_form, Meanings.{NodePlaces.stream_stand, NodesSpelled.stream_spelled}}
 use Rattle.yaml_recognizers.proofs.Meanings.NodesStart.{stream_starts}
-use Rattle.yaml_docs.specs.NodesInBytes.{NodeIsAt}
-use Rattle.yaml_docs.proofs.TextPlaces.{StandsUpTo, place_after}
 
 -- ---- a presentation has a byte order mark exactly if its text begins with one
 

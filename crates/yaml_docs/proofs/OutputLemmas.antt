@@ -1,6 +1,6 @@
 -- Bytes that go out part by part.
-use Rattle.std.proofs.Common.{◌≡◌, sym, ◌∙◌, ap, arith, append_assoc, take-append-drop}
-use Rattle.std.specs.Prelude.{ℕ, ◌+◌, List, ◌++◌, take, drop, Option, Some, None}
+use Rattle.std.{proofs.Common.{◌≡◌, sym, ◌∙◌, ap, arith, append_assoc, take-append-drop}, specs.Prelude.{ℕ, ◌+◌, List, ◌++◌, take, drop}}
+use Rattle.std.specs.Prelude.{Option, Some, None}
 use Rattle.yaml_docs.proofs.Prelude.{Appends, take-take, drop-take}
 
 take-more : (bytes : List ℕ) (done n : ℕ) → take done bytes ++ take n (drop done bytes) ≡ take (done + n) bytes

@@ -1,15 +1,13 @@
 -- Reading on to the next piece.
 use Rattle.std.proofs.Common.{◌≡◌, ℕ, ◌+◌, ◌-◌, ◌≤◌, ◌<◌, Bool, true, false, List, [], ◌++◌, length, take, drop, refl, sym, ap, ◌∙◌, subst}
-use Rattle.std.proofs.Common.{arith, append_assoc, length-append, length-drop, take-append-drop, length-take-le}
-use Rattle.std.specs.Prelude.{Option, Result, Ok, Err, slice_range}
-use Rattle.yaml_docs.proofs.Prelude.{Consumes, append-nil, drop-drop, drop-take, take_all, ClosesAt, ClosesOnce}
-use Rattle.std.proofs.KnownBytes.{Consumes-nil, Consumes-trans}
-use Rattle.yaml_docs.specs.{declared.cutter.Fed.Fed, declared.pieces.Pieces.Pieces, declared.pieces.PiecesFault.PiecesFault}
-use Rattle.yaml_docs.specs.Cutting.{Held, Unclosed, Takes, Overfeeds}
-use Rattle.yaml_docs.specs.PieceReading.{piece_limit, input_limit, ahead, piece_or_rest, IsSound, IsOverlong, Feeds, Fills, Advances}
-use Rattle.yaml_docs.specs.PieceReading.{FeedsAll, FillsSome, FillsNone, FillsBeyond, FeedsPiece, AdvancesToPiece, AdvancesToEnd}
-use Rattle.yaml_docs.specs.PieceReading.{FailsToRead, FindsTooLong, FindsInputLong, HasPieceAhead, AdvancesWithin, AdvancesAhead}
-use Rattle.yaml_docs.proofs.{ClosingLines.lies_within, CutLines.closes-shorter}
+use Rattle.std.proofs.{Common.{arith, append_assoc, length-append, length-drop, take-append-drop, length-take-le}, KnownBytes.Consumes-nil}
+use Rattle.std.{proofs.KnownBytes.Consumes-trans, specs.Prelude.{Option, Result, Ok, Err, slice_range}}
+use Rattle.yaml_docs.proofs.{Prelude.{Consumes, append-nil, drop-drop, drop-take, take_all, ClosesAt, ClosesOnce}, ClosingLines.lies_within}
+use Rattle.yaml_docs.{proofs.CutLines.closes-shorter, specs.declared.{cutter.Fed.Fed, pieces.{Pieces.Pieces, PiecesFault.PiecesFault}}}
+use Rattle.yaml_docs.specs.{Cutting.{Held, Unclosed, Takes, Overfeeds}, PieceReading.{piece_limit, input_limit, ahead, piece_or_rest}}
+use Rattle.yaml_docs.specs.PieceReading.{IsSound, IsOverlong, Feeds, Fills, Advances, FeedsAll, FillsSome, FillsNone, FillsBeyond}
+use Rattle.yaml_docs.specs.PieceReading.{FeedsPiece, AdvancesToPiece, AdvancesToEnd, FailsToRead, FindsTooLong, FindsInputLong}
+use Rattle.yaml_docs.specs.PieceReading.{HasPieceAhead, AdvancesWithin, AdvancesAhead}
 use Rattle.yaml_docs.specs.Cutting as cutting
 use Rattle.yaml_docs.specs.declared.pieces.PiecesFault.TheVariants as fault
 

@@ -1,17 +1,12 @@
 -- What bytes read as, from what the recognizer of streams finds in their characters.
-use Rattle.std.proofs.Common.{ap, refl, subst, sym, ◌∙◌, ◌≡◌}
-use Rattle.std.specs.Prelude.{List, None, Option, Some, length, ℕ}
+use Rattle.std.{proofs.Common.{ap, refl, subst, sym, ◌∙◌, ◌≡◌}, specs.Prelude.{List, None, Option, Some, length, ℕ}}
 use Rattle.yaml_docs.proofs.Prelude.{IsUtf8, chars, code_points-chars, Reads, stream_events, IsText, byte_len, read_block, FlatStream}
 use Rattle.yaml_docs.proofs.Prelude.{flat_events, read_scalar, stream_at, blocks_read, reading_found, text_reads, reads_scalars}
-use Rattle.yaml_grammar.specs.Events.{Event}
-use Rattle.yaml_recognizers.specs.Ranges.{RangesInOrder}
-use Rattle.yaml_recognizers.proofs.Meanings.Ranges.{stream_ranges}
-use Rattle.yaml_events.specs.declared.read_fault.ReadFault.{ReadFault}
-use Rattle.yaml_events.specs.declared.read_fault.ReadFault.TheVariants.{TooLong, NotUtf8, Syntax, Documents}
-use Rattle.yaml_events.specs.declared.read_fault.ReadFault.TheVariants.{KeyNotText, KeyTwice, TooDeep, LargeInStyle}
-use Rattle.yaml_events.specs.declared.read_fault.ReadFault.TheVariants.{OutOfMemory}
-use Rattle.yaml_docs.specs.{Sections.flat_meaning, Sections.stream_meaning, Reading.IsShortText, Reading.IsSyntax, Reading.RefusesBytes}
-use Rattle.yaml_docs.proofs.TextPlaces.{byte_len-chars}
+use Rattle.yaml_docs.{proofs.TextPlaces.byte_len-chars, specs.{Sections.{flat_meaning, stream_meaning}, Reading.{IsShortText, IsSyntax}}}
+use Rattle.{yaml_docs.specs.Reading.RefusesBytes, yaml_grammar.specs.Events.Event, yaml_recognizers.specs.Ranges.RangesInOrder}
+use Rattle.{yaml_recognizers.proofs.Meanings.Ranges.stream_ranges, yaml_events.specs.declared.read_fault.ReadFault.ReadFault}
+use Rattle.yaml_events.specs.declared.read_fault.ReadFault.TheVariants.{TooLong, NotUtf8, Syntax, Documents, KeyNotText, KeyTwice, TooDeep}
+use Rattle.yaml_events.specs.declared.read_fault.ReadFault.TheVariants.{LargeInStyle, OutOfMemory}
 
 -- the characters of UTF-8 are a text
 pub is_text : (bytes : List ℕ) → IsUtf8 bytes → IsText (chars bytes)

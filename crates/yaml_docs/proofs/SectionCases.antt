@@ -1,8 +1,6 @@
 -- Which section begins at a solid line.
-use Rattle.std.proofs.Common.{refl, ◌≡◌}
-use Rattle.std.specs.Prelude.{Bool, List, None, false, true, ℕ}
-use Rattle.yaml_docs.proofs.Prelude.{first, is_line_end, section_at, marker_of, percent, read_section}
-use Rattle.yaml_docs.specs.Sections.{BeginsSection}
+use Rattle.std.{proofs.Common.{refl, ◌≡◌}, specs.Prelude.{Bool, List, None, false, true, ℕ}}
+use Rattle.yaml_docs.{proofs.Prelude.{first, is_line_end, section_at, marker_of, percent, read_section}, specs.Sections.BeginsSection}
 use Rattle.yaml_docs.specs.declared.documents.Section.TheVariants.{Suffix, Explicit, Directed, Bare}
 
 -- at `...` there is a suffix

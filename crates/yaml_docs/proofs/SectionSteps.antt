@@ -1,13 +1,11 @@
 -- What a section at the start of a text adds to the meaning of the sections from there on.
-use Rattle.std.proofs.Common.{ap, refl, subst, sym, ◌∙◌, ◌≡◌, ◌≤◌}
-use Rattle.std.specs.Prelude.{Bool, List, None, Option, Some, [], false, length, true, ℕ, ◌++◌, ◌+◌, ◌∷◌}
+use Rattle.std.{proofs.Common.{ap, refl, subst, sym, ◌∙◌, ◌≡◌, ◌≤◌}, specs.Prelude.{Bool, List, None, Option, Some, [], false, length}}
+use Rattle.std.specs.Prelude.{true, ℕ, ◌++◌, ◌+◌, ◌∷◌}
 use Rattle.yaml_docs.proofs.Prelude.{byte_len, is_empty, starts_line, read_block, Section, opens, section_events, section_text, read_scalar}
 use Rattle.yaml_docs.proofs.Prelude.{document_node_at, section_at, sections_at, section_and, blocks_read, line_not_end, line_or_end, Sound}
-use Rattle.yaml_docs.proofs.Prelude.{sound_is, reads_scalars, sections_steps, section_long, section_some}
-use Rattle.yaml_recognizers.proofs.Block.BlockNodesSound.{NodeOf}
-use Rattle.yaml_recognizers.proofs.Block.BlockNodesWhole.{whole_node_sound}
-use Rattle.yaml_recognizers.proofs.Documents.StreamsSound.{SectionOf, section_sound}
-use Rattle.yaml_docs.specs.Sections.{and_then, sections_meaning}
+use Rattle.yaml_docs.{proofs.Prelude.{sound_is, reads_scalars, sections_steps, section_long, section_some}, specs.Sections.and_then}
+use Rattle.{yaml_docs.specs.Sections.sections_meaning, yaml_recognizers.proofs.Block.BlockNodesSound.NodeOf}
+use Rattle.yaml_recognizers.proofs.{Block.BlockNodesWhole.whole_node_sound, Documents.StreamsSound.{SectionOf, section_sound}}
 
 -- ---- sections that are found
 

@@ -1,24 +1,19 @@
 -- Reading a stream from one place to the next: the events so far, and those of the sections that are left.
 use Rattle.std.proofs.Common.{ap, append-nil, append_assoc, arith, inl, inr, length, refl, subst, sym, ◌<◌, ◌∙◌, ◌≡◌, ◌≤◌}
-use Rattle.std.specs.Prelude.{All, Bool, List, None, Option, Some, [], drop, false, true, ℕ, ◌++◌, ◌+◌, ◌∷◌}
+use Rattle.std.{proofs.{Math.{Nat.add-zero, Logic.◌⊎◌}, lemmas.List.Elements.All-append}, specs.Prelude.{All, Bool, List, None, Option}}
+use Rattle.std.specs.Prelude.{Some, [], drop, false, true, ℕ, ◌++◌, ◌+◌, ◌∷◌}
 use Rattle.yaml_docs.proofs.Prelude.{IsUtf8, chars, cases_lt, false≢true, or_left, or_right, len_utf8_bounds, between, rest, rest-end}
 use Rattle.yaml_docs.proofs.Prelude.{LineEnd, comments_text, line_end_text, bare, explicit, byte_len, first, is_empty, starts_line}
 use Rattle.yaml_docs.proofs.Prelude.{BorrowsPlain, events_of, line_starts, Event, line, opens, section_events, section_text, is_line_end}
 use Rattle.yaml_docs.proofs.Prelude.{all_comments, closes_line, more_comments, read_line_end, Read, document_node_at, section_at}
 use Rattle.yaml_docs.proofs.Prelude.{sections_at, order_mark, read_directed, read_explicit, read_section, LineOf, all_sound, line_is_end}
 use Rattle.yaml_docs.proofs.Prelude.{line_sound, byte_len_joined, line_or_end, chosen, none_some, on_parts, some_parts, sound_is}
-use Rattle.yaml_docs.proofs.Prelude.{IsLineStart, IsSolidLine, Line, appended_means}
-use Rattle.std.proofs.Math.Nat.{add-zero}
-use Rattle.std.proofs.Math.Logic.{◌⊎◌}
-use Rattle.std.proofs.lemmas.List.Elements.{All-append}
-use Rattle.yaml_recognizers.proofs.Separation.CommentsDepth.{comments_step}
-use Rattle.yaml_recognizers.proofs.Basics.LineStarts.{line_starts as line_start}
-use Rattle.yaml_docs.specs.Sections.{BeginsSection, SectionRead, ReadUpTo, and_then, ends_document, meaning_from, sections_meaning, read_as}
-use Rattle.yaml_docs.specs.Sections.{stream_meaning}
-use Rattle.yaml_docs.specs.declared.documents.Section.{Section}
+use Rattle.yaml_docs.proofs.{Prelude.{IsLineStart, IsSolidLine, Line, appended_means}, SectionSteps.{no_more_sections, no_section}}
+use Rattle.yaml_docs.proofs.{SectionSteps.{section_filled, section_spells, section_step}, TextPlaces.{between_is, spelled_end}}
+use Rattle.yaml_docs.{proofs.TextPlaces.starts_between, specs.Sections.{BeginsSection, SectionRead, ReadUpTo, and_then, ends_document}}
+use Rattle.yaml_docs.specs.{Sections.{meaning_from, sections_meaning, read_as, stream_meaning}, declared.documents.Section.Section}
 use Rattle.yaml_docs.specs.declared.documents.Section.TheVariants.{Suffix, Explicit, Directed, Bare}
-use Rattle.yaml_docs.proofs.SectionSteps.{no_more_sections, no_section, section_filled, section_spells, section_step}
-use Rattle.yaml_docs.proofs.TextPlaces.{between_is, spelled_end, starts_between}
+use Rattle.yaml_recognizers.proofs.{Separation.CommentsDepth.comments_step, Basics.LineStarts.line_starts as line_start}
 use Rattle.yaml_grammar.specs.Events as grammar
 use Rattle.yaml_recognizers.specs.CanonicalStreams as flat
 

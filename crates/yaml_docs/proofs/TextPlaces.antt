@@ -1,10 +1,9 @@
 -- Places of a text by what is between them.
 use Rattle.std.proofs.Common.{ap, arith, inl, inr, length, length-append, length-drop, refl, subst, sym, ◌<◌, ◌∙◌, ◌≡◌, ◌≤◌}
-use Rattle.std.specs.Prelude.{List, [], drop, false, true, ℕ, ◌++◌, ◌+◌, ◌==◌, ◌∷◌}
+use Rattle.std.{proofs.Math.Logic.◌⊎◌, specs.Prelude.{List, [], drop, false, true, ℕ, ◌++◌, ◌+◌, ◌==◌, ◌∷◌}}
 use Rattle.yaml_docs.proofs.Prelude.{IsCharBoundary, IsUtf8, chars, cases_Bool, false≢true, IsCharBoundary-start, length-encode, between}
 use Rattle.yaml_docs.proofs.Prelude.{rest, IsSplit, between-append, encodes-rest, rest-between, same_place, split_at, byte_len, first}
 use Rattle.yaml_docs.proofs.Prelude.{is_empty, starts_line, line_starts, without_mark, order_mark, byte_len_joined, starts_joined}
-use Rattle.std.proofs.Math.Logic.{◌⊎◌}
 use lib.Utf8.{encode, encodes}
 
 -- ---- lengths in bytes

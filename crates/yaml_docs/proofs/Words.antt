@@ -1,6 +1,6 @@
 -- Words of ASCII characters at a place of a text.
-use Rattle.std.proofs.Common.{ap, arith, inl, inr, length, refl, sym, ◌∙◌, ◌≡◌}
-use Rattle.std.specs.Prelude.{Bool, List, [], drop, nat_lt, suc, true, zero, ℕ, ◌++◌, ◌==◌, ◌∷◌}
+use Rattle.std.{proofs.Common.{ap, arith, inl, inr, length, refl, sym, ◌∙◌, ◌≡◌}, specs.Prelude.{Bool, List, [], drop, nat_lt, suc, true}}
+use Rattle.std.specs.Prelude.{zero, ℕ, ◌++◌, ◌==◌, ◌∷◌}
 use Rattle.yaml_docs.proofs.Prelude.{IsAscii, IsUtf8, chars, and_from, and_parts, cases_Bool, false≢true, ltb-true, IsUtf8-from_ascii}
 use Rattle.yaml_docs.proofs.Prelude.{chars-IsAscii, chars-append, encodes-IsAscii, encodes-append, encodes-chars, list_all, begins}
 use Rattle.yaml_docs.proofs.Prelude.{begins_split}

@@ -1,9 +1,7 @@
 -- Cutting bytes that come in parts after each closing line.
-use Rattle.std.specs.Prelude.{◌≡◌, ℕ, ◌+◌, ◌≤◌, Bool, true, false, List, ◌++◌, length, take}
-use Rattle.std.proofs.Common.{refl}
-use Rattle.yaml_docs.specs.Prelude.{ClosesAt, ClosesOnce}
-use Rattle.std.specs.Coded.{Coded, code_by, coded×, coded_ℕ, coded_list}
-use Rattle.yaml_docs.specs.declared.cutter.Fed.{Fed}
+use Rattle.std.specs.{Prelude.{◌≡◌, ℕ, ◌+◌, ◌≤◌, Bool, true, false, List, ◌++◌, length, take}, Coded.{Coded, code_by, coded×, coded_ℕ}}
+use Rattle.std.{specs.Coded.coded_list, proofs.Common.refl}
+use Rattle.yaml_docs.specs.{Prelude.{ClosesAt, ClosesOnce}, declared.cutter.Fed.Fed}
 
 -- what a cutter holds, and the most bytes that it may hold
 pub record Held : Type 0 where

@@ -1,8 +1,7 @@
 -- The `%YAML` directive at a place of a text.
 use Rattle.std.specs.Prelude.{◌≡◌, ℕ, ◌+◌, Bool, false, List, ◌++◌, Some, None, codes}
-use Rattle.yaml_docs.specs.Prelude.{IsCharBoundary, rest, Node, LineEnd, directed, directive_text, Version}
-use Rattle.yaml_docs.specs.Prelude.{version_text, byte_len, all_comments, Read, on, directed_with, read_directed}
-use Rattle.yaml_docs.specs.Prelude.{read_explicit, IsLineStart}
+use Rattle.yaml_docs.specs.Prelude.{IsCharBoundary, rest, Node, LineEnd, directed, directive_text, Version, version_text, byte_len}
+use Rattle.yaml_docs.specs.Prelude.{all_comments, Read, on, directed_with, read_directed, read_explicit, IsLineStart}
 use Rattle.yaml_scan.specs.declared.lines.Line.{Line}
 
 -- `%YAML`, whitespace and a version, from a place up to another

@@ -1,12 +1,9 @@
 -- Documents of a stream at places of a text.
-use Rattle.std.specs.Prelude.{◌≡◌, ℕ, ◌<◌, true, false, List, Some, None, drop}
-use Rattle.yaml_docs.specs.Prelude.{IsCharBoundary, chars, rest, node_events, Document, Explicit, content, nothing}
-use Rattle.yaml_docs.specs.Prelude.{document_events, explicit_events, first, LineEnd, Event, omits, suffix}
-use Rattle.yaml_docs.specs.Prelude.{all_comments, document_node_at, explicit_with, order_mark, suffix_with}
-use Rattle.yaml_docs.specs.Prelude.{read_directed, read_explicit, IsLineStart, Appended}
-use Rattle.std.proofs.Math.Logic.{◌⊎◌}
-use Rattle.yaml_grammar.specs.Events.{omitted_at}
-use Rattle.yaml_docs.specs.Sections.{meaning_from, stream_meaning}
+use Rattle.std.{specs.Prelude.{◌≡◌, ℕ, ◌<◌, true, false, List, Some, None, drop}, proofs.Math.Logic.◌⊎◌}
+use Rattle.yaml_docs.specs.Prelude.{IsCharBoundary, chars, rest, node_events, Document, Explicit, content, nothing, document_events}
+use Rattle.yaml_docs.specs.Prelude.{explicit_events, first, LineEnd, Event, omits, suffix, all_comments, document_node_at, explicit_with}
+use Rattle.yaml_docs.specs.{Prelude.{order_mark, suffix_with, read_directed, read_explicit, IsLineStart, Appended}, Sections.meaning_from}
+use Rattle.{yaml_docs.specs.Sections.stream_meaning, yaml_grammar.specs.Events.omitted_at}
 use Rattle.yaml_grammar.specs.Events as grammar
 
 -- the place after a byte order mark at the start of a text, or its start

@@ -1,8 +1,8 @@
 -- The nodes of a presentation of a whole text, at their places in its bytes.
 use Rattle.std.specs.Prelude.{ℕ, List}
 use Rattle.yaml_docs.specs.Prelude.{All, IsCharBoundary, IsUtf8, chars, rest, Presents, Stream, line_starts}
-use Rattle.yaml_recognizers.specs.NodePlaces.{NodePlace, flow_at, block_at, stream_places}
-use Rattle.yaml_recognizers.specs.StandingNodes.{FlowNodeStands, BlockNodeStands}
+use Rattle.yaml_recognizers.specs.{NodePlaces.{NodePlace, flow_at, block_at, stream_places}, StandingNodes.FlowNodeStands}
+use Rattle.yaml_recognizers.specs.StandingNodes.{BlockNodeStands}
 
 -- the node is at its place in the bytes, and what comes after it there ends it
 abbrev pub NodeIsAt : List ℕ → NodePlace → Type 0

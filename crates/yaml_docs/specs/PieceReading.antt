@@ -1,9 +1,8 @@
 -- A reader's bytes, cut into pieces as they are read. `longest` and `most` are how many bytes a piece, or what comes after
 -- the last one, and the whole pieces may have.
-use Rattle.std.specs.Prelude.{◌≡◌, ℕ, ◌+◌, ◌<◌, ◌≤◌, Bool, true, false, List, [], ◌++◌, length, slice_range, Option}
-use Rattle.std.specs.Prelude.{Result, Ok, Err}
-use Rattle.yaml_docs.specs.Prelude.{Consumes, IsAtEnd, ClosesAt, ClosesOnce}
-use Rattle.yaml_docs.specs.{Cutting.Unclosed, declared.pieces.Pieces.Pieces, declared.pieces.PiecesFault.PiecesFault}
+use Rattle.std.specs.Prelude.{◌≡◌, ℕ, ◌+◌, ◌<◌, ◌≤◌, Bool, true, false, List, [], ◌++◌, length, slice_range, Option, Result, Ok, Err}
+use Rattle.yaml_docs.specs.{Prelude.{Consumes, IsAtEnd, ClosesAt, ClosesOnce}, Cutting.Unclosed, declared.pieces.Pieces.Pieces}
+use Rattle.yaml_docs.specs.declared.pieces.PiecesFault.{PiecesFault}
 use Rattle.yaml_docs.specs.declared.pieces.PiecesFault.TheVariants as fault
 
 -- the bytes that were read and are in no piece yet

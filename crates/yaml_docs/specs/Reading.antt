@@ -1,10 +1,8 @@
 -- What bytes read as, and what they are refused for.
 use Rattle.std.specs.Prelude.{◌≡◌, ℕ, ◌<◌, ◌≤◌, List, length}
 use Rattle.yaml_docs.specs.Prelude.{chars, IsUtf8, utf8_valid_len, Reads, events_of, Event}
-use Rattle.yaml_events.specs.declared.read_fault.ReadFault.{ReadFault}
-use Rattle.yaml_events.specs.declared.read_fault.ReadFault.TheVariants.{TooLong, NotUtf8, Syntax, Documents}
-use Rattle.yaml_events.specs.declared.read_fault.ReadFault.TheVariants.{KeyNotText, KeyTwice, TooDeep, LargeInStyle}
-use Rattle.yaml_events.specs.declared.read_fault.ReadFault.TheVariants.{OutOfMemory}
+use Rattle.yaml_events.specs.declared.read_fault.ReadFault.{ReadFault, TheVariants.{TooLong, NotUtf8, Syntax, Documents, KeyNotText}}
+use Rattle.yaml_events.specs.declared.read_fault.ReadFault.TheVariants.{KeyTwice, TooDeep, LargeInStyle, OutOfMemory}
 use Rattle.yaml_grammar.specs.Events as grammar
 
 -- the bytes are a text, of at most `max` bytes

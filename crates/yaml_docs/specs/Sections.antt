@@ -1,12 +1,10 @@
 -- What the sections of a stream mean: those of a whole text, and those from a place on.
-use Rattle.std.specs.Prelude.{◌≡◌, ℕ, ◌<◌, Bool, true, false, List, ◌++◌, Option, Some, None, drop, All}
-use Rattle.yaml_docs.specs.Prelude.{IsCharBoundary, chars, rest, bare, explicit, first, BorrowsPlain, events_of, Event}
-use Rattle.yaml_docs.specs.Prelude.{FlatStream, section_events, sections_events, flat_events, all_comments, Read, on}
-use Rattle.yaml_docs.specs.Prelude.{document_node_at, section_at, sections_at, stream_at, dash, dot, marker_of}
-use Rattle.yaml_docs.specs.Prelude.{order_mark, read_directed, read_explicit, suffix_with, IsLineStart, Appended}
-use Rattle.std.proofs.Math.Logic.{◌⊎◌}
-use Rattle.yaml_docs.specs.declared.documents.Section.{Section}
-use Rattle.yaml_docs.specs.declared.documents.Section.TheVariants.{Suffix, Explicit, Directed, Bare}
+use Rattle.std.{specs.Prelude.{◌≡◌, ℕ, ◌<◌, Bool, true, false, List, ◌++◌, Option, Some, None, drop, All}, proofs.Math.Logic.◌⊎◌}
+use Rattle.yaml_docs.specs.Prelude.{IsCharBoundary, chars, rest, bare, explicit, first, BorrowsPlain, events_of, Event, FlatStream}
+use Rattle.yaml_docs.specs.Prelude.{section_events, sections_events, flat_events, all_comments, Read, on, document_node_at, section_at}
+use Rattle.yaml_docs.specs.Prelude.{sections_at, stream_at, dash, dot, marker_of, order_mark, read_directed, read_explicit, suffix_with}
+use Rattle.yaml_docs.specs.{Prelude.{IsLineStart, Appended}, declared.documents.Section.{Section, TheVariants.{Suffix, Explicit, Directed}}}
+use Rattle.yaml_docs.specs.declared.documents.Section.TheVariants.{Bare}
 use Rattle.yaml_grammar.specs.Events as grammar
 use Rattle.yaml_recognizers.specs.CanonicalStreams as flat
 

@@ -1,18 +1,12 @@
 -- The events that parts stand for, as the parts grow and shrink.
 use Rattle.std.proofs.Common.{◌≡◌, ℕ, ◌≤◌, List, [], ◌∷◌, ◌++◌, length, take, drop, refl, ap, sym, ◌∙◌, subst, arith, Bor, length-append}
-use Rattle.std.proofs.Common.{length-drop}
-use Rattle.std.proofs.lemmas.List.{append-nil, drop-append-le, length-take-le, take-append-drop}
-use Rattle.std.proofs.lemmas.List.Sums.{sum_by-append, sum_by-cons, sum_by-take-le}
-use Rattle.std.proofs.Math.Seq.{take-append_seam, drop-append_seam}
-use Rattle.std.specs.List.{sum_by, insert}
-use Rattle.std.specs.Str.{chars}
-use Rattle.std.proofs.lemmas.Str.{chars-nil}
-use Rattle.yaml_grammar.specs.Events.{omitted_style, scalar_event}
-use Rattle.yaml_events.specs.{Omitted.AppendsOmitted, declared.event.Event.Event, declared.event.Event.TheVariants.MapStart}
-use Rattle.yaml_events.specs.{declared.event.Style.Style, declared.parts.Kind.Kind, declared.parts.BorrowedScalar.BorrowedScalar}
-use Rattle.yaml_events.specs.{declared.parts.OtherScalar.OtherScalar, declared.parts.Stored.Stored}
-use Rattle.yaml_events.specs.Parts.{kind_of, borrowed_of, others_of, borrows, omits, has_other, stored_event, borrowed_event, omitted_event}
-use Rattle.yaml_events.specs.Parts.{event_at, events_in, Fits}
+use Rattle.std.proofs.{Common.length-drop, lemmas.List.{append-nil, drop-append-le, length-take-le, take-append-drop, Sums.sum_by-append}}
+use Rattle.std.proofs.{lemmas.{List.Sums.{sum_by-cons, sum_by-take-le}, Str.chars-nil}, Math.Seq.{take-append_seam, drop-append_seam}}
+use Rattle.std.specs.{List.{sum_by, insert}, Str.chars}
+use Rattle.{yaml_grammar.specs.Events.{omitted_style, scalar_event}, yaml_events.specs.{Omitted.AppendsOmitted, declared.event.Event.Event}}
+use Rattle.yaml_events.specs.declared.{event.{Event.TheVariants.MapStart, Style.Style}, parts.{Kind.Kind, BorrowedScalar.BorrowedScalar}}
+use Rattle.yaml_events.specs.{declared.parts.{OtherScalar.OtherScalar, Stored.Stored}, Parts.{kind_of, borrowed_of, others_of, borrows}}
+use Rattle.yaml_events.specs.Parts.{omits, has_other, stored_event, borrowed_event, omitted_event, event_at, events_in, Fits}
 use Rattle.yaml_events.specs.declared.parts.Edge.TheVariants as edge
 use Rattle.yaml_events.specs.declared.parts.Kind.TheVariants as kind
 use Rattle.yaml_events.specs.declared.parts.Stored.TheVariants as stored

@@ -1,12 +1,8 @@
 -- Plain scalars on one line borrow their values from the text.
-use Rattle.std.specs.Prelude.{◌≡◌, ℕ, List, slice_range}
-use Rattle.std.specs.Cow.{IsBorrowedStr, cow_str_bytes}
-use Rattle.std.specs.declared.borrow.CowStr.{CowStr}
-use Rattle.yaml_chars.specs.Breaks.{NoBreak}
-use Rattle.yaml_events.specs.declared.event.Event.{Event}
-use Rattle.yaml_events.specs.declared.event.Event.TheVariants.{DocStart, DocEnd, SeqStart, SeqEnd, MapStart, MapEnd}
-use Rattle.yaml_events.specs.declared.event.Event.TheVariants.{Scalar}
-use Rattle.yaml_events.specs.declared.event.Style.TheVariants.{Plain, Single, Double, Literal, Folded, Omitted}
+use Rattle.std.specs.{Prelude.{◌≡◌, ℕ, List, slice_range}, Cow.{IsBorrowedStr, cow_str_bytes}, declared.borrow.CowStr.CowStr}
+use Rattle.{yaml_chars.specs.Breaks.NoBreak, yaml_events.specs.declared.event.Event.{Event, TheVariants.{DocStart, DocEnd, SeqStart}}}
+use Rattle.yaml_events.specs.declared.event.{Event.TheVariants.{SeqEnd, MapStart, MapEnd, Scalar}, Style.TheVariants.{Plain, Single}}
+use Rattle.yaml_events.specs.declared.event.Style.TheVariants.{Double, Literal, Folded, Omitted}
 
 -- Where no break is between the two places, the value is borrowed, and it is what is between them.
 abbrev pub BorrowsOneLine : {A : Type 0} → List ℕ → ℕ → CowStr A → ℕ → Type 0

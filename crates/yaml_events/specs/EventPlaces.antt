@@ -1,10 +1,7 @@
 -- What a scanner says of a place in a text, which counts bytes from 0, and how it refuses.
 use Rattle.std.specs.Prelude.{ℕ, Bool, true, ◌==◌, List, [], ◌∷◌, if◌then◌else◌}
-use Rattle.yaml_chars.specs.Signs.{byte_order_mark}
-use Rattle.yaml_chars.specs.Places.{between}
-use Rattle.yaml_grammar.specs.Texts.{starts_line}
-use Rattle.yaml_events.specs.declared.fault.ScanFault.{ScanFault}
-use Rattle.yaml_events.specs.declared.fault.ScanFault.TheVariants.{At, OutOfMemory}
+use Rattle.{yaml_chars.specs.{Signs.byte_order_mark, Places.between}, yaml_grammar.specs.Texts.starts_line}
+use Rattle.yaml_events.specs.declared.fault.ScanFault.{ScanFault, TheVariants.{At, OutOfMemory}}
 
 -- the characters after a byte order mark, which may be at the start (5.2)
 abbrev pub without_mark : List ℕ → List ℕ

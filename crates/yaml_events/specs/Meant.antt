@@ -1,13 +1,9 @@
 -- What the types of src/ mean in the grammar.
-use Rattle.std.specs.Prelude.{List, map}
-use Rattle.std.specs.Str.{chars}
-use Rattle.std.specs.Cow.{cow_str_bytes}
-use Rattle.yaml_events.specs.{declared.event.Style.Style, declared.event.Event.Event, declared.event.EventRef.EventRef}
-use Rattle.yaml_events.specs.{declared.context.FlowContext.FlowContext}
-use Rattle.yaml_events.specs.declared.event.Style.TheVariants.{Plain, Single, Double, Literal, Folded, Omitted}
-use Rattle.yaml_events.specs.declared.event.Event.TheVariants.{DocStart, DocEnd, SeqStart, SeqEnd, MapStart, MapEnd}
-use Rattle.yaml_events.specs.declared.event.Event.TheVariants.{Scalar}
-use Rattle.yaml_events.specs.declared.context.FlowContext.TheVariants.{Outer, Inner, BlockKey, FlowKey}
+use Rattle.std.specs.{Prelude.{List, map}, Str.chars, Cow.cow_str_bytes}
+use Rattle.yaml_events.specs.declared.event.{Style.{Style, TheVariants.{Plain, Single, Double, Literal, Folded, Omitted}}, Event.Event}
+use Rattle.yaml_events.specs.declared.event.Event.TheVariants.{DocStart, DocEnd, SeqStart, SeqEnd, MapStart, MapEnd, Scalar}
+use Rattle.yaml_events.specs.declared.{event.EventRef.EventRef, context.FlowContext.{FlowContext, TheVariants.{Outer, Inner, BlockKey}}}
+use Rattle.yaml_events.specs.declared.context.FlowContext.TheVariants.{FlowKey}
 use Rattle.yaml_grammar.specs.Events as grammar
 use Rattle.yaml_grammar.specs.FlowScalars as flow
 use Rattle.yaml_events.specs.declared.event.EventRef.TheVariants as ref

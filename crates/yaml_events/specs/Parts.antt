@@ -1,13 +1,8 @@
 -- The events that are kept in the parts of a list of events.
-use Rattle.std.specs.Prelude.{◌≡◌, ℕ, List, [], ◌∷◌, length, drop}
-use Rattle.std.specs.Borrow.{Bor}
-use Rattle.std.specs.List.{sum_by}
-use Rattle.yaml_events.specs.{declared.event.Event.Event, declared.event.Style.Style}
-use Rattle.yaml_events.specs.{declared.event.Style.TheVariants.Omitted, declared.parts.Edge.Edge}
-use Rattle.yaml_events.specs.{declared.parts.Kind.Kind, declared.parts.BorrowedScalar.BorrowedScalar}
-use Rattle.yaml_events.specs.{declared.parts.OtherScalar.OtherScalar, declared.parts.Stored.Stored}
-use Rattle.yaml_events.specs.declared.event.Event.TheVariants.{DocStart, DocEnd, SeqStart, SeqEnd, MapStart, MapEnd}
-use Rattle.yaml_events.specs.declared.event.Event.TheVariants.{Scalar}
+use Rattle.std.specs.{Prelude.{◌≡◌, ℕ, List, [], ◌∷◌, length, drop}, Borrow.Bor, List.sum_by}
+use Rattle.yaml_events.specs.declared.event.Event.{Event, TheVariants.{DocStart, DocEnd, SeqStart, SeqEnd, MapStart, MapEnd, Scalar}}
+use Rattle.yaml_events.specs.declared.{event.Style.{Style, TheVariants.Omitted}, parts.{Edge.Edge, Kind.Kind}}
+use Rattle.yaml_events.specs.declared.parts.{BorrowedScalar.BorrowedScalar, OtherScalar.OtherScalar, Stored.Stored}
 use Rattle.std.specs.declared.borrow.CowStr.TheVariants as text
 use Rattle.yaml_events.specs.declared.parts.Edge.TheVariants as edge
 use Rattle.yaml_events.specs.declared.parts.Kind.TheVariants as kind

@@ -1,11 +1,9 @@
 -- Lists of events that grow.
-use Rattle.std.proofs.Common.{◌≡◌, ap, append_assoc, refl, sym, ◌∙◌, ℕ, length}
+use Rattle.std.proofs.{Common.{◌≡◌, ap, append_assoc, refl, sym, ◌∙◌, ℕ, length}, Math.Seq.{take-append_seam, drop-append_seam}}
 use Rattle.std.specs.Prelude.{List, [], ◌∷◌, ◌++◌, drop, insert, take}
 use Rattle.yaml_flow.proofs.Prelude.{append-nil, map-append, All-append, All-cons, All-nil, Event, map_start, MapStart, event_of, events_of}
-use Rattle.yaml_flow.proofs.Prelude.{BorrowsPlain}
-use Rattle.std.proofs.Math.Seq.{take-append_seam, drop-append_seam}
+use Rattle.yaml_flow.{proofs.Prelude.BorrowsPlain, specs.{FlowNodes.Appended, Frames.EventList}}
 use Rattle.yaml_events.specs.declared.event.Event.{Event as ListedEvent}
-use Rattle.yaml_flow.specs.{FlowNodes.Appended, Frames.EventList}
 
 module _ (text : List ℕ) where
   -- no event is appended yet

@@ -1,24 +1,20 @@
 -- One step of the scanner of flow collections at the `:` after a key, and after it.
-use Rattle.std.proofs.Common.{◌≡◌, ap, append_assoc, arith, inl, inr, length, refl, subst, sym, ◌∙◌, ℕ, ◌+◌, ◌≤◌}
-use Rattle.std.specs.Prelude.{Bool, true, false, ◌&&◌, nat_le, insert, List, ◌∷◌, ◌++◌, Option, Some, None}
+use Rattle.std.{proofs.Common.{◌≡◌, ap, append_assoc, arith, inl, inr, length, refl, subst, sym, ◌∙◌, ℕ, ◌+◌, ◌≤◌}, specs.Prelude.Bool}
+use Rattle.std.specs.Prelude.{true, false, ◌&&◌, nat_le, insert, List, ◌∷◌, ◌++◌, Option, Some, None}
 use Rattle.yaml_flow.proofs.Prelude.{IsUtf8, IsCharBoundary, and_parts, cases_Bool, false≢true, append-nil, rest, between, Event, map_start}
 use Rattle.yaml_flow.proofs.Prelude.{omitted_at, Flow, entry, Value, absent, empty, given, is_plain, asked_text, flow_events, flow_text}
 use Rattle.yaml_flow.proofs.Prelude.{FlowContext, flow_key, one_line, Sep, gap_text, byte_len, starts_line, MapStart, line_starts, is_colon}
 use Rattle.yaml_flow.proofs.Prelude.{FlowPart, first_node, asked_key, pair_value, Bracket, OpenFlow, close_with, entries_of, entry_of}
 use Rattle.yaml_flow.proofs.Prelude.{key_is_short, past, GapRead, read_gap, widens, on, StandsFlow, flow_node_at, flow_value_at, stands}
-use Rattle.yaml_flow.proofs.Prelude.{gap_sound, IsSign, NoGap}
-use Rattle.yaml_flow.specs.declared.collection.Part.TheVariants.{Value as ValuePart}
-use Rattle.yaml_flow.specs.{declared.collection.NodeEnd.NodeEnd, declared.collection.Open.Open, FlowNodes.Appended}
+use Rattle.yaml_flow.proofs.{Prelude.{gap_sound, IsSign, NoGap}, Appends.{appended_as, appended_between, appended_then, appended_to}}
+use Rattle.yaml_flow.proofs.{EntryEvents.{empty_length, entry_length, pair_events, with_colon}, FlowSteps.{Dead, ask_of, bol_of, dead}}
+use Rattle.yaml_flow.proofs.FlowSteps.{is_value, keyed, keyed_fits, keyed_refused, made_dead, plug_key, value_entry, waits_value}
+use Rattle.yaml_flow.proofs.{PairKeys.{fits_line, key_fits, left_out, no_value, value_given, value_left_out}, NodeSteps.key_start}
+use Rattle.yaml_flow.proofs.{NodeSteps.{no_value_part, node_length, plugged, single_is}, Signs.between_after}
+use Rattle.yaml_flow.specs.{declared.collection.{Part.TheVariants.Value as ValuePart, NodeEnd.NodeEnd, Open.Open}, FlowNodes.Appended}
 use Rattle.yaml_flow.specs.Frames.{AtColon, AtNode, BeganPair, Collection, EntryRead, EventList, NoPair, NodeRead, PartFits, Passes}
 use Rattle.yaml_flow.specs.Frames.{SameLine, bracket_prefix, ends_plain, entry_start, fits_single, frame_prefix, in_sequence, is_first}
 use Rattle.yaml_flow.specs.Frames.{is_single, pair_end, pair_start, part_prefix, part_of}
-use Rattle.yaml_flow.proofs.Appends.{appended_as, appended_between, appended_then, appended_to}
-use Rattle.yaml_flow.proofs.EntryEvents.{empty_length, entry_length, pair_events, with_colon}
-use Rattle.yaml_flow.proofs.FlowSteps.{Dead, ask_of, bol_of, dead, is_value, keyed, keyed_fits, keyed_refused, made_dead, plug_key}
-use Rattle.yaml_flow.proofs.FlowSteps.{value_entry, waits_value}
-use Rattle.yaml_flow.proofs.PairKeys.{fits_line, key_fits, left_out, no_value, value_given, value_left_out}
-use Rattle.yaml_flow.proofs.NodeSteps.{key_start, no_value_part, node_length, plugged, single_is}
-use Rattle.yaml_flow.proofs.Signs.{between_after}
 
 -- ---- the parts of a frame
 

@@ -1,6 +1,6 @@
 -- One step of the scanner of flow collections: from what comes before it to what comes after it.
-use Rattle.std.proofs.Common.{◌≡◌, ap, arith, eq-eqb, refl, subst, sym, ◌∙◌, ℕ, ◌+◌, ◌<◌, append_assoc}
-use Rattle.std.specs.Prelude.{Bool, true, false, ◌==◌, nat_lt, is_some, List, [], ◌∷◌, ◌++◌, Option, Some, None}
+use Rattle.std.{proofs.Common.{◌≡◌, ap, arith, eq-eqb, refl, subst, sym, ◌∙◌, ℕ, ◌+◌, ◌<◌, append_assoc}, specs.Prelude.{Bool, true, false}}
+use Rattle.std.specs.Prelude.{◌==◌, nat_lt, is_some, List, [], ◌∷◌, ◌++◌, Option, Some, None}
 use Rattle.yaml_flow.proofs.Prelude.{false≢true, nat_tests, append-nil, rest, Flow, Entries, Entry, entry, Value, absent, given, none, last}
 use Rattle.yaml_flow.proofs.Prelude.{is_plain, scalar, asked_text, entry_text, entries_events, FlowContext, outer, inner, block_key}
 use Rattle.yaml_flow.proofs.Prelude.{flow_key, in_flow, one_line, Sep, gap_text, byte_len, first, starts_line, line_starts, is_colon}
@@ -9,14 +9,11 @@ use Rattle.yaml_flow.proofs.Prelude.{collection_of, entries_of, entry_of, entrie
 use Rattle.yaml_flow.proofs.Prelude.{read_scalar, past, GapRead, read_gap, read_plain, Read, read_closing, if_fits, on, flow_node_at}
 use Rattle.yaml_flow.proofs.Prelude.{flow_entries_at, flow_value_at, asked_for_nothing, comma_after, entry_begins, entry_is_asked}
 use Rattle.yaml_flow.proofs.Prelude.{is_scalar, last_entry, no_entry, opens_map, opens_seq, IsSign, NoGap, stuck, used_up}
+use Rattle.yaml_flow.proofs.{Appends.{appended_as, appended_then}, EntryEvents.{collection_events, done_end_more, done_more}}
+use Rattle.yaml_flow.specs.{declared.collection.{Open.Open, Part.TheVariants.{First, Asked}}, FlowNodes.Appended, Frames.AfterQuestion}
+use Rattle.yaml_flow.specs.Frames.{AtEntry, AtNode, BeforeGap, Collection, EntryRead, EventList, IsBracket, Passes, WholeRead, bracket_end}
+use Rattle.yaml_flow.specs.Frames.{bracket_prefix, bracket_start, entries_start, entry_start, in_sequence, pair_start}
 use Rattle.yaml_recognizers.proofs.Flow.StuckGaps.{blank, no_colon, no_node}
-use Rattle.yaml_flow.specs.{declared.collection.Open.Open, FlowNodes.Appended}
-use Rattle.yaml_flow.specs.declared.collection.Part.TheVariants.{First, Asked}
-use Rattle.yaml_flow.specs.Frames.{AfterQuestion, AtEntry, AtNode, BeforeGap, Collection, EntryRead, EventList, IsBracket, Passes}
-use Rattle.yaml_flow.specs.Frames.{WholeRead, bracket_end, bracket_prefix, bracket_start, entries_start, entry_start, in_sequence}
-use Rattle.yaml_flow.specs.Frames.{pair_start}
-use Rattle.yaml_flow.proofs.Appends.{appended_as, appended_then}
-use Rattle.yaml_flow.proofs.EntryEvents.{collection_events, done_end_more, done_more}
 
 same : (x : ℕ) → (x == x) ≡ true
 same x = eq-eqb x x refl

@@ -1,11 +1,8 @@
 -- The gap at a place, by what its scanner says.
-use Rattle.std.proofs.Common.{◌≡◌, ap, arith, inl, inr, refl, sym, ◌∙◌, ℕ, ◌≤◌, ◌<◌}
-use Rattle.std.specs.Prelude.{Bool, true, false, not, List, ◌++◌}
+use Rattle.std.{proofs.Common.{◌≡◌, ap, arith, inl, inr, refl, sym, ◌∙◌, ℕ, ◌≤◌, ◌<◌}, specs.Prelude.{Bool, true, false, not, List, ◌++◌}}
 use Rattle.yaml_flow.proofs.Prelude.{IsUtf8, IsCharBoundary, cases_lt, false≢true, rest, FlowContext, one_line, gap_text, GapRead}
-use Rattle.yaml_flow.proofs.Prelude.{gap_sound, IsGap, unbroken_between}
-use Rattle.yaml_scan.specs.declared.gap.Gap.{Gap}
-use Rattle.yaml_flow.specs.Frames.{LineMoves, Passes}
-use Rattle.yaml_flow.proofs.{SameLines.line_follows, SameLines.line_stays, SameLines.unbroken_here, Signs.place_after}
+use Rattle.yaml_flow.proofs.{Prelude.{gap_sound, IsGap, unbroken_between}, SameLines.{line_follows, line_stays, unbroken_here}}
+use Rattle.{yaml_flow.{proofs.Signs.place_after, specs.Frames.{LineMoves, Passes}}, yaml_scan.specs.declared.gap.Gap.Gap}
 
 -- no break over the lines means that all is on one
 pub unbroken_by : (over whole : Bool) → over ≡ not whole → over ≡ false → whole ≡ true

@@ -1,21 +1,17 @@
 -- One step of the scanner of flow collections after a node: its entry ends, or a `:` makes it a key.
-use Rattle.std.proofs.Common.{◌≡◌, ap, append_assoc, arith, length, refl, subst, sym, ◌∙◌, ℕ, ◌+◌, ◌≤◌}
-use Rattle.std.specs.Prelude.{Bool, true, false, ◌&&◌, List, [], ◌++◌, Some, None}
+use Rattle.std.{proofs.Common.{◌≡◌, ap, append_assoc, arith, length, refl, subst, sym, ◌∙◌, ℕ, ◌+◌, ◌≤◌}, specs.Prelude.{Bool, true, false}}
+use Rattle.std.specs.Prelude.{◌&&◌, List, [], ◌++◌, Some, None}
 use Rattle.yaml_flow.proofs.Prelude.{IsUtf8, IsCharBoundary, false≢true, append-nil, rest, rest-end, Event, omitted_at, Flow, Entry, entry}
 use Rattle.yaml_flow.proofs.Prelude.{absent, given, is_plain, asked_text, entry_text, entry_events, flow_events, flow_text, FlowContext}
 use Rattle.yaml_flow.proofs.Prelude.{one_line, byte_len, line_starts, is_colon, FlowPart, first_node, asked_key, pair_value, Bracket}
 use Rattle.yaml_flow.proofs.Prelude.{OpenFlow, close_with, entries_of, entry_of, plug, GapRead, read_gap, if_fits, on, StandsFlow}
-use Rattle.yaml_flow.proofs.Prelude.{flow_node_at, flow_value_at, stands}
-use Rattle.yaml_flow.specs.declared.collection.Part.TheVariants.{Value as ValuePart}
-use Rattle.yaml_flow.specs.Frames.{is_value as is_value_part}
-use Rattle.yaml_flow.specs.{declared.collection.NodeEnd.NodeEnd, declared.collection.Open.Open, declared.collection.Part.Part}
-use Rattle.yaml_flow.specs.{declared.collection.Part.TheVariants.First, declared.collection.Part.TheVariants.Asked, FlowNodes.Appended}
-use Rattle.yaml_flow.specs.Frames.{AtNode, Collection, EntryRead, EventList, NodeRead, PartFits, Passes, absent_events, bracket_prefix}
-use Rattle.yaml_flow.specs.Frames.{ends_plain, entry_start, frame_prefix, in_sequence, is_first, is_single, node_start, pair_end}
-use Rattle.yaml_flow.specs.Frames.{pair_start, part_prefix, part_of, part_start}
-use Rattle.yaml_flow.proofs.{Appends.appended_as, Appends.appended_then, PairKeys.no_value, Signs.place_after}
-use Rattle.yaml_flow.proofs.EntryEvents.{entry_length, given_length, pair_events, with_colon}
-use Rattle.yaml_flow.proofs.FlowSteps.{absent_fits, ask_of, bol_of, is_value, keyed, keyed_fits, no_node_at_end, plug_key, value_entry}
+use Rattle.yaml_flow.proofs.{Prelude.{flow_node_at, flow_value_at, stands}, Appends.{appended_as, appended_then}, PairKeys.no_value}
+use Rattle.yaml_flow.proofs.{Signs.place_after, EntryEvents.{entry_length, given_length, pair_events, with_colon}, FlowSteps.absent_fits}
+use Rattle.yaml_flow.proofs.FlowSteps.{ask_of, bol_of, is_value, keyed, keyed_fits, no_node_at_end, plug_key, value_entry}
+use Rattle.yaml_flow.specs.declared.collection.{Part.{Part, TheVariants.{Value as ValuePart, First, Asked}}, NodeEnd.NodeEnd, Open.Open}
+use Rattle.yaml_flow.specs.Frames.{is_value as is_value_part, AtNode, Collection, EntryRead, EventList, NodeRead, PartFits, Passes}
+use Rattle.yaml_flow.specs.Frames.{absent_events, bracket_prefix, ends_plain, entry_start, frame_prefix, in_sequence, is_first, is_single}
+use Rattle.yaml_flow.specs.{Frames.{node_start, pair_end, pair_start, part_prefix, part_of, part_start}, FlowNodes.Appended}
 
 -- ---- parts
 

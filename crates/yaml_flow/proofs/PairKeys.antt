@@ -1,17 +1,14 @@
 -- What a `:` after a node makes of it: a key, which has to be on one line and short, with a value.
-use Rattle.std.proofs.Common.{◌≡◌, ap, refl, subst, sym, ◌∙◌, ℕ, length, inl, inr, append_assoc}
-use Rattle.std.specs.Prelude.{Bool, true, false, not, ◌&&◌, ◌||◌, nat_le, List, ◌∷◌, ◌++◌, Option, Some, None, is_some}
+use Rattle.std.{proofs.Common.{◌≡◌, ap, refl, subst, sym, ◌∙◌, ℕ, length, inl, inr, append_assoc}, specs.Prelude.{Bool, true, false, not}}
+use Rattle.std.specs.Prelude.{◌&&◌, ◌||◌, nat_le, List, ◌∷◌, ◌++◌, Option, Some, None, is_some}
 use Rattle.yaml_flow.proofs.Prelude.{and_from, cases_Bool, or_parts, Flow, Value, absent, empty, given, before_colon, flow_text, has_colon}
 use Rattle.yaml_flow.proofs.Prelude.{is_plain, short_key, value_text, FlowContext, flow_key, one_line, safe, Sep, gap_text, first, is_empty}
 use Rattle.yaml_flow.proofs.Prelude.{starts_line, is_colon, ends_entry, key_is_short, read_scalar, past, GapRead, read_gap, gap_on_one_line}
 use Rattle.yaml_flow.proofs.Prelude.{on_one_line, widens, on, StandsFlow, flow_node_at, flow_value_at, stands, gap_sound, unbroken}
 use Rattle.yaml_flow.proofs.Prelude.{unbroken_joined, gap_one_line, flow_one_line, on_parts, some_parts}
-use Rattle.yaml_recognizers.specs.CanonicalComments.{canonical_gap}
-use Rattle.yaml_recognizers.specs.CanonicalFlowNodes.{canonical_flow, canonical_value}
-use Rattle.yaml_recognizers.proofs.Flow.FlowNodesDepth.{value_step}
-use Rattle.yaml_recognizers.proofs.Flow.FlowNodesSound.{colon_parts}
+use Rattle.yaml_recognizers.specs.{CanonicalComments.canonical_gap, CanonicalFlowNodes.{canonical_flow, canonical_value}}
+use Rattle.yaml_recognizers.proofs.Flow.{FlowNodesDepth.value_step, FlowNodesSound.colon_parts, SinglePairs.{gap_before, single_pair_asks}}
 use Rattle.yaml_recognizers.proofs.Scalars.ScalarsInNodes.{reads_scalars}
-use Rattle.yaml_recognizers.proofs.Flow.SinglePairs.{gap_before, single_pair_asks}
 
 -- ---- the value after a node
 

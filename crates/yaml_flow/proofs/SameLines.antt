@@ -1,11 +1,8 @@
 -- How the start of the reader's line moves.
-use Rattle.std.proofs.Common.{◌≡◌, refl, sym, ◌∙◌, ap, arith, ℕ, ◌+◌, ◌<◌, ◌≤◌}
-use Rattle.std.specs.Prelude.{Bool, true, false, ◌&&◌, nat_le, List}
+use Rattle.std.{proofs.Common.{◌≡◌, refl, sym, ◌∙◌, ap, arith, ℕ, ◌+◌, ◌<◌, ◌≤◌}, specs.Prelude.{Bool, true, false, ◌&&◌, nat_le, List}}
 use Rattle.yaml_flow.proofs.Prelude.{IsUtf8, IsCharBoundary, nat_tests, line_break, between, between-append, between-nil, list_all}
-use Rattle.yaml_flow.proofs.Prelude.{unbroken_joined, closer, IsSign, unbroken_between}
-use Rattle.yaml_chars.specs.Breaks.{no_break}
-use Rattle.yaml_flow.specs.Frames.{IsBracket, LineMoves, SameLine}
-use Rattle.yaml_flow.proofs.Signs.{one_sign}
+use Rattle.yaml_flow.{proofs.{Prelude.{unbroken_joined, closer, IsSign, unbroken_between}, Signs.one_sign}, specs.Frames.IsBracket}
+use Rattle.{yaml_flow.specs.Frames.{LineMoves, SameLine}, yaml_chars.specs.Breaks.no_break}
 
 -- no break between two places means none in either part
 pub unbroken_parts : (bs : List ℕ) (i j k : ℕ) → IsUtf8 bs → i ≤ j → j ≤ k → IsCharBoundary bs i → IsCharBoundary bs j → IsCharBoundary bs k

@@ -1,15 +1,13 @@
 -- A flow scalar by its first character.
-use Rattle.std.proofs.Common.{◌≡◌, ap, refl, sym, ◌∙◌, ℕ, inl, inr}
-use Rattle.std.specs.Prelude.{Bool, true, false, ◌==◌, ◌&&◌, List, [], ◌∷◌, length, None, Some, drop}
+use Rattle.std.{proofs.Common.{◌≡◌, ap, refl, sym, ◌∙◌, ℕ, inl, inr}, specs.Prelude.{Bool, true, false, ◌==◌, ◌&&◌, List, [], ◌∷◌, length}}
+use Rattle.std.specs.Prelude.{None, Some, drop}
 use Rattle.yaml_flow.proofs.Prelude.{cow_str_bytes, IsBorrowedStr, chars, false≢true, rest, first, no_marker, BorrowsPlain, style_of}
 use Rattle.yaml_flow.proofs.Prelude.{line_starts, ScalarAt, NoScalarAt, read_scalar, past, read_plain, read_run, plain_lines_at, Read}
 use Rattle.yaml_flow.proofs.Prelude.{chosen, none_some, on_parts, some_parts, unbroken_between}
-use Rattle.yaml_recognizers.specs.QuotedScalars.{double_closes, read_double, read_item, read_quoted, read_single}
-use Rattle.yaml_recognizers.specs.QuotedScalars.{read_single_one, single_closes}
-use Rattle.yaml_recognizers.proofs.Scalars.FlowScalars.{complete, sound}
-use Rattle.yaml_recognizers.proofs.Basics.Prefixes.{head_is}
-use Rattle.yaml_recognizers.proofs.Scalars.WholeScalars.{stands_whole, whole_stands}
-use Rattle.yaml_flow.specs.{declared.scalar.FlowScalar.FlowScalar, Scalars.FlowScalarRead, Scalars.scalar_event_at}
+use Rattle.yaml_flow.specs.{declared.scalar.FlowScalar.FlowScalar, Scalars.{FlowScalarRead, scalar_event_at}}
+use Rattle.yaml_recognizers.specs.QuotedScalars.{double_closes, read_double, read_item, read_quoted, read_single, read_single_one}
+use Rattle.yaml_recognizers.{specs.QuotedScalars.single_closes, proofs.Scalars.{FlowScalars.{complete, sound}, WholeScalars.stands_whole}}
+use Rattle.yaml_recognizers.proofs.{Scalars.WholeScalars.whole_stands, Basics.Prefixes.head_is}
 use Rattle.yaml_grammar.specs.Events as grammar
 use Rattle.yaml_grammar.specs.FlowScalars as flow
 

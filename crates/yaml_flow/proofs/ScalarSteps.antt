@@ -1,12 +1,11 @@
 -- A scalar as a node.
-use Rattle.std.proofs.Common.{◌≡◌, ap, refl, subst, sym, ◌∙◌, ℕ, ◌+◌, length}
-use Rattle.std.specs.Prelude.{false, ◌==◌, List, [], ◌∷◌, ◌++◌, None, Some}
+use Rattle.std.{proofs.Common.{◌≡◌, ap, refl, subst, sym, ◌∙◌, ℕ, ◌+◌, length}, specs.Prelude.{false, ◌==◌, List, [], ◌∷◌, ◌++◌, None}}
+use Rattle.std.specs.Prelude.{Some}
 use Rattle.yaml_flow.proofs.Prelude.{cow_str_bytes, IsUtf8, IsCharBoundary, chars, rest, flow_events, is_plain, scalar, byte_len, first}
-use Rattle.yaml_flow.proofs.Prelude.{style_of, line_starts, on, read_scalar, flow_node_at, is_scalar}
-use Rattle.yaml_flow.specs.{declared.collection.NodeEnd.NodeEnd, declared.collection.Open.Open, declared.scalar.FlowScalar.FlowScalar}
-use Rattle.yaml_flow.specs.{Scalars.FlowScalarRead, Scalars.scalar_event_at, FlowNodes.Appended, FlowNodes.FlowNodeRead}
-use Rattle.yaml_flow.specs.Frames.{AtNode, Collection, EventList, NodeRead, ends_plain, is_plain_style}
-use Rattle.yaml_flow.proofs.{Appends.appended_one, NodeSteps.node_length}
+use Rattle.yaml_flow.proofs.{Prelude.{style_of, line_starts, on, read_scalar, flow_node_at, is_scalar}, Appends.appended_one}
+use Rattle.yaml_flow.{proofs.NodeSteps.node_length, specs.declared.{collection.{NodeEnd.NodeEnd, Open.Open}, scalar.FlowScalar.FlowScalar}}
+use Rattle.yaml_flow.specs.{Scalars.{FlowScalarRead, scalar_event_at}, FlowNodes.{Appended, FlowNodeRead}, Frames.{AtNode, Collection}}
+use Rattle.yaml_flow.specs.Frames.{EventList, NodeRead, ends_plain, is_plain_style}
 use Rattle.yaml_grammar.specs.Events as grammar
 use Rattle.yaml_grammar.specs.FlowScalars as flow
 

@@ -1,13 +1,10 @@
 -- Signs at a place of a text, and the places after what is there.
-use Rattle.std.proofs.Common.{◌≡◌, refl, sym, ◌∙◌, ap, arith, ℕ, ◌+◌, ◌<◌, ◌≤◌, length}
-use Rattle.std.specs.Prelude.{Bool, true, false, ◌==◌, List, [], ◌∷◌, ◌++◌}
+use Rattle.std.proofs.{Common.{◌≡◌, refl, sym, ◌∙◌, ap, arith, ℕ, ◌+◌, ◌<◌, ◌≤◌, length}, Math.Utf8.{encode, encodes}}
+use Rattle.std.{proofs.lemmas.Str.length-encode, specs.Prelude.{Bool, true, false, ◌==◌, List, [], ◌∷◌, ◌++◌}}
 use Rattle.yaml_flow.proofs.Prelude.{IsUtf8, IsCharBoundary, len_utf8, append_cancel_right, length-append, line_break, rest, between}
 use Rattle.yaml_flow.proofs.Prelude.{rest-between, same_place, split_at, FlowContext, safe, byte_len, first, line_starts, closer, is_asked}
-use Rattle.yaml_flow.proofs.Prelude.{IsSign, sign_there}
-use Rattle.std.proofs.Math.Utf8.{encode, encodes}
-use Rattle.std.proofs.lemmas.Str.{length-encode}
+use Rattle.yaml_flow.{proofs.Prelude.{IsSign, sign_there}, specs.Frames.{IsBracket, opener}}
 use Rattle.yaml_scan.proofs.LineStarts.{starts_after_sign}
-use Rattle.yaml_flow.specs.Frames.{IsBracket, opener}
 
 -- ---- brackets
 

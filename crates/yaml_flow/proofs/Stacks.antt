@@ -1,15 +1,13 @@
 -- The loop over open brackets: what is popped, what is left at the end, and what stays.
-use Rattle.std.proofs.Common.{◌≡◌, refl, sym, ◌∙◌, ap, subst, arith, ℕ, ◌+◌, ◌≤◌, length, append_assoc, inl, inr}
-use Rattle.std.specs.Prelude.{true, false, List, [], ◌∷◌, ◌++◌, take, Some, None}
+use Rattle.std.{proofs.Common.{◌≡◌, refl, sym, ◌∙◌, ap, subst, arith, ℕ, ◌+◌, ◌≤◌, length, append_assoc, inl, inr}, specs.Prelude.true}
+use Rattle.std.specs.Prelude.{false, List, [], ◌∷◌, ◌++◌, take, Some, None}
 use Rattle.yaml_flow.proofs.Prelude.{All, IsCharBoundary, append-nil, length-append, take-append-le, All-push, All-same, All-weaker}
 use Rattle.yaml_flow.proofs.Prelude.{All-pop, rest, flow_events, FlowContext, outer, inner, block_key, flow_key, in_flow, line_starts}
-use Rattle.yaml_flow.proofs.Prelude.{widens, on, flow_node_at, plug}
-use Rattle.yaml_flow.specs.{declared.collection.NodeEnd.TheVariants.Delimited, declared.collection.Open.Open, declared.collection.Next.Next}
-use Rattle.yaml_flow.specs.{FlowNodes.Appended}
-use Rattle.yaml_flow.specs.declared.collection.Next.TheVariants.{Entry, Node, AfterEntry, Closed}
-use Rattle.yaml_flow.specs.Frames.{Around, AtNode, Collection, EventList, Kept, LineMoves, NodeRead, Onward, Pushes, SameLine, Stack}
-use Rattle.yaml_flow.specs.Frames.{Stands, Started, Waits, WholeRead, place_of}
-use Rattle.yaml_flow.proofs.SameLines.{same_line_here}
+use Rattle.yaml_flow.proofs.{Prelude.{widens, on, flow_node_at, plug}, SameLines.same_line_here}
+use Rattle.yaml_flow.specs.declared.collection.{NodeEnd.TheVariants.Delimited, Open.Open, Next.{Next, TheVariants.{Entry, Node}}}
+use Rattle.yaml_flow.specs.{declared.collection.Next.TheVariants.{AfterEntry, Closed}, FlowNodes.Appended, Frames.{Around, AtNode}}
+use Rattle.yaml_flow.specs.Frames.{Collection, EventList, Kept, LineMoves, NodeRead, Onward, Pushes, SameLine, Stack, Stands, Started}
+use Rattle.yaml_flow.specs.Frames.{Waits, WholeRead, place_of}
 
 -- equal lists have the same last element, and are equal before it
 pub snoc_same : {A : Type 0} (xs ys : List A) (x y : A) → xs ++ x ∷ [] ≡ ys ++ y ∷ [] → (xs ≡ ys) × (x ≡ y)

@@ -1,9 +1,8 @@
 -- What the scanners of flow nodes find at a place of a text, which counts bytes from 0, and the events that they
 -- append.
-use Rattle.std.specs.Prelude.{◌≡◌, ℕ, ◌<◌, ◌≤◌, false, List, ◌++◌, length, Some, None}
-use Rattle.yaml_flow.specs.Prelude.{IsCharBoundary, rest, Flow, flow_events, Event, events_of, line_starts}
-use Rattle.yaml_flow.specs.Prelude.{flow_node_at, IsFlowNode, BorrowsPlain}
-use Rattle.std.specs.List.{All}
+use Rattle.std.specs.{Prelude.{◌≡◌, ℕ, ◌<◌, ◌≤◌, false, List, ◌++◌, length, Some, None}, List.All}
+use Rattle.yaml_flow.specs.Prelude.{IsCharBoundary, rest, Flow, flow_events, Event, events_of, line_starts, flow_node_at, IsFlowNode}
+use Rattle.yaml_flow.specs.Prelude.{BorrowsPlain}
 use Rattle.yaml_grammar.specs.Events as grammar
 use Rattle.yaml_grammar.specs.FlowScalars as flow
 

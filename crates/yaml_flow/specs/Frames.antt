@@ -1,28 +1,17 @@
 -- How far the scanner of flow collections is: what is read, what is still to be read, and the events so far.
-use Rattle.std.specs.Prelude.{◌≡◌, ℕ, ◌+◌, ◌-◌, ◌*◌, ◌≤◌, ◌==◌, Bool, true, false, ◌&&◌, nat_le, nat_lt, List, [], ◌∷◌}
-use Rattle.std.specs.Prelude.{◌++◌, length, take, insert, Option, Some, is_some}
-use Rattle.yaml_flow.specs.Prelude.{IsCharBoundary, rest, between, Flow, flow_text, flow_events, entry_text}
-use Rattle.yaml_flow.specs.Prelude.{entry_events, asked_text, is_plain, key_limit, FlowContext, one_line, byte_len}
-use Rattle.yaml_flow.specs.Prelude.{starts_line, line_starts, is_colon, FlowPart, first_node, asked_key, pair_value}
-use Rattle.yaml_flow.specs.Prelude.{Bracket, OpenFlow, closer, close_with, entries_of, plug, key_is_short}
-use Rattle.yaml_flow.specs.Prelude.{entry_if_short, flow_node_at, flow_entries_at, flow_value_at, MapStart, first}
-use Rattle.yaml_flow.specs.Prelude.{is_asked, unbroken_between, question, open_bracket, open_brace}
-use Rattle.yaml_grammar.specs.Events.{Event, seq_start, seq_end, map_start, map_end}
-use Rattle.yaml_grammar.specs.Separation.{Sep, gap_text}
-use Rattle.yaml_events.specs.declared.event.Event.{Event as ListedEvent}
-use Rattle.yaml_recognizers.specs.Gaps.{read_gap}
-use Rattle.yaml_recognizers.specs.Reading.{Read, on}
-use Rattle.yaml_recognizers.proofs.Meanings.EventPrefixes.{done_end, done_events}
-use Rattle.std.proofs.Math.Logic.{◌⊎◌}
-use Rattle.yaml_grammar.specs.Events.{omitted_at}
-use Rattle.yaml_scan.proofs.ByteSigns.{IsSign}
-use Rattle.yaml_flow.specs.{FlowNodes.Appended, declared.collection.BracketKind.BracketKind}
-use Rattle.yaml_flow.specs.{declared.collection.NodeEnd.NodeEnd, declared.collection.Part.Part}
-use Rattle.yaml_flow.specs.{declared.collection.Open.Open, declared.collection.Next.Next}
-use Rattle.yaml_flow.specs.declared.collection.BracketKind.TheVariants.{Sequence, Mapping}
-use Rattle.yaml_flow.specs.declared.collection.NodeEnd.TheVariants.{Plain, Delimited}
-use Rattle.yaml_flow.specs.declared.collection.Part.TheVariants.{First, Asked, Value}
-use Rattle.yaml_flow.specs.declared.collection.Next.TheVariants.{Entry, Node, AfterEntry, Closed}
+use Rattle.std.specs.Prelude.{◌≡◌, ℕ, ◌+◌, ◌-◌, ◌*◌, ◌≤◌, ◌==◌, Bool, true, false, ◌&&◌, nat_le, nat_lt, List, [], ◌∷◌, ◌++◌, length, take}
+use Rattle.std.{specs.Prelude.{insert, Option, Some, is_some}, proofs.Math.Logic.◌⊎◌}
+use Rattle.yaml_flow.specs.Prelude.{IsCharBoundary, rest, between, Flow, flow_text, flow_events, entry_text, entry_events, asked_text}
+use Rattle.yaml_flow.specs.Prelude.{is_plain, key_limit, FlowContext, one_line, byte_len, starts_line, line_starts, is_colon, FlowPart}
+use Rattle.yaml_flow.specs.Prelude.{first_node, asked_key, pair_value, Bracket, OpenFlow, closer, close_with, entries_of, plug}
+use Rattle.yaml_flow.specs.Prelude.{key_is_short, entry_if_short, flow_node_at, flow_entries_at, flow_value_at, MapStart, first, is_asked}
+use Rattle.yaml_flow.specs.{Prelude.{unbroken_between, question, open_bracket, open_brace}, FlowNodes.Appended}
+use Rattle.yaml_flow.specs.declared.collection.{BracketKind.{BracketKind, TheVariants.{Sequence, Mapping}}, NodeEnd.NodeEnd}
+use Rattle.yaml_flow.specs.declared.collection.{NodeEnd.TheVariants.{Plain, Delimited}, Part.{Part, TheVariants.{First, Asked, Value}}}
+use Rattle.yaml_flow.specs.declared.collection.{Open.Open, Next.{Next, TheVariants.{Entry, Node, AfterEntry, Closed}}}
+use Rattle.yaml_grammar.specs.{Events.{Event, seq_start, seq_end, map_start, map_end, omitted_at}, Separation.{Sep, gap_text}}
+use Rattle.{yaml_events.specs.declared.event.Event.Event as ListedEvent, yaml_recognizers.specs.{Gaps.read_gap, Reading.{Read, on}}}
+use Rattle.{yaml_recognizers.proofs.Meanings.EventPrefixes.{done_end, done_events}, yaml_scan.proofs.ByteSigns.IsSign}
 use Rattle.yaml_grammar.specs.FlowNodes as nodes
 use Rattle.yaml_grammar.specs.Events as grammar
 

@@ -1,9 +1,8 @@
 -- The flow scalar at a place of a text, which counts bytes from 0.
 use Rattle.std.specs.Prelude.{◌≡◌, ℕ, ◌<◌, ◌≤◌, false, true, List, length, Some, None}
-use Rattle.yaml_flow.specs.Prelude.{cow_str_bytes, IsBorrowedStr, IsCharBoundary, chars, rest, Event, Scalar, style_of}
-use Rattle.yaml_flow.specs.Prelude.{line_starts, BorrowsPlain, unbroken_between}
+use Rattle.yaml_flow.specs.Prelude.{cow_str_bytes, IsBorrowedStr, IsCharBoundary, chars, rest, Event, Scalar, style_of, line_starts}
+use Rattle.yaml_flow.specs.{Prelude.{BorrowsPlain, unbroken_between}, declared.scalar.FlowScalar.FlowScalar}
 use Rattle.yaml_recognizers.specs.FlowScalars.{read_scalar}
-use Rattle.yaml_flow.specs.declared.scalar.FlowScalar.{FlowScalar}
 use Rattle.yaml_grammar.specs.FlowScalars as flow
 
 -- the event of a flow scalar that starts at the place

@@ -1,7 +1,7 @@
 -- What the scanner of double-quoted scalars adds to its value, a run of characters, an escape or a join at a time, and
 -- that it refuses rightly.
 use Rattle.std.proofs.Common.{◌≡◌, ℕ, zero, suc, ◌+◌, ◌<◌, Bool, true, false, ◌&&◌, List, [], ◌∷◌, ◌++◌, refl, ap, sym, ◌∙◌, subst, arith}
-use Rattle.std.proofs.Common.{length, inl, inr, get_or, append-nil, append_assoc, Some, None}
+use Rattle.std.proofs.{Common.{length, inl, inr, get_or, append-nil, append_assoc, Some, None}, lemmas.List.Folds.list_all-append}
 use Rattle.std.specs.Prelude.{◌==◌, is_some, if◌then◌else◌, slice_range}
 use Rattle.yaml_flow_scalars.proofs.Prelude.{encode_utf8, list_all, IsUtf8, IsCharBoundary, chars, cases_lt, and_parts, and_from, and_left}
 use Rattle.yaml_flow_scalars.proofs.Prelude.{false≢true, cond-true, cond-false, ne_eqb, nat_tests, list_all-from_AllPass, chars-nil}
@@ -10,13 +10,11 @@ use Rattle.yaml_flow_scalars.proofs.Prelude.{rest-end, rest-between, between-app
 use Rattle.yaml_flow_scalars.proofs.Prelude.{FlowContext, one_line, line_feeds, folded_break, read_break, past, Read, Join, at_break}
 use Rattle.yaml_flow_scalars.proofs.Prelude.{read_join, read_held, read_item, double_closes, with_prefix, join_value, white_at_break}
 use Rattle.yaml_flow_scalars.proofs.Prelude.{no_white_at_break, BreakOf, break_sound, break_some, unbroken, sound_is, unescaped_read}
-use Rattle.yaml_flow_scalars.proofs.Prelude.{step_escaped, no_break}
-use Rattle.std.proofs.lemmas.List.Folds.{list_all-append}
-use Rattle.yaml_flow_scalars.specs.Folds.{IsWhiteStart, IsFold, NoFold}
-use Rattle.yaml_flow_scalars.specs.DoubleScan.{double_value, raw_char, Adds, EscapeAt, NoEscapeAt, BeginsJoin, JoinsAt, NoJoinAt}
-use Rattle.yaml_flow_scalars.proofs.{FoldSteps.fold_solid, DoublePlaces.blind-raw_char, DoublePlaces.byte_read}
+use Rattle.yaml_flow_scalars.proofs.{Prelude.{step_escaped, no_break}, FoldSteps.fold_solid, DoublePlaces.{blind-raw_char, byte_read}}
 use Rattle.yaml_flow_scalars.proofs.DoubleReads.{with_prefix-nil, raw_no_white, escaped_break, run_read, item_read, quote_read, end_read}
-use Rattle.yaml_flow_scalars.proofs.DoubleReads.{stray_read, key_read, no_join_read, join_read, twice_read}
+use Rattle.yaml_flow_scalars.{proofs.DoubleReads.{stray_read, key_read, no_join_read, join_read, twice_read}, specs.Folds.IsWhiteStart}
+use Rattle.yaml_flow_scalars.specs.{Folds.{IsFold, NoFold}, DoubleScan.{double_value, raw_char, Adds, EscapeAt, NoEscapeAt, BeginsJoin}}
+use Rattle.yaml_flow_scalars.specs.DoubleScan.{JoinsAt, NoJoinAt}
 
 -- ---- characters
 

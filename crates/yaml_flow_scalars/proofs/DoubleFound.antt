@@ -1,16 +1,13 @@
 -- A double-quoted scalar at a place of a text: where there is one, where there is none, and which are borrowed.
 use Rattle.std.proofs.Common.{◌≡◌, ℕ, ◌+◌, ◌-◌, ◌<◌, ◌≤◌, true, false, List, [], ◌∷◌, refl, ap, sym, ◌∙◌, subst, arith, length, inl, inr}
-use Rattle.std.proofs.Common.{get_or, drop, length-take, length-drop, Some, None}
-use Rattle.std.specs.Prelude.{◌==◌, slice_range}
+use Rattle.std.{proofs.Common.{get_or, drop, length-take, length-drop, Some, None}, specs.Prelude.{◌==◌, slice_range}}
 use Rattle.yaml_flow_scalars.proofs.Prelude.{AllPass, IsUtf8, IsCharBoundary, chars, cases_lt, not-true, or_parts, eqb-false, get_or-take}
 use Rattle.yaml_flow_scalars.proofs.Prelude.{get_or-drop, IsUtf8-nil, line_break, rest, IsRun, char_at, rest-end, blind-line_break}
 use Rattle.yaml_flow_scalars.proofs.Prelude.{test-char_at, first, double_style, FlowContext, at_break, IsScalar, NoScalar, none_some}
-use Rattle.yaml_flow_scalars.proofs.Prelude.{line_starts}
-use Rattle.yaml_flow_scalars.specs.{Standing.ScalarAt, Standing.NoScalarAt, DoubleBorrowed.is_verbatim}
-use Rattle.yaml_flow_scalars.specs.DoubleScan.{double_value, raw_char, ClosesAt}
-use Rattle.yaml_flow_scalars.proofs.DoublePlaces.{byte_read}
-use Rattle.yaml_flow_scalars.proofs.DoubleReads.{double_found, double_missing, double_quoted_first}
-use Rattle.yaml_flow_scalars.proofs.DoubleAdds.{no_char, run_adds, run_stray, closes}
+use Rattle.yaml_flow_scalars.proofs.{Prelude.line_starts, DoublePlaces.byte_read, DoubleReads.{double_found, double_missing}}
+use Rattle.yaml_flow_scalars.proofs.{DoubleReads.double_quoted_first, DoubleAdds.{no_char, run_adds, run_stray, closes}}
+use Rattle.yaml_flow_scalars.specs.{Standing.{ScalarAt, NoScalarAt}, DoubleBorrowed.is_verbatim, DoubleScan.{double_value, raw_char}}
+use Rattle.yaml_flow_scalars.specs.DoubleScan.{ClosesAt}
 
 module _ (n : ℕ) (c : FlowContext) (text : List ℕ) (u : IsUtf8 text) where
   -- ---- none

@@ -11,11 +11,9 @@ use Rattle.yaml_flow_scalars.proofs.Prelude.{escape, hex_digit, digit_of, hex_va
 use Rattle.yaml_flow_scalars.proofs.Prelude.{read_item, read_number, break_some, read_break, IsBreak, is_sign, double_quoted}
 use Rattle.yaml_flow_scalars.proofs.Prelude.{ascii_at_beginning, sign_there}
 use lib.Utf8.{low_scalar}
-use Rattle.std.specs.Char.{IsScalar}
-use Rattle.std.proofs.Math.Nat.{pow-le-pow_right}
-use Rattle.std.proofs.lemmas.Grind.{pow_more}
-use Rattle.yaml_grammar.specs.FlowScalars.{number as counted}
-use Rattle.yaml_flow_scalars.specs.DoubleScan.{raw_char, EscapeAt, NoEscapeAt, IsEscape, IsDigit, digits_at, IsNumberAt}
+use Rattle.std.{specs.Char.IsScalar, proofs.{Math.Nat.pow-le-pow_right, lemmas.Grind.pow_more}}
+use Rattle.{yaml_grammar.specs.FlowScalars.number as counted, yaml_flow_scalars.specs.DoubleScan.{raw_char, EscapeAt, NoEscapeAt, IsEscape}}
+use Rattle.yaml_flow_scalars.specs.DoubleScan.{IsDigit, digits_at, IsNumberAt}
 
 -- ---- tests that do not tell characters from 128 on apart
 

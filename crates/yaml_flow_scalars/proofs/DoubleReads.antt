@@ -1,7 +1,7 @@
 -- The value between double quotes, a step at a time, as a scanner takes them: a run of characters, an escape, a join,
 -- the closing quote.
-use Rattle.std.proofs.Common.{◌≡◌, refl, sym, ◌∙◌, ap, inl, inr, subst, arith}
-use Rattle.std.specs.Prelude.{ℕ, Bool, true, false, ◌&&◌, ◌==◌, List, [], ◌∷◌, ◌++◌, flat_map, map, Some, None}
+use Rattle.std.{proofs.Common.{◌≡◌, refl, sym, ◌∙◌, ap, inl, inr, subst, arith}, specs.Prelude.{ℕ, Bool, true, false, ◌&&◌, ◌==◌, List, []}}
+use Rattle.std.specs.Prelude.{◌∷◌, ◌++◌, flat_map, map, Some, None}
 use Rattle.yaml_flow_scalars.proofs.Prelude.{list_all, and_parts, and_left, or_cases, false≢true, cond-true, cond-false, cases_Bool}
 use Rattle.yaml_flow_scalars.proofs.Prelude.{eqb-true, nat_tests, white, line_break, first, double_style, FlowContext, one_line, Line}
 use Rattle.yaml_flow_scalars.proofs.Prelude.{QuotedChar, raw, Scalar, plain, single, double, style_of, quoted_char_text, quoted_char_fits}
@@ -11,9 +11,8 @@ use Rattle.yaml_flow_scalars.proofs.Prelude.{read_item, double_closes, read_doub
 use Rattle.yaml_flow_scalars.proofs.Prelude.{with_join, read_scalar, StandsWhole, IsScalar, NoScalar, no_white_at_break, unbroken}
 use Rattle.yaml_flow_scalars.proofs.Prelude.{none_some, some_parts, no_break, value_of_thing, value_of_things, value_of_join, step_thing}
 use Rattle.yaml_flow_scalars.proofs.Prelude.{step_things, step_close, step_fault, step_key, step_join, after_thing, after_close}
-use Rattle.yaml_flow_scalars.proofs.Prelude.{after_fault, is_scalar, no_scalar}
+use Rattle.yaml_flow_scalars.{proofs.Prelude.{after_fault, is_scalar, no_scalar}, specs.DoubleScan.{double_value, raw_char, BeginsJoin}}
 use Rattle.yaml_recognizers.proofs.Scalars.DoubleScalars.{double_readable}
-use Rattle.yaml_flow_scalars.specs.DoubleScan.{double_value, raw_char, BeginsJoin}
 
 -- ---- values with a start
 

@@ -1,7 +1,6 @@
 -- Folds: from the places that the code finds to what the recognizer of joins reads.
-use Rattle.std.proofs.Common.{◌≡◌, ◌<◌, ◌≤◌, ◌⊎◌, ◌∙◌, sym, ap, append_assoc, subst, refl, inl, inr, arith}
-use Rattle.std.specs.Prelude.{ℕ, zero, suc, ◌+◌, ◌-◌, Bool, true, false, cond, not, ◌&&◌, ◌||◌, ◌==◌, is_some, List, [], ◌∷◌, ◌++◌, length}
-use Rattle.std.specs.Prelude.{Some, None}
+use Rattle.std.{proofs.Common.{◌≡◌, ◌<◌, ◌≤◌, ◌⊎◌, ◌∙◌, sym, ap, append_assoc, subst, refl, inl, inr, arith}, specs.Prelude.{ℕ, zero, suc}}
+use Rattle.std.specs.Prelude.{◌+◌, ◌-◌, Bool, true, false, cond, not, ◌&&◌, ◌||◌, ◌==◌, is_some, List, [], ◌∷◌, ◌++◌, length, Some, None}
 use Rattle.yaml_flow_scalars.proofs.Prelude.{list_all, IsUtf8, IsCharBoundary, and_from, and_left, and_parts, and_right, or_left, or_right}
 use Rattle.yaml_flow_scalars.proofs.Prelude.{or_from, cases_Bool, nat_tests, cases_lt, cond_both, cond-false, false≢true, not_from_false}
 use Rattle.yaml_flow_scalars.proofs.Prelude.{drop_more, list_all-from_AllPass, line_break, space, white, rest, between, IsRun, rest-between}
@@ -10,9 +9,8 @@ use Rattle.yaml_flow_scalars.proofs.Prelude.{no_marker, spaces, read_break, drop
 use Rattle.yaml_flow_scalars.proofs.Prelude.{with_lead, Read, all_of, drop_while_first, no_white_at_break, break_some, drop_while_all}
 use Rattle.yaml_flow_scalars.proofs.Prelude.{take_while_all, Passed, no_lead, passed_all, passed_more, step_break, step_lead, empty_shrinks}
 use Rattle.yaml_flow_scalars.proofs.Prelude.{chosen, none_some, on_parts, some_parts, AreSpaces, IsBreak, first-rest, spaces_there}
-use Rattle.yaml_chars.proofs.Classes.{line_break_no_white}
+use Rattle.{yaml_flow_scalars.specs.Folds.{IsFold, IsPrefix, NoFold}, yaml_chars.proofs.Classes.line_break_no_white}
 use Rattle.yaml_recognizers.proofs.Basics.Repeated.{repeated_end}
-use Rattle.yaml_flow_scalars.specs.Folds.{IsFold, IsPrefix, NoFold}
 
 -- ---- runs
 

@@ -1,6 +1,6 @@
 -- A flow scalar ends inside a line: its last character is neither a break nor a byte order mark.
-use Rattle.std.proofs.Common.{◌≡◌, refl, sym, ◌∙◌, ap, append-nil, arith}
-use Rattle.std.specs.Prelude.{ℕ, Bool, true, false, not, ◌&&◌, ◌||◌, ◌==◌, List, [], ◌∷◌, ◌++◌, codes, flat_map}
+use Rattle.std.{proofs.Common.{◌≡◌, refl, sym, ◌∙◌, ap, append-nil, arith}, specs.Prelude.{ℕ, Bool, true, false, not, ◌&&◌, ◌||◌, ◌==◌}}
+use Rattle.std.specs.Prelude.{List, [], ◌∷◌, ◌++◌, codes, flat_map}
 use Rattle.yaml_flow_scalars.proofs.Prelude.{IsUtf8, IsCharBoundary, and_parts, cond_both, false≢true, nat_tests, append_cancel_right}
 use Rattle.yaml_flow_scalars.proofs.Prelude.{IsCharBoundary-start, line_break, ns, white, rest, between, between-append, rest-between}
 use Rattle.yaml_flow_scalars.proofs.Prelude.{line_starts, without_mark, Style, FlowContext, outer, inner, block_key, flow_key, Line, Scalar}

@@ -6,12 +6,10 @@ use Rattle.yaml_flow_scalars.proofs.Prelude.{get_or-take, get_or-drop, length-ta
 use Rattle.yaml_flow_scalars.proofs.Prelude.{between, rest-between, plain_style, list_all, no_marker, FlowContext, Line, plain, single}
 use Rattle.yaml_flow_scalars.proofs.Prelude.{double, plain_first, char_value, line_value, line_starts, Stands, scalar_ends, IsScalar}
 use Rattle.yaml_flow_scalars.proofs.Prelude.{read_run, read_plain, with_lines, plain_lines_at, none_some, sound_is, plain_read, plain_sound}
-use Rattle.yaml_flow_scalars.proofs.Prelude.{step_begin, no_begin, is_scalar, whole_stands}
-use Rattle.yaml_chars.specs.Breaks.{no_break}
-use Rattle.yaml_recognizers.proofs.Scalars.FlowScalars.{complete}
-use Rattle.yaml_flow_scalars.specs.PlainPlaces.{begins_plain, BeginsPlain, NoPlainBegins, IsPlainRun, IsNextLine, lines_value}
-use Rattle.yaml_flow_scalars.specs.Standing.{ScalarAt, NoScalarAt}
-use Rattle.yaml_flow_scalars.proofs.{PlainLines.values_are, Unbroken.ns_unbroken, Unbroken.run_unbroken}
+use Rattle.yaml_flow_scalars.proofs.{Prelude.{step_begin, no_begin, is_scalar, whole_stands}, PlainLines.values_are, Unbroken.ns_unbroken}
+use Rattle.yaml_flow_scalars.{proofs.Unbroken.run_unbroken, specs.PlainPlaces.{begins_plain, BeginsPlain, NoPlainBegins, IsPlainRun}}
+use Rattle.yaml_flow_scalars.specs.{PlainPlaces.{IsNextLine, lines_value}, Standing.{ScalarAt, NoScalarAt}}
+use Rattle.{yaml_chars.specs.Breaks.no_break, yaml_recognizers.proofs.Scalars.FlowScalars.complete}
 
 -- ---- found
 

@@ -7,10 +7,9 @@ use Rattle.yaml_flow_scalars.proofs.Prelude.{blind-white, blind-line_break, firs
 use Rattle.yaml_flow_scalars.proofs.Prelude.{char_value, values, folded_break, line_feeds, take_while, drop_while, Join, line_of, read_join}
 use Rattle.yaml_flow_scalars.proofs.Prelude.{after_blank, with_run, read_plain_line, plain_lines_at, unbroken, take_while_all}
 use Rattle.yaml_flow_scalars.proofs.Prelude.{drop_while_all, no_break, line_after_join, no_line_no_join, lines_of_key, no_more_lines}
-use Rattle.yaml_flow_scalars.proofs.Prelude.{one_more_line, none_some, first-rest}
-use Rattle.yaml_flow_scalars.specs.Folds.{IsFold, NoFold}
-use Rattle.yaml_flow_scalars.specs.PlainPlaces.{IsPlainRun, IsNextLine, NoNextLine, lines_value}
-use Rattle.yaml_flow_scalars.proofs.{FoldSteps.run_every, FoldSteps.run_first, PlainPieces.between_some}
+use Rattle.yaml_flow_scalars.proofs.{Prelude.{one_more_line, none_some, first-rest}, FoldSteps.{run_every, run_first}}
+use Rattle.yaml_flow_scalars.{proofs.PlainPieces.between_some, specs.{Folds.{IsFold, NoFold}, PlainPlaces.{IsPlainRun, IsNextLine}}}
+use Rattle.yaml_flow_scalars.specs.PlainPlaces.{NoNextLine, lines_value}
 
 -- ---- the end of a line
 

@@ -6,10 +6,9 @@ use Rattle.yaml_flow_scalars.proofs.Prelude.{ne_eqb, or_parts, nat_tests, AllPas
 use Rattle.yaml_flow_scalars.proofs.Prelude.{IsCharBoundary-before_ascii, indicator, ns, white, rest, between, IsRun, between-append}
 use Rattle.yaml_flow_scalars.proofs.Prelude.{rest-ascii, rest-between, rest-end, IsBlind, first, is_empty, marker, no_marker, FlowContext}
 use Rattle.yaml_flow_scalars.proofs.Prelude.{ends, plain_first, plain_next, safe, line_starts, read_run, unplain, step_char, step_white}
-use Rattle.yaml_flow_scalars.proofs.Prelude.{simple, word, ascii_at_beginning, ascii_prefix}
-use Rattle.yaml_flow_scalars.specs.Folds.{IsWhiteStart}
+use Rattle.yaml_flow_scalars.proofs.{Prelude.{simple, word, ascii_at_beginning, ascii_prefix}, PlainPieces.{before_of, between_some}}
+use Rattle.yaml_flow_scalars.{proofs.PlainPieces.{one_goes_on, one_piece, simple_is_plain, GoesOn}, specs.Folds.IsWhiteStart}
 use Rattle.yaml_flow_scalars.specs.PlainPlaces.{goes_on_plain, letter_or_digit, BeginsPlain, IsPlainPiece, NoPlainPiece}
-use Rattle.yaml_flow_scalars.proofs.PlainPieces.{before_of, between_some, one_goes_on, one_piece, simple_is_plain, GoesOn}
 
 -- ---- the first character
 

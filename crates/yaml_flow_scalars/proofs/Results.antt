@@ -1,6 +1,5 @@
 -- Facts of a result, put together.
-use Rattle.std.proofs.Common.{Ok, Err}
-use Rattle.std.specs.Prelude.{Result, IfOk}
+use Rattle.std.{proofs.Common.{Ok, Err}, specs.Prelude.{Result, IfOk}}
 
 -- two facts of an Ok together
 pub ok_both : {A E : Type 0} (r : Result A E) (P Q : A → Type 0) → IfOk r P → IfOk r Q → IfOk r (λ x. P x × Q x)

@@ -1,6 +1,6 @@
 -- Runs, quotes and folds between single quotes, from the places that the code finds to what is read there.
-use Rattle.std.proofs.Common.{◌≡◌, ◌<◌, ◌≤◌, ◌∙◌, sym, ap, subst, refl, inl, inr, arith, append_assoc, length-drop}
-use Rattle.std.specs.Prelude.{ℕ, zero, suc, ◌+◌, ◌-◌, Bool, true, false, is_some, List, [], ◌∷◌, ◌++◌, length, Some, None, slice_index}
+use Rattle.std.{proofs.Common.{◌≡◌, ◌<◌, ◌≤◌, ◌∙◌, sym, ap, subst, refl, inl, inr, arith, append_assoc, length-drop}, specs.Prelude.ℕ}
+use Rattle.std.specs.Prelude.{zero, suc, ◌+◌, ◌-◌, Bool, true, false, is_some, List, [], ◌∷◌, ◌++◌, length, Some, None, slice_index}
 use Rattle.std.specs.Prelude.{slice_range, drop}
 use Rattle.yaml_flow_scalars.proofs.Prelude.{AllPass, list_all, IsAscii, IsUtf8, IsCharBoundary, chars, cases_Bool, cases_lt, and_from}
 use Rattle.yaml_flow_scalars.proofs.Prelude.{and_parts, cond-false, eqb-true, false≢true, not_from_true, or_right, nat_tests, drop_all}
@@ -11,12 +11,10 @@ use Rattle.yaml_flow_scalars.proofs.Prelude.{single_style, FlowContext, Line, Sc
 use Rattle.yaml_flow_scalars.proofs.Prelude.{one_line, single, first, read_break, Join, after_blank, with_lead, read_empty, read_scalar}
 use Rattle.yaml_flow_scalars.proofs.Prelude.{quote, read_quoted, read_single, read_single_one, single_closes, join_value, quoted_value}
 use Rattle.yaml_flow_scalars.proofs.Prelude.{with_prefix, Read, on, all_of, break_some, none_some, on_parts, some_parts, is_scalar}
-use Rattle.yaml_flow_scalars.proofs.Prelude.{no_scalar, IsScalar, first-rest}
-use Rattle.yaml_flow_scalars.specs.{Folds.IsWhiteStart, Folds.IsFold, Standing.NoScalarAt, Standing.ScalarAt}
-use Rattle.yaml_flow_scalars.specs.SingleScalars.{content, is_unchanged, read_inside, IsInside, NoFoldIn}
-use Rattle.yaml_flow_scalars.proofs.FoldSteps.{fold_solid, run_every, run_first}
+use Rattle.yaml_flow_scalars.proofs.{Prelude.{no_scalar, IsScalar, first-rest}, FoldSteps.{fold_solid, run_every, run_first}}
 use Rattle.yaml_flow_scalars.proofs.SingleSteps.{inside_close, inside_control, inside_fold, inside_no_fold, inside_pair, with_prefix-append}
-use Rattle.yaml_flow_scalars.proofs.SingleSteps.{with_prefix-nil}
+use Rattle.yaml_flow_scalars.{proofs.SingleSteps.with_prefix-nil, specs.{Folds.{IsWhiteStart, IsFold}, Standing.{NoScalarAt, ScalarAt}}}
+use Rattle.yaml_flow_scalars.specs.SingleScalars.{content, is_unchanged, read_inside, IsInside, NoFoldIn}
 
 -- the test for a quote doesn't distinguish characters from 128 on
 pub blind-quote : IsBlind quote

@@ -1,6 +1,6 @@
 -- What is read between single quotes, over characters: by runs, pairs of quotes and folds, up to the closing quote.
-use Rattle.std.proofs.Common.{◌≡◌, ◌⊎◌, ◌∙◌, sym, ap, refl, inl, inr, arith, append_assoc, append-nil}
-use Rattle.std.specs.Prelude.{ℕ, true, false, not, List, [], ◌∷◌, ◌++◌, flat_map, codes, Some, None}
+use Rattle.std.{proofs.Common.{◌≡◌, ◌⊎◌, ◌∙◌, sym, ap, refl, inl, inr, arith, append_assoc, append-nil}, specs.Prelude.{ℕ, true, false}}
+use Rattle.std.specs.Prelude.{not, List, [], ◌∷◌, ◌++◌, flat_map, codes, Some, None}
 use Rattle.yaml_flow_scalars.proofs.Prelude.{list_all, and_from, and_left, and_parts, cases_Bool, cond-false, false≢true, not-true}
 use Rattle.yaml_flow_scalars.proofs.Prelude.{nat_tests, line_break, nb_json, white, FlowContext, Line, char_value, ends, one_line}
 use Rattle.yaml_flow_scalars.proofs.Prelude.{single_kind, single_text, values, first, drop_while, take_while, Join, at_break, after_blank}
@@ -8,9 +8,8 @@ use Rattle.yaml_flow_scalars.proofs.Prelude.{read_join, quote, read_held, read_q
 use Rattle.yaml_flow_scalars.proofs.Prelude.{quoted_value, read_after_join, with_prefix, with_join, Read, white_at_break, unbroken}
 use Rattle.yaml_flow_scalars.proofs.Prelude.{drop_while_all, take_while_all, no_break, after_close, after_fault, after_thing, step_close}
 use Rattle.yaml_flow_scalars.proofs.Prelude.{step_fault, step_join, step_key, step_thing, step_things, value_of_join, value_of_thing}
-use Rattle.yaml_flow_scalars.proofs.Prelude.{value_of_things}
+use Rattle.yaml_flow_scalars.{proofs.Prelude.value_of_things, specs.SingleScalars.{content, read_inside}}
 use Rattle.yaml_recognizers.proofs.Scalars.SingleScalars.{single_readable}
-use Rattle.yaml_flow_scalars.specs.SingleScalars.{content, read_inside}
 
 -- ---- characters
 

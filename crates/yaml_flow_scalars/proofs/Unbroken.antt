@@ -1,11 +1,10 @@
 -- Scalars on one line: no break is in them.
-use Rattle.std.proofs.Common.{◌≡◌, refl, ◌∙◌, ap, arith}
-use Rattle.std.specs.Prelude.{ℕ, ◌+◌, ◌<◌, Bool, true, false, ◌&&◌, ◌||◌, List, [], ◌∷◌, ◌++◌, length, slice_index, not}
+use Rattle.std.{proofs.Common.{◌≡◌, refl, ◌∙◌, ap, arith}, specs.Prelude.{ℕ, ◌+◌, ◌<◌, Bool, true, false, ◌&&◌, ◌||◌, List, [], ◌∷◌, ◌++◌}}
+use Rattle.std.specs.Prelude.{length, slice_index, not}
 use Rattle.yaml_flow_scalars.proofs.Prelude.{IsUtf8, IsCharBoundary, and_from, and_parts, cond_both, false≢true, not_from_false, nat_tests}
 use Rattle.yaml_flow_scalars.proofs.Prelude.{list_all-from_AllPass, ns, white, between, IsRun, between-ascii, between-push_ascii}
 use Rattle.yaml_flow_scalars.proofs.Prelude.{FlowContext, plain_next, list_all, is_empty, read_run, plain_unbroken}
-use Rattle.yaml_chars.specs.Breaks.{no_break}
-use Rattle.yaml_flow_scalars.specs.{DoubleScan.raw_char, SingleScalars.content}
+use Rattle.{yaml_flow_scalars.specs.{DoubleScan.raw_char, SingleScalars.content}, yaml_chars.specs.Breaks.no_break}
 
 -- ---- plain
 

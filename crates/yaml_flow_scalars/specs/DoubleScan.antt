@@ -1,11 +1,10 @@
 -- What the scanner of double-quoted scalars finds at places of a text, in terms of the recognizer.
-use Rattle.std.specs.Prelude.{◌≡◌, ℕ, ◌+◌, ◌<◌, Bool, true, false, ◌&&◌, ◌==◌, List, take, drop, length, Some, None}
-use Rattle.std.specs.Prelude.{if◌then◌else◌}
-use Rattle.yaml_flow_scalars.specs.Prelude.{IsCharBoundary, chars, rest, list_all, FlowContext, QuotedChar, raw, escape}
-use Rattle.yaml_flow_scalars.specs.Prelude.{hex_digit, digit_of, hex_value, quoted_char_fits, quoted_char_value}
-use Rattle.yaml_flow_scalars.specs.Prelude.{escaped_char, line_feeds, folded_break, Read, after_blank, read_join}
-use Rattle.yaml_flow_scalars.specs.Prelude.{read_held, read_quoted, read_item, double_closes, quoted_value, with_prefix}
+use Rattle.std.specs.Prelude.{◌≡◌, ℕ, ◌+◌, ◌<◌, Bool, true, false, ◌&&◌, ◌==◌, List, take, drop, length, Some, None, if◌then◌else◌}
 use Rattle.std.specs.Char.{IsScalar}
+use Rattle.yaml_flow_scalars.specs.Prelude.{IsCharBoundary, chars, rest, list_all, FlowContext, QuotedChar, raw, escape, hex_digit}
+use Rattle.yaml_flow_scalars.specs.Prelude.{digit_of, hex_value, quoted_char_fits, quoted_char_value, escaped_char, line_feeds}
+use Rattle.yaml_flow_scalars.specs.Prelude.{folded_break, Read, after_blank, read_join, read_held, read_quoted, read_item, double_closes}
+use Rattle.yaml_flow_scalars.specs.Prelude.{quoted_value, with_prefix}
 
 -- ---- values
 

@@ -1,11 +1,9 @@
 -- Folds between two lines of a flow scalar, at a place of a text: what the recognizer of joins finds there, whatever
 -- comes before the break (a backslash, or whitespace).
 use Rattle.std.specs.Prelude.{◌≡◌, ℕ, ◌<◌, ◌≤◌, Bool, true, false, List, length, Some, None}
-use Rattle.yaml_flow_scalars.specs.Prelude.{IsCharBoundary, rest, between, white, FlowEmptyLine, ends, list_all, Join}
-use Rattle.yaml_flow_scalars.specs.Prelude.{after_blank, read_empty}
-use Rattle.yaml_grammar.specs.Separation.{Break, indents}
-use Rattle.yaml_recognizers.specs.Comments.{read_break}
-use Rattle.yaml_recognizers.specs.Prefixes.{take_while, drop_while}
+use Rattle.yaml_flow_scalars.specs.Prelude.{IsCharBoundary, rest, between, white, FlowEmptyLine, ends, list_all, Join, after_blank}
+use Rattle.{yaml_flow_scalars.specs.Prelude.read_empty, yaml_grammar.specs.Separation.{Break, indents}}
+use Rattle.yaml_recognizers.specs.{Comments.read_break, Prefixes.{take_while, drop_while}}
 
 -- The fold begins with the break at the place `at`, has this number of empty lines, and what the next line holds is at
 -- the place `next`.

@@ -1,13 +1,10 @@
 -- Plain scalars at places of a text: the first character, a line's run of characters, and further lines.
 -- Here black says whether the character before a place is neither whitespace nor a break.
-use Rattle.std.specs.Prelude.{◌≡◌, ℕ, ◌<◌, ◌≤◌, Bool, true, false, ◌&&◌, ◌||◌, List, [], ◌∷◌, ◌++◌, flat_map}
-use Rattle.std.specs.Prelude.{slice_index}
-use Rattle.yaml_flow_scalars.specs.Prelude.{IsCharBoundary, chars, list_all, no_break, line_break, ns, in_range, rest}
-use Rattle.yaml_flow_scalars.specs.Prelude.{between, plain_style, no_marker, FlowContext, Line, plain_first, plain_next}
-use Rattle.yaml_flow_scalars.specs.Prelude.{line_value, char_value, folded_break, line_starts}
-use Rattle.yaml_recognizers.specs.PlainScalars.{read_run, plain_lines_at}
-use Rattle.yaml_flow_scalars.specs.{declared.plain_scalar.Before.Before, Standing.ScalarAt}
-use Rattle.yaml_flow_scalars.specs.declared.plain_scalar.Before.TheVariants.{Content, Blank}
+use Rattle.std.specs.Prelude.{◌≡◌, ℕ, ◌<◌, ◌≤◌, Bool, true, false, ◌&&◌, ◌||◌, List, [], ◌∷◌, ◌++◌, flat_map, slice_index}
+use Rattle.yaml_flow_scalars.specs.Prelude.{IsCharBoundary, chars, list_all, no_break, line_break, ns, in_range, rest, between, plain_style}
+use Rattle.yaml_flow_scalars.specs.Prelude.{no_marker, FlowContext, Line, plain_first, plain_next, line_value, char_value, folded_break}
+use Rattle.yaml_flow_scalars.specs.{Prelude.line_starts, declared.plain_scalar.Before.{Before, TheVariants.{Content, Blank}}}
+use Rattle.{yaml_flow_scalars.specs.Standing.ScalarAt, yaml_recognizers.specs.PlainScalars.{read_run, plain_lines_at}}
 
 -- ---- characters
 

@@ -1,9 +1,8 @@
 -- Scalars in single quotes: what is between the quotes at a place of a text, and what of it a value borrows.
 use Rattle.std.specs.Prelude.{◌≡◌, ℕ, ◌<◌, Bool, true, false, not, ◌&&◌, ◌||◌, ◌⊎◌, List, Some, slice_range}
-use Rattle.yaml_flow_scalars.specs.Prelude.{cow_str_bytes, IsBorrowedStr, AllPass, IsCharBoundary, CowStr, nb_json}
-use Rattle.yaml_flow_scalars.specs.Prelude.{line_break, rest, FlowContext, char_value, one_line, Read, quote}
-use Rattle.yaml_flow_scalars.specs.Prelude.{read_quoted, read_single_one, single_closes, quoted_value}
-use Rattle.yaml_flow_scalars.specs.Folds.{NoFold}
+use Rattle.yaml_flow_scalars.specs.Prelude.{cow_str_bytes, IsBorrowedStr, AllPass, IsCharBoundary, CowStr, nb_json, line_break, rest}
+use Rattle.yaml_flow_scalars.specs.Prelude.{FlowContext, char_value, one_line, Read, quote, read_quoted, read_single_one, single_closes}
+use Rattle.yaml_flow_scalars.specs.{Prelude.quoted_value, Folds.NoFold}
 
 -- a character that means itself between single quotes
 abbrev pub content : ℕ → Bool

@@ -1,8 +1,7 @@
 -- A flow scalar at a place of a text, which counts bytes.
 use Rattle.std.specs.Prelude.{◌≡◌, ℕ, ◌<◌, true, List}
-use Rattle.yaml_flow_scalars.specs.Prelude.{IsBorrowedStr, IsCharBoundary, CowStr, no_break, rest, between, Style}
-use Rattle.yaml_flow_scalars.specs.Prelude.{list_all, FlowContext, Scalar, style_of, line_starts}
-use Rattle.yaml_recognizers.specs.WholeScalars.{StandsWhole, IsScalar}
+use Rattle.yaml_flow_scalars.specs.Prelude.{IsBorrowedStr, IsCharBoundary, CowStr, no_break, rest, between, Style, list_all, FlowContext}
+use Rattle.{yaml_flow_scalars.specs.Prelude.{Scalar, style_of, line_starts}, yaml_recognizers.specs.WholeScalars.{StandsWhole, IsScalar}}
 
 -- A scalar of this style and value is whole between the two places, and each that is whole at the first is such a one.
 pub record ScalarAt (style : Style) (n : ℕ) (c : FlowContext) (text : List ℕ) (at : ℕ) (value : List ℕ)

@@ -2,8 +2,8 @@
 use Rattle.std.proofs.Common.{◌≡◌, ℕ, Bool, true, false, nat_lt, List, [], ◌∷◌, ◌++◌, length, length-append, codes, encode_utf8_all, refl}
 use Rattle.std.proofs.Common.{sym, ap, ◌∙◌, append_assoc, arith}
 use Rattle.yaml_forms.proofs.Prelude.{ne_eqb, ltb-true, encodes-append, encodes-IsAscii, chars, chars-literal, every-IsAscii}
-use Rattle.yaml_forms.specs.Json.{json_string, json_texts, more_elements, text_elements}
-use Rattle.yaml_forms.specs.TextArrays.{array_end, array_lead, array_rest, is_fresh}
+use Rattle.yaml_forms.specs.{Json.{json_string, json_texts, more_elements, text_elements}, TextArrays.{array_end, array_lead, array_rest}}
+use Rattle.yaml_forms.specs.TextArrays.{is_fresh}
 
 -- further texts, each after a comma, and the closing bracket
 rest-more : (values : List (List ℕ)) → array_rest false values ≡ more_elements (text_elements values) ++ codes "]"

@@ -1,11 +1,9 @@
 -- What is written for a character of a string fits between double quotes, and means that character.
-use Rattle.std.proofs.Common.{◌≡◌, refl, sym, subst, inl, inr, arith, ◌<◌}
-use Rattle.std.specs.Prelude.{ℕ, ◌/◌, ◌%◌, true, ◌||◌, ◌==◌, List, [], ◌∷◌, ◌++◌}
+use Rattle.std.{proofs.Common.{◌≡◌, refl, sym, subst, inl, inr, arith, ◌<◌}, specs.Prelude.{ℕ, ◌/◌, ◌%◌, true, ◌||◌, ◌==◌, List, [], ◌∷◌}}
+use Rattle.std.specs.Prelude.{◌++◌}
 use Rattle.yaml_forms.proofs.Prelude.{list_all, cond_both, and_parts, and_from, or_cases, eqb-true, agree_below_at, false≢true, code_point}
 use Rattle.yaml_forms.proofs.Prelude.{IsText, escape, shown, hex, letter_escape, Quotes, item_quotes, long_number, unshown_low}
-use Rattle.yaml_forms.proofs.Prelude.{every_joined}
-use Rattle.yaml_forms.specs.Json.{has_letter, json_char, json_chars, json_string}
-use Rattle.yaml_forms.proofs.JsonPresented.{item_of}
+use Rattle.yaml_forms.{proofs.{Prelude.every_joined, JsonPresented.item_of}, specs.Json.{has_letter, json_char, json_chars, json_string}}
 use Rattle.yaml_recognizers.proofs.OneStyle.Presented as style
 
 -- ---- escapes by a letter

@@ -1,12 +1,10 @@
 -- The presentation of a tree's JSON text fits.
-use Rattle.std.proofs.Common.{◌≡◌, refl}
-use Rattle.std.specs.Prelude.{ℕ, Bool, true, false, List, [], ◌∷◌, ◌++◌, None}
+use Rattle.std.{proofs.Common.{◌≡◌, refl}, specs.Prelude.{ℕ, Bool, true, false, List, [], ◌∷◌, ◌++◌, None}}
 use Rattle.yaml_forms.proofs.Prelude.{and_parts, and_from, list_all, code_point, IsText, LineEnd, comments_text, comments_fit, FlowContext}
 use Rattle.yaml_forms.proofs.Prelude.{outer, in_flow, quoted_char_fits, Flow, flow_fits, given, value_text, Entry, entry_fits, entries_fit}
 use Rattle.yaml_forms.proofs.Prelude.{fits, Tree, text, sequence, mapping, Elements, no_element, element, Members, no_member, member}
-use Rattle.yaml_forms.proofs.Prelude.{IsTextTree, AreTextElements, AreTextMembers}
-use Rattle.yaml_forms.proofs.JsonPresented.{items_of_text, string_flow, element_entry, member_entry, json_flow, elements_from, members_from}
-use Rattle.yaml_forms.proofs.JsonPresented.{presentation_of}
+use Rattle.yaml_forms.proofs.{Prelude.{IsTextTree, AreTextElements, AreTextMembers}, JsonPresented.{items_of_text, string_flow}}
+use Rattle.yaml_forms.proofs.JsonPresented.{element_entry, member_entry, json_flow, elements_from, members_from, presentation_of}
 use Rattle.yaml_forms.proofs.JsonCharacters.{json_quotes}
 
 -- ---- strings

@@ -1,19 +1,16 @@
 -- The JSON text of a tree of texts is in the grammar of JSON, and means the tree.
-use Rattle.std.proofs.Common.{◌≡◌, refl, sym, ◌∙◌, ap, subst, inl, inr, arith, ◌<◌, ◌≤◌, append_assoc}
-use Rattle.std.specs.Prelude.{ℕ, suc, ◌/◌, ◌%◌, Bool, true, false, ◌&&◌, ◌||◌, ◌==◌, List, [], ◌∷◌, ◌++◌, if◌then◌else◌}
-use Rattle.yaml_forms.proofs.Prelude.{append-nil, list_all, and_parts, and_from, or_cases, eqb-true, code_point}
-use Rattle.yaml_forms.proofs.Prelude.{IsText, shown, hex, letter_escape, Quotes, number, long_number, unshown_low, Tree, text, sequence}
-use Rattle.yaml_forms.proofs.Prelude.{mapping, Elements, no_element, element, Members, no_member, member, IsTextTree, AreTextElements}
-use Rattle.yaml_forms.proofs.Prelude.{AreTextMembers, or_left, or_right, or_parts, eqb-false, cases_lt, to_range, shown_low}
-use Rattle.yaml_forms.proofs.Prelude.{code_point_high, in_range, hex_digit, hex_value}
-use Rattle.yaml_forms.proofs.JsonCharacters.{for_letters}
-use Rattle.yaml_forms.specs.Json.{has_letter, json_char, json_chars, json_string, json_member, json_text, more_elements}
-use Rattle.yaml_forms.specs.Json.{more_members, json_line}
-use Rattle.yaml_forms.specs.JsonGrammar.{Character, unescaped, escaped, numbered, character_text, character_fits, character_value}
-use Rattle.yaml_forms.specs.JsonGrammar.{characters_text, characters_value, string_text, Value, string, empty_array, empty_object, array}
-use Rattle.yaml_forms.specs.JsonGrammar.{object, Items, no_item, item, Pairs, no_pair, pair, named, value_text, items_text}
-use Rattle.yaml_forms.specs.JsonGrammar.{pairs_text, pair_text, value_fits, items_fit, pairs_fit, pair_fits, MeansTree, MeanElements}
-use Rattle.yaml_forms.specs.JsonGrammar.{MeanMembers, IsJsonOf}
+use Rattle.std.{proofs.Common.{◌≡◌, refl, sym, ◌∙◌, ap, subst, inl, inr, arith, ◌<◌, ◌≤◌, append_assoc}, specs.Prelude.{ℕ, suc, ◌/◌, ◌%◌}}
+use Rattle.std.specs.Prelude.{Bool, true, false, ◌&&◌, ◌||◌, ◌==◌, List, [], ◌∷◌, ◌++◌, if◌then◌else◌}
+use Rattle.yaml_forms.proofs.Prelude.{append-nil, list_all, and_parts, and_from, or_cases, eqb-true, code_point, IsText, shown, hex}
+use Rattle.yaml_forms.proofs.Prelude.{letter_escape, Quotes, number, long_number, unshown_low, Tree, text, sequence, mapping, Elements}
+use Rattle.yaml_forms.proofs.Prelude.{no_element, element, Members, no_member, member, IsTextTree, AreTextElements, AreTextMembers, or_left}
+use Rattle.yaml_forms.proofs.Prelude.{or_right, or_parts, eqb-false, cases_lt, to_range, shown_low, code_point_high, in_range, hex_digit}
+use Rattle.yaml_forms.{proofs.{Prelude.hex_value, JsonCharacters.for_letters}, specs.Json.{has_letter, json_char, json_chars, json_string}}
+use Rattle.yaml_forms.specs.{Json.{json_member, json_text, more_elements, more_members, json_line}, JsonGrammar.{Character, unescaped}}
+use Rattle.yaml_forms.specs.JsonGrammar.{escaped, numbered, character_text, character_fits, character_value, characters_text}
+use Rattle.yaml_forms.specs.JsonGrammar.{characters_value, string_text, Value, string, empty_array, empty_object, array, object, Items}
+use Rattle.yaml_forms.specs.JsonGrammar.{no_item, item, Pairs, no_pair, pair, named, value_text, items_text, pairs_text, pair_text}
+use Rattle.yaml_forms.specs.JsonGrammar.{value_fits, items_fit, pairs_fit, pair_fits, MeansTree, MeanElements, MeanMembers, IsJsonOf}
 
 -- ---- characters
 

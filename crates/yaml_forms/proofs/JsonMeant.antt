@@ -1,14 +1,12 @@
 -- The presentation of a tree's JSON text means the events of that tree.
-use Rattle.std.proofs.Common.{◌≡◌, refl, sym, ◌∙◌, ap}
-use Rattle.std.specs.Prelude.{ℕ, ◌+◌, Bool, true, false, List, [], ◌∷◌, ◌++◌}
+use Rattle.std.{proofs.Common.{◌≡◌, refl, sym, ◌∙◌, ap}, specs.Prelude.{ℕ, ◌+◌, Bool, true, false, List, [], ◌∷◌, ◌++◌}}
 use Rattle.yaml_forms.proofs.Prelude.{append-nil, and_parts, list_all, code_point, IsText, byte_len, LineEnd, quoted_char_value, values}
 use Rattle.yaml_forms.proofs.Prelude.{Flow, flow_text, flow_events, Entry, entry_events, entries_events, Event, as_document, document_end}
 use Rattle.yaml_forms.proofs.Prelude.{seq_start, seq_end, map_start, map_end, stream_events, Tree, text, sequence, mapping, Elements}
 use Rattle.yaml_forms.proofs.Prelude.{no_element, element, Members, no_member, member, Shape, scalar_of, seq_from, seq_to, map_from, map_to}
 use Rattle.yaml_forms.proofs.Prelude.{document_from, document_to, shape, shapes, tree_shapes, elements_shapes, members_shapes, IsTextTree}
-use Rattle.yaml_forms.proofs.Prelude.{AreTextElements, AreTextMembers, IsTreeOf}
-use Rattle.yaml_forms.proofs.JsonPresented.{items_of_text, string_flow, element_entry, member_entry, json_flow, elements_from, members_from}
-use Rattle.yaml_forms.proofs.JsonPresented.{presentation_of}
+use Rattle.yaml_forms.proofs.{Prelude.{AreTextElements, AreTextMembers, IsTreeOf}, JsonPresented.{items_of_text, string_flow}}
+use Rattle.yaml_forms.proofs.JsonPresented.{element_entry, member_entry, json_flow, elements_from, members_from, presentation_of}
 use Rattle.yaml_forms.proofs.JsonCharacters.{json_quotes}
 
 -- the shapes of events, joined, are the shapes of each, joined

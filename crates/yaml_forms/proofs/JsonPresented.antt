@@ -2,8 +2,7 @@
 use Rattle.std.specs.Prelude.{ℕ, ◌/◌, ◌%◌, false, ◌||◌, ◌==◌, List, [], ◌∷◌, Some, None, if◌then◌else◌}
 use Rattle.yaml_forms.proofs.Prelude.{LineEnd, inline, QuotedChar, raw, escape, number, double, Flow, scalar, seq, map, Entries, none, last}
 use Rattle.yaml_forms.proofs.Prelude.{next, Entry, entry, absent, given, flow, Stream, bare, Tree, text, sequence, mapping, Elements}
-use Rattle.yaml_forms.proofs.Prelude.{no_element, element, Members, no_member, member, shown, hex, letter_escape}
-use Rattle.yaml_forms.specs.Json.{has_letter}
+use Rattle.yaml_forms.{proofs.Prelude.{no_element, element, Members, no_member, member, shown, hex, letter_escape}, specs.Json.has_letter}
 
 -- a character of a string, as it is written
 abbrev pub item_of : ℕ → QuotedChar

@@ -1,13 +1,10 @@
 -- The JSON text presents each tree, with a line feed after it or without one, and where no text has two meanings it
 -- reads as that tree.
-use Rattle.std.proofs.Common.{refl, ◌∙◌}
-use Rattle.std.specs.Prelude.{ℕ, List, [], ◌∷◌}
-use Rattle.yaml_forms.proofs.Prelude.{append-nil, stream_events, Tree, CanReadAs, feed, Unambiguous}
-use Rattle.yaml_grammar.specs.Reads.{CanRead, Reads}
-use Rattle.yaml_forms.specs.Json.{json_text, json_line}
-use Rattle.yaml_forms.specs.JsonLaws.{JsonPresents, JsonLinePresents, JsonReads, JsonLineReads}
-use Rattle.yaml_forms.proofs.{JsonPresented.presentation_of, JsonSpelled.presentation_spelled, JsonFits.presentation_fits}
-use Rattle.yaml_forms.proofs.{JsonMeant.presentation_meant, JsonCharacters.joined, JsonTexts.json_is_text}
+use Rattle.std.{proofs.Common.{refl, ◌∙◌}, specs.Prelude.{ℕ, List, [], ◌∷◌}}
+use Rattle.yaml_forms.proofs.{Prelude.{append-nil, stream_events, Tree, CanReadAs, feed, Unambiguous}, JsonPresented.presentation_of}
+use Rattle.yaml_forms.proofs.{JsonSpelled.presentation_spelled, JsonFits.presentation_fits, JsonMeant.presentation_meant}
+use Rattle.yaml_forms.{proofs.{JsonCharacters.joined, JsonTexts.json_is_text}, specs.{Json.{json_text, json_line}, JsonLaws.JsonPresents}}
+use Rattle.{yaml_forms.specs.JsonLaws.{JsonLinePresents, JsonReads, JsonLineReads}, yaml_grammar.specs.Reads.{CanRead, Reads}}
 
 -- the JSON text has a presentation that means the tree
 pub json_presented : JsonPresents

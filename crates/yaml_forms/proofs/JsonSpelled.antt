@@ -1,12 +1,12 @@
 -- The presentation of a tree spells the tree's JSON text.
-use Rattle.std.proofs.Common.{◌≡◌, refl, sym, ◌∙◌, ap, append_assoc}
-use Rattle.std.specs.Prelude.{ℕ, ◌/◌, ◌%◌, Bool, true, false, cond, ◌||◌, ◌==◌, List, [], ◌∷◌, ◌++◌, flat_map}
+use Rattle.std.{proofs.Common.{◌≡◌, refl, sym, ◌∙◌, ap, append_assoc}, specs.Prelude.{ℕ, ◌/◌, ◌%◌, Bool, true, false, cond, ◌||◌, ◌==◌}}
+use Rattle.std.specs.Prelude.{List, [], ◌∷◌, ◌++◌, flat_map}
 use Rattle.yaml_forms.proofs.Prelude.{append-nil, LineEnd, comments_text, raw, escape, number, quoted_char_text, Flow, flow_text, Entry}
 use Rattle.yaml_forms.proofs.Prelude.{entry_text, entries_text, Tree, text, sequence, mapping, Elements, no_element, element, Members}
-use Rattle.yaml_forms.proofs.Prelude.{no_member, member, stream_text, shown, hex, letter_escape}
-use Rattle.yaml_forms.specs.Json.{has_letter, json_char, json_chars, json_string, json_member, json_text, more_elements, more_members}
-use Rattle.yaml_forms.proofs.JsonPresented.{item_of, items_of_text, string_flow, element_entry, member_entry, json_flow, elements_from}
-use Rattle.yaml_forms.proofs.JsonPresented.{members_from, presentation_of}
+use Rattle.yaml_forms.proofs.{Prelude.{no_member, member, stream_text, shown, hex, letter_escape}, JsonPresented.{item_of, items_of_text}}
+use Rattle.yaml_forms.proofs.JsonPresented.{string_flow, element_entry, member_entry, json_flow, elements_from, members_from}
+use Rattle.yaml_forms.{proofs.JsonPresented.presentation_of, specs.Json.{has_letter, json_char, json_chars, json_string, json_member}}
+use Rattle.yaml_forms.specs.Json.{json_text, more_elements, more_members}
 
 -- ---- strings
 

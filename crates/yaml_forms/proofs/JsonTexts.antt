@@ -1,10 +1,8 @@
 -- The JSON text of a tree of texts is a text.
-use Rattle.std.proofs.Common.{refl}
-use Rattle.std.specs.Prelude.{ℕ, List, [], ◌∷◌, ◌++◌}
+use Rattle.std.{proofs.Common.refl, specs.Prelude.{ℕ, List, [], ◌∷◌, ◌++◌}}
 use Rattle.yaml_forms.proofs.Prelude.{and_from, IsText, Tree, text, sequence, mapping, Elements, no_element, element, Members, no_member}
-use Rattle.yaml_forms.proofs.Prelude.{member, IsTextTree, AreTextElements, AreTextMembers}
+use Rattle.yaml_forms.proofs.{Prelude.{member, IsTextTree, AreTextElements, AreTextMembers}, JsonCharacters.{joined, string_text}}
 use Rattle.yaml_forms.specs.Json.{json_string, json_member, json_text, more_elements, more_members}
-use Rattle.yaml_forms.proofs.JsonCharacters.{joined, string_text}
 
 -- a member is a text, if its value is one
 member_text : (key value : List ℕ) → IsText key → IsText value → IsText (json_member key value)

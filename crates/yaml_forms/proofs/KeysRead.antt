@@ -1,14 +1,12 @@
 -- Keys are read back from their lines.
-use Rattle.std.proofs.Common.{◌≡◌, refl, sym, ◌∙◌, ap, subst, arith, ◌<◌, ◌≤◌, append_assoc}
+use Rattle.std.proofs.{Common.{◌≡◌, refl, sym, ◌∙◌, ap, subst, arith, ◌<◌, ◌≤◌, append_assoc}, lemmas.List.Elements.{All-head, All-tail}}
 use Rattle.std.specs.Prelude.{ℕ, ◌+◌, Bool, true, false, not, nat_lt, ◌==◌, List, [], ◌∷◌, ◌++◌, if◌then◌else◌, codes, All}
-use Rattle.std.proofs.lemmas.List.Elements.{All-head, All-tail}
 use Rattle.yaml_forms.proofs.Prelude.{and_parts, and_from, cond_both, not-true, not_from_false, ne_eqb, list_all, first, IsText, shown, hex}
 use Rattle.yaml_forms.proofs.Prelude.{shown_low, every_joined, quoted_chars, in_double_quotes, Writes, quoted_chars_all, Unambiguous}
 use Rattle.yaml_forms.proofs.Prelude.{Members, no_member, member, AreTextMembers, scalar_of, document_from, document_to, shapes}
+use Rattle.yaml_forms.{proofs.QuotedRead.quoted_presented, specs.{KeyLines.{stands_in_line, key_in_line, member_lines}, KeyLaws.onto_first}}
+use Rattle.yaml_forms.specs.KeyLaws.{lines_of, as_lines, IsOneLine, HasKeyBy, HasKey, HaveKeysOf, KeysAreReadBack}
 use Rattle.yaml_grammar.specs.Reads.{CanRead}
-use Rattle.yaml_forms.specs.KeyLines.{stands_in_line, key_in_line, member_lines}
-use Rattle.yaml_forms.specs.KeyLaws.{onto_first, lines_of, as_lines, IsOneLine, HasKeyBy, HasKey, HaveKeysOf, KeysAreReadBack}
-use Rattle.yaml_forms.proofs.QuotedRead.{quoted_presented}
 
 -- ---- lines
 

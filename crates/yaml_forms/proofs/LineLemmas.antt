@@ -1,9 +1,8 @@
 -- Lines of a collection, written one after another into bytes.
 use Rattle.std.proofs.Common.{◌≡◌, ℕ, ◌+◌, ◌<◌, List, [], ◌∷◌, ◌++◌, length, drop, codes, decimal, encode_utf8_all, sym, ap, ◌∙◌}
 use Rattle.std.proofs.Common.{append_assoc, arith}
-use Rattle.yaml_forms.proofs.Prelude.{drop_more, encodes-append, elements_of}
+use Rattle.yaml_forms.{proofs.Prelude.{drop_more, encodes-append, elements_of}, specs.KeyLines.index_lines}
 use Rattle.yaml_data.specs.declared.tree.Tree.{Tree}
-use Rattle.yaml_forms.specs.KeyLines.{index_lines}
 
 -- the bytes a, one line more, and then the rest
 pub line_pushed : (a b line rest left : List ℕ) → left ≡ line ++ rest → b ≡ a ++ encode_utf8_all line

@@ -1,7 +1,6 @@
 -- The presentation of a tree in the plain form fits.
-use Rattle.std.proofs.Common.{◌≡◌, refl, ◌∙◌, ap, inl, inr, arith, ◌≤◌}
-use Rattle.std.specs.Prelude.{ℕ, zero, suc, ◌+◌, Bool, true, false, cond, not, ◌&&◌, ◌||◌, ◌==◌, List, [], ◌∷◌, ◌++◌, codes, length}
-use Rattle.std.specs.Prelude.{flat_map}
+use Rattle.std.{proofs.Common.{◌≡◌, refl, ◌∙◌, ap, inl, inr, arith, ◌≤◌}, specs.Prelude.{ℕ, zero, suc, ◌+◌, Bool, true, false, cond, not}}
+use Rattle.std.specs.Prelude.{◌&&◌, ◌||◌, ◌==◌, List, [], ◌∷◌, ◌++◌, codes, length, flat_map}
 use Rattle.yaml_forms.proofs.Prelude.{list_all, append-nil, and_parts, and_from, or_left, or_right, or_cases, or_parts, not-true, le-leb}
 use Rattle.yaml_forms.proofs.Prelude.{ltb-false, eqb-true, agree_below_at, not_from_false, false≢true, ns, white, is_in, indicator}
 use Rattle.yaml_forms.proofs.Prelude.{line_break, IsText, first, spaces, starts_line, marker, Sep, sep_text, sep_fits, inline, FlowContext}
@@ -11,13 +10,11 @@ use Rattle.yaml_forms.proofs.Prelude.{indented_fits, node, Pair, pair_text, pair
 use Rattle.yaml_forms.proofs.Prelude.{text, sequence, mapping, Elements, no_element, element, Members, no_member, member, IsTextTree}
 use Rattle.yaml_forms.proofs.Prelude.{AreTextElements, AreTextMembers, plain_in_style, letter, in_double_quotes, key_text, long_key}
 use Rattle.yaml_forms.proofs.Prelude.{key_lines, feed, one_space, word_flow, scalar_node, pair_of, pair_spelled, word_flow_spelled}
-use Rattle.yaml_forms.proofs.Prelude.{two_more, of_letter, after_not}
-use Rattle.yaml_grammar.specs.FlowScalars.{plain_text as plain_char}
-use Rattle.yaml_recognizers.proofs.OneStyle.ScalarsFit.{Below, Wide, no_marker_there, word_flow_fits, scalar_node_fits}
-use Rattle.yaml_forms.specs.CoreScalars.{is_typed}
-use Rattle.yaml_forms.proofs.TypedLemmas.{typed_char, typed_shape, typed_shaped, typed_low}
+use Rattle.yaml_forms.proofs.{Prelude.{two_more, of_letter, after_not}, TypedLemmas.{typed_char, typed_shape, typed_shaped, typed_low}}
 use Rattle.yaml_forms.proofs.PlainPresented.{value_node, element_of, value_of, items_from, pairs_from, top_node, presentation_of}
-use Rattle.yaml_forms.proofs.PlainSpelled.{element_spelled}
+use Rattle.yaml_forms.{proofs.PlainSpelled.element_spelled, specs.CoreScalars.is_typed}
+use Rattle.{yaml_grammar.specs.FlowScalars.plain_text as plain_char, yaml_recognizers.proofs.OneStyle.ScalarsFit.{Below, Wide}}
+use Rattle.yaml_recognizers.proofs.OneStyle.ScalarsFit.{no_marker_there, word_flow_fits, scalar_node_fits}
 
 -- ---- plain scalars of other types than text
 

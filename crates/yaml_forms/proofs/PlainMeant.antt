@@ -1,6 +1,5 @@
 -- The presentation of a tree in the plain form means the events of that tree.
-use Rattle.std.proofs.Common.{◌≡◌, refl, sym, ◌∙◌, ap}
-use Rattle.std.specs.Prelude.{ℕ, ◌+◌, Bool, true, false, cond, not, ◌&&◌, List, [], ◌∷◌, ◌++◌}
+use Rattle.std.{proofs.Common.{◌≡◌, refl, sym, ◌∙◌, ap}, specs.Prelude.{ℕ, ◌+◌, Bool, true, false, cond, not, ◌&&◌, List, [], ◌∷◌, ◌++◌}}
 use Rattle.yaml_forms.proofs.Prelude.{append-nil, and_parts, not-true, code_point, is_in, list_all, IsText, first, byte_len, Sep, inline}
 use Rattle.yaml_forms.proofs.Prelude.{char_value, quoted_char_value, values, plain, double, scalar, flow_text, flow_events, Node, flow}
 use Rattle.yaml_forms.proofs.Prelude.{block, node_events, items_events, Indented, indented_text, indented_events, node, Pair, pair_text}
@@ -9,11 +8,9 @@ use Rattle.yaml_forms.proofs.Prelude.{sequence, mapping, Elements, no_element, e
 use Rattle.yaml_forms.proofs.Prelude.{document_from, document_to, shapes, tree_shapes, elements_shapes, members_shapes, IsTextTree}
 use Rattle.yaml_forms.proofs.Prelude.{AreTextElements, AreTextMembers, IsTreeOf, plain_in_style, literal_in_style, long_key, space_or_feed}
 use Rattle.yaml_forms.proofs.Prelude.{shown_or_feed, feed, one_space, items_of_text, word_flow, literal_block, scalar_node, pair_of}
-use Rattle.yaml_forms.proofs.Prelude.{two_more, item_quotes}
-use Rattle.yaml_recognizers.proofs.OneStyle.Literals.{literal_meant}
-use Rattle.yaml_forms.specs.CoreScalars.{is_typed}
-use Rattle.yaml_forms.proofs.JsonMeant.{both_meant, sequence_meant, mapping_meant}
+use Rattle.yaml_forms.proofs.{Prelude.{two_more, item_quotes}, JsonMeant.{both_meant, sequence_meant, mapping_meant}}
 use Rattle.yaml_forms.proofs.PlainPresented.{value_node, element_of, value_of, items_from, pairs_from, top_node, presentation_of}
+use Rattle.{yaml_forms.specs.CoreScalars.is_typed, yaml_recognizers.proofs.OneStyle.Literals.literal_meant}
 
 -- ---- scalars
 

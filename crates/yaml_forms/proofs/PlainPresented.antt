@@ -3,8 +3,7 @@ use Rattle.std.specs.Prelude.{ℕ, ◌+◌, false, List, [], ◌∷◌, Some, if
 use Rattle.yaml_forms.proofs.Prelude.{Sep, inline, plain, scalar, Node, flow, items, pairs, Items, item, item_and, Pairs, pair, pair_and}
 use Rattle.yaml_forms.proofs.Prelude.{Pair, Indented, compact_items, compact_pairs, node, Stream, bare, Tree, text, sequence, mapping}
 use Rattle.yaml_forms.proofs.Prelude.{Elements, no_element, element, Members, no_member, member, feed, one_space, scalar_node, pair_of}
-use Rattle.yaml_forms.proofs.Prelude.{empty_sequence, empty_mapping}
-use Rattle.yaml_forms.specs.CoreScalars.{is_typed}
+use Rattle.yaml_forms.{proofs.Prelude.{empty_sequence, empty_mapping}, specs.CoreScalars.is_typed}
 
 -- a value, after this separation
 abbrev pub value_node : Sep → ℕ → List ℕ → Node

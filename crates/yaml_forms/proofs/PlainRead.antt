@@ -1,9 +1,8 @@
 -- The plain form presents each tree, and where no text has two meanings it reads as that tree.
 use Rattle.std.proofs.Common.{refl}
-use Rattle.yaml_forms.proofs.Prelude.{stream_events, CanReadAs, Unambiguous}
-use Rattle.yaml_forms.specs.{PlainForm.plain_text, PlainLaws.PlainPresents, PlainLaws.PlainReads}
-use Rattle.yaml_forms.proofs.{JsonRead.read_once, PlainPresented.presentation_of, PlainSpelled.presentation_spelled}
-use Rattle.yaml_forms.proofs.{PlainFits.presentation_fits, PlainMeant.presentation_meant, PlainTexts.plain_is_text}
+use Rattle.yaml_forms.proofs.{Prelude.{stream_events, CanReadAs, Unambiguous}, JsonRead.read_once, PlainPresented.presentation_of}
+use Rattle.yaml_forms.proofs.{PlainSpelled.presentation_spelled, PlainFits.presentation_fits, PlainMeant.presentation_meant}
+use Rattle.yaml_forms.{proofs.PlainTexts.plain_is_text, specs.{PlainForm.plain_text, PlainLaws.{PlainPresents, PlainReads}}}
 
 -- the plain form has a presentation that means the tree
 pub plain_presented : PlainPresents

@@ -1,14 +1,13 @@
 -- The presentation of a tree spells the tree's text in the plain form.
-use Rattle.std.proofs.Common.{◌≡◌, refl, sym, ◌∙◌, ap, append_assoc}
-use Rattle.std.specs.Prelude.{ℕ, ◌+◌, Bool, true, false, cond, List, [], ◌∷◌, ◌++◌, codes, flat_map}
+use Rattle.std.{proofs.Common.{◌≡◌, refl, sym, ◌∙◌, ap, append_assoc}, specs.Prelude.{ℕ, ◌+◌, Bool, true, false, cond, List, [], ◌∷◌, ◌++◌}}
+use Rattle.std.specs.Prelude.{codes, flat_map}
 use Rattle.yaml_forms.proofs.Prelude.{append-nil, spaces, Sep, sep_text, inline, plain, scalar, flow, node_text, Indented, indented_text}
 use Rattle.yaml_forms.proofs.Prelude.{items_text, Pair, pair_text, pairs_text, Tree, text, sequence, mapping, Elements, no_element, element}
 use Rattle.yaml_forms.proofs.Prelude.{Members, no_member, member, stream_text, scalar_lines, key_lines, feed, one_space, scalar_node}
 use Rattle.yaml_forms.proofs.Prelude.{pair_of, at_start, two_more, item_regrouped, pair_regrouped, pair_spelled}
-use Rattle.yaml_grammar.specs.FlowScalars.{plain_text as plain_char}
-use Rattle.yaml_forms.specs.CoreScalars.{is_typed}
-use Rattle.yaml_forms.specs.PlainForm.{value_lines, elements_after, lines_after_dash, members_after, value_at, plain_text}
 use Rattle.yaml_forms.proofs.PlainPresented.{value_node, element_of, value_of, items_from, pairs_from, top_node, presentation_of}
+use Rattle.yaml_forms.specs.{CoreScalars.is_typed, PlainForm.{value_lines, elements_after, lines_after_dash, members_after, value_at}}
+use Rattle.{yaml_forms.specs.PlainForm.plain_text, yaml_grammar.specs.FlowScalars.plain_text as plain_char}
 use Rattle.yaml_recognizers.proofs.OneStyle.Spelled as style
 
 -- plain characters spell themselves

@@ -1,15 +1,13 @@
 -- A tree of texts, in the plain form, is a text.
-use Rattle.std.proofs.Common.{◌≡◌, refl, arith, ◌<◌, ◌≤◌}
-use Rattle.std.specs.Prelude.{ℕ, zero, suc, ◌+◌, Bool, true, false, nat_lt, ◌==◌, List, [], ◌∷◌, ◌++◌, codes}
+use Rattle.std.{proofs.Common.{◌≡◌, refl, arith, ◌<◌, ◌≤◌}, specs.Prelude.{ℕ, zero, suc, ◌+◌, Bool, true, false, nat_lt, ◌==◌, List, []}}
+use Rattle.std.specs.Prelude.{◌∷◌, ◌++◌, codes}
 use Rattle.yaml_forms.proofs.Prelude.{cond_both, and_parts, and_from, or_left, le-leb, in_range, code_point, list_all, IsText, spaces, Tree}
 use Rattle.yaml_forms.proofs.Prelude.{text, sequence, mapping, Elements, no_element, element, Members, no_member, member, IsTextTree}
 use Rattle.yaml_forms.proofs.Prelude.{AreTextElements, AreTextMembers, hex, quoted_chars, in_double_quotes, plain_in_style}
 use Rattle.yaml_forms.proofs.Prelude.{literal_in_style, literal_mark, literal_lines, feeds_at_end, scalar_lines, key_text, long_key}
-use Rattle.yaml_forms.proofs.Prelude.{key_lines, code_point_high, Writes, quoted_chars_all}
-use Rattle.yaml_forms.specs.CoreScalars.{is_typed}
-use Rattle.yaml_forms.specs.PlainForm.{value_lines, elements_at, elements_after, lines_after_dash, members_at, members_after, value_at}
-use Rattle.yaml_forms.specs.PlainForm.{plain_text}
-use Rattle.yaml_forms.proofs.JsonCharacters.{joined}
+use Rattle.yaml_forms.proofs.{Prelude.{key_lines, code_point_high, Writes, quoted_chars_all}, JsonCharacters.joined}
+use Rattle.yaml_forms.specs.{CoreScalars.is_typed, PlainForm.{value_lines, elements_at, elements_after, lines_after_dash, members_at}}
+use Rattle.yaml_forms.specs.PlainForm.{members_after, value_at, plain_text}
 
 -- spaces are a text
 spaces_text : (n : ℕ) → IsText (spaces n)

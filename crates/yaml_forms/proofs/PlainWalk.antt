@@ -1,10 +1,8 @@
 -- The lines of a collection, written from its start: here `lead` spaces come before the first line that is left.
 use Rattle.std.proofs.Common.{◌≡◌, ℕ, ◌+◌, List, [], ◌∷◌, ◌++◌, length, codes, refl, arith}
 use Rattle.yaml_forms.proofs.Prelude.{spaces, sequence, mapping, Elements, no_element, element, Members, no_member, member, key_lines}
-use Rattle.yaml_forms.proofs.Prelude.{elements_of, members_of}
-use Rattle.yaml_data.specs.Seen.{Pair}
-use Rattle.yaml_data.specs.declared.tree.Tree.{Tree}
-use Rattle.yaml_forms.specs.PlainForm.{elements_at, elements_after, lines_after_dash, members_at, members_after, value_at}
+use Rattle.yaml_forms.{proofs.Prelude.{elements_of, members_of}, specs.PlainForm.{elements_at, elements_after, lines_after_dash}}
+use Rattle.{yaml_forms.specs.PlainForm.{members_at, members_after, value_at}, yaml_data.specs.{Seen.Pair, declared.tree.Tree.Tree}}
 
 -- elements with this many spaces before the first; each further line has its indentation
 abbrev pub elements_led : ℕ → Elements → ℕ → List ℕ

@@ -1,17 +1,13 @@
 -- A text in double quotes, as the one style writes it, can be read as that text.
-use Rattle.std.proofs.Common.{◌≡◌, refl, ◌∙◌, ap}
-use Rattle.std.specs.Prelude.{ℕ, ◌/◌, ◌%◌, Bool, true, false, cond, ◌||◌, nat_le, ◌==◌, List, [], ◌∷◌, ◌++◌, flat_map, Some}
-use Rattle.yaml_forms.proofs.Prelude.{append-nil, and_parts, and_from, list_all, in_range, code_point, IsText, comments_text}
-use Rattle.yaml_forms.proofs.Prelude.{inline, raw, escape, number, quoted_char_text, quoted_char_fits, quoted_char_value, values, double}
-use Rattle.yaml_forms.proofs.Prelude.{scalar}
+use Rattle.std.{proofs.Common.{◌≡◌, refl, ◌∙◌, ap}, specs.Prelude.{ℕ, ◌/◌, ◌%◌, Bool, true, false, cond, ◌||◌, nat_le, ◌==◌, List, [], ◌∷◌}}
+use Rattle.std.specs.Prelude.{◌++◌, flat_map, Some}
+use Rattle.yaml_forms.proofs.Prelude.{append-nil, and_parts, and_from, list_all, in_range, code_point, IsText, comments_text, inline, raw}
+use Rattle.yaml_forms.proofs.Prelude.{escape, number, quoted_char_text, quoted_char_fits, quoted_char_value, values, double, scalar}
 use Rattle.yaml_forms.proofs.Prelude.{flow_text, flow_fits, flow_events, FlowContext, outer, flow, Flow, Stream, bare, fits, stream_text}
 use Rattle.yaml_forms.proofs.Prelude.{stream_events, document_end, as_document, text, tree_shapes, scalar_of, document_from, document_to}
-use Rattle.yaml_forms.proofs.Prelude.{shapes}
-use Rattle.yaml_forms.proofs.Prelude.{IsTreeOf, shown, hex, letter_escape, quoted_chars, in_double_quotes, items_of_text, item_quotes}
-use Rattle.yaml_forms.proofs.Prelude.{CanReadAs}
-use Rattle.yaml_grammar.specs.Style.{quoted_char}
-use Rattle.yaml_recognizers.proofs.OneStyle.Presented.{item_of}
-use Rattle.yaml_forms.proofs.{JsonMeant.both_meant, PlainTexts.quoted_text}
+use Rattle.yaml_forms.proofs.Prelude.{shapes, IsTreeOf, shown, hex, letter_escape, quoted_chars, in_double_quotes, items_of_text}
+use Rattle.yaml_forms.proofs.{Prelude.{item_quotes, CanReadAs}, JsonMeant.both_meant, PlainTexts.quoted_text}
+use Rattle.{yaml_grammar.specs.Style.quoted_char, yaml_recognizers.proofs.OneStyle.Presented.item_of}
 
 -- the text in double quotes
 abbrev quoted_flow : List ℕ → Flow

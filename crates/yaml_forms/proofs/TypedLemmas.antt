@@ -3,9 +3,9 @@ use Rattle.std.proofs.Common.{◌≡◌, ℕ, ◌<◌, Bool, true, false, not, �
 use Rattle.std.proofs.Common.{inl, inr, arith}
 use Rattle.yaml_forms.proofs.Prelude.{list_all, chars, and_parts, and_from, or_cases, or_left, or_right, eqb-true, false≢true, nat_tests}
 use Rattle.yaml_forms.proofs.Prelude.{in_range, is_in, first, same_text, hex_digit, letter, is_among, same_text-true, every-IsAscii}
-use Rattle.yaml_forms.proofs.Prelude.{chars-same, chars-IsAscii}
-use Rattle.yaml_forms.specs.CoreScalars.{null_words, truth_words, float_words, digit, octal_digit, digits, after_sign, after_digits}
-use Rattle.yaml_forms.specs.CoreScalars.{exponent, fraction, unsigned, based, based_number, is_typed}
+use Rattle.yaml_forms.{proofs.Prelude.{chars-same, chars-IsAscii}, specs.CoreScalars.{null_words, truth_words, float_words, digit}}
+use Rattle.yaml_forms.specs.CoreScalars.{octal_digit, digits, after_sign, after_digits, exponent, fraction, unsigned, based, based_number}
+use Rattle.yaml_forms.specs.CoreScalars.{is_typed}
 
 -- a character of such a scalar
 abbrev pub typed_char : ℕ → Bool

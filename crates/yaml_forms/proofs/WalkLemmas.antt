@@ -1,9 +1,8 @@
 -- What is left of a collection while its JSON text is written: here `lead` comes before the first part that is left.
 use Rattle.std.proofs.Common.{◌≡◌, ℕ, List, [], ◌∷◌, ◌++◌, length, codes, refl, sym, subst, arith}
 use Rattle.yaml_forms.proofs.Prelude.{sequence, mapping, Elements, no_element, element, Members, no_member, member, elements_of, members_of}
-use Rattle.yaml_data.specs.Seen.{Pair}
+use Rattle.{yaml_forms.specs.Json.{json_member, json_text, more_elements, more_members}, yaml_data.specs.Seen.Pair}
 use Rattle.yaml_data.specs.declared.tree.Tree.{Tree}
-use Rattle.yaml_forms.specs.Json.{json_member, json_text, more_elements, more_members}
 
 -- elements with this character before the first, and a comma before each further one
 abbrev pub elements_led : ℕ → Elements → List ℕ

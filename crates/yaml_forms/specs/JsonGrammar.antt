@@ -1,9 +1,8 @@
 -- The grammar of JSON texts (RFC 8259): how a value is spelled, what has to hold of it, and which tree it means.
 use Rattle.std.specs.Prelude.{◌≡◌, ℕ, Bool, ◌&&◌, ◌||◌, ◌==◌, true, false, if◌then◌else◌, List, [], ◌∷◌, ◌++◌, length, codes}
-use Rattle.yaml_forms.specs.Prelude.{list_all, in_range, is_in, small_b, small_f, small_n, small_r, small_t, backspace}
-use Rattle.yaml_forms.specs.Prelude.{tab, line_feed, form_feed, carriage_return, backslash, hex_digit, hex_value, same_text}
-use Rattle.yaml_forms.specs.Prelude.{Tree, text, sequence, mapping, Elements, no_element, element, Members, no_member}
-use Rattle.yaml_forms.specs.Prelude.{member}
+use Rattle.yaml_forms.specs.Prelude.{list_all, in_range, is_in, small_b, small_f, small_n, small_r, small_t, backspace, tab, line_feed}
+use Rattle.yaml_forms.specs.Prelude.{form_feed, carriage_return, backslash, hex_digit, hex_value, same_text, Tree, text, sequence, mapping}
+use Rattle.yaml_forms.specs.Prelude.{Elements, no_element, element, Members, no_member, member}
 
 -- ---- strings (7)
 

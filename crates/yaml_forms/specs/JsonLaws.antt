@@ -1,7 +1,6 @@
 -- The laws of JSON texts, as statements.
 use Rattle.std.specs.Prelude.{◌≤◌}
-use Rattle.yaml_forms.specs.Prelude.{byte_len, Tree, IsTextTree, Limits, Good, Gives, CanReadAs}
-use Rattle.yaml_forms.specs.Json.{json_text, json_line}
+use Rattle.yaml_forms.specs.{Prelude.{byte_len, Tree, IsTextTree, Limits, Good, Gives, CanReadAs}, Json.{json_text, json_line}}
 use Rattle.yaml_forms.specs.JsonGrammar.{IsJsonOf}
 
 -- each tree of texts can be read from its JSON text

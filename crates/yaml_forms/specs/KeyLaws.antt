@@ -1,7 +1,6 @@
 -- The law of the lines of keys: how they are read, as statements.
 use Rattle.std.specs.Prelude.{◌≡◌, ℕ, Bool, true, false, not, ◌==◌, if◌then◌else◌, List, [], ◌∷◌, ◌++◌, codes, All}
-use Rattle.yaml_forms.specs.Prelude.{list_all, line_feed, double_quote, first, text, Members, no_member, member}
-use Rattle.yaml_forms.specs.Prelude.{AreTextMembers, CanReadAs}
+use Rattle.yaml_forms.specs.Prelude.{list_all, line_feed, double_quote, first, text, Members, no_member, member, AreTextMembers, CanReadAs}
 use Rattle.yaml_forms.specs.KeyLines.{member_lines}
 
 -- ---- lines

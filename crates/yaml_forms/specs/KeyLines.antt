@@ -1,9 +1,7 @@
 -- The keys of a mapping, or the indexes of a sequence, a line each.
-use Rattle.std.specs.Prelude.{◌≡◌, ℕ, ◌+◌, Bool, not, ◌&&◌, ◌==◌, if◌then◌else◌, List, [], ◌++◌, codes, decimal}
-use Rattle.std.specs.Prelude.{encode_utf8_all}
-use Rattle.yaml_forms.specs.Prelude.{list_all, double_quote, first, Tree, text, sequence, mapping, Elements, no_element}
-use Rattle.yaml_forms.specs.Prelude.{element, Members, no_member, member, shown, in_double_quotes}
-use Rattle.yaml_forms.specs.declared.keys_fault.KeysFault.{KeysFault}
+use Rattle.std.specs.Prelude.{◌≡◌, ℕ, ◌+◌, Bool, not, ◌&&◌, ◌==◌, if◌then◌else◌, List, [], ◌++◌, codes, decimal, encode_utf8_all}
+use Rattle.yaml_forms.specs.Prelude.{list_all, double_quote, first, Tree, text, sequence, mapping, Elements, no_element, element, Members}
+use Rattle.yaml_forms.specs.{Prelude.{no_member, member, shown, in_double_quotes}, declared.keys_fault.KeysFault.KeysFault}
 use Rattle.yaml_forms.specs.declared.keys_fault.KeysFault.TheVariants.{NotCollection, OutOfMemory}
 
 -- the key is a line as it is: it begins with something else than `"`, and each of its characters is shown as itself

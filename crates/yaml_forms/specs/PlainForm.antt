@@ -1,9 +1,8 @@
 -- The plain form of a tree: the one style, but a value that YAML's core schema resolves to null, a truth value, an
 -- integer or a float stands plain. Keys are as in the one style.
 use Rattle.std.specs.Prelude.{ℕ, ◌+◌, if◌then◌else◌, List, [], ◌++◌, codes}
-use Rattle.yaml_forms.specs.Prelude.{spaces, Tree, text, sequence, mapping, Elements, no_element, element, Members}
-use Rattle.yaml_forms.specs.Prelude.{no_member, member, scalar_lines, key_lines}
-use Rattle.yaml_forms.specs.CoreScalars.{is_typed}
+use Rattle.yaml_forms.specs.Prelude.{spaces, Tree, text, sequence, mapping, Elements, no_element, element, Members, no_member, member}
+use Rattle.yaml_forms.specs.{Prelude.{scalar_lines, key_lines}, CoreScalars.is_typed}
 
 -- a value, with the end of its last line; the lines of a literal are after j spaces
 abbrev pub value_lines : ℕ → List ℕ → List ℕ

@@ -1,7 +1,6 @@
 -- The laws of the plain form, as statements.
 use Rattle.std.specs.Prelude.{◌≤◌}
-use Rattle.yaml_forms.specs.Prelude.{byte_len, Tree, IsTextTree, Limits, Good, Gives, CanReadAs}
-use Rattle.yaml_forms.specs.PlainForm.{plain_text}
+use Rattle.yaml_forms.specs.{Prelude.{byte_len, Tree, IsTextTree, Limits, Good, Gives, CanReadAs}, PlainForm.plain_text}
 
 -- each tree of texts can be read from its text in the plain form
 abbrev pub PlainPresents : Type 0

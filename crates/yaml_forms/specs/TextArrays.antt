@@ -1,8 +1,6 @@
 -- A JSON array of texts that is written text by text.
-use Rattle.std.specs.Prelude.{ℕ, Bool, false, ◌==◌, if◌then◌else◌, List, [], ◌∷◌, ◌++◌, length, codes, encode_utf8_all}
-use Rattle.std.specs.Prelude.{string_bytes}
-use Rattle.yaml_forms.specs.Prelude.{comma, open_bracket}
-use Rattle.yaml_forms.specs.{Json.json_string, declared.text_array.TextArray.TextArray}
+use Rattle.std.specs.Prelude.{ℕ, Bool, false, ◌==◌, if◌then◌else◌, List, [], ◌∷◌, ◌++◌, length, codes, encode_utf8_all, string_bytes}
+use Rattle.yaml_forms.specs.{Prelude.{comma, open_bracket}, Json.json_string, declared.text_array.TextArray.TextArray}
 
 -- what comes before the next text; fresh: nothing of the array is written yet
 abbrev pub array_lead : Bool → ℕ

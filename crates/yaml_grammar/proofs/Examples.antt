@@ -7,21 +7,16 @@
 -- the rules of the one style, and from two other readers of these texts, never from the definitions. So an edit of a
 -- definition that changes one of them is refused here.  After the examples are conditions that each carry weight: texts
 -- that would be read wrongly, or in two ways, without them.
-use Rattle.std.proofs.Common.{◌≡◌, refl}
-use Rattle.std.specs.Prelude.{ℕ, Bool, true, false, List, [], ◌∷◌, ◌++◌, Option, Some, None, replicate, codes}
-use Rattle.yaml_grammar.specs.Texts.{spaces}
-use Rattle.yaml_grammar.specs.Separation.{lf, LineEnd, Sep, inline, lines}
-use Rattle.yaml_grammar.specs.FlowScalars.{QuotedChar, raw, escape, FlowEmptyLine, Line, plain, double}
-use Rattle.yaml_grammar.specs.FlowNodes.{Flow, scalar, seq, Entries, last, next, Entry, entry, absent, given}
-use Rattle.yaml_grammar.specs.BlockScalars.{Chomping, clip, keep, Header, BlockEmptyLine, TextLine, BlockScalar}
-use Rattle.yaml_grammar.specs.BlockNodes.{Node, block, flow, items, pairs, item, item_and, Pairs, pair, pair_and}
-use Rattle.yaml_grammar.specs.BlockNodes.{Pair, keyed, keyed_alone, compact_pairs, node, omitted}
-use Rattle.yaml_grammar.specs.Events.{Event, document_start, document_end, seq_start, seq_end, map_start, map_end}
-use Rattle.yaml_grammar.specs.Events.{scalar_event, plain_style, double_style, literal_style, folded_style}
-use Rattle.yaml_grammar.specs.Events.{omitted_style}
-use Rattle.yaml_grammar.specs.Streams.{content, nothing, bare, explicit, yaml_1_1, directed, suffixes, line, Stream}
-use Rattle.yaml_grammar.specs.Streams.{stream_text, fits, stream_events}
-use Rattle.yaml_grammar.specs.Trees.{Tree, text, sequence, mapping, Elements, no_element, element, no_member, member, IsTreeOf}
+use Rattle.std.{proofs.Common.{◌≡◌, refl}, specs.Prelude.{ℕ, Bool, true, false, List, [], ◌∷◌, ◌++◌, Option, Some, None, replicate, codes}}
+use Rattle.yaml_grammar.specs.{Texts.spaces, Separation.{lf, LineEnd, Sep, inline, lines}, FlowScalars.{QuotedChar, raw, escape}}
+use Rattle.yaml_grammar.specs.{FlowScalars.{FlowEmptyLine, Line, plain, double}, FlowNodes.{Flow, scalar, seq, Entries, last, next, Entry}}
+use Rattle.yaml_grammar.specs.{FlowNodes.{entry, absent, given}, BlockScalars.{Chomping, clip, keep, Header, BlockEmptyLine, TextLine}}
+use Rattle.yaml_grammar.specs.{BlockScalars.BlockScalar, BlockNodes.{Node, block, flow, items, pairs, item, item_and, Pairs, pair}}
+use Rattle.yaml_grammar.specs.{BlockNodes.{pair_and, Pair, keyed, keyed_alone, compact_pairs, node, omitted}, Events.Event}
+use Rattle.yaml_grammar.specs.Events.{document_start, document_end, seq_start, seq_end, map_start, map_end, scalar_event, plain_style}
+use Rattle.yaml_grammar.specs.{Events.{double_style, literal_style, folded_style, omitted_style}, Streams.{content, nothing, bare}}
+use Rattle.yaml_grammar.specs.{Streams.{explicit, yaml_1_1, directed, suffixes, line, Stream, stream_text, fits, stream_events}, Trees.Tree}
+use Rattle.yaml_grammar.specs.Trees.{text, sequence, mapping, Elements, no_element, element, no_member, member, IsTreeOf}
 use Rattle.yaml_grammar.specs.Style.{style_text}
 
 -- ---- what an example says

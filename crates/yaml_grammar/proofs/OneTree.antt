@@ -1,8 +1,7 @@
 -- A text gives at most one tree.
 use Rattle.std.proofs.Common.{◌≡◌, ℕ, List, [], ◌∷◌, ◌++◌, append_assoc, refl, ap, ap₂, sym, ◌∙◌}
-use Rattle.yaml_grammar.specs.Reads.{Limits, Gives}
-use Rattle.yaml_grammar.specs.Trees.{Tree, text, sequence, mapping, Elements, no_element, element, Members, no_member}
-use Rattle.yaml_grammar.specs.Trees.{member, Shape, document_from, document_to, seq_to, map_to, shapes, tree_shapes}
+use Rattle.yaml_grammar.specs.{Reads.{Limits, Gives}, Trees.{Tree, text, sequence, mapping, Elements, no_element, element, Members}}
+use Rattle.yaml_grammar.specs.Trees.{no_member, member, Shape, document_from, document_to, seq_to, map_to, shapes, tree_shapes}
 use Rattle.yaml_grammar.specs.Trees.{elements_shapes, members_shapes}
 
 -- two lists that begin alike go on alike

@@ -2,15 +2,11 @@
 -- The number m is n + 1, the least indentation of a node below an indentation of n. At the top of a document n is -1,
 -- so m is 0. The number k is the indentation of the items of a sequence or of the pairs of a mapping. A flow node here
 -- takes m, which is its own n.
-use Rattle.std.specs.Prelude.{ℕ, suc, ◌+◌, Bool, true, false, not, ◌&&◌, nat_le, ◌==◌, List, ◌++◌, codes, if◌then◌else◌}
-use Rattle.yaml_chars.specs.Classes.{white, ns}
-use Rattle.std.specs.List.{list_all}
-use Rattle.yaml_grammar.specs.Texts.{first, spaces, byte_len, starts_line}
-use Rattle.yaml_grammar.specs.Separation.{LineEnd, comments_text, comments_fit, Sep, sep_text, sep_fits}
-use Rattle.yaml_grammar.specs.FlowScalars.{outer, block_key}
-use Rattle.yaml_grammar.specs.FlowNodes.{Flow, flow_text, flow_fits, short_key, flow_events}
-use Rattle.yaml_grammar.specs.BlockScalars.{BlockScalar, bare_block_text, block_text, block_fits, block_events}
-use Rattle.yaml_grammar.specs.Events.{Event, omitted_at, as_seq, as_map}
+use Rattle.std.specs.{Prelude.{ℕ, suc, ◌+◌, Bool, true, false, not, ◌&&◌, nat_le, ◌==◌, List, ◌++◌, codes, if◌then◌else◌}, List.list_all}
+use Rattle.{yaml_chars.specs.Classes.{white, ns}, yaml_grammar.specs.{Texts.{first, spaces, byte_len, starts_line}, Separation.LineEnd}}
+use Rattle.yaml_grammar.specs.{Separation.{comments_text, comments_fit, Sep, sep_text, sep_fits}, FlowScalars.{outer, block_key}}
+use Rattle.yaml_grammar.specs.{FlowNodes.{Flow, flow_text, flow_fits, short_key, flow_events}, BlockScalars.{BlockScalar, bare_block_text}}
+use Rattle.yaml_grammar.specs.{BlockScalars.{block_text, block_fits, block_events}, Events.{Event, omitted_at, as_seq, as_map}}
 
 -- ---- presentations
 

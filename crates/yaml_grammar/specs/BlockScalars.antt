@@ -1,16 +1,12 @@
 -- Block scalars: literal and folded (YAML 1.2.2, 8.1).
 -- The number m is n + 1, the least indentation that a block scalar below an indentation of n may have. At the top of a
 -- document n is -1, so m is 0.
-use Rattle.std.specs.Prelude.{ℕ, suc, ◌+◌, ◌-◌, max, Bool, true, false, not, ◌&&◌, ◌||◌, nat_le, nat_lt, ◌==◌, List}
-use Rattle.std.specs.Prelude.{[], ◌∷◌, ◌++◌, length, Option, Some, None, is_some, codes, flat_map, if◌then◌else◌}
-use Rattle.yaml_chars.specs.Signs.{digit_zero}
-use Rattle.yaml_chars.specs.Classes.{in_range, line_break, white, space, nb}
-use Rattle.std.specs.List.{list_all}
-use Rattle.yaml_grammar.specs.Texts.{is_empty, first, begins, spaces, optional, byte_len, no_marker}
-use Rattle.yaml_grammar.specs.Separation.{Break, break_text, break_fits, stop_fits, LineEnd, line_end_text}
-use Rattle.yaml_grammar.specs.Separation.{line_end_fits, comments_text, comments_fit}
-use Rattle.yaml_grammar.specs.FlowScalars.{line_feeds, folded_break}
-use Rattle.yaml_grammar.specs.Events.{Event, scalar_event, literal_style, folded_style}
+use Rattle.std.specs.Prelude.{ℕ, suc, ◌+◌, ◌-◌, max, Bool, true, false, not, ◌&&◌, ◌||◌, nat_le, nat_lt, ◌==◌, List, [], ◌∷◌, ◌++◌, length}
+use Rattle.std.specs.{Prelude.{Option, Some, None, is_some, codes, flat_map, if◌then◌else◌}, List.list_all}
+use Rattle.{yaml_chars.specs.{Signs.digit_zero, Classes.{in_range, line_break, white, space, nb}}, yaml_grammar.specs.Texts.is_empty}
+use Rattle.yaml_grammar.specs.{Texts.{first, begins, spaces, optional, byte_len, no_marker}, Separation.{Break, break_text, break_fits}}
+use Rattle.yaml_grammar.specs.Separation.{stop_fits, LineEnd, line_end_text, line_end_fits, comments_text, comments_fit}
+use Rattle.yaml_grammar.specs.{FlowScalars.{line_feeds, folded_break}, Events.{Event, scalar_event, literal_style, folded_style}}
 
 -- ---- presentations
 

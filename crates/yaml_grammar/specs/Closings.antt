@@ -1,7 +1,6 @@
 -- Closing lines: `...` and LF, exactly, at the start of the bytes or after an LF.
 -- A line of `...` that ends otherwise, or holds a comment, ends a YAML document and closes nothing.
-use Rattle.std.specs.Prelude.{◌≡◌, ℕ, ◌+◌, Bool, true, List, [], ◌∷◌, ◌++◌, length, codes, ◌==◌, IsTrue}
-use Rattle.std.specs.List.{All, concat}
+use Rattle.std.specs.{Prelude.{◌≡◌, ℕ, ◌+◌, Bool, true, List, [], ◌∷◌, ◌++◌, length, codes, ◌==◌, IsTrue}, List.{All, concat}}
 use Rattle.yaml_chars.specs.Signs.{line_feed}
 
 -- there are no bytes, or the last one is an LF, so that a line starts after them

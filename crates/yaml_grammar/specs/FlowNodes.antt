@@ -1,12 +1,10 @@
 -- Flow nodes: scalars, and the collections between brackets (YAML 1.2.2, 7.4 and 7.5).
 -- The number n is counted as for flow scalars.
-use Rattle.std.specs.Prelude.{ℕ, ◌+◌, Bool, true, false, not, ◌&&◌, ◌||◌, nat_le, List, [], ◌++◌, length, Option}
-use Rattle.std.specs.Prelude.{Some, None, is_some, codes, if◌then◌else◌}
-use Rattle.yaml_grammar.specs.Texts.{first, byte_len, starts_line}
-use Rattle.yaml_grammar.specs.Separation.{Sep, sep_text, gap_text, gap_fits}
-use Rattle.yaml_grammar.specs.FlowScalars.{FlowContext, flow_key, in_flow, one_line, safe, Scalar, plain, scalar_text}
-use Rattle.yaml_grammar.specs.FlowScalars.{scalar_fits, scalar_events}
-use Rattle.yaml_grammar.specs.Events.{Event, omitted_at, as_seq, as_map}
+use Rattle.std.specs.Prelude.{ℕ, ◌+◌, Bool, true, false, not, ◌&&◌, ◌||◌, nat_le, List, [], ◌++◌, length, Option, Some, None, is_some}
+use Rattle.std.specs.Prelude.{codes, if◌then◌else◌}
+use Rattle.yaml_grammar.specs.{Texts.{first, byte_len, starts_line}, Separation.{Sep, sep_text, gap_text, gap_fits}}
+use Rattle.yaml_grammar.specs.FlowScalars.{FlowContext, flow_key, in_flow, one_line, safe, Scalar, plain, scalar_text, scalar_fits}
+use Rattle.yaml_grammar.specs.{FlowScalars.scalar_events, Events.{Event, omitted_at, as_seq, as_map}}
 
 -- ---- presentations
 

@@ -1,17 +1,14 @@
 -- Flow scalars: plain, single-quoted and double-quoted (YAML 1.2.2, 6.5 and 7.3, and the contexts of 4.2 and 7.4).
 -- The number n is the least number of spaces at the start of a further line.
-use Rattle.std.specs.Prelude.{ℕ, zero, suc, ◌+◌, ◌-◌, ◌*◌, Bool, true, false, not, ◌&&◌, ◌||◌, nat_lt, ◌==◌, List, []}
-use Rattle.std.specs.Prelude.{◌∷◌, ◌++◌, length, replicate, codes, flat_map, if◌then◌else◌}
-use Rattle.std.specs.List.{list_all}
-use Rattle.yaml_chars.specs.Signs.{null, bell, backspace, tab, line_feed, vertical_tab, form_feed, carriage_return}
-use Rattle.yaml_chars.specs.Signs.{escape_char, space_char, number_sign, single_quote, digit_zero, colon, capital_l}
-use Rattle.yaml_chars.specs.Signs.{capital_n, capital_p, backslash, low_line, small_a, small_b, small_e, small_f}
-use Rattle.yaml_chars.specs.Signs.{small_n, small_r, small_t, small_u, small_v, small_x, next_line, no_break_space}
-use Rattle.yaml_chars.specs.Signs.{line_separator, paragraph_separator}
-use Rattle.yaml_chars.specs.Classes.{in_range, is_in, code_point, white, space, nb_json, ns, indicator, flow_indicator}
-use Rattle.yaml_grammar.specs.Texts.{is_empty, first, begins, spaces, byte_len, no_marker}
-use Rattle.yaml_grammar.specs.Separation.{Break, break_text, break_fits, indents}
-use Rattle.yaml_grammar.specs.Events.{Style, plain_style, single_style, double_style, Event, scalar_event}
+use Rattle.std.specs.Prelude.{ℕ, zero, suc, ◌+◌, ◌-◌, ◌*◌, Bool, true, false, not, ◌&&◌, ◌||◌, nat_lt, ◌==◌, List, [], ◌∷◌, ◌++◌, length}
+use Rattle.std.specs.{Prelude.{replicate, codes, flat_map, if◌then◌else◌}, List.list_all}
+use Rattle.yaml_chars.specs.Signs.{null, bell, backspace, tab, line_feed, vertical_tab, form_feed, carriage_return, escape_char, space_char}
+use Rattle.yaml_chars.specs.Signs.{number_sign, single_quote, digit_zero, colon, capital_l, capital_n, capital_p, backslash, low_line}
+use Rattle.yaml_chars.specs.Signs.{small_a, small_b, small_e, small_f, small_n, small_r, small_t, small_u, small_v, small_x, next_line}
+use Rattle.yaml_chars.specs.{Signs.{no_break_space, line_separator, paragraph_separator}, Classes.{in_range, is_in, code_point, white}}
+use Rattle.{yaml_chars.specs.Classes.{space, nb_json, ns, indicator, flow_indicator}, yaml_grammar.specs.Texts.{is_empty, first, begins}}
+use Rattle.yaml_grammar.specs.{Texts.{spaces, byte_len, no_marker}, Separation.{Break, break_text, break_fits, indents}, Events.Style}
+use Rattle.yaml_grammar.specs.Events.{plain_style, single_style, double_style, Event, scalar_event}
 
 -- ---- contexts (4.2): outside and inside a flow collection, in a block key, in a flow key
 

@@ -1,10 +1,7 @@
 -- What a text reads as, and the tree that it gives within limits.
 use Rattle.std.specs.Prelude.{◌≡◌, ℕ, ◌≤◌, List, IsTrue}
-use Rattle.yaml_grammar.specs.Texts.{IsText, byte_len}
-use Rattle.yaml_grammar.specs.Events.{Event}
-use Rattle.yaml_grammar.specs.Streams.{Stream, stream_text, fits, stream_events}
-use Rattle.yaml_grammar.specs.Trees.{Tree, IsTreeOf, depth, distinct, IsTextTree}
-use Rattle.yaml_grammar.specs.Style.{style_text}
+use Rattle.yaml_grammar.specs.{Texts.{IsText, byte_len}, Events.Event, Streams.{Stream, stream_text, fits, stream_events}, Trees.Tree}
+use Rattle.yaml_grammar.specs.{Trees.{IsTreeOf, depth, distinct, IsTextTree}, Style.style_text}
 
 -- a presentation of the text, which fits
 pub record Presents (p : Stream) (text : List ℕ) : Type 0 where

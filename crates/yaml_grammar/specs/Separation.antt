@@ -1,11 +1,9 @@
 -- Line breaks, comments, and what may separate two parts of a node (YAML 1.2.2, 5.4 and 6.1 to 6.7).
 -- Each part of a presentation is a value, and `.._text` is the text that it spells. Its conditions are `.._fits`. They
 -- take bol, which says whether the part is at the start of a line, and `after`, the whole text after the part.
-use Rattle.std.specs.Prelude.{ℕ, Bool, true, false, not, ◌&&◌, ◌||◌, List, [], ◌∷◌, ◌++◌, Option, Some, None, flat_map}
-use Rattle.yaml_chars.specs.Signs.{line_feed, carriage_return, number_sign}
-use Rattle.yaml_chars.specs.Classes.{white, nb}
-use Rattle.std.specs.List.{list_all}
-use Rattle.yaml_grammar.specs.Texts.{is_empty, begins, spaces, optional}
+use Rattle.std.specs.{Prelude.{ℕ, Bool, true, false, not, ◌&&◌, ◌||◌, List, [], ◌∷◌, ◌++◌, Option, Some, None, flat_map}, List.list_all}
+use Rattle.{yaml_chars.specs.{Signs.{line_feed, carriage_return, number_sign}, Classes.{white, nb}}, yaml_grammar.specs.Texts.is_empty}
+use Rattle.yaml_grammar.specs.Texts.{begins, spaces, optional}
 
 -- ---- breaks (5.4)
 

@@ -1,12 +1,9 @@
 -- Streams of documents (YAML 1.2.2, 6.8 and chapter 9).
 use Rattle.std.specs.Prelude.{ℕ, ◌+◌, Bool, true, false, not, ◌&&◌, List, [], ◌∷◌, ◌++◌, Option, Some, None, codes, flat_map, if◌then◌else◌}
-use Rattle.yaml_chars.specs.Signs.{byte_order_mark}
-use Rattle.yaml_chars.specs.Classes.{white}
 use Rattle.std.specs.List.{list_all}
-use Rattle.yaml_grammar.specs.Texts.{is_empty, optional, byte_len, marker, starts_line}
-use Rattle.yaml_grammar.specs.Separation.{LineEnd, line_end_text, comment_line_fits, comments_text, comments_fit}
-use Rattle.yaml_grammar.specs.BlockNodes.{Node, node_text, node_fits, node_events}
-use Rattle.yaml_grammar.specs.Events.{Event, omitted_at, as_document}
+use Rattle.{yaml_chars.specs.{Signs.byte_order_mark, Classes.white}, yaml_grammar.specs.Texts.{is_empty, optional, byte_len, marker}}
+use Rattle.yaml_grammar.specs.{Texts.starts_line, Separation.{LineEnd, line_end_text, comment_line_fits, comments_text, comments_fit}}
+use Rattle.yaml_grammar.specs.{BlockNodes.{Node, node_text, node_fits, node_events}, Events.{Event, omitted_at, as_document}}
 
 -- ---- presentations
 

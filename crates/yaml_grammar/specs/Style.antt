@@ -1,14 +1,11 @@
 -- The one style: the text of a tree, with the same indentation, quotes and order everywhere.
-use Rattle.std.specs.Prelude.{ℕ, zero, suc, ◌+◌, ◌/◌, ◌%◌, Bool, true, false, not, ◌&&◌, ◌||◌, nat_le, nat_lt, ◌==◌}
-use Rattle.std.specs.Prelude.{List, [], ◌∷◌, ◌++◌, length, codes, if◌then◌else◌}
-use Rattle.yaml_chars.specs.Signs.{null, bell, backspace, tab, line_feed, vertical_tab, form_feed, carriage_return}
-use Rattle.yaml_chars.specs.Signs.{escape_char, space_char, double_quote, digit_zero, backslash, small_a, small_b}
-use Rattle.yaml_chars.specs.Signs.{small_e, small_f, small_n, small_r, small_t, small_v, tilde, no_break_space}
-use Rattle.yaml_chars.specs.Signs.{line_separator, paragraph_separator, byte_order_mark}
-use Rattle.yaml_chars.specs.Classes.{in_range, is_in, printable}
-use Rattle.std.specs.List.{list_all}
-use Rattle.yaml_grammar.specs.Texts.{first, same_text, spaces}
-use Rattle.yaml_grammar.specs.Trees.{Tree, text, sequence, mapping, Elements, no_element, element, Members, no_member, member}
+use Rattle.std.specs.Prelude.{ℕ, zero, suc, ◌+◌, ◌/◌, ◌%◌, Bool, true, false, not, ◌&&◌, ◌||◌, nat_le, nat_lt, ◌==◌, List, [], ◌∷◌, ◌++◌}
+use Rattle.std.specs.{Prelude.{length, codes, if◌then◌else◌}, List.list_all}
+use Rattle.yaml_chars.specs.Signs.{null, bell, backspace, tab, line_feed, vertical_tab, form_feed, carriage_return, escape_char, space_char}
+use Rattle.yaml_chars.specs.Signs.{double_quote, digit_zero, backslash, small_a, small_b, small_e, small_f, small_n, small_r, small_t}
+use Rattle.yaml_chars.specs.{Signs.{small_v, tilde, no_break_space, line_separator, paragraph_separator, byte_order_mark}, Classes.in_range}
+use Rattle.{yaml_chars.specs.Classes.{is_in, printable}, yaml_grammar.specs.{Texts.{first, same_text, spaces}, Trees.{Tree, text}}}
+use Rattle.yaml_grammar.specs.Trees.{sequence, mapping, Elements, no_element, element, Members, no_member, member}
 
 -- ---- which style a scalar has
 

@@ -1,10 +1,8 @@
 -- A text is a list of code points. These definitions speak of texts, of the text after a place, and of the line around
 -- it.
-use Rattle.std.specs.List.{list_all}
-use Rattle.std.specs.Prelude.{ℕ, ◌+◌, Bool, true, false, not, ◌&&◌, ◌||◌, ◌==◌, List, [], ◌∷◌, Option, Some, None, replicate, codes, IsTrue}
-use Rattle.std.specs.Char.{len_utf8}
-use Rattle.yaml_chars.specs.Signs.{space_char}
-use Rattle.yaml_chars.specs.Classes.{code_point, white, line_break}
+use Rattle.std.specs.{List.list_all, Prelude.{ℕ, ◌+◌, Bool, true, false, not, ◌&&◌, ◌||◌, ◌==◌, List, [], ◌∷◌, Option, Some, None}}
+use Rattle.std.specs.{Prelude.{replicate, codes, IsTrue}, Char.len_utf8}
+use Rattle.yaml_chars.specs.{Signs.space_char, Classes.{code_point, white, line_break}}
 
 -- there is a first element, and it passes the test
 abbrev pub first : {A : Type 0} → (A → Bool) → List A → Bool

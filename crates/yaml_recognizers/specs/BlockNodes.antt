@@ -1,15 +1,13 @@
 -- The recognizer of block nodes (YAML 1.2.2, 8.2), over those of keys, flow nodes and block scalars.
-use Rattle.std.specs.Prelude.{ℕ, zero, suc, ◌+◌, ◌*◌, Bool, true, false, not, ◌&&◌, ◌||◌, ◌==◌, nat_le, List, [], ◌∷◌}
-use Rattle.std.specs.Prelude.{length, Option, Some, None, is_some, if◌then◌else◌}
-use Rattle.yaml_recognizers.specs.Prelude.{white, is_empty, first, starts_line, LineEnd, Sep, inline, lines, sep_text}
-use Rattle.yaml_recognizers.specs.Prelude.{indents, FlowContext, outer, block_key, Scalar, Flow, short_key, BlockScalar}
-use Rattle.yaml_recognizers.specs.Prelude.{spaces_before, past_spaces, Node, block, flow, items, pairs, Items, item}
-use Rattle.yaml_recognizers.specs.Prelude.{item_and, Pairs, pair, pair_and, Pair, asked, asked_alone, keyed}
-use Rattle.yaml_recognizers.specs.Prelude.{keyed_alone, Indented, compact_items, compact_pairs, node, omitted}
-use Rattle.yaml_recognizers.specs.Prelude.{is_omitted, colon, dash, greater, question, vertical_bar}
-use Rattle.yaml_recognizers.specs.{Reading.Read, Reading.on, Comments.all_comments, Comments.closes_line}
-use Rattle.yaml_recognizers.specs.{Ends.block_node_stops, FlowNodes.whole_flow}
-use Rattle.yaml_recognizers.specs.Prefixes.{take_while, drop_while, past, sign}
+use Rattle.std.specs.Prelude.{ℕ, zero, suc, ◌+◌, ◌*◌, Bool, true, false, not, ◌&&◌, ◌||◌, ◌==◌, nat_le, List, [], ◌∷◌, length, Option, Some}
+use Rattle.std.specs.Prelude.{None, is_some, if◌then◌else◌}
+use Rattle.yaml_recognizers.specs.Prelude.{white, is_empty, first, starts_line, LineEnd, Sep, inline, lines, sep_text, indents, FlowContext}
+use Rattle.yaml_recognizers.specs.Prelude.{outer, block_key, Scalar, Flow, short_key, BlockScalar, spaces_before, past_spaces, Node, block}
+use Rattle.yaml_recognizers.specs.Prelude.{flow, items, pairs, Items, item, item_and, Pairs, pair, pair_and, Pair, asked, asked_alone}
+use Rattle.yaml_recognizers.specs.Prelude.{keyed, keyed_alone, Indented, compact_items, compact_pairs, node, omitted, is_omitted, colon}
+use Rattle.yaml_recognizers.specs.{Prelude.{dash, greater, question, vertical_bar}, Reading.{Read, on}, Comments.all_comments}
+use Rattle.yaml_recognizers.specs.{Comments.closes_line, Ends.block_node_stops, FlowNodes.whole_flow, Prefixes.{take_while, drop_while}}
+use Rattle.yaml_recognizers.specs.Prefixes.{past, sign}
 
 -- ---- keys: a flow node on one line, whitespace, and `:` not before an ns
 

@@ -1,9 +1,8 @@
 -- What a scanner of block scalars says in terms of the grammar, over lists: some presentation is at the start of the
 -- text, and each one there means the same and ends at the same place.
 use Rattle.std.specs.Prelude.{◌≡◌, ℕ, Bool, true, List, ◌++◌, Option}
-use Rattle.yaml_recognizers.specs.Prelude.{Chomping, Header, Body, BlockScalar, header_text, body_text, block_text}
-use Rattle.yaml_recognizers.specs.Prelude.{bare_block_text, header_fits, body_fits, block_fits, block_events}
-use Rattle.yaml_recognizers.specs.Prelude.{block_value}
+use Rattle.yaml_recognizers.specs.Prelude.{Chomping, Header, Body, BlockScalar, header_text, body_text, block_text, bare_block_text}
+use Rattle.yaml_recognizers.specs.Prelude.{header_fits, body_fits, block_fits, block_events, block_value}
 
 -- ---- the header
 

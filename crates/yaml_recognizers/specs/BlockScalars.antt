@@ -1,14 +1,12 @@
 -- The recognizer of block scalars (YAML 1.2.2, 8.1): the header, the indentation, the lines, and the comments after
 -- them.
-use Rattle.std.specs.Prelude.{Bool, List, None, Option, Some, [], drop, false, if◌then◌else◌, is_some, length, max}
-use Rattle.std.specs.Prelude.{nat_le, nat_lt, suc, true, zero, ℕ, ◌&&◌, ◌+◌, ◌-◌, ◌==◌, ◌∷◌}
-use Rattle.yaml_recognizers.specs.Prelude.{in_range, nb, BlockScalar, Body, Chomping, BlockEmptyLine, Header, TextLine}
-use Rattle.yaml_recognizers.specs.Prelude.{clip, goes_on, keep, last_spaces, past_spaces, sets_none, spaces_before}
-use Rattle.yaml_recognizers.specs.Prelude.{strip, widest, Break, LineEnd, first, dash, digit_zero, greater, plus}
-use Rattle.yaml_recognizers.specs.Prelude.{vertical_bar}
-use Rattle.yaml_recognizers.specs.{CanonicalComments.hash, CanonicalComments.is_line_end, Prefixes.drop_while}
-use Rattle.yaml_recognizers.specs.{Prefixes.take_while, Reading.Read, Reading.on}
-use Rattle.yaml_recognizers.specs.Comments.{all_comments, read_break, read_line_end, read_stop}
+use Rattle.std.specs.Prelude.{Bool, List, None, Option, Some, [], drop, false, if◌then◌else◌, is_some, length, max, nat_le, nat_lt, suc}
+use Rattle.std.specs.Prelude.{true, zero, ℕ, ◌&&◌, ◌+◌, ◌-◌, ◌==◌, ◌∷◌}
+use Rattle.yaml_recognizers.specs.Prelude.{in_range, nb, BlockScalar, Body, Chomping, BlockEmptyLine, Header, TextLine, clip, goes_on, keep}
+use Rattle.yaml_recognizers.specs.Prelude.{last_spaces, past_spaces, sets_none, spaces_before, strip, widest, Break, LineEnd, first, dash}
+use Rattle.yaml_recognizers.specs.{Prelude.{digit_zero, greater, plus, vertical_bar}, CanonicalComments.{hash, is_line_end}}
+use Rattle.yaml_recognizers.specs.{Prefixes.{drop_while, take_while}, Reading.{Read, on}, Comments.{all_comments, read_break}}
+use Rattle.yaml_recognizers.specs.Comments.{read_line_end, read_stop}
 
 -- ---- the header
 

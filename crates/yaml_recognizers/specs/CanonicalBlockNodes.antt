@@ -1,10 +1,9 @@
 -- Block nodes whose comments, separation, flow nodes and block scalars are canonical. The rest is as in the grammar.
 use Rattle.std.specs.Prelude.{ℕ, suc, ◌+◌, Bool, true, false, not, ◌&&◌, nat_le, ◌==◌, List, ◌++◌, codes, if◌then◌else◌}
-use Rattle.yaml_recognizers.specs.Prelude.{white, ns, list_all, first, spaces, starts_line, comments_text, sep_text}
-use Rattle.yaml_recognizers.specs.Prelude.{outer, block_key, flow_text, short_key, block_text, Node, block, flow, items}
-use Rattle.yaml_recognizers.specs.Prelude.{pairs, Items, item, item_and, Pairs, pair, pair_and, Pair, asked}
-use Rattle.yaml_recognizers.specs.Prelude.{asked_alone, keyed, keyed_alone, Indented, compact_items, compact_pairs}
-use Rattle.yaml_recognizers.specs.Prelude.{node, omitted, node_text, items_text, pairs_text, indented_text, is_omitted}
+use Rattle.yaml_recognizers.specs.Prelude.{white, ns, list_all, first, spaces, starts_line, comments_text, sep_text, outer, block_key}
+use Rattle.yaml_recognizers.specs.Prelude.{flow_text, short_key, block_text, Node, block, flow, items, pairs, Items, item, item_and, Pairs}
+use Rattle.yaml_recognizers.specs.Prelude.{pair, pair_and, Pair, asked, asked_alone, keyed, keyed_alone, Indented, compact_items}
+use Rattle.yaml_recognizers.specs.Prelude.{compact_pairs, node, omitted, node_text, items_text, pairs_text, indented_text, is_omitted}
 use Rattle.yaml_recognizers.specs.{CanonicalFlowNodes.canonical_flow, CanonicalBlockScalars.canonical_block}
 use Rattle.yaml_recognizers.specs.CanonicalComments.{canonical_comments, canonical_sep}
 

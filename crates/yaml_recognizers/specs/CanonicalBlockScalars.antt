@@ -1,8 +1,7 @@
 -- The canonical form of block scalars.
 use Rattle.std.specs.Prelude.{ℕ, Bool, not, ◌&&◌, ◌||◌, nat_lt, List, [], ◌∷◌, is_some}
-use Rattle.yaml_recognizers.specs.Prelude.{is_empty, first, LineEnd, Header, BlockScalar, chomping_text, spaces_before}
-use Rattle.yaml_recognizers.specs.Prelude.{past_spaces, block_fits}
-use Rattle.yaml_recognizers.specs.CanonicalComments.{hash, is_line_end}
+use Rattle.yaml_recognizers.specs.Prelude.{is_empty, first, LineEnd, Header, BlockScalar, chomping_text, spaces_before, past_spaces}
+use Rattle.yaml_recognizers.specs.{Prelude.block_fits, CanonicalComments.{hash, is_line_end}}
 
 -- [162] c-b-block-header, 8.1.1: the digit is last only after a chomping mark
 abbrev pub canonical_header : Header → Bool

@@ -2,9 +2,8 @@
 -- ways, since a comment line may belong to the part before it or to the part after it. In the canonical form it belongs
 -- to the first part that may have it. So a text has at most one canonical presentation.
 use Rattle.std.specs.Prelude.{ℕ, Bool, true, false, not, ◌&&◌, ◌||◌, ◌==◌, List, [], ◌∷◌, ◌++◌, Option, Some, None}
-use Rattle.yaml_recognizers.specs.Prelude.{white, line_break, nb, list_all, is_empty, first, LineEnd, comments_fit, Sep}
-use Rattle.yaml_recognizers.specs.Prelude.{inline, lines, indents, number_sign}
-use Rattle.yaml_recognizers.specs.Prefixes.{drop_while, past}
+use Rattle.yaml_recognizers.specs.Prelude.{white, line_break, nb, list_all, is_empty, first, LineEnd, comments_fit, Sep, inline, lines}
+use Rattle.yaml_recognizers.specs.{Prelude.{indents, number_sign}, Prefixes.{drop_while, past}}
 
 -- `#`
 abbrev pub hash : ℕ → Bool

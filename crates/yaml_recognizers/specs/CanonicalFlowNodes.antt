@@ -1,9 +1,8 @@
 -- Flow nodes whose separation is canonical. The rest is as in the grammar.
 use Rattle.std.specs.Prelude.{ℕ, Bool, true, false, not, ◌&&◌, ◌||◌, List, ◌++◌, is_some, codes, if◌then◌else◌}
-use Rattle.yaml_recognizers.specs.Prelude.{first, starts_line, gap_text, FlowContext, flow_key, in_flow, one_line, safe}
-use Rattle.yaml_recognizers.specs.Prelude.{scalar_fits, Flow, scalar, seq, map, Entries, none, last, next, Entry, entry}
-use Rattle.yaml_recognizers.specs.Prelude.{Value, absent, empty, given, flow_text, entries_text, value_text, is_plain}
-use Rattle.yaml_recognizers.specs.Prelude.{before_colon, single_pair, short_key}
+use Rattle.yaml_recognizers.specs.Prelude.{first, starts_line, gap_text, FlowContext, flow_key, in_flow, one_line, safe, scalar_fits, Flow}
+use Rattle.yaml_recognizers.specs.Prelude.{scalar, seq, map, Entries, none, last, next, Entry, entry, Value, absent, empty, given}
+use Rattle.yaml_recognizers.specs.Prelude.{flow_text, entries_text, value_text, is_plain, before_colon, single_pair, short_key}
 use Rattle.yaml_recognizers.specs.CanonicalComments.{canonical_gap}
 
 abbrev mutual

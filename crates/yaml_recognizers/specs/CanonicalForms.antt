@@ -1,7 +1,7 @@
 -- What a presentation and its canonical form have in common.
 use Rattle.std.specs.Prelude.{◌≡◌, IsTrue}
-use Rattle.yaml_recognizers.specs.Prelude.{Stream, stream_text, fits, stream_events}
-use Rattle.yaml_recognizers.specs.CanonicalStreams.{FlatStream, flat_text, canonical_stream, flat_events}
+use Rattle.yaml_recognizers.specs.{Prelude.{Stream, stream_text, fits, stream_events}, CanonicalStreams.{FlatStream, flat_text}}
+use Rattle.yaml_recognizers.specs.CanonicalStreams.{canonical_stream, flat_events}
 
 -- it is canonical, and has the same text and the same meaning
 pub record IsCanonicalFormOf (s : Stream) (c : FlatStream) : Type 0 where

@@ -1,12 +1,10 @@
 -- The canonical form of streams: a flat list of sections. Each line before a document or after one is a section of its own,
 -- unless the document's node or the marker before it may have it.
 use Rattle.std.specs.Prelude.{ℕ, ◌+◌, Bool, true, false, not, ◌&&◌, List, [], ◌∷◌, ◌++◌, flat_map, if◌then◌else◌}
-use Rattle.yaml_recognizers.specs.Prelude.{white, list_all, is_empty, byte_len, marker, starts_line, LineEnd}
-use Rattle.yaml_recognizers.specs.Prelude.{line_end_text, comment_line_fits, node_text, Event, Explicit, content}
-use Rattle.yaml_recognizers.specs.Prelude.{nothing, Document, bare, explicit, directed, explicit_text, document_text}
-use Rattle.yaml_recognizers.specs.Prelude.{document_events, suffix_text, mark_text}
-use Rattle.yaml_recognizers.specs.CanonicalComments.{is_line_end, canonical_comments}
-use Rattle.yaml_recognizers.specs.CanonicalBlockNodes.{canonical_node}
+use Rattle.yaml_recognizers.specs.Prelude.{white, list_all, is_empty, byte_len, marker, starts_line, LineEnd, line_end_text}
+use Rattle.yaml_recognizers.specs.Prelude.{comment_line_fits, node_text, Event, Explicit, content, nothing, Document, bare, explicit}
+use Rattle.yaml_recognizers.specs.Prelude.{directed, explicit_text, document_text, document_events, suffix_text, mark_text}
+use Rattle.yaml_recognizers.specs.{CanonicalComments.{is_line_end, canonical_comments}, CanonicalBlockNodes.canonical_node}
 
 -- ---- presentations
 

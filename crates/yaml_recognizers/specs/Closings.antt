@@ -1,8 +1,7 @@
 -- The texts of records and bases, and where they are closed, whole, joined and torn.
-use Rattle.std.specs.Prelude.{◌≡◌, ◌+◌, ◌<◌, ◌≤◌, ◌↔◌, ℕ, List, [], ◌∷◌, ◌++◌, length, replicate, map, codes}
-use Rattle.std.specs.Prelude.{encode_utf8_all, IsTrue}
-use Rattle.yaml_recognizers.specs.Prelude.{concat, Tree, style_text}
-use Rattle.yaml_grammar.specs.Closings.{ends_line, ClosesAt, ClosesOnce, Pieces}
+use Rattle.std.specs.Prelude.{◌≡◌, ◌+◌, ◌<◌, ◌≤◌, ◌↔◌, ℕ, List, [], ◌∷◌, ◌++◌, length, replicate, map, codes, encode_utf8_all, IsTrue}
+use Rattle.{yaml_recognizers.specs.Prelude.{concat, Tree, style_text}, yaml_grammar.specs.Closings.{ends_line, ClosesAt, ClosesOnce}}
+use Rattle.yaml_grammar.specs.Closings.{Pieces}
 
 -- a line of `---`, the tree in the one style, and a closing line
 abbrev pub framed_text : Tree → List ℕ

@@ -1,10 +1,7 @@
 -- Recognizers of breaks, of the ends of lines, and of comments (YAML 1.2.2, 5.4, 6.6 and 6.7).
-use Rattle.std.specs.Prelude.{Bool, List, None, Option, Some, [], if◌then◌else◌, length, not, suc, true, zero, ℕ, ◌&&◌}
-use Rattle.std.specs.Prelude.{◌==◌, ◌||◌, ◌∷◌}
-use Rattle.yaml_recognizers.specs.Prelude.{nb, white, Break, LineEnd, cr, cr_lf, lf, line_end_text, is_empty}
-use Rattle.yaml_recognizers.specs.Prelude.{carriage_return, line_feed, number_sign}
-use Rattle.yaml_recognizers.specs.{CanonicalComments.is_line_end, Reading.Read}
-use Rattle.yaml_recognizers.specs.Prefixes.{drop_while, take_while}
+use Rattle.std.specs.Prelude.{Bool, List, None, Option, Some, [], if◌then◌else◌, length, not, suc, true, zero, ℕ, ◌&&◌, ◌==◌, ◌||◌, ◌∷◌}
+use Rattle.yaml_recognizers.specs.Prelude.{nb, white, Break, LineEnd, cr, cr_lf, lf, line_end_text, is_empty, carriage_return, line_feed}
+use Rattle.yaml_recognizers.specs.{Prelude.number_sign, CanonicalComments.is_line_end, Reading.Read, Prefixes.{drop_while, take_while}}
 
 -- [28] b-break, 5.4, after a CR: CR LF, or CR alone
 abbrev pub read_cr : List ℕ → Break × List ℕ

@@ -1,12 +1,10 @@
 -- Where a node ends: the conditions on what comes after it under which its recognizer finds it whole.
-use Rattle.std.specs.Prelude.{◌≡◌, ℕ, suc, Bool, true, false, not, ◌&&◌, ◌||◌, ◌==◌, nat_le, nat_lt, List, [], ◌∷◌}
-use Rattle.std.specs.Prelude.{◌++◌, Option, codes}
-use Rattle.yaml_recognizers.specs.Prelude.{is_in, white, line_break, ns, list_all, first, is_empty, marker, LineEnd}
-use Rattle.yaml_recognizers.specs.Prelude.{comments_text, Sep, gap_text, FlowContext, outer, inner, block_key, flow_key}
-use Rattle.yaml_recognizers.specs.Prelude.{safe, spaces_before, past_spaces, colon, dash}
+use Rattle.std.specs.Prelude.{◌≡◌, ℕ, suc, Bool, true, false, not, ◌&&◌, ◌||◌, ◌==◌, nat_le, nat_lt, List, [], ◌∷◌, ◌++◌, Option, codes}
 use Rattle.std.proofs.Math.Logic.{◌⊎◌}
-use Rattle.yaml_recognizers.specs.Prefixes.{sign}
-use Rattle.yaml_recognizers.specs.CanonicalComments.{hash, is_line_end, canonical_comments, canonical_gap}
+use Rattle.yaml_recognizers.specs.Prelude.{is_in, white, line_break, ns, list_all, first, is_empty, marker, LineEnd, comments_text, Sep}
+use Rattle.yaml_recognizers.specs.Prelude.{gap_text, FlowContext, outer, inner, block_key, flow_key, safe, spaces_before, past_spaces}
+use Rattle.yaml_recognizers.specs.{Prelude.{colon, dash}, Prefixes.sign, CanonicalComments.{hash, is_line_end, canonical_comments}}
+use Rattle.yaml_recognizers.specs.CanonicalComments.{canonical_gap}
 
 -- ---- gaps
 

@@ -1,14 +1,12 @@
 -- The recognizer of flow nodes (YAML 1.2.2, 7.4 and 7.5), over one of flow scalars.
-use Rattle.std.specs.Prelude.{ℕ, zero, suc, ◌+◌, ◌*◌, Bool, true, false, not, ◌&&◌, ◌||◌, ◌==◌, List, [], ◌∷◌, ◌++◌}
-use Rattle.std.specs.Prelude.{length, Option, Some, None, is_some, codes, if◌then◌else◌}
-use Rattle.yaml_recognizers.specs.Prelude.{is_in, first, starts_line, Sep, gap_text, FlowContext, flow_key, safe}
-use Rattle.yaml_recognizers.specs.Prelude.{in_flow, one_line, Scalar, Flow, scalar, seq, map, Entries, none, last, next}
-use Rattle.yaml_recognizers.specs.Prelude.{Entry, entry, Value, absent, empty, given, value_text, is_plain, single_pair}
-use Rattle.yaml_recognizers.specs.Prelude.{short_key, before_colon, close_brace, close_bracket, comma, open_brace}
-use Rattle.yaml_recognizers.specs.Prelude.{open_bracket, question}
-use Rattle.yaml_recognizers.specs.{Prefixes.past, CanonicalFlowNodes.canonical_flow, CanonicalFlowNodes.canonical_value}
-use Rattle.yaml_recognizers.specs.{Gaps.GapRead, Gaps.read_gap, Ends.is_colon}
-use Rattle.yaml_recognizers.specs.Reading.{Read, on, read_closing, if_fits}
+use Rattle.std.specs.Prelude.{ℕ, zero, suc, ◌+◌, ◌*◌, Bool, true, false, not, ◌&&◌, ◌||◌, ◌==◌, List, [], ◌∷◌, ◌++◌, length, Option, Some}
+use Rattle.std.specs.Prelude.{None, is_some, codes, if◌then◌else◌}
+use Rattle.yaml_recognizers.specs.Prelude.{is_in, first, starts_line, Sep, gap_text, FlowContext, flow_key, safe, in_flow, one_line, Scalar}
+use Rattle.yaml_recognizers.specs.Prelude.{Flow, scalar, seq, map, Entries, none, last, next, Entry, entry, Value, absent, empty, given}
+use Rattle.yaml_recognizers.specs.Prelude.{value_text, is_plain, single_pair, short_key, before_colon, close_brace, close_bracket, comma}
+use Rattle.yaml_recognizers.specs.{Prelude.{open_brace, open_bracket, question}, Prefixes.past, CanonicalFlowNodes.canonical_flow}
+use Rattle.yaml_recognizers.specs.{CanonicalFlowNodes.canonical_value, Gaps.{GapRead, read_gap}, Ends.is_colon, Reading.{Read, on}}
+use Rattle.yaml_recognizers.specs.Reading.{read_closing, if_fits}
 
 -- the node ends here: `,`, a closing bracket, or the end of the text
 abbrev pub ends_entry : List ℕ → Bool

@@ -1,9 +1,7 @@
 -- The recognizer of flow scalars, and what comes after one that it reads.
 use Rattle.std.specs.Prelude.{◌≡◌, ℕ, Bool, true, not, ◌==◌, List, [], ◌∷◌, ◌++◌, None, if◌then◌else◌}
-use Rattle.yaml_recognizers.specs.Prelude.{first, FlowContext, Scalar, plain, single, double, scalar_text, scalar_fits}
-use Rattle.yaml_recognizers.specs.Prelude.{double_quote, single_quote}
-use Rattle.yaml_recognizers.specs.Reading.{Read}
-use Rattle.yaml_recognizers.specs.QuotedScalars.{quote, read_single, read_double}
+use Rattle.yaml_recognizers.specs.Prelude.{first, FlowContext, Scalar, plain, single, double, scalar_text, scalar_fits, double_quote}
+use Rattle.yaml_recognizers.specs.{Prelude.single_quote, Reading.Read, QuotedScalars.{quote, read_single, read_double}}
 use Rattle.yaml_recognizers.specs.PlainScalars.{read_plain, last_char, plain_ends}
 
 -- a flow scalar, by its first character

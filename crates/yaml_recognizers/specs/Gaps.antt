@@ -1,8 +1,7 @@
 -- The recognizer of the separation between two parts of a flow node, which may be left out (YAML 1.2.2, 6.7).
 use Rattle.std.specs.Prelude.{ℕ, Bool, true, false, List, [], ◌∷◌, length, Option, Some, None, if◌then◌else◌}
-use Rattle.yaml_recognizers.specs.Prelude.{white, LineEnd, Sep, inline, lines, indents}
-use Rattle.yaml_recognizers.specs.{Prefixes.take_while, Prefixes.drop_while, Reading.Read, Comments.read_line_end}
-use Rattle.yaml_recognizers.specs.{Comments.read_comments}
+use Rattle.yaml_recognizers.specs.{Prelude.{white, LineEnd, Sep, inline, lines, indents}, Prefixes.{take_while, drop_while}, Reading.Read}
+use Rattle.yaml_recognizers.specs.Comments.{read_line_end, read_comments}
 
 -- a gap, and the rest of the text
 abbrev pub GapRead : Type 0

@@ -1,9 +1,8 @@
 -- The recognizer of what joins two lines of a flow scalar. It serves all three styles.
 use Rattle.std.specs.Prelude.{Bool, List, None, Some, [], codes, false, if◌then◌else◌, true, ℕ, ◌&&◌, ◌++◌, ◌==◌, ◌||◌}
-use Rattle.yaml_recognizers.specs.Prelude.{line_break, space, white, FlowEmptyLine, Line, flow_empties_text, Break}
-use Rattle.yaml_recognizers.specs.Prelude.{break_text, indents, list_all, begins, first, no_marker, spaces, backslash}
-use Rattle.yaml_recognizers.specs.{Comments.read_break, Reading.Read, Reading.on, Repeated.all_of}
-use Rattle.yaml_recognizers.specs.Prefixes.{drop_while, past, take_while}
+use Rattle.yaml_recognizers.specs.Prelude.{line_break, space, white, FlowEmptyLine, Line, flow_empties_text, Break, break_text, indents}
+use Rattle.yaml_recognizers.specs.{Prelude.{list_all, begins, first, no_marker, spaces, backslash}, Comments.read_break, Reading.{Read, on}}
+use Rattle.yaml_recognizers.specs.{Repeated.all_of, Prefixes.{drop_while, past, take_while}}
 
 -- a line without what it holds: perhaps a backslash, or whitespace; a break, empty lines, and the whitespace at the
 -- start of the line

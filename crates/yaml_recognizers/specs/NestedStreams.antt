@@ -2,8 +2,8 @@
 -- lines, and perhaps a document.
 use Rattle.std.specs.Prelude.{List, [], ◌∷◌, Option, Some, None}
 use Rattle.yaml_recognizers.specs.Prelude.{LineEnd, Document, bare, explicit, directed, Part, suffixes, further, Stream}
-use Rattle.yaml_grammar.specs.Streams.{line as line_part}
 use Rattle.yaml_recognizers.specs.CanonicalStreams.{Section, suffix, line, document, FlatStream}
+use Rattle.yaml_grammar.specs.Streams.{line as line_part}
 
 -- lines, perhaps a document, and what follows
 pub record Opened : Type 0 where

@@ -1,18 +1,16 @@
 -- The nodes of a presentation, each with its place in the text and what is around it. The places count bytes, as ranges
 -- do. Numbers, contexts and bol are those of the grammar's conditions.
-use Rattle.std.specs.Prelude.{◌≡◌, ℕ, suc, ◌+◌, Bool, true, false, ◌==◌, List, [], ◌∷◌, ◌++◌, Option, Some, None}
-use Rattle.std.specs.Prelude.{is_some, flat_map, codes, if◌then◌else◌}
-use Rattle.yaml_recognizers.specs.Prelude.{byte_len, optional, spaces, starts_line, comments_text, gap_text, sep_text}
-use Rattle.yaml_recognizers.specs.Prelude.{FlowContext, outer, block_key, flow_key, in_flow, Flow, scalar, seq, map}
-use Rattle.yaml_recognizers.specs.Prelude.{Entries, none, last, next, Entry, entry, Value, absent, empty, given}
-use Rattle.yaml_recognizers.specs.Prelude.{asked_text, single_pair, flow_text, entries_text, entry_text, value_text}
-use Rattle.yaml_recognizers.specs.Prelude.{Node, block, flow, items, pairs, Items, item, item_and, Pairs, pair}
-use Rattle.yaml_recognizers.specs.Prelude.{pair_and, Pair, asked, asked_alone, keyed, keyed_alone, Indented}
-use Rattle.yaml_recognizers.specs.Prelude.{compact_items, compact_pairs, node, omitted, node_text, items_text}
-use Rattle.yaml_recognizers.specs.Prelude.{pairs_text, pair_text, indented_text, Explicit, content, nothing, Document}
-use Rattle.yaml_recognizers.specs.Prelude.{bare, explicit, directed, Part, suffixes, line, further, Stream}
-use Rattle.yaml_recognizers.specs.Prelude.{directive_text, document_text, mark_text, suffix_text, part_text, parts_text}
-use Rattle.yaml_recognizers.specs.StandingNodes.{FlowNodeStands, BlockNodeStands}
+use Rattle.std.specs.Prelude.{◌≡◌, ℕ, suc, ◌+◌, Bool, true, false, ◌==◌, List, [], ◌∷◌, ◌++◌, Option, Some, None, is_some, flat_map, codes}
+use Rattle.std.specs.Prelude.{if◌then◌else◌}
+use Rattle.yaml_recognizers.specs.Prelude.{byte_len, optional, spaces, starts_line, comments_text, gap_text, sep_text, FlowContext, outer}
+use Rattle.yaml_recognizers.specs.Prelude.{block_key, flow_key, in_flow, Flow, scalar, seq, map, Entries, none, last, next, Entry, entry}
+use Rattle.yaml_recognizers.specs.Prelude.{Value, absent, empty, given, asked_text, single_pair, flow_text, entries_text, entry_text}
+use Rattle.yaml_recognizers.specs.Prelude.{value_text, Node, block, flow, items, pairs, Items, item, item_and, Pairs, pair, pair_and, Pair}
+use Rattle.yaml_recognizers.specs.Prelude.{asked, asked_alone, keyed, keyed_alone, Indented, compact_items, compact_pairs, node, omitted}
+use Rattle.yaml_recognizers.specs.Prelude.{node_text, items_text, pairs_text, pair_text, indented_text, Explicit, content, nothing}
+use Rattle.yaml_recognizers.specs.Prelude.{Document, bare, explicit, directed, Part, suffixes, line, further, Stream, directive_text}
+use Rattle.yaml_recognizers.specs.{Prelude.{document_text, mark_text, suffix_text, part_text, parts_text}, StandingNodes.FlowNodeStands}
+use Rattle.yaml_recognizers.specs.StandingNodes.{BlockNodeStands}
 
 -- A flow node at n in a context, or a block node at m. Here bol says whether a line starts at its place, and `after`
 -- is the text after it.

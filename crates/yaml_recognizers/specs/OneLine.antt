@@ -1,8 +1,7 @@
 -- Flow nodes that are on one line, as keys are; and the contexts in which the same characters are safe.
 use Rattle.std.specs.Prelude.{Bool, true, false, ◌&&◌, Option, Some, None}
-use Rattle.yaml_recognizers.specs.Prelude.{Sep, inline, lines, FlowContext, outer, inner, block_key, flow_key, Flow}
-use Rattle.yaml_recognizers.specs.Prelude.{scalar, seq, map, Entries, none, last, next, Entry, entry, Value, absent}
-use Rattle.yaml_recognizers.specs.Prelude.{empty, given}
+use Rattle.yaml_recognizers.specs.Prelude.{Sep, inline, lines, FlowContext, outer, inner, block_key, flow_key, Flow, scalar, seq, map}
+use Rattle.yaml_recognizers.specs.Prelude.{Entries, none, last, next, Entry, entry, Value, absent, empty, given}
 use Rattle.yaml_recognizers.specs.WholeScalars.{stands_on_one_line}
 
 -- the first is the context of a key, and the second is the same or the wider context with the same safe characters

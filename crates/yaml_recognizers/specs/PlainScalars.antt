@@ -1,10 +1,7 @@
 -- The recognizer of plain scalars (YAML 1.2.2, 7.3.3). It reads as far as a plain scalar goes.
-use Rattle.std.specs.Prelude.{ℕ, Bool, false, not, ◌&&◌, ◌||◌, List, [], ◌∷◌, length, drop, Some, None, is_some}
-use Rattle.std.specs.Prelude.{if◌then◌else◌}
-use Rattle.yaml_recognizers.specs.Prelude.{space_char, white, is_empty, no_marker, FlowContext, one_line, Line, Scalar}
-use Rattle.yaml_recognizers.specs.Prelude.{plain, plain_first, plain_next}
-use Rattle.yaml_recognizers.specs.{Reading.Read, Reading.on, Repeated.all_of}
-use Rattle.yaml_recognizers.specs.Joins.{Join, read_join, line_of}
+use Rattle.std.specs.Prelude.{ℕ, Bool, false, not, ◌&&◌, ◌||◌, List, [], ◌∷◌, length, drop, Some, None, is_some, if◌then◌else◌}
+use Rattle.yaml_recognizers.specs.Prelude.{space_char, white, is_empty, no_marker, FlowContext, one_line, Line, Scalar, plain, plain_first}
+use Rattle.yaml_recognizers.specs.{Prelude.plain_next, Reading.{Read, on}, Repeated.all_of, Joins.{Join, read_join, line_of}}
 
 -- whitespace and plain characters after the character prev, up to the last plain character
 unfoldable pub read_run : FlowContext → ℕ → List ℕ → List ℕ

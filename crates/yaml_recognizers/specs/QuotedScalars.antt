@@ -1,11 +1,8 @@
 -- Recognizers of single-quoted and double-quoted scalars (YAML 1.2.2, 7.3.1 and 7.3.2).
-use Rattle.std.specs.Prelude.{ℕ, Bool, true, false, not, ◌&&◌, ◌||◌, ◌==◌, List, [], ◌∷◌, take, drop, Some, None, codes}
-use Rattle.std.specs.Prelude.{if◌then◌else◌}
-use Rattle.yaml_recognizers.specs.Prelude.{is_in, nb_json, is_empty, first, FlowContext, one_line, QuotedChar, raw}
-use Rattle.yaml_recognizers.specs.Prelude.{escape, number, Line, Scalar, single, double, digits_after, quoted_char_fits}
-use Rattle.yaml_recognizers.specs.Prelude.{backslash, double_quote, single_quote}
-use Rattle.yaml_recognizers.specs.{Prefixes.past, Reading.Read, Reading.on, Repeated.all_of}
-use Rattle.yaml_recognizers.specs.Joins.{at_break, read_join, line_of}
+use Rattle.std.specs.Prelude.{ℕ, Bool, true, false, not, ◌&&◌, ◌||◌, ◌==◌, List, [], ◌∷◌, take, drop, Some, None, codes, if◌then◌else◌}
+use Rattle.yaml_recognizers.specs.Prelude.{is_in, nb_json, is_empty, first, FlowContext, one_line, QuotedChar, raw, escape, number, Line}
+use Rattle.yaml_recognizers.specs.Prelude.{Scalar, single, double, digits_after, quoted_char_fits, backslash, double_quote, single_quote}
+use Rattle.yaml_recognizers.specs.{Prefixes.past, Reading.{Read, on}, Repeated.all_of, Joins.{at_break, read_join, line_of}}
 
 -- ---- what is between quotes; read_one reads one thing of it, and escapes says whether a backslash may join lines
 

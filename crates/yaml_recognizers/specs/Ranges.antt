@@ -1,7 +1,6 @@
 -- The ranges of the scalars of a list of events, in order.
 use Rattle.std.specs.Prelude.{ℕ, ◌≤◌, List, [], ◌∷◌}
-use Rattle.yaml_recognizers.specs.Prelude.{Event, document_start, document_end, seq_start, seq_end, map_start, map_end}
-use Rattle.yaml_recognizers.specs.Prelude.{scalar_event}
+use Rattle.yaml_recognizers.specs.Prelude.{Event, document_start, document_end, seq_start, seq_end, map_start, map_end, scalar_event}
 
 -- Each range ends at or after its start and starts at or after the end of the one before it. The first starts at `from`
 -- or after it, and the last ends at `to` or before it.

@@ -1,14 +1,11 @@
 -- The recognizers over one another: of flow nodes, block nodes and streams over those of scalars.
 use Rattle.std.specs.Prelude.{◌≡◌, ℕ, suc, Bool, true, false, List, ◌++◌, length, Option, codes}
-use Rattle.yaml_recognizers.specs.Prelude.{white, ns, list_all, first, FlowContext, outer, block_key, Flow, Entries}
-use Rattle.yaml_recognizers.specs.Prelude.{Entry, Value, flow_text, short_key, Node, Items, Pairs, Pair, Indented}
-use Rattle.yaml_recognizers.specs.{Reading.Read, CanonicalFlowNodes.canonical_flow, BlockScalars.read_block}
-use Rattle.yaml_recognizers.specs.CanonicalStreams.{Section, FlatStream}
-use Rattle.yaml_recognizers.specs.FlowScalars.{read_scalar, scalar_ends}
-use Rattle.yaml_recognizers.specs.FlowNodes.{whole_flow, whole_entries, whole_entry, whole_value, flow_ends}
-use Rattle.yaml_recognizers.specs.BlockNodes.{block_key_at, deep_items, deep_pairs, deep_pair, deep_indented}
-use Rattle.yaml_recognizers.specs.BlockNodes.{whole_node}
-use Rattle.yaml_recognizers.specs.Streams.{read_section, read_sections, read_stream}
+use Rattle.yaml_recognizers.specs.Prelude.{white, ns, list_all, first, FlowContext, outer, block_key, Flow, Entries, Entry, Value}
+use Rattle.yaml_recognizers.specs.{Prelude.{flow_text, short_key, Node, Items, Pairs, Pair, Indented}, Reading.Read}
+use Rattle.yaml_recognizers.specs.{CanonicalFlowNodes.canonical_flow, BlockScalars.read_block, CanonicalStreams.{Section, FlatStream}}
+use Rattle.yaml_recognizers.specs.{FlowScalars.{read_scalar, scalar_ends}, FlowNodes.{whole_flow, whole_entries, whole_entry, whole_value}}
+use Rattle.yaml_recognizers.specs.{FlowNodes.flow_ends, BlockNodes.{block_key_at, deep_items, deep_pairs, deep_pair, deep_indented}}
+use Rattle.yaml_recognizers.specs.{BlockNodes.whole_node, Streams.{read_section, read_sections, read_stream}}
 
 -- [161] ns-flow-node, 7.5, at n in a context; the Bool says whether it is at the start of a line
 abbrev pub flow_node_at : ℕ → FlowContext → Bool → List ℕ → Read Flow

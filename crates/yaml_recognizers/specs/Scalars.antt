@@ -1,7 +1,6 @@
 -- What is asked of recognizers of scalars: they find what fits, where it ends, and what they find fits.
 use Rattle.std.specs.Prelude.{◌≡◌, ℕ, Bool, true, List, ◌++◌, Some}
-use Rattle.yaml_recognizers.specs.Prelude.{FlowContext, Scalar, scalar_text, scalar_fits, scalar, is_plain, BlockScalar}
-use Rattle.yaml_recognizers.specs.Prelude.{block_text}
+use Rattle.yaml_recognizers.specs.Prelude.{FlowContext, Scalar, scalar_text, scalar_fits, scalar, is_plain, BlockScalar, block_text}
 use Rattle.yaml_recognizers.specs.{Reading.Read, CanonicalBlockScalars.canonical_block, Ends.Stops}
 
 -- `ends` says whether a flow scalar ends before a text; it does before everything that may come after one in a node

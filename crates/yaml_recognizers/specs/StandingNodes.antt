@@ -1,10 +1,9 @@
 -- Nodes in a text, in whatever form they are presented: what the grammar asks of them, and what ends them. Laws speak
 -- of them, and so do the contracts of scanners.
-use Rattle.std.specs.Prelude.{◌≡◌, ℕ, Bool, true, false, List, ◌++◌}
-use Rattle.yaml_recognizers.specs.Prelude.{LineEnd, comments_text, comments_fit, FlowContext, Flow, flow_text}
-use Rattle.yaml_recognizers.specs.Prelude.{flow_fits, flow_events, Node, node_text, node_fits, node_end, node_events}
-use Rattle.std.proofs.Math.Logic.{◌⊎◌}
-use Rattle.yaml_recognizers.specs.{CanonicalComments.is_line_end, Ends.block_node_stops, Recognizers.flow_node_stops}
+use Rattle.std.{specs.Prelude.{◌≡◌, ℕ, Bool, true, false, List, ◌++◌}, proofs.Math.Logic.◌⊎◌}
+use Rattle.yaml_recognizers.specs.Prelude.{LineEnd, comments_text, comments_fit, FlowContext, Flow, flow_text, flow_fits, flow_events, Node}
+use Rattle.yaml_recognizers.specs.{Prelude.{node_text, node_fits, node_end, node_events}, CanonicalComments.is_line_end}
+use Rattle.yaml_recognizers.specs.{Ends.block_node_stops, Recognizers.flow_node_stops}
 
 -- ---- flow nodes
 

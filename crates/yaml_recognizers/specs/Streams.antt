@@ -1,13 +1,11 @@
 -- The recognizer of streams (YAML 1.2.2, 6.8 and chapter 9), over one of a document's node: node_at takes whether the
 -- node is at the start of a line.
-use Rattle.std.specs.Prelude.{ℕ, zero, suc, Bool, true, false, ◌&&◌, ◌==◌, List, [], ◌∷◌, length, drop, Option, Some}
-use Rattle.std.specs.Prelude.{None, codes, if◌then◌else◌}
-use Rattle.yaml_recognizers.specs.Prelude.{white, is_empty, first, begins, ends_word, starts_line, LineEnd, FlowContext}
-use Rattle.yaml_recognizers.specs.Prelude.{Scalar, BlockScalar, Node, Explicit, content, nothing, Version, yaml_1_1}
-use Rattle.yaml_recognizers.specs.Prelude.{yaml_1_2, Document, bare, explicit, directed, byte_order_mark, dash, dot}
-use Rattle.yaml_recognizers.specs.Prelude.{percent_sign}
-use Rattle.yaml_recognizers.specs.{Prefixes.take_while, Prefixes.drop_while, Reading.Read, Reading.on}
-use Rattle.yaml_recognizers.specs.{CanonicalComments.is_line_end, BlockNodes.omits, BlockNodes.whole_node}
+use Rattle.std.specs.Prelude.{ℕ, zero, suc, Bool, true, false, ◌&&◌, ◌==◌, List, [], ◌∷◌, length, drop, Option, Some, None, codes}
+use Rattle.std.specs.Prelude.{if◌then◌else◌}
+use Rattle.yaml_recognizers.specs.Prelude.{white, is_empty, first, begins, ends_word, starts_line, LineEnd, FlowContext, Scalar}
+use Rattle.yaml_recognizers.specs.Prelude.{BlockScalar, Node, Explicit, content, nothing, Version, yaml_1_1, yaml_1_2, Document, bare}
+use Rattle.yaml_recognizers.specs.{Prelude.{explicit, directed, byte_order_mark, dash, dot, percent_sign}, Prefixes.take_while}
+use Rattle.yaml_recognizers.specs.{Prefixes.drop_while, Reading.{Read, on}, CanonicalComments.is_line_end, BlockNodes.{omits, whole_node}}
 use Rattle.yaml_recognizers.specs.CanonicalStreams.{Section, suffix, line, document, FlatStream, section_text, opens}
 use Rattle.yaml_recognizers.specs.Comments.{read_line_end, all_comments, closes_line}
 

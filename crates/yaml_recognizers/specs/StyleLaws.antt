@@ -1,7 +1,6 @@
 -- The laws of the one style, as statements.
 use Rattle.std.specs.Prelude.{◌≤◌, List, ℕ}
-use Rattle.yaml_recognizers.specs.Prelude.{IsText, byte_len, Event, Tree, IsTextTree, IsTreeOf, style_text, CanRead}
-use Rattle.yaml_recognizers.specs.Prelude.{Limits, Good, Gives}
+use Rattle.yaml_recognizers.specs.Prelude.{IsText, byte_len, Event, Tree, IsTextTree, IsTreeOf, style_text, CanRead, Limits, Good, Gives}
 use Rattle.yaml_recognizers.specs.Closings.{framed_text}
 
 -- the source is a text, and can be read as the events of the tree

@@ -1,8 +1,7 @@
 -- Which of the flow scalars that fit at the start of a text is the whole one, in terms of the grammar alone.
 use Rattle.std.specs.Prelude.{◌≡◌, ℕ, ◌≤◌, Bool, true, false, List, ◌++◌, length}
-use Rattle.yaml_recognizers.specs.Prelude.{first, is_empty, FlowContext, Line, Scalar, plain, single, double}
-use Rattle.yaml_recognizers.specs.Prelude.{scalar_text, scalar_fits, scalar_value, style_of, Style}
-use Rattle.yaml_recognizers.specs.QuotedScalars.{quote}
+use Rattle.yaml_recognizers.specs.Prelude.{first, is_empty, FlowContext, Line, Scalar, plain, single, double, scalar_text, scalar_fits}
+use Rattle.yaml_recognizers.specs.{Prelude.{scalar_value, style_of, Style}, QuotedScalars.quote}
 
 -- [131] ns-plain, 7.3.3: no plain scalar that fits at the start of the text leaves less of it than the rest
 abbrev pub Longest : ℕ → FlowContext → Bool → List ℕ → List ℕ → Type 0

@@ -1,8 +1,7 @@
 -- Bytes of which a crash left zeros in some places, and what their closing lines and pieces are.
-use Rattle.std.specs.Prelude.{◌≡◌, ◌≤◌, ◌⊎◌, ◌==◌, ◌&&◌, ◌+◌, not, Bool, true, false, ℕ, List, [], ◌∷◌, ◌++◌, length}
-use Rattle.std.specs.Prelude.{take, replicate, Contains}
-use Rattle.yaml_recognizers.specs.Prelude.{All, concat, chars, IsUtf8, Stream, Tree, IsTextTree, Presents, ClosesAt}
-use Rattle.yaml_recognizers.specs.Prelude.{ClosesOnce, Pieces}
+use Rattle.std.specs.Prelude.{◌≡◌, ◌≤◌, ◌⊎◌, ◌==◌, ◌&&◌, ◌+◌, not, Bool, true, false, ℕ, List, [], ◌∷◌, ◌++◌, length, take, replicate}
+use Rattle.std.specs.Prelude.{Contains}
+use Rattle.yaml_recognizers.specs.Prelude.{All, concat, chars, IsUtf8, Stream, Tree, IsTextTree, Presents, ClosesAt, ClosesOnce, Pieces}
 use Rattle.yaml_recognizers.specs.Closings.{framed_text_bytes}
 
 -- the tail is no longer than the text, and each of its bytes is the text's at its place, or 0

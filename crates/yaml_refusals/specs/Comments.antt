@@ -1,10 +1,7 @@
 -- The comments of a text (YAML 1.2.2, 6.6), by the events that it reads as. Places are bytes from 0.
-use Rattle.std.specs.Prelude.{◌≡◌, ◌≢◌, ◌⊎◌, ℕ, ◌<◌, ◌≤◌, List, [], ◌∷◌, Option, Some, None, length, slice_index}
-use Rattle.std.specs.Str.{chars}
-use Rattle.yaml_grammar.specs.Events.{Event, Style, plain_style, single_style, double_style, literal_style}
-use Rattle.yaml_grammar.specs.Events.{folded_style, omitted_style, document_start, document_end, seq_start, seq_end}
-use Rattle.yaml_grammar.specs.Events.{map_start, map_end, scalar_event}
-use Rattle.yaml_grammar.specs.Reads.{Reads}
+use Rattle.std.specs.{Prelude.{◌≡◌, ◌≢◌, ◌⊎◌, ℕ, ◌<◌, ◌≤◌, List, [], ◌∷◌, Option, Some, None, length, slice_index}, Str.chars}
+use Rattle.yaml_grammar.specs.Events.{Event, Style, plain_style, single_style, double_style, literal_style, folded_style, omitted_style}
+use Rattle.yaml_grammar.specs.{Events.{document_start, document_end, seq_start, seq_end, map_start, map_end, scalar_event}, Reads.Reads}
 
 -- no byte from one place up to another is an LF or a CR
 abbrev pub IsOneLine : List ℕ → ℕ → ℕ → Type 0

@@ -1,13 +1,10 @@
 -- Breaks, by the bytes at a place.
 use Rattle.std.proofs.Common.{◌≡◌, ℕ, ◌+◌, ◌<◌, ◌≤◌, true, false, List, [], ◌∷◌, Some, None, refl, ap, sym, ◌∙◌, arith, length, inl, inr}
-use Rattle.std.proofs.Common.{get_or}
-use Rattle.std.specs.Prelude.{◌==◌}
+use Rattle.std.{proofs.Common.get_or, specs.Prelude.◌==◌}
 use Rattle.yaml_scan.proofs.Prelude.{IsUtf8, IsCharBoundary, cases_Bool, cond-false, ne_eqb, nat_tests, line_break, rest, len_utf8, char_at}
 use Rattle.yaml_scan.proofs.Prelude.{rest-end, IsBlind, blind-line_break, Break, lf, cr, cr_lf, first, read_break, read_cr, read_stop}
-use Rattle.yaml_recognizers.proofs.Basics.Breaks.{unbroken}
-use Rattle.yaml_recognizers.specs.Reading.{Read, on}
-use Rattle.yaml_scan.specs.ScanPlaces.{IsBreak, IsStop}
-use Rattle.yaml_scan.proofs.ByteRuns.{ascii_prefix, first_at_end, first_there}
+use Rattle.yaml_scan.{proofs.ByteRuns.{ascii_prefix, first_at_end, first_there}, specs.ScanPlaces.{IsBreak, IsStop}}
+use Rattle.yaml_recognizers.{proofs.Basics.Breaks.unbroken, specs.Reading.{Read, on}}
 
 -- ---- breaks
 

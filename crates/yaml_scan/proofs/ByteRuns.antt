@@ -1,14 +1,13 @@
 -- The first character at a place, and runs of characters from there on, by the bytes.
 use Rattle.std.proofs.Common.{◌≡◌, ℕ, zero, suc, ◌+◌, ◌-◌, ◌<◌, ◌≤◌, Bool, true, false, List, [], ◌∷◌, ◌++◌, refl, ap, sym, ◌∙◌, subst}
-use Rattle.std.proofs.Common.{arith, length, inl, inr, get_or, drop, append_assoc, append-nil}
-use Rattle.std.specs.Prelude.{nat_lt}
+use Rattle.std.{proofs.Common.{arith, length, inl, inr, get_or, drop, append_assoc, append-nil}, specs.Prelude.nat_lt}
 use Rattle.yaml_scan.proofs.Prelude.{list_all, IsUtf8, IsCharBoundary, len_utf8, and_parts, cases_lt, cond-true, cond-false, eqb-true}
 use Rattle.yaml_scan.proofs.Prelude.{nat_tests, append_cancel_right, drop_all, drop_more, IsCharBoundary-after_ascii, nb, space, rest}
 use Rattle.yaml_scan.proofs.Prelude.{between, IsRun, char_at, rest-ascii, rest-end, rest-between, between-nil, between-append, IsBlind}
 use Rattle.yaml_scan.proofs.Prelude.{run_is, run_stops, test-between, test-char_at, blind-space, spaces_before, past_spaces, first, spaces}
 use Rattle.yaml_scan.proofs.Prelude.{drop_while_all, spaces_counted, spaces_passed, take_while_all, drop_while, take_while}
+use Rattle.yaml_scan.specs.{Classes.{line_ascii, ArePassed}, ScanPlaces.{AreSpaces, AreTaken, IsNb}}
 use Rattle.yaml_recognizers.proofs.Basics.Spaces.{spaces_dropped}
-use Rattle.yaml_scan.specs.{Classes.line_ascii, Classes.ArePassed, ScanPlaces.AreSpaces, ScanPlaces.AreTaken, ScanPlaces.IsNb}
 
 -- ---- the first character
 

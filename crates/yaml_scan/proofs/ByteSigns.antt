@@ -1,14 +1,12 @@
 -- Signs and markers, by the bytes at a place.
 use Rattle.std.proofs.Common.{◌≡◌, ℕ, ◌+◌, ◌<◌, ◌≤◌, Bool, true, false, List, [], ◌∷◌, refl, ap, sym, ◌∙◌, subst, arith, length, inl, inr}
-use Rattle.std.proofs.Common.{get_or}
-use Rattle.std.specs.Prelude.{not, ◌&&◌, ◌||◌, ◌==◌, nat_lt}
+use Rattle.std.{proofs.Common.get_or, specs.Prelude.{not, ◌&&◌, ◌||◌, ◌==◌, nat_lt}}
 use Rattle.yaml_scan.proofs.Prelude.{len_utf8, IsUtf8, IsCharBoundary, and_parts, cases_Bool, eqb-true, false≢true, nat_tests, line_break}
 use Rattle.yaml_scan.proofs.Prelude.{ns, white, rest, char_at, rest-end, IsBlind, blind-line_break, blind-not, blind-or, blind-white}
-use Rattle.yaml_scan.proofs.Prelude.{begins, ends_word, first, marker, hash, solid, sign}
+use Rattle.yaml_scan.proofs.{Prelude.{begins, ends_word, first, marker, hash, solid, sign}, ByteRuns.{ascii_prefix, ascii_at_beginning}}
+use Rattle.yaml_scan.{proofs.ByteRuns.{first_at_end, first_there}, specs.{Markers.sign_of, ScanPlaces.{is_sign, ends_word_byte}}}
+use Rattle.yaml_scan.specs.declared.signs.Marker.{Marker, TheVariants.{DirectivesEnd, DocumentEnd}}
 use Rattle.yaml_recognizers.specs.Streams.{marker_of}
-use Rattle.yaml_scan.specs.{Markers.sign_of, ScanPlaces.is_sign, ScanPlaces.ends_word_byte, declared.signs.Marker.Marker}
-use Rattle.yaml_scan.specs.{declared.signs.Marker.TheVariants.DirectivesEnd, declared.signs.Marker.TheVariants.DocumentEnd}
-use Rattle.yaml_scan.proofs.ByteRuns.{ascii_prefix, ascii_at_beginning, first_at_end, first_there}
 
 -- ---- one byte
 

@@ -1,13 +1,10 @@
 -- The table of classes holds what the classes say: 256 closed facts for each class, at once.
 use Rattle.std.proofs.Common.{◌≡◌, ℕ, ◌<◌, Bool, false, not, nat_eq, bit_and, ◌≤◌, inl, inr, List, refl, sym, ap, ◌∙◌, arith, get_or}
-use Rattle.std.proofs.Common.{length, map, true}
-use Rattle.std.specs.Prelude.{nat_lt, slice_index}
+use Rattle.std.{proofs.{Common.{length, map, true}, lemmas.List.FromFn.get_or-map-range_with_len}, specs.Prelude.{nat_lt, slice_index}}
 use Rattle.yaml_scan.proofs.Prelude.{range_with_len, cases_lt, nat_tests, get_or-map, IsCharBoundary, IsUtf8, white, IsRun, IsBlind, run_is}
-use Rattle.yaml_scan.proofs.Prelude.{FlowContext, inner, outer}
-use Rattle.std.proofs.lemmas.List.FromFn.{get_or-map-range_with_len}
-use Rattle.yaml_scan.specs.{declared.classes.TheConstants.CLASSES, declared.classes.Class.Class}
-use Rattle.yaml_scan.specs.Classes.{ArePassed, bit_of, double_quoted, line_ascii, simple, single_quoted, test_of, word}
-use Rattle.yaml_scan.specs.declared.classes.Class.TheVariants.{Words, WordsInside, SingleQuoted, DoubleQuoted, Line}
+use Rattle.yaml_scan.{proofs.Prelude.{FlowContext, inner, outer}, specs.declared.classes.{TheConstants.CLASSES, Class.Class}}
+use Rattle.yaml_scan.specs.{declared.classes.Class.TheVariants.{Words, WordsInside, SingleQuoted, DoubleQuoted, Line}, Classes.ArePassed}
+use Rattle.yaml_scan.specs.Classes.{bit_of, double_quoted, line_ascii, simple, single_quoted, test_of, word}
 
 -- whether a sum of bits has this bit
 abbrev pub has : ℕ → ℕ → Bool

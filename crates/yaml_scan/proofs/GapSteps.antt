@@ -1,7 +1,7 @@
 -- Gaps at places, by what is there.
 use Rattle.std.proofs.Common.{◌≡◌, ℕ, zero, suc, ◌+◌, ◌-◌, ◌<◌, ◌≤◌, Bool, true, false, List, [], ◌∷◌, ◌++◌, Option, Some, None, refl, ap}
-use Rattle.std.proofs.Common.{sym, ◌∙◌, subst, arith, length, inl, inr}
-use Rattle.std.specs.Prelude.{not, ◌&&◌, ◌||◌, ◌==◌, nat_le, nat_lt, is_some, cond}
+use Rattle.std.{proofs.Common.{sym, ◌∙◌, subst, arith, length, inl, inr}, specs.Prelude.{not, ◌&&◌, ◌||◌, ◌==◌, nat_le, nat_lt, is_some}}
+use Rattle.std.specs.Prelude.{cond}
 use Rattle.yaml_scan.proofs.Prelude.{IsUtf8, IsCharBoundary, len_utf8, and_from, and_parts, cases_Bool, cases_lt, cond-false, false≢true}
 use Rattle.yaml_scan.proofs.Prelude.{le-leb, lt-leb, lt-ltb, or_left, nat_tests, append_cancel_right, no_break, line_break, nb, white, rest}
 use Rattle.yaml_scan.proofs.Prelude.{between, between-nil, char_at, rest-between, rest-end, same_place, spaces_before, FlowContext}
@@ -9,14 +9,11 @@ use Rattle.yaml_scan.proofs.Prelude.{one_line, Break, LineEnd, Sep, break_text, 
 use Rattle.yaml_scan.proofs.Prelude.{inline, lf, lines, list_all, begins, first, is_empty, optional, spaces, starts_line, hash, is_line_end}
 use Rattle.yaml_scan.proofs.Prelude.{stops, all_comments, read_line_end, solid, drop_while, past, take_while, solid_no_line, gap_step}
 use Rattle.yaml_scan.proofs.Prelude.{inline_step, LineOf, line_sound, take_while_every, line_parts, line_regrouped, sound_is}
-use Rattle.yaml_recognizers.specs.Gaps.{inline_gap, lines_gap, read_gap}
-use Rattle.yaml_recognizers.specs.OneLine.{gap_on_one_line}
-use Rattle.yaml_recognizers.proofs.Separation.GapsSound.{GapOf, gap_sound}
+use Rattle.yaml_scan.{proofs.{LineSteps.spaces_split_at, LineStarts.starts_on}, specs.Lines.{IsLineEnd, IsSolidLine}}
+use Rattle.yaml_scan.specs.{ScanPlaces.{AreSpaces, AreTaken}, declared.{gap.Gap.Gap, lines.Line.Line}, Gaps.{IsGap, IsLinesGap, NoGap}}
+use Rattle.{yaml_scan.specs.Gaps.{NoLinesGap, after_comments, stuck, used_up}, yaml_recognizers.specs.Gaps.{inline_gap, lines_gap}}
+use Rattle.yaml_recognizers.{specs.{Gaps.read_gap, OneLine.gap_on_one_line}, proofs.Separation.GapsSound.{GapOf, gap_sound}}
 use Rattle.yaml_recognizers.proofs.Flow.OneLineText.{gap_one_line}
-use Rattle.yaml_scan.specs.{Lines.IsLineEnd, Lines.IsSolidLine, ScanPlaces.AreSpaces, ScanPlaces.AreTaken, declared.gap.Gap.Gap}
-use Rattle.yaml_scan.specs.{declared.lines.Line.Line}
-use Rattle.yaml_scan.specs.Gaps.{IsGap, IsLinesGap, NoGap, NoLinesGap, after_comments, stuck, used_up}
-use Rattle.yaml_scan.proofs.{LineSteps.spaces_split_at, LineStarts.starts_on}
 
 -- ---- white space on one line
 

@@ -1,12 +1,9 @@
 -- Runs of ASCII characters that a line may hold.
 use Rattle.std.proofs.Common.{◌≡◌, ℕ, ◌<◌, true, false, List, [], ◌∷◌, ◌++◌, refl, ap, sym, ◌∙◌, arith, length, get_or, append_assoc, inl}
-use Rattle.std.proofs.Common.{inr}
-use Rattle.std.specs.Prelude.{nat_lt}
+use Rattle.std.{proofs.{Common.inr, lemmas.List.Sums.list_all-from_AllPass}, specs.Prelude.nat_lt}
 use Rattle.yaml_scan.proofs.Prelude.{list_all, IsUtf8, IsCharBoundary, and_parts, cases_lt, cond-true, nat_tests, nb, rest, between, IsRun}
 use Rattle.yaml_scan.proofs.Prelude.{between-append, rest-ascii, rest-between, rest-end, first, drop_while, take_while}
-use Rattle.std.proofs.lemmas.List.Sums.{list_all-from_AllPass}
-use Rattle.yaml_scan.specs.{Classes.line_ascii, ScanPlaces.AreTaken}
-use Rattle.yaml_scan.proofs.ByteRuns.{AreTakenSoFar, take_while_all_at}
+use Rattle.yaml_scan.{proofs.ByteRuns.{AreTakenSoFar, take_while_all_at}, specs.{Classes.line_ascii, ScanPlaces.AreTaken}}
 
 stopped_low : (c : ℕ) → c < 128 → line_ascii c ≡ false → nb c ≡ false
 stopped_low c l h = let e : nat_lt c 128 ≡ true = grind (arith, nat_tests) in rw e at h

@@ -1,14 +1,12 @@
 -- Whether a line starts at a place, by what comes before it.
 use Rattle.std.proofs.Common.{◌≡◌, ℕ, ◌+◌, ◌-◌, ◌<◌, ◌≤◌, Bool, true, false, List, [], ◌∷◌, ◌++◌, refl, ap, sym, ◌∙◌, arith, inl, inr}
-use Rattle.std.proofs.Common.{get_or, append_assoc, slice_range}
-use Rattle.std.specs.Prelude.{◌==◌, ◌↔◌, IsTrue}
+use Rattle.std.{proofs.Common.{get_or, append_assoc, slice_range}, specs.Prelude.{◌==◌, ◌↔◌, IsTrue}}
 use Rattle.yaml_scan.proofs.Prelude.{IsUtf8, IsCharBoundary, chars, and_parts, cases_Bool, eqb-true, false≢true, nat_tests}
 use Rattle.yaml_scan.proofs.Prelude.{append_cancel_right, chars-encodes, IsCharBoundary-start, line_break, rest, between, between-append}
 use Rattle.yaml_scan.proofs.Prelude.{between-nil, encodes-between, rest-between, blind-line_break, last_char, test-last_char, line_starts}
 use Rattle.yaml_scan.proofs.Prelude.{without_mark, Break, break_text, lf, cr, cr_lf, list_all, is_empty, starts_line}
 use lib.Utf8.{encode, encodes}
-use Rattle.yaml_recognizers.proofs.Basics.LineStarts.{starts_joined}
-use Rattle.yaml_scan.specs.ScanPlaces.{byte_order_mark_bytes}
+use Rattle.{yaml_recognizers.proofs.Basics.LineStarts.starts_joined, yaml_scan.specs.ScanPlaces.byte_order_mark_bytes}
 use Rattle.yaml_scan.proofs.ByteSigns.{IsSign}
 
 -- ---- by the last character

@@ -1,7 +1,6 @@
 -- The ends of lines and lines of comments at places, by what is there.
 use Rattle.std.proofs.Common.{◌≡◌, ℕ, ◌+◌, ◌-◌, ◌<◌, ◌≤◌, Bool, true, false, List, [], ◌∷◌, ◌++◌, Option, Some, None, refl, ap, sym, ◌∙◌}
-use Rattle.std.proofs.Common.{subst, arith, length, inl, inr, append_assoc, length-append}
-use Rattle.std.specs.Prelude.{not, ◌&&◌, ◌||◌, ◌==◌}
+use Rattle.std.{proofs.Common.{subst, arith, length, inl, inr, append_assoc, length-append}, specs.Prelude.{not, ◌&&◌, ◌||◌, ◌==◌}}
 use Rattle.yaml_scan.proofs.Prelude.{IsUtf8, IsCharBoundary, cases_Bool, cond-false, eqb-true, false≢true, nat_tests, append_cancel_right}
 use Rattle.yaml_scan.proofs.Prelude.{IsCharBoundary-start, nb, space, white, rest, between, between-append, between-nil, char_at}
 use Rattle.yaml_scan.proofs.Prelude.{rest-between, rest-end, same_place, without_mark, past_spaces, spaces_before, Break, LineEnd}
@@ -9,10 +8,9 @@ use Rattle.yaml_scan.proofs.Prelude.{break_text, comment_line_fits, comment_text
 use Rattle.yaml_scan.proofs.Prelude.{spaces, starts_line, hash, is_line_end, all_comments, closes_line, more_comments, read_after_blank}
 use Rattle.yaml_scan.proofs.Prelude.{read_line_end, read_stop, line_end_with_stop, solid, drop_while, take_while, no_line, not_line_end}
 use Rattle.yaml_scan.proofs.Prelude.{comments_step, LineOf, StopOf, line_sound, stop_sound, every_space, spaces_split, take_while_split}
-use Rattle.yaml_scan.proofs.Prelude.{line_parts, sound_is}
-use Rattle.yaml_scan.specs.{ScanPlaces.AreSpaces, ScanPlaces.AreTaken, ScanPlaces.IsStop, ScanPlaces.is_sign, declared.lines.Line.Line}
-use Rattle.yaml_scan.specs.Lines.{IsCommentEnd, IsContentEnd, IsLineEnd, IsLineStart, IsSolidLine, past_comment}
-use Rattle.yaml_scan.proofs.{ByteRuns.first_at_end, ByteSigns.IsSign, LineStarts.break_ends}
+use Rattle.yaml_scan.proofs.{Prelude.{line_parts, sound_is}, ByteRuns.first_at_end, ByteSigns.IsSign, LineStarts.break_ends}
+use Rattle.yaml_scan.specs.{ScanPlaces.{AreSpaces, AreTaken, IsStop, is_sign}, declared.lines.Line.Line, Lines.{IsCommentEnd, IsContentEnd}}
+use Rattle.yaml_scan.specs.Lines.{IsLineEnd, IsLineStart, IsSolidLine, past_comment}
 
 -- ---- comments
 

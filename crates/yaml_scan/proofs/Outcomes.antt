@@ -1,9 +1,6 @@
 -- What holds of each outcome of a call, and how a fault that a callee returns is passed on.
-use Rattle.std.proofs.Common.{◌≡◌, Some, None, refl, sym, subst, Ok, Err}
-use Rattle.std.specs.Prelude.{Option, Result, IfOk, IfErr, IfSome, IfNone}
-use Rattle.yaml_scan.proofs.Prelude.{Refuses}
-use Rattle.yaml_events.specs.declared.fault.ScanFault.{ScanFault}
-use Rattle.yaml_events.specs.declared.fault.ScanFault.TheVariants.{At, OutOfMemory}
+use Rattle.std.{proofs.Common.{◌≡◌, Some, None, refl, sym, subst, Ok, Err}, specs.Prelude.{Option, Result, IfOk, IfErr, IfSome, IfNone}}
+use Rattle.{yaml_scan.proofs.Prelude.Refuses, yaml_events.specs.declared.fault.ScanFault.{ScanFault, TheVariants.{At, OutOfMemory}}}
 
 -- a call that refuses has shown why
 pub refuses : (fault : ScanFault) (P : Type 0) → P → Refuses fault P

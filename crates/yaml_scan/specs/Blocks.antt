@@ -1,6 +1,5 @@
 -- Blocks of sixteen bytes, and the masks of their lanes.
-use Rattle.std.specs.Prelude.{◌≡◌, ℕ, ◌+◌, ◌<◌, Bool, false, ◌==◌, if◌then◌else◌, List, slice_index}
-use Rattle.std.specs.Int.{w64, trailing_zeros}
+use Rattle.std.specs.{Prelude.{◌≡◌, ℕ, ◌+◌, ◌<◌, Bool, false, ◌==◌, if◌then◌else◌, List, slice_index}, Int.{w64, trailing_zeros}}
 use Rattle.yaml_scan.specs.Classes.{ArePassed}
 
 -- the place of the lowest bit that is set, and 16 if none is

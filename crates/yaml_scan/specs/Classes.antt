@@ -1,9 +1,7 @@
 -- The classes of characters that a table of bytes decides: those from U+0080 on are all in a class or all outside it.
-use Rattle.std.specs.Prelude.{◌≡◌, ℕ, ◌<◌, ◌≤◌, Bool, true, not, ◌&&◌, ◌||◌, ◌==◌, nat_lt, List, length, slice_index}
-use Rattle.std.specs.Prelude.{codes}
+use Rattle.std.specs.Prelude.{◌≡◌, ℕ, ◌<◌, ◌≤◌, Bool, true, not, ◌&&◌, ◌||◌, ◌==◌, nat_lt, List, length, slice_index, codes}
 use Rattle.yaml_scan.specs.Prelude.{is_in, nb, nb_json, white, FlowContext, outer, inner, safe, single_quote}
-use Rattle.yaml_scan.specs.declared.classes.Class.{Class}
-use Rattle.yaml_scan.specs.declared.classes.Class.TheVariants.{Words, WordsInside, SingleQuoted, DoubleQuoted, Line}
+use Rattle.yaml_scan.specs.declared.classes.Class.{Class, TheVariants.{Words, WordsInside, SingleQuoted, DoubleQuoted, Line}}
 
 -- a safe character that is one byte, and neither `:` nor `#`: plain wherever it comes after the first character of a
 -- scalar

@@ -1,11 +1,8 @@
 -- Gaps between the parts of a flow node at places of a text (YAML 1.2.2, 6.7).
-use Rattle.std.specs.Prelude.{◌≡◌, ℕ, ◌≤◌, true, false, not, ◌||◌, nat_lt, List, [], ◌∷◌, Option, None, is_some}
-use Rattle.yaml_scan.specs.Prelude.{IsCharBoundary, line_break, white, rest, FlowContext, one_line, Sep, gap_text}
-use Rattle.yaml_scan.specs.Prelude.{indents, is_empty, starts_line, line_starts, all_comments, take_while, drop_while}
-use Rattle.std.proofs.Math.Logic.{◌⊎◌}
-use Rattle.yaml_recognizers.specs.Gaps.{read_gap}
-use Rattle.yaml_recognizers.specs.OneLine.{gap_on_one_line}
-use Rattle.yaml_scan.specs.{ScanPlaces.unbroken_between, declared.gap.Gap.Gap}
+use Rattle.std.{specs.Prelude.{◌≡◌, ℕ, ◌≤◌, true, false, not, ◌||◌, nat_lt, List, [], ◌∷◌, Option, None, is_some}, proofs.Math.Logic.◌⊎◌}
+use Rattle.yaml_scan.specs.Prelude.{IsCharBoundary, line_break, white, rest, FlowContext, one_line, Sep, gap_text, indents, is_empty}
+use Rattle.yaml_scan.specs.{Prelude.{starts_line, line_starts, all_comments, take_while, drop_while}, ScanPlaces.unbroken_between}
+use Rattle.{yaml_scan.specs.declared.gap.Gap.Gap, yaml_recognizers.specs.{Gaps.read_gap, OneLine.gap_on_one_line}}
 
 -- what follows all comments from the place on, where a line starts
 abbrev pub after_comments : List ℕ → ℕ → List ℕ

@@ -1,11 +1,9 @@
 -- The end of a line, and the next line that is not whitespace or a comment (YAML 1.2.2, 6.6 and 6.7).
 use Rattle.std.specs.Prelude.{◌≡◌, ℕ, ◌<◌, ◌≤◌, Bool, true, false, if◌then◌else◌, List, [], ◌++◌, Option, Some, None}
-use Rattle.yaml_scan.specs.Prelude.{IsCharBoundary, nb, rest, between, LineEnd, comment_text, first, optional}
-use Rattle.yaml_scan.specs.Prelude.{line_starts, read_stop, line_end_with_stop, read_line_end, all_comments, drop_while}
-use Rattle.yaml_scan.specs.Prelude.{past}
 use Rattle.std.proofs.Math.Logic.{◌⊎◌}
-use Rattle.yaml_recognizers.specs.CanonicalComments.{hash, is_line_end}
-use Rattle.yaml_scan.specs.{ScanPlaces.AreSpaces, declared.lines.Line.Line}
+use Rattle.yaml_scan.specs.Prelude.{IsCharBoundary, nb, rest, between, LineEnd, comment_text, first, optional, line_starts, read_stop}
+use Rattle.yaml_scan.specs.{Prelude.{line_end_with_stop, read_line_end, all_comments, drop_while, past}, ScanPlaces.AreSpaces}
+use Rattle.{yaml_scan.specs.declared.lines.Line.Line, yaml_recognizers.specs.CanonicalComments.{hash, is_line_end}}
 
 -- a line starts at the place, or the text ends there
 abbrev pub IsLineStart : List ℕ → ℕ → Type 0

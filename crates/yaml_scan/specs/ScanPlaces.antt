@@ -1,10 +1,9 @@
 -- What is at a place of a text, which counts bytes from 0, in the words of the recognizers.
-use Rattle.std.specs.Prelude.{◌≡◌, ℕ, ◌-◌, ◌<◌, ◌≤◌, Bool, true, false, ◌||◌, ◌==◌, List, [], ◌∷◌, Option, Some}
-use Rattle.std.specs.Prelude.{is_some, slice_index}
-use Rattle.yaml_scan.specs.Prelude.{IsCharBoundary, no_break, space_char, line_break, nb, space, white, rest, between}
-use Rattle.yaml_scan.specs.Prelude.{Break, first, read_break, read_stop, take_while, drop_while}
-use Rattle.yaml_grammar.specs.BlockScalars.{past_spaces, spaces_before}
+use Rattle.std.specs.Prelude.{◌≡◌, ℕ, ◌-◌, ◌<◌, ◌≤◌, Bool, true, false, ◌||◌, ◌==◌, List, [], ◌∷◌, Option, Some, is_some, slice_index}
 use Rattle.std.specs.List.{list_all}
+use Rattle.yaml_scan.specs.Prelude.{IsCharBoundary, no_break, space_char, line_break, nb, space, white, rest, between, Break, first}
+use Rattle.{yaml_scan.specs.Prelude.{read_break, read_stop, take_while, drop_while}, yaml_grammar.specs.BlockScalars.past_spaces}
+use Rattle.yaml_grammar.specs.BlockScalars.{spaces_before}
 
 -- ---- runs
 

@@ -1,10 +1,9 @@
 -- Where the first line of a text ends.
 use Rattle.std.proofs.Common.{◌≡◌, ◌≢◌, ℕ, suc, ◌<◌, inl, inr, Bool, true, false, not, ◌&&◌, ◌||◌, ◌==◌, List, [], ◌∷◌, ◌++◌, Some, length}
-use Rattle.std.proofs.Common.{slice_get, refl, ap, sym, ◌∙◌, arith, append-nil}
+use Rattle.std.proofs.{Common.{slice_get, refl, ap, sym, ◌∙◌, arith, append-nil}, lemmas.List.Sums.list_all-from_AllPass}
 use Rattle.yaml_style.proofs.Prelude.{list_all, and_parts, eqb-true, cases_Bool, line_break, StartsWithBreak, cr_lf, lf, cr, no_break}
-use Rattle.yaml_style.proofs.Prelude.{NoBreak, line_feed, carriage_return, first}
-use Rattle.std.proofs.lemmas.List.Sums.{list_all-from_AllPass}
-use Rattle.yaml_style.specs.Lines.{ends_break, lines, content, line_end, breaks}
+use Rattle.yaml_style.{proofs.Prelude.{NoBreak, line_feed, carriage_return, first}, specs.Lines.{ends_break, lines, content, line_end}}
+use Rattle.yaml_style.specs.Lines.{breaks}
 
 -- ---- one character
 

@@ -7,8 +7,7 @@ use Rattle.yaml_style.proofs.Prelude.{space_char, same_text}
 use lib.Utf8.{encodes, encode}
 use lib.Dec.{eqb}
 use lib.Pointwise.{pointwise}
-use Rattle.yaml_style.specs.{declared.finding.Finding.Finding, declared.finding.Rule.Rule}
-use Rattle.yaml_style.specs.Findings.{ends_in_white, ends_otherwise, is_long, found}
+use Rattle.yaml_style.specs.{declared.finding.{Finding.Finding, Rule.Rule}, Findings.{ends_in_white, ends_otherwise, is_long, found}}
 
 -- ---- a space or TAB at the end
 

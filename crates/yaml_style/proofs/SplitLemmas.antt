@@ -5,8 +5,7 @@ use Rattle.yaml_style.proofs.Prelude.{chars, IsUtf8, append_cancel_right, IsChar
 use Rattle.yaml_style.proofs.Prelude.{eqb-false, cases_Bool, StartsWithBreak, cr_lf, lf, cr, NoBreak, EndsLine, rest, between, rest-between}
 use Rattle.yaml_style.proofs.Prelude.{is_empty}
 use lib.Utf8.{encodes}
-use Rattle.yaml_style.specs.Lines.{breaks}
-use Rattle.yaml_style.proofs.LineLemmas.{has_break, IsFirstLine, first_line, last_line, one_more_break}
+use Rattle.yaml_style.{specs.Lines.breaks, proofs.LineLemmas.{has_break, IsFirstLine, first_line, last_line, one_more_break}}
 
 -- the text is split at its first break
 pub record IsSplit (text : List ℕ) (start len : ℕ) : Type 0 where

@@ -1,7 +1,6 @@
 -- What is written in two pieces is compared, and counted, as one.
 use Rattle.std.proofs.Common.{◌≡◌, ℕ, Bool, true, false, ◌==◌, List, [], ◌∷◌, ◌++◌, refl, sym, ap, ◌∙◌, arith}
-use Rattle.yaml_writer.specs.BudgetLaws.{byte_len-append}
-use Rattle.yaml_style.specs.Comparing.{comparison_after, IsCount}
+use Rattle.{yaml_writer.specs.BudgetLaws.byte_len-append, yaml_style.specs.Comparing.{comparison_after, IsCount}}
 
 -- nothing more is compared
 pub comparison_after-none : (left : List ℕ) (agrees : Bool) → (left, agrees) ≡ comparison_after left agrees []

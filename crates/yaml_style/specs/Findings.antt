@@ -1,10 +1,9 @@
 -- What is found in a text: each rule, and the findings in order.
-use Rattle.std.specs.Prelude.{ℕ, suc, Bool, true, false, not, ◌==◌, nat_lt, List, [], ◌∷◌, ◌++◌, length, codes}
-use Rattle.std.specs.Prelude.{if◌then◌else◌, Option, Some, None}
-use Rattle.yaml_style.specs.Prelude.{insert, position_or_len, white, line_feed, same_text}
-use Rattle.yaml_style.specs.{declared.finding.Finding.Finding, declared.finding.Rule.Rule}
-use Rattle.yaml_style.specs.declared.finding.Rule.TheVariants.{TrailingWhitespace, LineEnd, LongLine, NotInStyle}
-use Rattle.yaml_style.specs.Lines.{lines, content, line_end, breaks}
+use Rattle.std.specs.Prelude.{ℕ, suc, Bool, true, false, not, ◌==◌, nat_lt, List, [], ◌∷◌, ◌++◌, length, codes, if◌then◌else◌, Option, Some}
+use Rattle.std.specs.Prelude.{None}
+use Rattle.yaml_style.specs.{Prelude.{insert, position_or_len, white, line_feed, same_text}, declared.finding.{Finding.Finding, Rule.Rule}}
+use Rattle.yaml_style.specs.{declared.finding.Rule.TheVariants.{TrailingWhitespace, LineEnd, LongLine, NotInStyle}, Lines.{lines, content}}
+use Rattle.yaml_style.specs.Lines.{line_end, breaks}
 
 -- the name of a rule
 abbrev pub name_of : Rule → List ℕ

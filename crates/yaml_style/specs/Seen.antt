@@ -1,7 +1,6 @@
 -- What a line of src/ is in the definitions.
 use Rattle.std.specs.Prelude.{ℕ, List, ◌++◌}
-use Rattle.yaml_style.specs.Prelude.{chars}
-use Rattle.yaml_style.specs.declared.lines.Line.{Line}
+use Rattle.yaml_style.specs.{Prelude.chars, declared.lines.Line.Line}
 
 -- a line with its break
 abbrev pub line_chars : Line → List ℕ

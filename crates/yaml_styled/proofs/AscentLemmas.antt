@@ -1,12 +1,9 @@
 -- Keys that ascend differ.
 use Rattle.std.proofs.Common.{◌≡◌, ℕ, suc, ◌+◌, ◌-◌, ◌<◌, ◌==◌, Bool, true, false, not, ◌&&◌, ◌||◌, List, [], ◌∷◌, length, get_or, Less}
-use Rattle.std.proofs.Common.{nat_cmp, refl, sym, ap, ap₂, ◌∙◌, subst, true≢false, arith}
+use Rattle.std.{proofs.Common.{nat_cmp, refl, sym, ap, ap₂, ◌∙◌, subst, true≢false, arith}, specs.Cmp.Lexicographic.slice_cmp}
+use Rattle.std.specs.{Cmp.Lexicographic.nat_list_cmp_total, Ordering.{is_lt, ordering_reverse}}
 use Rattle.yaml_styled.proofs.Prelude.{eqb-true, nat_tests, get_or_default, AllAdjacentBelow, chars, same_text, has_key, keys_differ}
-use Rattle.yaml_styled.proofs.Prelude.{same_text-Decides, same_bytes}
-use Rattle.std.specs.Cmp.Lexicographic.{slice_cmp, nat_list_cmp_total}
-use Rattle.std.specs.Ordering.{is_lt, ordering_reverse}
-use Rattle.yaml_styled.specs.Names.{named, IsBelow}
-use Rattle.yaml_styled.proofs.NameLemmas.{Key}
+use Rattle.yaml_styled.{proofs.{Prelude.{same_text-Decides, same_bytes}, NameLemmas.Key}, specs.Names.{named, IsBelow}}
 
 abbrev pub Ascend : List Key → Type 0
 Ascend keys = AllAdjacentBelow (λ a b. IsBelow a.now b.now) keys (length keys)

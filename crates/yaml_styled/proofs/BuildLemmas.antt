@@ -1,8 +1,7 @@
 -- Lists of the code with one tree or pair more.
 use Rattle.std.proofs.Common.{◌≡◌, List, [], ◌∷◌, ◌++◌, refl, ap}
 use Rattle.yaml_styled.proofs.Prelude.{chars, element, member, Pair, tree_of, elements_of, members_of, text_bytes}
-use Rattle.yaml_data.specs.declared.tree.Tree.{Tree}
-use Rattle.yaml_styled.specs.Parts.{elements_and, members_and}
+use Rattle.{yaml_styled.specs.Parts.{elements_and, members_and}, yaml_data.specs.declared.tree.Tree.Tree}
 
 pub elements_of-and : (vs : List Tree) (v : Tree) → elements_of (vs ++ v ∷ []) ≡ elements_and (elements_of vs) (tree_of v)
 elements_of-and [] v = refl

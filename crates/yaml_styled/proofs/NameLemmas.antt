@@ -1,10 +1,9 @@
 -- Keys of members, and keys that differ.
 use Rattle.std.proofs.Common.{◌≡◌, ℕ, Bool, true, false, not, ◌&&◌, ◌||◌, List, [], ◌∷◌, ◌++◌, length, drop, Bor, refl, ap, ap₂, ◌∙◌}
-use Rattle.yaml_styled.proofs.Prelude.{chars, IsUtf8, same_text, Tree, Members, no_member, member, has_key, nothing, key_members}
-use Rattle.yaml_styled.proofs.Prelude.{keys_differ, text_bytes, same_text-Decides, same_bytes}
 use Rattle.std.proofs.Math.Seq.{drop-append_seam}
-use Rattle.yaml_data.specs.declared.text.Text.{Text}
-use Rattle.yaml_styled.specs.{Parts.members_and, Names.named, Names.keys_alone}
+use Rattle.yaml_styled.proofs.Prelude.{chars, IsUtf8, same_text, Tree, Members, no_member, member, has_key, nothing, key_members}
+use Rattle.yaml_styled.{proofs.Prelude.{keys_differ, text_bytes, same_text-Decides, same_bytes}, specs.{Parts.members_and, Names.named}}
+use Rattle.{yaml_styled.specs.Names.keys_alone, yaml_data.specs.declared.text.Text.Text}
 
 abbrev pub Key : Type 0
 Key = Bor (List ℕ)

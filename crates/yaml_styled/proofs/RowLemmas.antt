@@ -4,11 +4,10 @@ use Rattle.yaml_styled.proofs.Prelude.{chars, IsUtf8, spaces, Tree, sequence, ma
 use Rattle.yaml_styled.proofs.Prelude.{member, key_lines, elements_at, elements_after, lines_after_dash, members_at, members_after}
 use Rattle.yaml_styled.proofs.Prelude.{value_at, nothing, keys_differ, indented, elements_indented, elements_after_indented}
 use Rattle.yaml_styled.proofs.Prelude.{indented_key_lines, members_indented, members_after_indented, value_indented, is_filled}
-use Rattle.yaml_styled.specs.{Taking.Took, Taking.took_none, Taking.took_both, Parts.lines_of, Parts.elements_and, Parts.members_and}
-use Rattle.yaml_styled.specs.{Parts.IsRead, Names.named, Names.keys_alone, Sounds.SoundElements, Sounds.SoundMembers}
-use Rattle.yaml_styled.proofs.NameLemmas.{Key, keys_differ-alone, keys_alone-and, named-and}
-use Rattle.yaml_styled.proofs.SoundLemmas.{chars-IsText, more_elements, more_members, sequence_sound, mapping_sound, looser}
-use Rattle.yaml_styled.proofs.TakingLemmas.{took_as, took_end, took_after_none}
+use Rattle.yaml_styled.proofs.{NameLemmas.{Key, keys_differ-alone, keys_alone-and, named-and}, SoundLemmas.{chars-IsText, more_elements}}
+use Rattle.yaml_styled.proofs.{SoundLemmas.{more_members, sequence_sound, mapping_sound, looser}, TakingLemmas.{took_as, took_end}}
+use Rattle.yaml_styled.{proofs.TakingLemmas.took_after_none, specs.{Taking.{Took, took_none, took_both}, Parts.{lines_of, elements_and}}}
+use Rattle.yaml_styled.specs.{Parts.{members_and, IsRead}, Names.{named, keys_alone}, Sounds.{SoundElements, SoundMembers}}
 
 -- ---- elements
 

@@ -1,8 +1,7 @@
 -- Runs of bytes, and what stands in them.
 use Rattle.std.proofs.Common.{◌≡◌, ℕ, zero, suc, ◌+◌, ◌<◌, ◌≤◌, Bool, true, inl, inr, List, [], ◌∷◌, length, get_or, take, refl, ap₂, arith}
 use Rattle.yaml_styled.proofs.Prelude.{and_from, cases_lt, eqb-true, list_all, chars, chars-IsAscii, every-IsAscii, space_char, space}
-use Rattle.yaml_styled.proofs.Prelude.{spaces}
-use Rattle.yaml_styled.specs.Blocks.{IsBlockRun, IsRun}
+use Rattle.yaml_styled.{proofs.Prelude.spaces, specs.Blocks.{IsBlockRun, IsRun}}
 
 -- a run goes on by what passes in a block
 pub run_joined : (test : ℕ → Bool) (bytes : List ℕ) (len count : ℕ) → IsRun test bytes len → IsBlockRun test bytes len count

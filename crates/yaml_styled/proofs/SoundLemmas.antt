@@ -1,11 +1,11 @@
 -- What is read is text, holds no key twice and is not too deep.
-use Rattle.std.proofs.Common.{◌≡◌, ℕ, suc, ◌<◌, ◌≤◌, ◌⊎◌, max, true, not, ◌&&◌, List, [], ◌∷◌, refl, arith}
+use Rattle.std.proofs.{Common.{◌≡◌, ℕ, suc, ◌<◌, ◌≤◌, ◌⊎◌, max, true, not, ◌&&◌, List, [], ◌∷◌, refl, arith}, Math.Utf8.{scalar, scalars}}
+use Rattle.std.proofs.Math.Utf8.{scalar_cases}
 use Rattle.yaml_styled.proofs.Prelude.{and_parts, and_from, nat_tests, scalars-chars, chars, IsUtf8, list_all, IsText, Tree, text, sequence}
 use Rattle.yaml_styled.proofs.Prelude.{mapping, Elements, no_element, element, Members, no_member, member, depth, elements_depth}
 use Rattle.yaml_styled.proofs.Prelude.{members_depth, distinct, elements_distinct, members_distinct, has_key, code_point, keys_differ}
-use Rattle.yaml_styled.proofs.Prelude.{values_distinct}
-use Rattle.std.proofs.Math.Utf8.{scalar, scalars, scalar_cases}
-use Rattle.yaml_styled.specs.{Parts.elements_and, Parts.members_and, Sounds.Sound, Sounds.SoundElements, Sounds.SoundMembers}
+use Rattle.yaml_styled.{proofs.Prelude.values_distinct, specs.{Parts.{elements_and, members_and}, Sounds.{Sound, SoundElements}}}
+use Rattle.yaml_styled.specs.Sounds.{SoundMembers}
 
 passes : (c : ℕ) → (c < 55296) ⊎ ((57344 ≤ c) × (c < 1114112)) → code_point c ≡ true
 passes c h = grind (arith, nat_tests)

@@ -1,13 +1,11 @@
 -- The size of what was read, from its bytes and its lines.
 use Rattle.std.proofs.Common.{◌≡◌, ℕ, ◌+◌, ◌-◌, ◌*◌, ◌≤◌, true, false, List, ◌++◌, length, encode_utf8_all, refl, sym, ap, ◌∙◌}
-use Rattle.std.proofs.Common.{length-append, arith}
+use Rattle.std.proofs.{Common.{length-append, arith}, lemmas.Nat.mul-le}
 use Rattle.yaml_styled.proofs.Prelude.{byte_len, Tree, text, sequence, mapping, no_element, element, no_member, member, scalar_lines}
 use Rattle.yaml_styled.proofs.Prelude.{lines_after_dash, style_text, value_at, indented, indented_scalar_lines, value_indented, is_filled}
-use Rattle.yaml_styled.proofs.Prelude.{element_size, Size, byte_len-encoded, same_size, filled_value, other_value}
-use Rattle.std.proofs.lemmas.Nat.{mul-le}
+use Rattle.yaml_styled.proofs.{Prelude.{element_size, Size, byte_len-encoded, same_size, filled_value, other_value}, SoundLemmas.looser}
+use Rattle.yaml_styled.{proofs.ValueLemmas.after_dash, specs.{Comparing.GoesOn, Parts.{lines_of, IsRead}, Styles.IsStyled}}
 use Rattle.yaml_writer.proofs.SizeLaws.{value_law, scalar_law, elements_law, members_law}
-use Rattle.yaml_styled.specs.{Comparing.GoesOn, Parts.lines_of, Parts.IsRead, Styles.IsStyled}
-use Rattle.yaml_styled.proofs.{SoundLemmas.looser, ValueLemmas.after_dash}
 
 -- how many bytes are taken off
 bytes_taken : (before rest written : List ℕ) → GoesOn before written rest

@@ -1,7 +1,6 @@
 -- Pieces that are taken.
 use Rattle.std.proofs.Common.{◌≡◌, ◌+◌, ℕ, List, [], ◌++◌, IsUtf8, encode_utf8_all, refl, sym, ap, ◌∙◌, add-zero, zero-add, append-nil}
-use Rattle.yaml_styled.proofs.Prelude.{encodes-chars, chars}
-use Rattle.yaml_styled.specs.Taking.{Took, took_both}
+use Rattle.yaml_styled.{proofs.Prelude.{encodes-chars, chars}, specs.Taking.{Took, took_both}}
 
 -- bytes that are a text are taken
 pub took_bytes : {text piece rest : List ℕ} (before : ℕ) → IsUtf8 piece → text ≡ piece ++ rest

@@ -1,9 +1,8 @@
 -- A part of lines that is read, as a part of others.
 use Rattle.std.proofs.Common.{◌≡◌, ℕ, ◌+◌, ◌≤◌, true, false, List, ◌++◌, codes, refl, zero-add}
 use Rattle.yaml_styled.proofs.Prelude.{spaces, Tree, text, sequence, mapping, no_element, element, no_member, member, lines_after_dash}
-use Rattle.yaml_styled.proofs.Prelude.{value_at, indented, value_indented, indented_scalar_lines, is_filled}
-use Rattle.yaml_styled.specs.{Taking.Took, Taking.took_both, Parts.lines_of, Parts.IsRead}
-use Rattle.yaml_styled.proofs.{SoundLemmas.looser, TakingLemmas.took_as}
+use Rattle.yaml_styled.proofs.{Prelude.{value_at, indented, value_indented, indented_scalar_lines, is_filled}, SoundLemmas.looser}
+use Rattle.yaml_styled.{proofs.TakingLemmas.took_as, specs.{Taking.{Took, took_both}, Parts.{lines_of, IsRead}}}
 
 module _ {Is Are : Tree → Type 0} {written lines : Tree → List ℕ} {counts indents : Tree → ℕ} {most more : ℕ}
     {a b : List ℕ} {k l : ℕ} where

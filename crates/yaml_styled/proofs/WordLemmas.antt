@@ -4,13 +4,10 @@ use Rattle.std.proofs.Common.{get_or, IsAscii, refl, sym, ap, ap₂, subst, ◌�
 use Rattle.yaml_styled.proofs.Prelude.{and_from, and_parts, le-leb, leb-true, ltb-true, nat_tests, encodes-IsAscii, IsUtf8-from_ascii}
 use Rattle.yaml_styled.proofs.Prelude.{list_all, chars, is_in, line_feed, first, letter, word_char, plain_in_style, lower, is_among}
 use Rattle.yaml_styled.proofs.Prelude.{special_words, long_key, key_lines, scalar_lines, every-IsAscii, stands_alone, indented_key_lines}
-use Rattle.yaml_styled.proofs.Prelude.{indented_scalar_lines, short_key}
-use Rattle.yaml_writer.specs.ScalarStyles.{special_initials}
-use Rattle.yaml_writer.proofs.QuotedLemmas.{quoted_chars-alone, run_IsUtf8, stands_alone-below}
-use Rattle.yaml_writer.proofs.ScalarLemmas.{word_char-below}
+use Rattle.yaml_styled.proofs.{Prelude.{indented_scalar_lines, short_key}, RunLemmas.run_same, SoundLemmas.text_sound, TakingLemmas.took_as}
+use Rattle.{yaml_styled.specs.{Sounds.Sound, Taking.{Took, took_both}}, yaml_writer.specs.ScalarStyles.special_initials}
+use Rattle.yaml_writer.proofs.{QuotedLemmas.{quoted_chars-alone, run_IsUtf8, stands_alone-below}, ScalarLemmas.word_char-below}
 use Rattle.yaml_writer.proofs.SpecialWords.{none_longer, other_initial, same_length}
-use Rattle.yaml_styled.specs.{Sounds.Sound, Taking.Took, Taking.took_both}
-use Rattle.yaml_styled.proofs.{RunLemmas.run_same, SoundLemmas.text_sound, TakingLemmas.took_as}
 use Rattle.yaml_grammar.specs.Trees as tree
 
 -- a text of word characters is its own characters

@@ -1,6 +1,5 @@
 -- A text compared with what is written.
-use Rattle.std.specs.Prelude.{◌≡◌, ℕ, List, [], ◌++◌, encode_utf8_all}
-use Rattle.std.proofs.Common.{refl, sym, ap, ◌∙◌, append_assoc}
+use Rattle.std.{specs.Prelude.{◌≡◌, ℕ, List, [], ◌++◌, encode_utf8_all}, proofs.Common.{refl, sym, ap, ◌∙◌, append_assoc}}
 use Rattle.std.proofs.lemmas.Str.{encodes-append}
 
 -- a text begins with characters, and after them goes on with the rest

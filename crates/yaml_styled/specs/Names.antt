@@ -1,9 +1,6 @@
 -- The keys of members.
-use Rattle.std.specs.Prelude.{◌≡◌, ℕ, List, [], ◌∷◌}
-use Rattle.std.proofs.Common.{Less, nat_cmp}
+use Rattle.std.{specs.{Prelude.{◌≡◌, ℕ, List, [], ◌∷◌}, Borrow.Bor, Cmp.Lexicographic.slice_cmp}, proofs.Common.{Less, nat_cmp}}
 use Rattle.yaml_styled.specs.Prelude.{chars, IsUtf8, Members, no_member, member, nothing}
-use Rattle.std.specs.Borrow.{Bor}
-use Rattle.std.specs.Cmp.Lexicographic.{slice_cmp}
 
 -- members that have these keys, with values that are not kept
 abbrev pub named : List (Bor (List ℕ)) → Members

@@ -1,9 +1,8 @@
 -- What lines are read as.
 use Rattle.std.specs.Prelude.{◌≡◌, ℕ, List}
-use Rattle.yaml_styled.specs.Prelude.{Tree, text, sequence, mapping, Elements, no_element, element, Members, no_member}
-use Rattle.yaml_styled.specs.Prelude.{member, scalar_lines, elements_at, members_at, Pair, tree_of, elements_of}
-use Rattle.yaml_styled.specs.Prelude.{members_of}
-use Rattle.yaml_styled.specs.{Taking.Took, Sounds.Sound}
+use Rattle.yaml_styled.specs.Prelude.{Tree, text, sequence, mapping, Elements, no_element, element, Members, no_member, member}
+use Rattle.yaml_styled.specs.{Prelude.{scalar_lines, elements_at, members_at, Pair, tree_of, elements_of, members_of}, Taking.Took}
+use Rattle.yaml_styled.specs.Sounds.{Sound}
 use Rattle.yaml_data.specs.declared.tree.Tree as code
 
 -- the lines of a tree at an indentation, the first without its spaces; those of a text come after as many

@@ -1,7 +1,7 @@
 -- What holds of a tree that is read: all is text, no key comes twice, and it is not too deep.
 use Rattle.std.specs.Prelude.{◌≡◌, ℕ, ◌≤◌, true}
-use Rattle.yaml_styled.specs.Prelude.{Tree, Elements, Members, IsTextTree, AreTextElements, AreTextMembers, depth}
-use Rattle.yaml_styled.specs.Prelude.{elements_depth, members_depth, distinct, elements_distinct, values_distinct}
+use Rattle.yaml_styled.specs.Prelude.{Tree, Elements, Members, IsTextTree, AreTextElements, AreTextMembers, depth, elements_depth}
+use Rattle.yaml_styled.specs.Prelude.{members_depth, distinct, elements_distinct, values_distinct}
 
 -- of a tree
 pub record Sound (t : Tree) (most : ℕ) : Type 0 where

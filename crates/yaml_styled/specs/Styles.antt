@@ -1,8 +1,6 @@
 -- What callers know of what was read.
 use Rattle.std.specs.Prelude.{◌≡◌, ℕ, List}
-use Rattle.yaml_styled.specs.Prelude.{Tree, element_size}
-use Rattle.yaml_writer.specs.declared.size.Size.{Size}
-use Rattle.yaml_styled.specs.{Comparing.GoesOn, Sounds.Sound}
+use Rattle.{yaml_styled.specs.{Prelude.{Tree, element_size}, Comparing.GoesOn, Sounds.Sound}, yaml_writer.specs.declared.size.Size.Size}
 
 -- a text begins with a tree in the one style, and after it goes on with the rest
 pub record IsStyled (Is : Tree → Type 0) (written : Tree → List ℕ) (size : Size) (text rest : List ℕ) : Type 0 where

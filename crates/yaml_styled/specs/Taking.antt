@@ -1,6 +1,5 @@
 -- What is taken off a text, and how many of its lines are counted.
-use Rattle.std.specs.Prelude.{◌≡◌, ℕ, ◌+◌, List, [], ◌++◌}
-use Rattle.std.proofs.Common.{sym, ap, ◌∙◌, add-zero, add_assoc}
+use Rattle.std.{specs.Prelude.{◌≡◌, ℕ, ◌+◌, List, [], ◌++◌}, proofs.Common.{sym, ap, ◌∙◌, add-zero, add_assoc}}
 use Rattle.yaml_styled.specs.Comparing.{GoesOn, goes_on_none, goes_on_both}
 
 -- characters are taken off a text, and so many lines are counted

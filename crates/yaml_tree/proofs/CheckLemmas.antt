@@ -1,10 +1,8 @@
 -- Open parts after one event more.
 use Rattle.std.proofs.Common.{◌≡◌, Bool, List, Option, Some, None, Result, MatchResult, sym, ap, subst, ◌∙◌}
 use Rattle.yaml_tree.proofs.Prelude.{MatchResult-weaker, ReadFault, TooLong, NotUtf8, Syntax, Documents, KeyNotText, KeyTwice, TooDeep}
-use Rattle.yaml_tree.proofs.Prelude.{LargeInStyle, OutOfMemory, Shape}
-use Rattle.yaml_tree.specs.{Building.HasNone, Frames.Frame, Frames.step, OpenParts.Keeps, OpenParts.KeepsNext}
-use Rattle.yaml_tree.specs.Kept.{Keep, kept_frames, frames_distinct}
-use Rattle.yaml_tree.proofs.KeptLemmas.{Stepped, IsInner, inner_stepped, inner_none}
+use Rattle.yaml_tree.proofs.{Prelude.{LargeInStyle, OutOfMemory, Shape}, KeptLemmas.{Stepped, IsInner, inner_stepped, inner_none}}
+use Rattle.yaml_tree.specs.{Building.HasNone, Frames.{Frame, step}, OpenParts.{Keeps, KeepsNext}, Kept.{Keep, kept_frames, frames_distinct}}
 
 -- what a step has done, from what it does to what is kept
 pub took : (keep : Keep) (held : List Frame) (now b : Bool) (o : Option (List Frame)) → Stepped keep held b o

@@ -1,6 +1,5 @@
 -- How deep a list of events is.
-use Rattle.std.proofs.Common.{◌≡◌, ℕ, ◌+◌, ◌-◌, ◌≤◌, max, List, [], ◌∷◌, ◌++◌, append_assoc, refl, ap, ◌∙◌, arith}
-use Rattle.std.specs.Prelude.{suc}
+use Rattle.std.{proofs.Common.{◌≡◌, ℕ, ◌+◌, ◌-◌, ◌≤◌, max, List, [], ◌∷◌, ◌++◌, append_assoc, refl, ap, ◌∙◌, arith}, specs.Prelude.suc}
 use Rattle.yaml_tree.proofs.Prelude.{Tree, text, sequence, mapping, Elements, no_element, element, Members, no_member, member, Shape}
 use Rattle.yaml_tree.proofs.Prelude.{document_from, document_to, seq_from, seq_to, map_from, map_to, scalar_of, shapes, tree_shapes}
 use Rattle.yaml_tree.proofs.Prelude.{elements_shapes, members_shapes, depth, elements_depth, members_depth, IsTreeOf}

@@ -2,9 +2,8 @@
 use Rattle.std.proofs.Common.{◌≡◌, ℕ, List, [], ◌∷◌, ◌++◌, Option, Some, None, append_assoc, refl, sym, ap, subst, ◌∙◌}
 use Rattle.yaml_tree.proofs.Prelude.{append-nil, Tree, text, sequence, mapping, Elements, no_element, element, Members, no_member, member}
 use Rattle.yaml_tree.proofs.Prelude.{Shape, document_from, document_to, seq_from, seq_to, map_from, map_to, scalar_of, tree_shapes}
-use Rattle.yaml_tree.proofs.Prelude.{elements_shapes, members_shapes, join_elements, join_members}
-use Rattle.yaml_tree.specs.Frames.{Frame, awaiting, root, whole, in_seq, at_key, at_value, elements_and, members_and, frames_with, step}
-use Rattle.yaml_tree.specs.Frames.{finished_tree}
+use Rattle.yaml_tree.{proofs.Prelude.{elements_shapes, members_shapes, join_elements, join_members}, specs.Frames.{Frame, awaiting, root}}
+use Rattle.yaml_tree.specs.Frames.{whole, in_seq, at_key, at_value, elements_and, members_and, frames_with, step, finished_tree}
 
 -- ---- several events
 

@@ -2,9 +2,8 @@
 use Rattle.std.proofs.Common.{◌≡◌, ◌≢◌, ℕ, ◌<◌, true, false, List, refl, sym, subst, ◌∙◌, arith}
 use Rattle.yaml_tree.proofs.Prelude.{chars, ReadFault, TooLong, NotUtf8, Syntax, Documents, KeyNotText, KeyTwice, TooDeep, LargeInStyle}
 use Rattle.yaml_tree.proofs.Prelude.{OutOfMemory, Limits, Reads, Tree, depth, distinct, IsTreeOf, style_text, byte_len, byte_len-chars}
-use Rattle.yaml_grammar.specs.Events.{Event}
-use Rattle.yaml_tree.specs.Reading.{IsRead, RefusesTree, Refuses}
-use Rattle.yaml_tree.proofs.{EventLemmas.tree_is_one, NestedLemmas.collection_key_none, StartLemmas.tree_counted}
+use Rattle.yaml_tree.{proofs.{EventLemmas.tree_is_one, NestedLemmas.collection_key_none, StartLemmas.tree_counted}, specs.Reading.IsRead}
+use Rattle.{yaml_tree.specs.Reading.{RefusesTree, Refuses}, yaml_grammar.specs.Events.Event}
 
 -- ---- what bytes give
 

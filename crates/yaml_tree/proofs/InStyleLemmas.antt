@@ -1,13 +1,10 @@
 -- A text whose lines are a tree's in the one style gives that tree.
 use Rattle.std.proofs.Common.{◌≡◌, inl, inr, ℕ, ◌<◌, ◌≤◌, true, nat_lt, List, [], ◌++◌, length, append-nil, length-append, refl, sym, ap}
-use Rattle.std.proofs.Common.{ap₂, subst, ◌∙◌, arith, codes, encode_utf8_all}
+use Rattle.std.{proofs.Common.{ap₂, subst, ◌∙◌, arith, codes, encode_utf8_all}, specs.List.list_all}
 use Rattle.yaml_tree.proofs.Prelude.{IsUtf8, nat_tests, chars_from_encodes, encodes-append, encodes-IsAscii, every-IsAscii, own_limits}
 use Rattle.yaml_tree.proofs.Prelude.{Limits, Good, Gives, style_text, byte_len, Tree, depth, GoesOn, byte_len-encoded}
-use Rattle.std.specs.List.{list_all}
-use Rattle.yaml_recognizers.specs.Closings.{framed_text}
-use Rattle.yaml_recognizers.specs.StyleLaws.{StyleReads, FramedReads}
-use Rattle.yaml_writer.specs.declared.size.Size.{Size}
-use Rattle.yaml_tree.specs.{Formatting.IsFormatted, InStyle.StandIn, InStyle.AreLinesIn, InStyle.AreLinesOf, Reading.IsRead}
+use Rattle.yaml_tree.specs.{Formatting.IsFormatted, InStyle.{StandIn, AreLinesIn, AreLinesOf}, Reading.IsRead}
+use Rattle.{yaml_recognizers.specs.{Closings.framed_text, StyleLaws.{StyleReads, FramedReads}}, yaml_writer.specs.declared.size.Size.Size}
 
 -- the lines, as bytes, are the tree's
 lines_are : (lines : List ℕ) (t : Tree) → GoesOn lines (style_text t) [] → encode_utf8_all (style_text t) ≡ lines

@@ -1,9 +1,8 @@
 -- A change of the innermost part.
 use Rattle.std.proofs.Common.{◌≡◌, ℕ, zero, suc, List, [], ◌∷◌, length, get_or, set, take, Option, Some, Result, Ok, Err, MatchResult}
 use Rattle.std.proofs.Common.{arith, sym, ap, ◌∙◌}
-use Rattle.yaml_tree.proofs.Prelude.{nil_from_length, ReadFault}
-use Rattle.yaml_tree.specs.{Building.frames_onto, Building.HasNone, Frames.Frame, Frames.innermost, Frames.inside}
-use Rattle.yaml_tree.proofs.CheckLemmas.{has_none}
+use Rattle.yaml_tree.{proofs.{Prelude.{nil_from_length, ReadFault}, CheckLemmas.has_none}, specs.Building.{frames_onto, HasNone}}
+use Rattle.yaml_tree.specs.Frames.{Frame, innermost, inside}
 
 -- the last part is the innermost frame
 frames_onto-last : {A : Type 0} (frame : A → Frame) (ps : List A) (n : ℕ) (d : A) (fs : List Frame) → length ps ≡ suc n

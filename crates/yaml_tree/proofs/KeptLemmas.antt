@@ -3,12 +3,11 @@ use Rattle.std.proofs.Common.{◌≡◌, ℕ, Bool, true, false, ◌&&◌, ◌||
 use Rattle.yaml_tree.proofs.Prelude.{same_text, Tree, text, sequence, mapping, Elements, no_element, element, Members, no_member, member}
 use Rattle.yaml_tree.proofs.Prelude.{Shape, document_from, document_to, seq_from, seq_to, map_from, map_to, scalar_of, distinct}
 use Rattle.yaml_tree.proofs.Prelude.{elements_distinct, members_distinct, has_key, nothing, keys_differ, values_distinct}
-use Rattle.yaml_data.proofs.KeyLemmas.{members_distinct-parts}
 use Rattle.yaml_tree.specs.Frames.{Frame, awaiting, root, whole, in_seq, at_key, at_value, elements_and, members_and, innermost}
-use Rattle.yaml_tree.specs.Frames.{frames_with, step, after_document_end, after_seq_end, after_map_end, finished_tree}
-use Rattle.yaml_tree.specs.Kept.{Keep, trees, keys, kept, kept_elements, kept_members, kept_frames, elements_more, with_last, value_placed}
-use Rattle.yaml_tree.specs.Kept.{scalar_placed, seq_ended, map_ended, frames_distinct}
-use Rattle.yaml_tree.specs.OpenParts.{Finished}
+use Rattle.yaml_tree.specs.{Frames.{frames_with, step, after_document_end, after_seq_end, after_map_end, finished_tree}, Kept.{Keep, trees}}
+use Rattle.yaml_tree.specs.Kept.{keys, kept, kept_elements, kept_members, kept_frames, elements_more, with_last, value_placed}
+use Rattle.yaml_tree.specs.{Kept.{scalar_placed, seq_ended, map_ended, frames_distinct}, OpenParts.Finished}
+use Rattle.yaml_data.proofs.KeyLemmas.{members_distinct-parts}
 
 -- what is kept of frames, where there are frames
 abbrev pub kept_some : Keep → Option (List Frame) → Option (List Frame)

@@ -2,13 +2,12 @@
 use Rattle.std.proofs.Common.{◌≡◌, ℕ, Bool, true, false, ◌||◌, List, [], ◌∷◌, ◌++◌, Option, Some, None, append_assoc, refl, sym, ap, ◌∙◌}
 use Rattle.yaml_tree.proofs.Prelude.{Tree, Elements, no_element, element, Members, no_member, member, Shape, document_from, document_to}
 use Rattle.yaml_tree.proofs.Prelude.{seq_from, seq_to, map_from, map_to, scalar_of, shapes, IsTreeOf, join_elements, join_members}
+use Rattle.yaml_tree.proofs.{EventLemmas.{run_tree, none_stopped}, FrameLemmas.{run, run-None, join_elements-none, join_members-none}}
+use Rattle.yaml_tree.{proofs.FrameLemmas.{join_elements-one, join_members-one}, specs.Frames.{Frame, awaiting, whole, in_seq, at_key}}
+use Rattle.yaml_tree.specs.{Frames.{at_value, elements_and, members_and, frames_with, step}, Nested.{Nested, text, sequence, mapping}}
+use Rattle.yaml_tree.specs.Nested.{Values, no_value, value, Pairs, no_pair, pair, nested_shapes, values_shapes, pairs_shapes}
+use Rattle.yaml_tree.specs.Nested.{has_collection_key, values_have_collection_key, pairs_have_collection_key, HasCollectionKey}
 use Rattle.yaml_grammar.specs.Events.{Event}
-use Rattle.yaml_tree.specs.Frames.{Frame, awaiting, whole, in_seq, at_key, at_value, elements_and, members_and, frames_with, step}
-use Rattle.yaml_tree.specs.Nested.{Nested, text, sequence, mapping, Values, no_value, value, Pairs, no_pair, pair, nested_shapes}
-use Rattle.yaml_tree.specs.Nested.{values_shapes, pairs_shapes, has_collection_key, values_have_collection_key, pairs_have_collection_key}
-use Rattle.yaml_tree.specs.Nested.{HasCollectionKey}
-use Rattle.yaml_tree.proofs.EventLemmas.{run_tree, none_stopped}
-use Rattle.yaml_tree.proofs.FrameLemmas.{run, run-None, join_elements-none, join_members-none, join_elements-one, join_members-one}
 use Rattle.yaml_grammar.specs.Trees as trees
 
 -- ---- the tree that a value is, where no key is a collection

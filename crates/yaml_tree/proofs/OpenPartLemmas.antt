@@ -1,11 +1,10 @@
 -- The open parts of src/parts.rt as frames: what is next in them, and what is written before it.
 use Rattle.std.proofs.Common.{◌≡◌, ℕ, suc, ◌+◌, ◌<◌, Bool, true, false, if◌then◌else◌, ◌==◌, List, [], ◌∷◌, ◌++◌, ◌⊎◌, inl, inr, codes}
 use Rattle.std.proofs.Common.{length, refl, sym, ap, ◌∙◌, arith}
-use Rattle.yaml_tree.proofs.Prelude.{ne_eqb, event_of, Event, spaces, Members, shape, Text}
-use Rattle.yaml_events.specs.declared.event.Event.TheVariants.{DocStart, SeqStart, MapStart}
-use Rattle.yaml_tree.specs.{Kept.members_by, Kept.elements_by, Kept.no_tree, OpenParts.frame_by_next}
-use Rattle.yaml_tree.specs.Frames.{Frame, awaiting, root, whole, in_seq, at_key, at_value, awaits_value}
+use Rattle.yaml_tree.{proofs.Prelude.{ne_eqb, event_of, Event, spaces, Members, shape, Text}, specs.Kept.{members_by, elements_by, no_tree}}
+use Rattle.yaml_tree.specs.{OpenParts.frame_by_next, Frames.{Frame, awaiting, root, whole, in_seq, at_key, at_value, awaits_value}}
 use Rattle.yaml_tree.specs.OpenText.{indent_in, empty_line, line_start, dash, key_start, seq_end, map_end, added}
+use Rattle.yaml_events.specs.declared.event.Event.TheVariants.{DocStart, SeqStart, MapStart}
 
 -- a key of a mapping, without its value
 abbrev Key : Type 0

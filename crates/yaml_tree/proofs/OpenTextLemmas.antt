@@ -4,12 +4,11 @@ use Rattle.std.proofs.Common.{sym, ap, subst, ◌∙◌}
 use Rattle.yaml_tree.proofs.Prelude.{append-nil, key_lines, lines_at, elements_at, elements_after, lines_after_dash, members_at}
 use Rattle.yaml_tree.proofs.Prelude.{members_after, value_at, IsText, spaces, Tree, text, sequence, mapping, Elements, no_element, element}
 use Rattle.yaml_tree.proofs.Prelude.{Members, no_member, member, Shape, document_from, document_to, seq_from, seq_to, map_from, map_to}
-use Rattle.yaml_tree.proofs.Prelude.{scalar_of, IsTextTree, AreTextElements, AreTextMembers}
-use Rattle.yaml_tree.specs.{Kept.keys, Kept.kept_members, Kept.kept_frame, Kept.kept_frames, Formatting.indent_after}
-use Rattle.yaml_tree.specs.Frames.{Frame, awaiting, root, whole, in_seq, at_key, at_value, elements_and, members_and, frame_with}
-use Rattle.yaml_tree.specs.Frames.{frames_with, inside, step, awaits_value}
-use Rattle.yaml_tree.specs.OpenText.{indent_in, opening, empty_line, dash, key_start, scalar_in, seq_end, map_end, added, dash_in}
-use Rattle.yaml_tree.specs.OpenText.{part_lines, text_of, AreTextFrames, BringsText}
+use Rattle.yaml_tree.{proofs.Prelude.{scalar_of, IsTextTree, AreTextElements, AreTextMembers}, specs.Kept.{keys, kept_members, kept_frame}}
+use Rattle.yaml_tree.specs.{Kept.kept_frames, Formatting.indent_after, Frames.{Frame, awaiting, root, whole, in_seq, at_key, at_value}}
+use Rattle.yaml_tree.specs.{Frames.{elements_and, members_and, frame_with, frames_with, inside, step, awaits_value}, OpenText.indent_in}
+use Rattle.yaml_tree.specs.OpenText.{opening, empty_line, dash, key_start, scalar_in, seq_end, map_end, added, dash_in, part_lines, text_of}
+use Rattle.yaml_tree.specs.OpenText.{AreTextFrames, BringsText}
 
 -- ---- one more at the end
 

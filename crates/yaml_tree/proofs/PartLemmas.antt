@@ -1,11 +1,10 @@
 -- Open parts, one more of them or one more thing in one.
 use Rattle.std.proofs.Common.{◌≡◌, ℕ, zero, suc, ◌<◌, ◌&&◌, ◌||◌, not, List, [], ◌∷◌, ◌++◌, length, get_or, set, None, arith, refl, ap, ap₂}
 use Rattle.yaml_tree.proofs.Prelude.{chars, same_text, key_members, keys_differ, Pair, tree_of, elements_of, members_of, Text}
-use Rattle.yaml_data.specs.TextBytes.{text_bytes}
-use Rattle.yaml_data.specs.declared.tree.Tree.{Tree}
-use Rattle.yaml_tree.specs.{Building.frames_onto, Kept.with_last, Kept.members_by, OpenParts.part_frame, OpenParts.part_frames}
-use Rattle.yaml_tree.specs.{OpenParts.open_frame, OpenParts.open_frames, declared.kept.Emptiness.Emptiness, declared.parts.Part.Part}
-use Rattle.yaml_tree.specs.Frames.{Frame, awaiting, root, whole, in_seq, at_key, at_value, elements_and, members_and, finished_tree}
+use Rattle.yaml_tree.specs.{Building.frames_onto, Kept.{with_last, members_by}, OpenParts.{part_frame, part_frames, open_frame}}
+use Rattle.yaml_tree.specs.{OpenParts.open_frames, declared.{kept.Emptiness.Emptiness, parts.Part.Part}, Frames.{Frame, awaiting, root}}
+use Rattle.yaml_tree.specs.Frames.{whole, in_seq, at_key, at_value, elements_and, members_and, finished_tree}
+use Rattle.yaml_data.specs.{TextBytes.text_bytes, declared.tree.Tree.Tree}
 use Rattle.yaml_grammar.specs.Trees as grammar
 
 -- the elements of a list with one more tree at the end

@@ -2,20 +2,15 @@
 use Rattle.std.proofs.Common.{◌≡◌, ℕ, true, false, List, [], ◌∷◌, ◌++◌, Option, Some, None, append_assoc, refl, sym, ap, ap₂, ◌∙◌, arith}
 use Rattle.std.specs.Prelude.{suc}
 use Rattle.yaml_tree.proofs.Prelude.{append-nil, seq_end, map_end, document_end, as_seq, as_map, as_document, Reads, Shape, document_from}
-use Rattle.yaml_tree.proofs.Prelude.{document_to, seq_from, seq_to, map_from, map_to, shape, shapes}
-use Rattle.yaml_grammar.specs.BlockNodes.{Node, Items, Pair, Indented, node_events, items_events, pairs_events}
-use Rattle.yaml_grammar.specs.BlockNodes.{pair_events, indented_events}
-use Rattle.yaml_grammar.specs.BlockScalars.{block_value}
-use Rattle.yaml_grammar.specs.Events.{Event}
-use Rattle.yaml_grammar.specs.FlowNodes.{Flow, Entries, Entry, Value, flow_events, entries_events, entry_events, value_events}
-use Rattle.yaml_grammar.specs.FlowScalars.{scalar_value}
-use Rattle.yaml_grammar.specs.Streams.{Explicit, content, nothing, Document, bare, explicit, directed, Part, suffixes}
-use Rattle.yaml_grammar.specs.Streams.{line, further, Stream, explicit_events, document_events}
-use Rattle.yaml_grammar.specs.Streams.{optional_document_events, part_events, parts_events, stream_events}
-use Rattle.yaml_tree.specs.Reading.{document_count}
-use Rattle.yaml_tree.specs.Nested.{Nested, text, sequence, mapping, Values, no_value, value, Pairs, no_pair, pair, nested_shapes}
-use Rattle.yaml_tree.specs.Nested.{values_shapes, pairs_shapes}
-use Rattle.yaml_tree.proofs.StartLemmas.{starts, starts_counted, nested_starts}
+use Rattle.yaml_tree.proofs.{Prelude.{document_to, seq_from, seq_to, map_from, map_to, shape, shapes}, StartLemmas.{starts, starts_counted}}
+use Rattle.yaml_tree.{proofs.StartLemmas.nested_starts, specs.{Reading.document_count, Nested.{Nested, text, sequence, mapping, Values}}}
+use Rattle.yaml_tree.specs.Nested.{no_value, value, Pairs, no_pair, pair, nested_shapes, values_shapes, pairs_shapes}
+use Rattle.yaml_grammar.specs.BlockNodes.{Node, Items, Pair, Indented, node_events, items_events, pairs_events, pair_events}
+use Rattle.yaml_grammar.specs.{BlockNodes.indented_events, BlockScalars.block_value, Events.Event, FlowNodes.{Flow, Entries, Entry, Value}}
+use Rattle.yaml_grammar.specs.{FlowNodes.{flow_events, entries_events, entry_events, value_events}, FlowScalars.scalar_value}
+use Rattle.yaml_grammar.specs.Streams.{Explicit, content, nothing, Document, bare, explicit, directed, Part, suffixes, line, further}
+use Rattle.yaml_grammar.specs.Streams.{Stream, explicit_events, document_events, optional_document_events, part_events, parts_events}
+use Rattle.yaml_grammar.specs.Streams.{stream_events}
 use Rattle.yaml_grammar.specs.BlockNodes as blocks
 use Rattle.yaml_grammar.specs.FlowNodes as flows
 

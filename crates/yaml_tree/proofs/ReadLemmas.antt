@@ -2,9 +2,8 @@
 use Rattle.std.proofs.Common.{◌≡◌, ℕ, ◌<◌, ◌≤◌, List, sym, subst}
 use Rattle.yaml_tree.proofs.Prelude.{chars, ReadFault, TooLong, NotUtf8, Syntax, Documents, KeyNotText, KeyTwice, TooDeep, LargeInStyle}
 use Rattle.yaml_tree.proofs.Prelude.{OutOfMemory, events_of, Event, Limits, Good, Tree, IsTreeOf, depth, byte_len-chars}
-use Rattle.yaml_docs.specs.Reading.{ReadsAs}
-use Rattle.yaml_tree.specs.{Building.HasNoTree, Building.RefusesDeep, Reading.IsRead, Reading.Refuses, Reading.document_count}
-use Rattle.yaml_tree.proofs.{NestedLemmas.collection_key, PresentedLemmas.document_nested}
+use Rattle.yaml_tree.{proofs.{NestedLemmas.collection_key, PresentedLemmas.document_nested}, specs.Building.{HasNoTree, RefusesDeep}}
+use Rattle.{yaml_tree.specs.Reading.{IsRead, Refuses, document_count}, yaml_docs.specs.Reading.ReadsAs}
 
 -- a good tree whose events the bytes read as is given by the bytes
 pub tree_read : (bytes : List ℕ) (limits : Limits) (es : List Event) (t : Tree) → ReadsAs bytes limits.bytes es

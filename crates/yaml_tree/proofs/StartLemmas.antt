@@ -1,13 +1,10 @@
 -- How many documents begin among events.
-use Rattle.std.proofs.Common.{◌≡◌, ℕ, List, [], ◌∷◌, ◌++◌, append_assoc, refl, ap, ◌∙◌}
-use Rattle.std.specs.Prelude.{suc}
+use Rattle.std.{proofs.Common.{◌≡◌, ℕ, List, [], ◌∷◌, ◌++◌, append_assoc, refl, ap, ◌∙◌}, specs.Prelude.suc}
 use Rattle.yaml_tree.proofs.Prelude.{document_start, document_end, seq_start, seq_end, map_start, map_end, scalar_event, Tree, text}
 use Rattle.yaml_tree.proofs.Prelude.{sequence, mapping, Elements, no_element, element, Members, no_member, member, Shape, document_from}
 use Rattle.yaml_tree.proofs.Prelude.{document_to, seq_from, seq_to, map_from, map_to, scalar_of, shapes, tree_shapes, elements_shapes}
-use Rattle.yaml_tree.proofs.Prelude.{members_shapes, IsTreeOf}
-use Rattle.yaml_grammar.specs.Events.{Event}
-use Rattle.yaml_tree.specs.Nested.{Nested, Values, no_value, value, Pairs, no_pair, pair, nested_shapes, values_shapes, pairs_shapes}
-use Rattle.yaml_tree.specs.Reading.{document_count}
+use Rattle.yaml_tree.{proofs.Prelude.{members_shapes, IsTreeOf}, specs.Nested.{Nested, Values, no_value, value, Pairs, no_pair, pair}}
+use Rattle.{yaml_tree.specs.{Nested.{nested_shapes, values_shapes, pairs_shapes}, Reading.document_count}, yaml_grammar.specs.Events.Event}
 use Rattle.yaml_tree.specs.Nested as nested
 
 -- ---- the events of a tree are those of one document

@@ -2,19 +2,16 @@
 use Rattle.std.proofs.Common.{◌≡◌, ◌≢◌, ℕ, ◌-◌, ◌<◌, ◌≤◌, nat_le, Bool, true, false, if◌then◌else◌, ◌++◌, List, [], ◌∷◌, length, Option}
 use Rattle.std.proofs.Common.{Some, None, Result, Err, ◌↔◌, encode_utf8_all, refl, sym, ap, subst, ◌∙◌, arith}
 use Rattle.yaml_tree.proofs.Prelude.{leb-true, leb-false, events_of, ReadFault, TooLong, KeyTwice, TooDeep, LargeInStyle, Limits, Good}
-use Rattle.yaml_tree.proofs.Prelude.{style_text, byte_len, Tree, Shape, byte_len-chars, shapes}
-use Rattle.yaml_writer.specs.Budget.{left_after}
-use Rattle.yaml_writer.specs.Limited.{TakesLimited, room_left, taken}
-use Rattle.yaml_writer.specs.declared.limited.LimitedText.{LimitedText}
+use Rattle.yaml_tree.proofs.{Prelude.{style_text, byte_len, Tree, Shape, byte_len-chars, shapes}, EventLemmas.run_tree, FrameLemmas.run}
+use Rattle.yaml_tree.proofs.{FrameLemmas.finished_whole, ReadLemmas.tree_read, OpenTextLemmas.{IsTextOf, HasTexts, HasIndent, step_text}}
+use Rattle.yaml_tree.{proofs.OpenTextLemmas.{step_texts, step_indent, added-kept, BringsText-kept}, specs.Documents.IsDocument}
+use Rattle.yaml_tree.specs.{Documents.{IsWrittenTo, with_style}, Kept.{keys, elements_by, no_tree, kept_frames}, OpenParts.HoldsKeys}
+use Rattle.yaml_tree.specs.{OpenParts.{Took, Finished}, Frames.{Frame, whole, step, finished_tree}, OpenText.{text_of, added}}
+use Rattle.yaml_tree.specs.{OpenText.{AreTextFrames, BringsText}, Reading.{IsRead, Refuses, RefusesTree}}
+use Rattle.yaml_tree.specs.{declared.{documents.Document.Document, format.DocumentWriter.DocumentWriter}, Formatting.{IsFormatted, Writes}}
+use Rattle.{yaml_tree.specs.Formatting.{Wrote, IsWritten, indent_after}, yaml_writer.specs.{Budget.left_after, Limited.TakesLimited}}
+use Rattle.yaml_writer.specs.{Limited.{room_left, taken}, declared.limited.LimitedText.LimitedText}
 use Rattle.yaml_events.specs.declared.event.Event.{Event as CodeEvent}
-use Rattle.yaml_tree.specs.{Documents.IsDocument, Documents.IsWrittenTo, Documents.with_style, Kept.keys, Kept.elements_by, Kept.no_tree}
-use Rattle.yaml_tree.specs.{Kept.kept_frames, OpenParts.HoldsKeys, OpenParts.Took, OpenParts.Finished, Frames.Frame, Frames.whole}
-use Rattle.yaml_tree.specs.{Frames.step, Frames.finished_tree, OpenText.text_of, OpenText.added, OpenText.AreTextFrames}
-use Rattle.yaml_tree.specs.{OpenText.BringsText, Reading.IsRead, Reading.Refuses, Reading.RefusesTree, declared.documents.Document.Document}
-use Rattle.yaml_tree.specs.{declared.format.DocumentWriter.DocumentWriter}
-use Rattle.yaml_tree.specs.Formatting.{IsFormatted, Writes, Wrote, IsWritten, indent_after}
-use Rattle.yaml_tree.proofs.{EventLemmas.run_tree, FrameLemmas.run, FrameLemmas.finished_whole, ReadLemmas.tree_read}
-use Rattle.yaml_tree.proofs.OpenTextLemmas.{IsTextOf, HasTexts, HasIndent, step_text, step_texts, step_indent, added-kept, BringsText-kept}
 
 -- a writer before the first event
 pub begins : {S : Type 0} (takes : S → List ℕ → S → Type 0) (start : S) (writer : DocumentWriter) → takes start [] start

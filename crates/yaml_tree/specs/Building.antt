@@ -1,8 +1,7 @@
 -- When events are refused, and lists of parts as frames.
 use Rattle.std.specs.Prelude.{◌≡◌, true, false, List, [], ◌∷◌, Option, None}
-use Rattle.yaml_tree.specs.Prelude.{ReadFault, TooLong, NotUtf8, Syntax, Documents, KeyNotText, KeyTwice, TooDeep}
-use Rattle.yaml_tree.specs.Prelude.{LargeInStyle, OutOfMemory, Event, IsTreeOf, distinct}
-use Rattle.yaml_tree.specs.Frames.{Frame}
+use Rattle.yaml_tree.specs.Prelude.{ReadFault, TooLong, NotUtf8, Syntax, Documents, KeyNotText, KeyTwice, TooDeep, LargeInStyle}
+use Rattle.yaml_tree.specs.{Prelude.{OutOfMemory, Event, IsTreeOf, distinct}, Frames.Frame}
 use Rattle.yaml_grammar.specs.Trees as grammar
 
 -- the frames of a list whose last one is the innermost, put before others

@@ -1,7 +1,7 @@
 -- A text that was read as one document, and the text of its tree in the one style.
 use Rattle.std.specs.Prelude.{◌≡◌, ℕ, List}
-use Rattle.yaml_tree.specs.Prelude.{ReadsAs, events_of, Limits, style_text, byte_len, Tree, IsTreeOf, depth}
-use Rattle.yaml_tree.specs.{Reading.IsRead, Reading.document_count, declared.documents.Document.Document}
+use Rattle.yaml_tree.specs.{Prelude.{ReadsAs, events_of, Limits, style_text, byte_len, Tree, IsTreeOf, depth}, Reading.IsRead}
+use Rattle.yaml_tree.specs.{Reading.document_count, declared.documents.Document.Document}
 
 -- the bytes read as the events of one document, which say how deep its tree is, if it has one
 pub record IsDocument (bytes : List ℕ) (limits : Limits) (document : Document) : Type 0 where

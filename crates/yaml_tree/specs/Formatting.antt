@@ -1,9 +1,8 @@
 -- A document that is written while its events come, and what was written of it at the end.
 use Rattle.std.specs.Prelude.{◌≡◌, ℕ, ◌<◌, Bool, List, Option, Some, ◌-◌, ◌+◌, encode_utf8_all}
-use Rattle.yaml_tree.specs.Prelude.{Event, Limits, style_text, Tree, IsTreeOf, IsTextTree, distinct, Shape}
-use Rattle.yaml_tree.specs.Prelude.{document_from, document_to, seq_from, seq_to, map_from, map_to, scalar_of}
-use Rattle.yaml_tree.specs.{OpenParts.HoldsKeys, Frames.Frame, OpenText.indent_in, OpenText.text_of}
-use Rattle.yaml_tree.specs.{OpenText.AreTextFrames, Reading.IsRead, declared.format.DocumentWriter.DocumentWriter}
+use Rattle.yaml_tree.specs.Prelude.{Event, Limits, style_text, Tree, IsTreeOf, IsTextTree, distinct, Shape, document_from, document_to}
+use Rattle.yaml_tree.specs.{Prelude.{seq_from, seq_to, map_from, map_to, scalar_of}, OpenParts.HoldsKeys, Frames.Frame, OpenText.indent_in}
+use Rattle.yaml_tree.specs.{OpenText.{text_of, AreTextFrames}, Reading.IsRead, declared.format.DocumentWriter.DocumentWriter}
 
 -- the bytes give a tree within the limits, and this is its text in the one style
 pub record IsFormatted (bytes : List ℕ) (limits : Limits) (text : List ℕ) : Type 0 where

@@ -1,8 +1,7 @@
 -- How the events of a document make up its tree, one after another: the parts that are open, the innermost one first.
 use Rattle.std.specs.Prelude.{ℕ, Bool, true, false, List, [], ◌∷◌, Option, Some, None}
-use Rattle.yaml_tree.specs.Prelude.{Tree, text, sequence, mapping, Elements, no_element, element, Members, no_member}
-use Rattle.yaml_tree.specs.Prelude.{member, Shape, document_from, document_to, seq_from, seq_to, map_from, map_to}
-use Rattle.yaml_tree.specs.Prelude.{scalar_of}
+use Rattle.yaml_tree.specs.Prelude.{Tree, text, sequence, mapping, Elements, no_element, element, Members, no_member, member, Shape}
+use Rattle.yaml_tree.specs.Prelude.{document_from, document_to, seq_from, seq_to, map_from, map_to, scalar_of}
 
 -- a document before its value, with it, and after its end; a sequence; a mapping where a key is next, and one where the
 -- value of a key is next

@@ -1,10 +1,7 @@
 -- Texts that are read in one pass over the lines of their tree.
 use Rattle.std.specs.Prelude.{◌≡◌, ◌⊎◌, ◌≤◌, ℕ, List, [], ◌++◌, codes, length}
-use Rattle.yaml_tree.specs.Prelude.{IsUtf8, Limits, style_text, Tree}
-use Rattle.yaml_styled.specs.Comparing.{GoesOn}
-use Rattle.yaml_styled.specs.Sounds.{Sound}
-use Rattle.yaml_writer.specs.Sizes.{element_size}
-use Rattle.yaml_writer.specs.declared.size.Size.{Size}
+use Rattle.{yaml_tree.specs.Prelude.{IsUtf8, Limits, style_text, Tree}, yaml_styled.specs.{Comparing.GoesOn, Sounds.Sound}}
+use Rattle.yaml_writer.specs.{Sizes.element_size, declared.size.Size.Size}
 
 -- the lines are the whole text, or what stands between a line of `---` and a closing line
 abbrev pub StandIn : List ℕ → List ℕ → Type 0

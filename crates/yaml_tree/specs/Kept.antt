@@ -1,9 +1,8 @@
 -- What is kept of the values of a document while its parts are open: all trees, or only the keys of open mappings.
 use Rattle.std.specs.Prelude.{ℕ, Bool, true, false, ◌&&◌, List, [], ◌∷◌, Option, Some, None}
-use Rattle.yaml_tree.specs.Prelude.{chars, Tree, text, Elements, no_element, element, Members, no_member, member}
-use Rattle.yaml_tree.specs.Prelude.{distinct, elements_distinct, nothing, values_distinct, text_bytes}
-use Rattle.yaml_data.specs.declared.text.Text.{Text}
-use Rattle.yaml_tree.specs.Frames.{Frame, awaiting, root, whole, in_seq, at_key, at_value, elements_and, members_and}
+use Rattle.yaml_tree.specs.Prelude.{chars, Tree, text, Elements, no_element, element, Members, no_member, member, distinct}
+use Rattle.yaml_tree.specs.{Prelude.{elements_distinct, nothing, values_distinct, text_bytes}, Frames.{Frame, awaiting, root, whole}}
+use Rattle.{yaml_tree.specs.Frames.{in_seq, at_key, at_value, elements_and, members_and}, yaml_data.specs.declared.text.Text.Text}
 
 pub data Keep : Type 0 where
   trees keys : Keep

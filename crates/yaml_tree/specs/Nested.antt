@@ -1,8 +1,7 @@
 -- What a document holds if keys may be of any kind: a text, a sequence, or a mapping of keys to values
 -- (YAML 1.2.2, 3.2.1).
 use Rattle.std.specs.Prelude.{◌≡◌, ℕ, Bool, true, false, ◌||◌, List, [], ◌∷◌, ◌++◌, IsTrue}
-use Rattle.yaml_tree.specs.Prelude.{Event, Shape, document_from, document_to, seq_from, seq_to, map_from, map_to}
-use Rattle.yaml_tree.specs.Prelude.{scalar_of, shapes}
+use Rattle.yaml_tree.specs.Prelude.{Event, Shape, document_from, document_to, seq_from, seq_to, map_from, map_to, scalar_of, shapes}
 
 mutual
   pub data Nested : Type 0 where

@@ -1,11 +1,10 @@
 -- What the open parts of src/parts.rt mean.
 use Rattle.std.specs.Prelude.{◌≡◌, Bool, true, false, List, [], Option, Some}
-use Rattle.yaml_tree.specs.Prelude.{Event, Tree, Elements, Members, IsTreeOf, distinct}
-use Rattle.yaml_tree.specs.{Building.frames_onto, declared.kept.Emptiness.Emptiness, declared.parts.OpenMap.OpenMap}
-use Rattle.yaml_tree.specs.{declared.parts.Part.Part, declared.parts.Parts.Parts}
-use Rattle.yaml_tree.specs.Frames.{Frame, awaiting, root, whole, in_seq, at_key, at_value}
-use Rattle.yaml_tree.specs.Kept.{Keep, keys, kept, kept_frames, frames_distinct, members_by, elements_by, no_tree}
-use Rattle.yaml_tree.specs.declared.parts.Part.TheVariants.{Document, Root, Whole, Seq, Map}
+use Rattle.yaml_tree.specs.{Prelude.{Event, Tree, Elements, Members, IsTreeOf, distinct}, Building.frames_onto}
+use Rattle.yaml_tree.specs.declared.{kept.Emptiness.Emptiness, parts.{OpenMap.OpenMap, Part.{Part, TheVariants.{Document, Root, Whole}}}}
+use Rattle.yaml_tree.specs.{declared.parts.{Part.TheVariants.{Seq, Map}, Parts.Parts}, Frames.{Frame, awaiting, root, whole, in_seq}}
+use Rattle.yaml_tree.specs.{Frames.{at_key, at_value}, Kept.{Keep, keys, kept, kept_frames, frames_distinct, members_by, elements_by}}
+use Rattle.yaml_tree.specs.Kept.{no_tree}
 
 -- a mapping, by whether the value of its last key is next
 abbrev pub frame_by_next : Members → Bool → Frame

@@ -1,11 +1,10 @@
 -- The text in the one style of a document whose events come one after another: what is written once some have come, and
 -- what the next one adds.
 use Rattle.std.specs.Prelude.{ℕ, ◌+◌, Bool, if◌then◌else◌, List, [], ◌∷◌, ◌++◌, codes}
-use Rattle.yaml_tree.specs.Prelude.{scalar_lines, key_lines, lines_at, elements_at, members_at, value_at, IsText}
-use Rattle.yaml_tree.specs.Prelude.{spaces, text, no_element, element, Members, no_member, member, Shape, document_from}
-use Rattle.yaml_tree.specs.Prelude.{document_to, seq_from, seq_to, map_from, map_to, scalar_of, IsTextTree}
-use Rattle.yaml_tree.specs.Prelude.{AreTextElements, AreTextMembers}
-use Rattle.yaml_tree.specs.Frames.{Frame, awaiting, root, whole, in_seq, at_key, at_value, awaits_value}
+use Rattle.yaml_tree.specs.Prelude.{scalar_lines, key_lines, lines_at, elements_at, members_at, value_at, IsText, spaces, text, no_element}
+use Rattle.yaml_tree.specs.Prelude.{element, Members, no_member, member, Shape, document_from, document_to, seq_from, seq_to, map_from}
+use Rattle.yaml_tree.specs.{Prelude.{map_to, scalar_of, IsTextTree, AreTextElements, AreTextMembers}, Frames.{Frame, awaiting, root, whole}}
+use Rattle.yaml_tree.specs.Frames.{in_seq, at_key, at_value, awaits_value}
 
 -- the indentation of a collection that is opened inside these parts: 2 for each collection among them
 abbrev pub indent_in : List Frame → ℕ

@@ -1,10 +1,8 @@
 -- Which tree bytes give, and the faults of bytes that give none.
-use Rattle.std.specs.Prelude.{◌≡◌, ◌≢◌, ℕ, suc, ◌<◌, ◌≤◌, List, [], ◌∷◌, length}
-use Rattle.yaml_tree.specs.Prelude.{chars, IsUtf8, Event, document_start, Limits, Reads, Gives, Tree, IsTreeOf}
-use Rattle.yaml_tree.specs.Prelude.{IsShortText, ReadFault, TooLong, NotUtf8, Syntax, Documents, KeyNotText, KeyTwice}
-use Rattle.yaml_tree.specs.Prelude.{TooDeep, LargeInStyle, OutOfMemory, IsFirstFault}
-use Rattle.std.specs.Str.Lossy.{utf8_valid_len}
-use Rattle.yaml_tree.specs.Nested.{HasCollectionKey}
+use Rattle.std.specs.{Prelude.{◌≡◌, ◌≢◌, ℕ, suc, ◌<◌, ◌≤◌, List, [], ◌∷◌, length}, Str.Lossy.utf8_valid_len}
+use Rattle.yaml_tree.specs.Prelude.{chars, IsUtf8, Event, document_start, Limits, Reads, Gives, Tree, IsTreeOf, IsShortText, ReadFault}
+use Rattle.yaml_tree.specs.Prelude.{TooLong, NotUtf8, Syntax, Documents, KeyNotText, KeyTwice, TooDeep, LargeInStyle, OutOfMemory}
+use Rattle.yaml_tree.specs.{Prelude.IsFirstFault, Nested.HasCollectionKey}
 
 -- the bytes are a text that gives the tree within the limits
 pub record IsRead (bytes : List ℕ) (limits : Limits) (t : Tree) : Type 0 where

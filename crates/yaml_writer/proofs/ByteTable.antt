@@ -1,8 +1,7 @@
 -- The table of word bytes holds what the definition says: 256 closed facts at once.
 use Rattle.std.proofs.Common.{◌≡◌, ℕ, ◌<◌, Bool, false, not, nat_eq, map, refl, sym, ap, ◌∙◌, arith, get_or}
-use Rattle.yaml_writer.proofs.Prelude.{range_with_len, get_or-map, word_char}
 use Rattle.std.proofs.lemmas.List.FromFn.{get_or-map-range_with_len}
-use Rattle.yaml_writer.specs.declared.bytes.TheConstants.{WORD_BYTES}
+use Rattle.yaml_writer.{proofs.Prelude.{range_with_len, get_or-map, word_char}, specs.declared.bytes.TheConstants.WORD_BYTES}
 
 abbrev pub is_marked : ℕ → Bool
 is_marked k = not (nat_eq k 0)

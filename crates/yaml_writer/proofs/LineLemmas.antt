@@ -3,9 +3,8 @@ use Rattle.std.proofs.Common.{◌≡◌, ℕ, zero, suc, ◌+◌, ◌-◌, ◌<�
 use Rattle.std.proofs.Common.{slice_index, IsUtf8, sym, ap, ap₂, ◌∙◌, subst, arith, slice_range}
 use Rattle.yaml_writer.proofs.Prelude.{and_parts, not-true, not_from_false, false_from_ne_true, eqb-true, nat_tests, list_all, chars}
 use Rattle.yaml_writer.proofs.Prelude.{get_or-take, length-take, IsUtf8-take, IsCharBoundary-before_ascii, line_feed}
+use Rattle.{yaml_writer.specs.Lines.IsOneLine, yaml_chars.proofs.Runs.{IsBlind, test-chars}}
 use Rattle.memchr.specs.Find.{NoneBefore, Passes, is_byte}
-use Rattle.yaml_chars.proofs.Runs.{IsBlind, test-chars}
-use Rattle.yaml_writer.specs.Lines.{IsOneLine}
 
 -- any other character
 abbrev feedless : ℕ → Bool

@@ -1,13 +1,12 @@
 -- The tests by which a scalar's style is chosen.
 use Rattle.std.proofs.Common.{◌≡◌, ℕ, suc, ◌+◌, ◌<◌, Bool, true, false, ◌==◌, ◌&&◌, ◌||◌, not, nat_le, if◌then◌else◌, List, [], ◌∷◌, ◌++◌}
 use Rattle.std.proofs.Common.{length, length-append, get_or, take, map, IsUtf8, encode_utf8_all, refl, sym, ap, ap₂, ◌∙◌, subst, lit<}
-use Rattle.std.proofs.Common.{arith}
+use Rattle.std.{proofs.Common.arith, specs.Char.to_ascii_lowercase}
 use Rattle.yaml_writer.proofs.Prelude.{take-append_seam, get_or-append_seam, and_from, and_parts, eqb-true, nat_tests, encode_ascii}
 use Rattle.yaml_writer.proofs.Prelude.{chars-append, encodes-chars, encodes-append, IsUtf8-take, IsCharBoundary-before_ascii, chars}
 use Rattle.yaml_writer.proofs.Prelude.{in_range, is_in, printable, line_feed, no_break_space, line_separator, paragraph_separator}
 use Rattle.yaml_writer.proofs.Prelude.{byte_order_mark, list_all, letter, word_char, plain_in_style, special_words, is_among, lower}
 use Rattle.yaml_writer.proofs.Prelude.{feeds_at_end, shown_or_feed, first, every-IsAscii, chars-same, every-bytes, every-push}
-use Rattle.std.specs.Char.{to_ascii_lowercase}
 use Rattle.yaml_writer.specs.Runs.{ascii_in_lines}
 
 -- a character of a word is ASCII

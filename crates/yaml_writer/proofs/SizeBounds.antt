@@ -7,12 +7,10 @@ use Rattle.yaml_writer.proofs.Prelude.{double_quote, backslash, byte_len, spaces
 use Rattle.yaml_writer.proofs.Prelude.{element, Members, no_member, member, hex, letter_escape, quoted_char, quoted_chars, plain_in_style}
 use Rattle.yaml_writer.proofs.Prelude.{literal_in_style, in_double_quotes, literal_mark, literal_lines, feeds_at_end, scalar_lines}
 use Rattle.yaml_writer.proofs.Prelude.{key_text, long_key, key_lines, elements_at, elements_after, lines_after_dash, members_at}
-use Rattle.yaml_writer.proofs.Prelude.{members_after, value_at, style_text}
-use Rattle.yaml_grammar.specs.Style.{shown as is_shown}
-use Rattle.yaml_writer.specs.BudgetLaws.{byte_len-append}
-use Rattle.yaml_writer.specs.Sizes.{indented_literal_lines, indented_scalar_lines, indented_key_lines, indented, elements_indented}
-use Rattle.yaml_writer.specs.Sizes.{elements_after_indented, members_indented, members_after_indented, value_indented}
-use Rattle.yaml_writer.proofs.SizeLaws.{three, four, scalar_law, elements_law, members_law}
+use Rattle.yaml_writer.proofs.{Prelude.{members_after, value_at, style_text}, SizeLaws.{three, four, scalar_law, elements_law, members_law}}
+use Rattle.yaml_writer.specs.{BudgetLaws.byte_len-append, Sizes.{indented_literal_lines, indented_scalar_lines, indented_key_lines}}
+use Rattle.yaml_writer.specs.Sizes.{indented, elements_indented, elements_after_indented, members_indented, members_after_indented}
+use Rattle.{yaml_writer.specs.Sizes.value_indented, yaml_grammar.specs.Style.shown as is_shown}
 
 literal_bound : (fresh : Bool) (cs : List ℕ) → indented_literal_lines fresh cs ≤ byte_len (literal_lines 0 fresh cs)
 literal_bound fresh [] = omega arith

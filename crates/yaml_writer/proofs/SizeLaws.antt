@@ -4,10 +4,10 @@ use Rattle.std.proofs.Common.{ap₂, arith}
 use Rattle.yaml_writer.proofs.Prelude.{line_feed, byte_len, spaces, Tree, text, sequence, mapping, Elements, no_element, element, Members}
 use Rattle.yaml_writer.proofs.Prelude.{no_member, member, plain_in_style, literal_in_style, in_double_quotes, literal_mark, literal_lines}
 use Rattle.yaml_writer.proofs.Prelude.{feeds_at_end, scalar_lines, key_text, long_key, key_lines, elements_at, elements_after}
-use Rattle.yaml_writer.proofs.Prelude.{lines_after_dash, members_at, members_after, value_at}
-use Rattle.yaml_writer.specs.{declared.size.Size.Size, BudgetLaws.byte_len-append}
-use Rattle.yaml_writer.specs.Sizes.{indented_literal_lines, indented_scalar_lines, indented_key_lines, indented, elements_indented}
-use Rattle.yaml_writer.specs.Sizes.{elements_after_indented, members_indented, members_after_indented, value_indented}
+use Rattle.yaml_writer.{proofs.Prelude.{lines_after_dash, members_at, members_after, value_at}, specs.declared.size.Size.Size}
+use Rattle.yaml_writer.specs.{BudgetLaws.byte_len-append, Sizes.{indented_literal_lines, indented_scalar_lines, indented_key_lines}}
+use Rattle.yaml_writer.specs.Sizes.{indented, elements_indented, elements_after_indented, members_indented, members_after_indented}
+use Rattle.yaml_writer.specs.Sizes.{value_indented}
 
 -- n spaces have n bytes
 pub spaces_bytes : (n : ℕ) → byte_len (spaces n) ≡ n

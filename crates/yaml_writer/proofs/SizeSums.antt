@@ -4,15 +4,14 @@ use Rattle.std.proofs.Common.{length, codes, IsUtf8, refl, sym, ap, ◌∙◌, a
 use Rattle.yaml_writer.proofs.Prelude.{nat_tests, chars, line_feed, byte_len, spaces, Tree, text, sequence, mapping, Elements, no_element}
 use Rattle.yaml_writer.proofs.Prelude.{element, Members, no_member, member, literal_lines, plain_in_style, literal_in_style, feeds_at_end}
 use Rattle.yaml_writer.proofs.Prelude.{scalar_lines, key_text, long_key, key_lines, elements_at, elements_after, lines_after_dash}
-use Rattle.yaml_writer.proofs.Prelude.{members_at, members_after, value_at, Pair, elements_of, members_of}
-use Rattle.yaml_writer.specs.{Lines.IsOneLine, Lines.line_text, ScalarStyles.literal_style, ScalarStyles.value_style}
-use Rattle.yaml_writer.specs.{BudgetLaws.byte_len-append, declared.scalar_style.ScalarStyle.ScalarStyle, declared.size.Size.Size}
-use Rattle.yaml_writer.specs.Sizes.{indented_literal_lines, indented_scalar_lines, indented_key_lines, indented, elements_indented}
-use Rattle.yaml_writer.specs.Sizes.{elements_after_indented, members_indented, members_after_indented, is_filled, value_size}
-use Rattle.yaml_writer.specs.declared.scalar_style.ScalarStyle.TheVariants.{Plain, Double, LiteralStrip, LiteralClip, LiteralKeep}
-use Rattle.yaml_writer.proofs.LiteralLemmas.{line_filled, literal_line, chars-lines}
-use Rattle.yaml_writer.proofs.SizeLaws.{three, four, spaces_bytes, made, sized, elements_law, members_law}
-use Rattle.yaml_writer.proofs.SizeBounds.{elements_after_bound, members_after_bound}
+use Rattle.yaml_writer.proofs.{Prelude.{members_at, members_after, value_at, Pair, elements_of, members_of}, LiteralLemmas.line_filled}
+use Rattle.yaml_writer.proofs.{LiteralLemmas.{literal_line, chars-lines}, SizeLaws.{three, four, spaces_bytes, made, sized, elements_law}}
+use Rattle.yaml_writer.{proofs.{SizeLaws.members_law, SizeBounds.{elements_after_bound, members_after_bound}}, specs.Lines.IsOneLine}
+use Rattle.yaml_writer.specs.{Lines.line_text, ScalarStyles.{literal_style, value_style}, BudgetLaws.byte_len-append}
+use Rattle.yaml_writer.specs.declared.scalar_style.ScalarStyle.{ScalarStyle, TheVariants.{Plain, Double, LiteralStrip, LiteralClip}}
+use Rattle.yaml_writer.specs.{declared.{scalar_style.ScalarStyle.TheVariants.LiteralKeep, size.Size.Size}, Sizes.indented_literal_lines}
+use Rattle.yaml_writer.specs.Sizes.{indented_scalar_lines, indented_key_lines, indented, elements_indented, elements_after_indented}
+use Rattle.yaml_writer.specs.Sizes.{members_indented, members_after_indented, is_filled, value_size}
 use Rattle.yaml_data.specs.declared.tree.Tree as code
 
 -- ---- scalars and keys

@@ -1,10 +1,9 @@
 -- How a scalar's and a key's text follow from its style.
 use Rattle.std.proofs.Common.{◌≡◌, ℕ, zero, suc, Bool, true, false, if◌then◌else◌, List, ◌++◌, codes, refl, sym}
 use Rattle.yaml_writer.proofs.Prelude.{plain_in_style, literal_in_style, feeds_at_end, literal_mark, literal_lines, in_double_quotes}
-use Rattle.yaml_writer.proofs.Prelude.{scalar_lines, key_text}
-use Rattle.yaml_writer.specs.ScalarStyles.{literal_style, key_style, value_style}
-use Rattle.yaml_writer.specs.declared.scalar_style.ScalarStyle.{ScalarStyle}
-use Rattle.yaml_writer.specs.declared.scalar_style.ScalarStyle.TheVariants.{Plain, Double, LiteralStrip, LiteralClip, LiteralKeep}
+use Rattle.yaml_writer.{proofs.Prelude.{scalar_lines, key_text}, specs.ScalarStyles.{literal_style, key_style, value_style}}
+use Rattle.yaml_writer.specs.declared.scalar_style.ScalarStyle.{ScalarStyle, TheVariants.{Plain, Double, LiteralStrip, LiteralClip}}
+use Rattle.yaml_writer.specs.declared.scalar_style.ScalarStyle.TheVariants.{LiteralKeep}
 
 key_as : (p : Bool) (x y : List ℕ) → (if p then Plain else Double) ≡ Plain → (if p then x else y) ≡ x
 key_as true x y e = refl

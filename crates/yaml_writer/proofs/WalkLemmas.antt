@@ -2,8 +2,7 @@
 use Rattle.std.proofs.Common.{◌≡◌, ℕ, ◌+◌, List, [], ◌∷◌, ◌++◌, length, codes, refl, sym, subst, arith}
 use Rattle.yaml_writer.proofs.Prelude.{spaces, sequence, mapping, Elements, no_element, element, Members, no_member, member, key_lines}
 use Rattle.yaml_writer.proofs.Prelude.{elements_at, elements_after, lines_after_dash, members_at, members_after, value_at, Pair}
-use Rattle.yaml_writer.proofs.Prelude.{elements_of, members_of}
-use Rattle.yaml_data.specs.declared.tree.Tree.{Tree}
+use Rattle.{yaml_writer.proofs.Prelude.{elements_of, members_of}, yaml_data.specs.declared.tree.Tree.Tree}
 
 -- elements with this many spaces before the first; each further line has its indentation
 abbrev pub elements_led : ℕ → Elements → ℕ → List ℕ

@@ -1,10 +1,7 @@
 -- What is left of a number of bytes, after one text and another.
-use Rattle.std.proofs.Common.{◌≡◌, ℕ, ◌+◌, ◌-◌, ◌<◌, ◌≤◌, ◌⊎◌, inl, inr, nat_le, List, [], ◌∷◌, ◌++◌, Option, Some}
-use Rattle.std.proofs.Common.{None, refl, sym, ap, ◌∙◌, arith}
-use Rattle.yaml_writer.specs.Prelude.{byte_len}
-use Rattle.std.proofs.lemmas.Bool.{cases_lt, le-leb, lt-leb}
-use Rattle.std.proofs.lemmas.Bool.Decides.{nat_tests}
-use Rattle.yaml_writer.specs.Budget.{left_after}
+use Rattle.std.proofs.Common.{◌≡◌, ℕ, ◌+◌, ◌-◌, ◌<◌, ◌≤◌, ◌⊎◌, inl, inr, nat_le, List, [], ◌∷◌, ◌++◌, Option, Some, None, refl, sym, ap}
+use Rattle.std.proofs.{Common.{◌∙◌, arith}, lemmas.Bool.{cases_lt, le-leb, lt-leb, Decides.nat_tests}}
+use Rattle.yaml_writer.specs.{Prelude.byte_len, Budget.left_after}
 
 pub left_after-none : (left : Option ℕ) → left ≡ left_after left 0
 left_after-none None = refl

@@ -1,6 +1,5 @@
 -- Texts in UTF-8, one after another.
-use Rattle.std.specs.Prelude.{◌≡◌, ℕ, List, [], ◌++◌, encode_utf8_all}
-use Rattle.std.proofs.Common.{sym, ap, ◌∙◌, append-nil, append_assoc}
+use Rattle.std.{specs.Prelude.{◌≡◌, ℕ, List, [], ◌++◌, encode_utf8_all}, proofs.Common.{sym, ap, ◌∙◌, append-nil, append_assoc}}
 use Rattle.std.proofs.lemmas.Str.{encodes-append}
 
 pub encoded_none : (bytes : List ℕ) → bytes ≡ bytes ++ encode_utf8_all []

@@ -1,7 +1,6 @@
 -- A text of limited length.
 use Rattle.std.specs.Prelude.{◌≡◌, ◌≢◌, ℕ, List, ◌++◌, Option, None, encode_utf8_all, string_bytes}
-use Rattle.yaml_writer.specs.Prelude.{byte_len}
-use Rattle.yaml_writer.specs.{Budget.left_after, declared.limited.LimitedText.LimitedText}
+use Rattle.yaml_writer.specs.{Prelude.byte_len, Budget.left_after, declared.limited.LimitedText.LimitedText}
 
 -- how many bytes it may still take; None after more came than its limit
 abbrev pub room_left : LimitedText → Option ℕ

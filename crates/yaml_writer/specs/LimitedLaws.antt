@@ -1,10 +1,7 @@
 -- A text of limited length that takes one text after another takes both in a row.
-use Rattle.std.specs.Prelude.{◌≢◌, ℕ, List, [], ◌++◌, Option, None, string_bytes}
-use Rattle.std.proofs.Common.{ap, ◌∙◌}
-use Rattle.yaml_writer.specs.Prelude.{byte_len}
-use Rattle.yaml_writer.specs.{Budget.left_after, Limited.TakesLimited, declared.limited.LimitedText.LimitedText}
-use Rattle.yaml_writer.specs.BudgetLaws.{left_after-none, left_after-more}
-use Rattle.yaml_writer.specs.Encoded.{encoded_none, encoded_both}
+use Rattle.std.{specs.Prelude.{◌≢◌, ℕ, List, [], ◌++◌, Option, None, string_bytes}, proofs.Common.{ap, ◌∙◌}}
+use Rattle.yaml_writer.specs.{Prelude.byte_len, Budget.left_after, Limited.TakesLimited, declared.limited.LimitedText.LimitedText}
+use Rattle.yaml_writer.specs.{BudgetLaws.{left_after-none, left_after-more}, Encoded.{encoded_none, encoded_both}}
 
 -- nothing changes nothing
 pub TakesLimited-none : (s : LimitedText) → TakesLimited s [] s

@@ -1,6 +1,5 @@
 -- Runs of ASCII characters, and parts of what is between double quotes.
-use Rattle.std.specs.Prelude.{ℕ, ◌/◌, ◌%◌, Bool, not, ◌&&◌, ◌||◌, ◌==◌, nat_le, List, [], ◌∷◌, ◌++◌, codes}
-use Rattle.std.specs.Prelude.{if◌then◌else◌}
+use Rattle.std.specs.Prelude.{ℕ, ◌/◌, ◌%◌, Bool, not, ◌&&◌, ◌||◌, ◌==◌, nat_le, List, [], ◌∷◌, ◌++◌, codes, if◌then◌else◌}
 use Rattle.yaml_writer.specs.Prelude.{in_range, backslash, double_quote, line_feed, hex}
 
 -- an ASCII character that is written as itself between double quotes

@@ -1,9 +1,7 @@
 -- Which style a scalar has in the one style, as a key and as a value.
 use Rattle.std.specs.Prelude.{ℕ, zero, suc, List, codes, if◌then◌else◌}
-use Rattle.yaml_writer.specs.Prelude.{plain_in_style, literal_in_style, feeds_at_end}
-use Rattle.yaml_writer.specs.declared.scalar_style.ScalarStyle.{ScalarStyle}
-use Rattle.yaml_writer.specs.declared.scalar_style.ScalarStyle.TheVariants.{Plain, Double, LiteralStrip, LiteralClip}
-use Rattle.yaml_writer.specs.declared.scalar_style.ScalarStyle.TheVariants.{LiteralKeep}
+use Rattle.yaml_writer.specs.{Prelude.{plain_in_style, literal_in_style, feeds_at_end}, declared.scalar_style.ScalarStyle.ScalarStyle}
+use Rattle.yaml_writer.specs.declared.scalar_style.ScalarStyle.TheVariants.{Plain, Double, LiteralStrip, LiteralClip, LiteralKeep}
 
 -- of a literal, by the number of line feeds that end the text
 abbrev pub literal_style : ℕ → ScalarStyle

@@ -1,9 +1,8 @@
 -- How the length of a part grows with its indentation: at the indentation i it has as many bytes as at 0, and i more
 -- for each of its lines that is indented. The empty lines of a literal aren't, nor is a part's first line.
 use Rattle.std.specs.Prelude.{ℕ, ◌+◌, ◌*◌, ◌==◌, Bool, true, false, List, [], ◌∷◌, if◌then◌else◌}
-use Rattle.yaml_writer.specs.Prelude.{line_feed, byte_len, Tree, text, sequence, mapping, Elements, no_element, element}
-use Rattle.yaml_writer.specs.Prelude.{Members, no_member, member, plain_in_style, literal_in_style, long_key, key_lines}
-use Rattle.yaml_writer.specs.Prelude.{lines_after_dash, value_at}
+use Rattle.yaml_writer.specs.Prelude.{line_feed, byte_len, Tree, text, sequence, mapping, Elements, no_element, element, Members, no_member}
+use Rattle.yaml_writer.specs.Prelude.{member, plain_in_style, literal_in_style, long_key, key_lines, lines_after_dash, value_at}
 use Rattle.yaml_writer.specs.declared.size.Size.{Size}
 
 -- the bytes of a part at the indentation i

@@ -1,8 +1,6 @@
-use Rattle.std.proofs.Common.{◌+◌, sym, subst}
-use Rattle.std.specs.Option.{IfNone}
-use Rattle.yaml_chars.specs.Breaks.{NoBreak, IsNextBreak}
-use Rattle.yaml_chars.specs.Places.{rest}
-use Rattle.yaml_chars.proofs.Breaks.{NoBreak-rest, no_break_is, ends_line, next_break_is, bytes_from}
+use Rattle.std.{proofs.Common.{◌+◌, sym, subst}, specs.Option.IfNone}
+use Rattle.yaml_chars.{specs.{Breaks.{NoBreak, IsNextBreak}, Places.rest}, proofs.Breaks.{NoBreak-rest, no_break_is, ends_line}}
+use Rattle.yaml_chars.proofs.Breaks.{next_break_is, bytes_from}
 use Rattle.yaml_chars.proofs.next_break.Goals as goal
 
 pub returns-in_err-start-clause-last_line : goal.returns-in_err-start-clause-last_line

@@ -1,9 +1,7 @@
 use Rattle.std.proofs.Common.{◌≡◌, ℕ, ◌+◌, List, ◌∷◌, ◌++◌, ◌∙◌, sym, drop}
 use lib.Utf8.{encode}
-use Rattle.std.specs.Char.{len_utf8}
-use Rattle.std.specs.Str.{IsUtf8, IsCharBoundary}
-use Rattle.yaml_chars.specs.Places.{rest}
-use Rattle.yaml_chars.proofs.Places.{char_at_is}
+use Rattle.std.specs.{Char.len_utf8, Str.{IsUtf8, IsCharBoundary}}
+use Rattle.yaml_chars.{specs.Places.rest, proofs.Places.char_at_is}
 use Rattle.yaml_chars.proofs.next_char.Goals as goal
 
 -- the text's piece from `at` on begins with the character

@@ -1,6 +1,5 @@
 -- White at the start of a text, and what comes after it.
-use Rattle.std.proofs.Common.{◌≡◌, refl, inl, inr}
-use Rattle.std.specs.Prelude.{ℕ, Bool, true, false, not, ◌||◌, List, [], ◌∷◌, ◌++◌}
+use Rattle.std.{proofs.Common.{◌≡◌, refl, inl, inr}, specs.Prelude.{ℕ, Bool, true, false, not, ◌||◌, List, [], ◌∷◌, ◌++◌}}
 use Rattle.yaml_recognizers.proofs.Prelude.{and_parts, cases_Bool, false≢true, white, line_break, list_all, first}
 use Rattle.yaml_recognizers.specs.{Prefixes.drop_while, Joins.at_break}
 

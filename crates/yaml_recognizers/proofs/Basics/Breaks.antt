@@ -1,10 +1,9 @@
 -- Breaks: those that fit are read, and those that are read fit.
-use Rattle.std.proofs.Common.{ap, inl, inr, refl, subst, sym, ◌≡◌}
-use Rattle.std.specs.Prelude.{Bool, List, None, Some, [], cond, false, if◌then◌else◌, is_some, not, true, ℕ, ◌&&◌, ◌++◌, ◌==◌, ◌||◌, ◌∷◌}
+use Rattle.std.{proofs.Common.{ap, inl, inr, refl, subst, sym, ◌≡◌}, specs.Prelude.{Bool, List, None, Some, [], cond, false, if◌then◌else◌}}
+use Rattle.std.specs.Prelude.{is_some, not, true, ℕ, ◌&&◌, ◌++◌, ◌==◌, ◌||◌, ◌∷◌}
 use Rattle.yaml_recognizers.proofs.Prelude.{and_left, cases_Bool, cond_both, eqb-true, false≢true, not_from_false, line_break, Break}
-use Rattle.yaml_recognizers.proofs.Prelude.{break_fits, break_text, cr, cr_lf, lf, begins, first}
+use Rattle.yaml_recognizers.proofs.{Prelude.{break_fits, break_text, cr, cr_lf, lf, begins, first}, Basics.Reading.Sound}
 use Rattle.yaml_recognizers.specs.Comments.{read_break, read_cr}
-use Rattle.yaml_recognizers.proofs.Basics.Reading.{Sound}
 
 -- what doesn't begin with a line feed has another first character
 no_feed : (d : ℕ) (ds : List ℕ) → not (begins (10 ∷ []) (d ∷ ds)) ≡ true → d == 10 ≡ false

@@ -1,10 +1,9 @@
 -- Whether a line starts after a text. How long texts are that are put together.
-use Rattle.std.proofs.Common.{append_assoc, arith, refl, sym, ◌∙◌, ◌≡◌}
-use Rattle.std.specs.Prelude.{Bool, List, None, Option, Some, [], false, not, true, ℕ, ◌++◌, ◌+◌, ◌||◌, ◌∷◌}
+use Rattle.std.{proofs.Common.{append_assoc, arith, refl, sym, ◌∙◌, ◌≡◌}, specs.Prelude.{Bool, List, None, Option, Some, [], false, not}}
+use Rattle.std.specs.Prelude.{true, ℕ, ◌++◌, ◌+◌, ◌||◌, ◌∷◌}
 use Rattle.yaml_recognizers.proofs.Prelude.{and_parts, false≢true, or_left, or_right, line_break, Break, LineEnd, break_text}
 use Rattle.yaml_recognizers.proofs.Prelude.{comment_line_fits, comment_text, comments_fit, comments_text, cr, cr_lf, lf, line_end_text}
-use Rattle.yaml_recognizers.proofs.Prelude.{stop_fits, byte_len, is_empty, optional, starts_line}
-use Rattle.yaml_recognizers.proofs.Separation.LineEnds.{line_parts}
+use Rattle.yaml_recognizers.proofs.{Prelude.{stop_fits, byte_len, is_empty, optional, starts_line}, Separation.LineEnds.line_parts}
 
 -- the length of two texts is the sum of their lengths
 pub byte_len_joined : (xs ys : List ℕ) → byte_len (xs ++ ys) ≡ byte_len xs + byte_len ys

@@ -1,9 +1,7 @@
 -- Runs of characters at the start of a text.
-use Rattle.std.proofs.Common.{ap, inl, inr, refl, ◌∙◌, ◌≡◌}
-use Rattle.std.specs.Prelude.{Bool, List, [], false, suc, true, zero, ℕ, ◌++◌, ◌==◌, ◌∷◌}
+use Rattle.std.{proofs.Common.{ap, inl, inr, refl, ◌∙◌, ◌≡◌}, specs.Prelude.{Bool, List, [], false, suc, true, zero, ℕ, ◌++◌, ◌==◌, ◌∷◌}}
 use Rattle.yaml_recognizers.proofs.Prelude.{and_from, and_parts, cases_Bool, cond_both, eqb-true, false≢true, space, white, past_spaces}
-use Rattle.yaml_recognizers.proofs.Prelude.{spaces_before, list_all, first, spaces}
-use Rattle.yaml_recognizers.specs.Prefixes.{drop_while, past, take_while}
+use Rattle.yaml_recognizers.{proofs.Prelude.{spaces_before, list_all, first, spaces}, specs.Prefixes.{drop_while, past, take_while}}
 
 -- characters that pass, before one that doesn't, are taken whole
 pub take_while_all : (p : ℕ → Bool) (xs rest : List ℕ) → list_all p xs ≡ true → first p rest ≡ false → take_while p (xs ++ rest) ≡ xs

@@ -1,8 +1,7 @@
 -- What holds of what a recognizer returns.
-use Rattle.std.proofs.Common.{ap, inl, inr, refl, subst, ◌≡◌, ◌⊎◌}
-use Rattle.std.specs.Prelude.{Bool, List, None, Some, [], cond, false, true, ℕ, ◌==◌, ◌∷◌}
-use Rattle.yaml_recognizers.proofs.Prelude.{eqb-true}
-use Rattle.yaml_recognizers.specs.Reading.{Read, read_closing, if_fits, on}
+use Rattle.std.{proofs.Common.{ap, inl, inr, refl, subst, ◌≡◌, ◌⊎◌}, specs.Prelude.{Bool, List, None, Some, [], cond, false, true, ℕ, ◌==◌}}
+use Rattle.std.specs.Prelude.{◌∷◌}
+use Rattle.yaml_recognizers.{proofs.Prelude.eqb-true, specs.Reading.{Read, read_closing, if_fits, on}}
 
 -- what holds of what is read, if anything is
 abbrev pub Sound : {A : Type 0} → (A → List ℕ → Type 0) → Read A → Type 0

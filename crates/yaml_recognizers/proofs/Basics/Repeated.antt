@@ -1,7 +1,7 @@
 -- A recognizer used again and again: what it reads, and that it reads all there are.
-use Rattle.std.proofs.Common.{◌≡◌, refl, sym, ◌∙◌, ap, append_assoc, arith, ◌<◌, ◌≤◌}
-use Rattle.std.specs.Prelude.{ℕ, zero, suc, List, [], ◌∷◌, ◌++◌, length, flat_map, Some, None}
-use Rattle.yaml_recognizers.specs.{Reading.Read, Repeated.and_more, Repeated.repeated, Repeated.all_of}
+use Rattle.std.{proofs.Common.{◌≡◌, refl, sym, ◌∙◌, ap, append_assoc, arith, ◌<◌, ◌≤◌}, specs.Prelude.{ℕ, zero, suc, List, [], ◌∷◌, ◌++◌}}
+use Rattle.std.specs.Prelude.{length, flat_map, Some, None}
+use Rattle.yaml_recognizers.specs.{Reading.Read, Repeated.{and_more, repeated, all_of}}
 
 -- ---- complete
 

@@ -1,11 +1,10 @@
 -- What isn't white, a break or a comment's `#`; and the signs `-`, `?` and `:` of block nodes.
-use Rattle.std.proofs.Common.{ap, inl, inr, refl, subst, sym, ◌∙◌, ◌≡◌, ◌⊎◌}
-use Rattle.std.specs.Prelude.{List, [], false, not, suc, true, zero, ℕ, ◌++◌, ◌==◌, ◌||◌, ◌∷◌}
+use Rattle.std.{proofs.Common.{ap, inl, inr, refl, subst, sym, ◌∙◌, ◌≡◌, ◌⊎◌}, specs.Prelude.{List, [], false, not, suc, true, zero, ℕ}}
+use Rattle.std.specs.Prelude.{◌++◌, ◌==◌, ◌||◌, ◌∷◌}
 use Rattle.yaml_recognizers.proofs.Prelude.{and_left, and_parts, and_right, cases_Bool, cases_eq, eqb-true, false≢true, ne_eqb, not-true}
 use Rattle.yaml_recognizers.proofs.Prelude.{not_from_false, not_from_true, or_from, or_left, or_parts, line_break, nb, ns, printable, space}
-use Rattle.yaml_recognizers.proofs.Prelude.{white, past_spaces, list_all, first, is_empty, marker, spaces}
-use Rattle.yaml_recognizers.specs.{Ends.solid, Prefixes.drop_while, Prefixes.past, Prefixes.sign, Prefixes.take_while}
-use Rattle.yaml_recognizers.proofs.Basics.Prefixes.{spaces_passed}
+use Rattle.yaml_recognizers.proofs.{Prelude.{white, past_spaces, list_all, first, is_empty, marker, spaces}, Basics.Prefixes.spaces_passed}
+use Rattle.yaml_recognizers.specs.{Ends.solid, Prefixes.{drop_while, past, sign, take_while}}
 
 -- a solid character is no whitespace, no break and no `#`
 pub solid_parts : (x : ℕ) → solid x ≡ true → (white x ≡ false) × (x == 10 ≡ false) × (x == 13 ≡ false) × (x == 35 ≡ false)

@@ -1,17 +1,15 @@
 -- A node at the start of a line, divided into the comment lines that it starts with and what comes after them.
-use Rattle.std.proofs.Common.{append_assoc, refl, subst, sym, ◌∙◌, ◌≡◌}
-use Rattle.std.specs.Prelude.{Bool, List, [], cond, false, nat_le, suc, true, ℕ, ◌&&◌, ◌++◌, ◌+◌, ◌==◌, ◌∷◌}
+use Rattle.std.{proofs.Common.{append_assoc, refl, subst, sym, ◌∙◌, ◌≡◌}, specs.Prelude.{Bool, List, [], cond, false, nat_le, suc, true, ℕ}}
+use Rattle.std.specs.Prelude.{◌&&◌, ◌++◌, ◌+◌, ◌==◌, ◌∷◌}
 use Rattle.yaml_recognizers.proofs.Prelude.{add-zero, add_assoc, and_from, and_parts, white, Items, Node, Pair, Pairs, asked, asked_alone}
 use Rattle.yaml_recognizers.proofs.Prelude.{block, flow, item, item_and, items, items_fit, items_text, keyed, keyed_alone, node_events}
 use Rattle.yaml_recognizers.proofs.Prelude.{node_fits, node_text, pair, pair_and, pair_fits, pair_text, pairs, pairs_fit, pairs_text}
 use Rattle.yaml_recognizers.proofs.Prelude.{block_fits, block_text, Flow, flow_fits, flow_text, short_key, block_key, outer, LineEnd, Sep}
 use Rattle.yaml_recognizers.proofs.Prelude.{comments_fit, comments_text, indents, inline, lines, sep_fits, sep_text, list_all, byte_len}
-use Rattle.yaml_recognizers.proofs.Prelude.{first, is_empty, spaces, starts_line}
+use Rattle.yaml_recognizers.proofs.{Prelude.{first, is_empty, spaces, starts_line}, Separation.CommentsComplete.not_line_end}
+use Rattle.yaml_recognizers.proofs.Basics.{Prefixes.every_space, LineStarts.{byte_len_joined, comments_start, line_not_end, starts_joined}}
+use Rattle.yaml_recognizers.proofs.{Block.BlockNodesBegin.{append_some, block_prefix}, Flow.FlowNodesForm.{flow_form_fits, form_solid}}
 use Rattle.yaml_recognizers.specs.{CanonicalComments.is_line_end, Ends.solid}
-use Rattle.yaml_recognizers.proofs.{Separation.CommentsComplete.not_line_end, Basics.Prefixes.every_space}
-use Rattle.yaml_recognizers.proofs.Block.BlockNodesBegin.{append_some, block_prefix}
-use Rattle.yaml_recognizers.proofs.Flow.FlowNodesForm.{flow_form_fits, form_solid}
-use Rattle.yaml_recognizers.proofs.Basics.LineStarts.{byte_len_joined, comments_start, line_not_end, starts_joined}
 
 -- ---- the parts
 

@@ -1,17 +1,16 @@
 -- One step of the reading of a block node over its open collections.
-use Rattle.std.proofs.Common.{ap, refl, sym, ◌∙◌, ◌≡◌}
-use Rattle.std.specs.Prelude.{Bool, List, None, Some, [], false, true, suc, nat_le, if◌then◌else◌, not, ℕ, ◌&&◌, ◌++◌, ◌+◌, ◌==◌, ◌∷◌}
+use Rattle.std.{proofs.Common.{ap, refl, sym, ◌∙◌, ◌≡◌}, specs.Prelude.{Bool, List, None, Some, [], false, true, suc, nat_le}}
+use Rattle.std.specs.Prelude.{if◌then◌else◌, not, ℕ, ◌&&◌, ◌++◌, ◌+◌, ◌==◌, ◌∷◌}
 use Rattle.yaml_recognizers.proofs.Prelude.{LineEnd, Flow, Indented, Items, Node, Pair, Pairs, asked_alone, is_omitted, item, item_and}
 use Rattle.yaml_recognizers.proofs.Prelude.{items, keyed, keyed_alone, node, omitted, pair, pair_and, pairs, past_spaces, spaces_before}
-use Rattle.yaml_recognizers.specs.{BlockScalars.read_block, Comments.all_comments, Ends.block_node_stops, Prefixes.past, Prefixes.sign}
-use Rattle.yaml_recognizers.specs.{Reading.Read, Reading.on}
+use Rattle.yaml_recognizers.{proofs.Meanings.Steps.{indented_steps, items_steps, pair_steps, pairs_steps}, specs.BlockScalars.read_block}
+use Rattle.yaml_recognizers.specs.{Comments.all_comments, Ends.block_node_stops, Prefixes.{past, sign}, Reading.{Read, on}}
 use Rattle.yaml_recognizers.specs.BlockFrames.{BlockFrame, Sits, close_items, close_pairs, items_part, joined_items, joined_pairs}
 use Rattle.yaml_recognizers.specs.BlockFrames.{key_asked, key_on_line, keyed_part, on_lines, on_sign_line, pair_with, pairs_after}
-use Rattle.yaml_recognizers.specs.BlockFrames.{pairs_part, plug, unwind, waits_item, waits_key, waits_value}
-use Rattle.yaml_recognizers.specs.BlockNodes.{asked_key, indented_node, key_value, more_items, more_pairs, omits, opens_pair}
+use Rattle.yaml_recognizers.specs.{BlockFrames.{pairs_part, plug, unwind, waits_item, waits_key, waits_value}, BlockNodes.asked_key}
+use Rattle.yaml_recognizers.specs.BlockNodes.{indented_node, key_value, more_items, more_pairs, omits, opens_pair}
 use Rattle.yaml_recognizers.specs.Recognizers.{block_indented_at, block_items_at, block_key_in, block_node_at, block_pair_at}
 use Rattle.yaml_recognizers.specs.Recognizers.{block_pairs_at, flow_leaf_at}
-use Rattle.yaml_recognizers.proofs.Meanings.Steps.{indented_steps, items_steps, pair_steps, pairs_steps}
 
 -- two steps after what was read are one step of both
 on_on : {A B C : Type 0} (r : Read A) (f : A → List ℕ → Read B) (g : B → List ℕ → Read C) → on (on r f) g ≡ on r (λ a t. on (f a t) g)

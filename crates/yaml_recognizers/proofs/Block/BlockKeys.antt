@@ -1,20 +1,18 @@
 -- The keys of block mappings, read as flow nodes on one line; and a flow node is no key where comments come after it.
-use Rattle.std.proofs.Common.{ap, append_assoc, inl, inr, refl, subst, sym, ◌∙◌, ◌≡◌}
-use Rattle.std.specs.Prelude.{Bool, List, None, Some, [], false, not, true, ℕ, ◌&&◌, ◌++◌, ◌||◌, ◌∷◌}
+use Rattle.std.{proofs.Common.{ap, append_assoc, inl, inr, refl, subst, sym, ◌∙◌, ◌≡◌}, specs.Prelude.{Bool, List, None, Some, [], false}}
+use Rattle.std.specs.Prelude.{not, true, ℕ, ◌&&◌, ◌++◌, ◌||◌, ◌∷◌}
 use Rattle.yaml_recognizers.proofs.Prelude.{and_from, and_parts, cond_both, false≢true, ns, white, Flow, flow_text, is_plain, map, scalar}
 use Rattle.yaml_recognizers.proofs.Prelude.{seq, short_key, FlowContext, block_key, double, lines_after, lines_text, one_line, outer, plain}
 use Rattle.yaml_recognizers.proofs.Prelude.{plain_kind, plain_line, plain_lines, plain_text, single, LineEnd, comment_line_fits}
 use Rattle.yaml_recognizers.proofs.Prelude.{comments_text, line_end_text, list_all, first, is_empty, no_marker}
-use Rattle.yaml_recognizers.specs.{BlockNodes.block_key_at, BlockNodes.key_after, CanonicalComments.canonical_comments}
-use Rattle.yaml_recognizers.specs.{CanonicalFlowNodes.canonical_flow, Comments.read_line_end, Reading.Read, Reading.on}
-use Rattle.yaml_recognizers.specs.Ends.{Stops, between_brackets, less_deep}
-use Rattle.yaml_recognizers.specs.Prefixes.{drop_while, past, sign, take_while}
-use Rattle.yaml_recognizers.proofs.{Block.BlockNodesComplete.KeySound, Block.BlockNodesSound.KeyOf, Flow.FlowNodesBegin.plain_prefix}
-use Rattle.yaml_recognizers.proofs.{Flow.FlowNodesSound.FlowOfAt, Flow.FlowNodesWider.flow_wider, Basics.Solid.head_of}
-use Rattle.yaml_recognizers.proofs.Separation.CommentsComplete.{line_end_read, no_line, not_line_end}
-use Rattle.yaml_recognizers.proofs.Basics.Prefixes.{drop_while_all, take_while_all, take_while_every, take_while_split}
-use Rattle.yaml_recognizers.proofs.Separation.LineEnds.{comments_parts, no_comments_parts}
-use Rattle.yaml_recognizers.proofs.Basics.Reading.{Sound, none_some, some_parts, sound_is, sound_on}
+use Rattle.yaml_recognizers.proofs.{Block.{BlockNodesComplete.KeySound, BlockNodesSound.KeyOf}, Flow.FlowNodesBegin.plain_prefix}
+use Rattle.yaml_recognizers.proofs.{Flow.{FlowNodesSound.FlowOfAt, FlowNodesWider.flow_wider}, Basics.Solid.head_of}
+use Rattle.yaml_recognizers.proofs.Basics.{Prefixes.{drop_while_all, take_while_all, take_while_every, take_while_split}, Reading.Sound}
+use Rattle.yaml_recognizers.proofs.{Basics.Reading.{none_some, some_parts, sound_is, sound_on}, Separation.CommentsComplete.line_end_read}
+use Rattle.yaml_recognizers.proofs.Separation.{CommentsComplete.{no_line, not_line_end}, LineEnds.{comments_parts, no_comments_parts}}
+use Rattle.yaml_recognizers.specs.{BlockNodes.{block_key_at, key_after}, CanonicalComments.canonical_comments}
+use Rattle.yaml_recognizers.specs.{CanonicalFlowNodes.canonical_flow, Comments.read_line_end, Reading.{Read, on}, Ends.Stops}
+use Rattle.yaml_recognizers.specs.{Ends.{between_brackets, less_deep}, Prefixes.{drop_while, past, sign, take_while}}
 
 -- a node that fits at the start of a line fits within one
 start_dropped : (f : Flow) (n : ℕ) (c : FlowContext) (after : List ℕ) → canonical_flow f n c true after ≡ true

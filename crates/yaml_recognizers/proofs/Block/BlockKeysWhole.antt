@@ -1,12 +1,10 @@
 -- The keys of block mappings, from a recognizer of flow scalars alone: complete and sound, and where none is.
-use Rattle.std.proofs.Common.{ap, append_assoc, subst, ◌∙◌, ◌≡◌}
-use Rattle.std.specs.Prelude.{Bool, List, None, Some, codes, false, true, ℕ, ◌++◌, ◌∷◌}
+use Rattle.std.{proofs.Common.{ap, append_assoc, subst, ◌∙◌, ◌≡◌}, specs.Prelude.{Bool, List, None, Some, codes, false, true, ℕ, ◌++◌, ◌∷◌}}
 use Rattle.yaml_recognizers.proofs.Prelude.{ns, white, Flow, flow_text, short_key, FlowContext, Scalar, block_key, outer, LineEnd}
-use Rattle.yaml_recognizers.proofs.Prelude.{comments_text, list_all, first}
+use Rattle.yaml_recognizers.proofs.{Prelude.{comments_text, list_all, first}, Flow.FlowNodesWhole.{whole_flow_read, whole_flow_sound}}
+use Rattle.yaml_recognizers.proofs.{Basics.Reading.sound_is, Block.BlockKeys.{WholeKey, flow_no_key, keys_read, whole_key}}
 use Rattle.yaml_recognizers.specs.{BlockNodes.block_key_at, CanonicalComments.canonical_comments, CanonicalFlowNodes.canonical_flow}
 use Rattle.yaml_recognizers.specs.{Ends.less_deep, FlowNodes.whole_flow, Reading.Read, Recognizers.IsBlockKey, Scalars.ReadsScalars}
-use Rattle.yaml_recognizers.proofs.{Flow.FlowNodesWhole.whole_flow_read, Flow.FlowNodesWhole.whole_flow_sound, Basics.Reading.sound_is}
-use Rattle.yaml_recognizers.proofs.Block.BlockKeys.{WholeKey, flow_no_key, keys_read, whole_key}
 
 module _ (read_scalar : ℕ → FlowContext → Bool → List ℕ → Read Scalar) (scalars : ReadsScalars read_scalar) where
   abbrev key_in : Bool → List ℕ → Read (Flow × List ℕ)

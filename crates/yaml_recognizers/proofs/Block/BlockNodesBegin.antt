@@ -1,19 +1,18 @@
 -- What block nodes start with.
-use Rattle.std.proofs.Common.{append_assoc, arith, length-append, refl, subst, sym, ◌≡◌, ◌≤◌}
-use Rattle.std.specs.Prelude.{Bool, List, [], codes, cond, false, if◌then◌else◌, length, nat_le, not, suc, true, zero, ℕ, ◌&&◌, ◌++◌, ◌==◌}
-use Rattle.std.specs.Prelude.{◌||◌, ◌∷◌}
+use Rattle.std.{proofs.Common.{append_assoc, arith, length-append, refl, subst, sym, ◌≡◌, ◌≤◌}, specs.Prelude.{Bool, List, [], codes, cond}}
+use Rattle.std.specs.Prelude.{false, if◌then◌else◌, length, nat_le, not, suc, true, zero, ℕ, ◌&&◌, ◌++◌, ◌==◌, ◌||◌, ◌∷◌}
 use Rattle.yaml_recognizers.proofs.Prelude.{and_from, and_parts, false≢true, not_from_false, ns, white, Indented, Items, Node, Pair, Pairs}
 use Rattle.yaml_recognizers.proofs.Prelude.{asked, asked_alone, block, compact_items, compact_pairs, flow, indented_text, item, item_and}
 use Rattle.yaml_recognizers.proofs.Prelude.{items, items_text, keyed, keyed_alone, node, node_text, omitted, pair, pair_and, pair_text}
 use Rattle.yaml_recognizers.proofs.Prelude.{pairs, pairs_text, BlockScalar, block_text, past_spaces, spaces_before, Flow, flow_text}
 use Rattle.yaml_recognizers.proofs.Prelude.{short_key, block_key, outer, LineEnd, Sep, comments_text, indents, inline, lines, sep_text}
-use Rattle.yaml_recognizers.proofs.Prelude.{list_all, begins, first, is_empty, marker, spaces, starts_line}
-use Rattle.yaml_recognizers.specs.{BlockNodes.bar, CanonicalFlowNodes.canonical_flow, Comments.closes_line, Ends.solid, Prefixes.sign}
-use Rattle.yaml_recognizers.specs.CanonicalBlockNodes.{canonical_indented, canonical_items, canonical_node, canonical_pair, canonical_pairs}
+use Rattle.yaml_recognizers.proofs.{Prelude.{list_all, begins, first, is_empty, marker, spaces, starts_line}, Flow.FlowNodesBegin.Opens}
+use Rattle.yaml_recognizers.proofs.{Flow.FlowNodesBegin.{flow_opens, key_unmarked, reserved}, Separation.LineEnds.comments_no_ns}
+use Rattle.yaml_recognizers.proofs.{Separation.LineEnds.{comments_unsolid, fits_end, no_comments_parts}, Basics.Solid.marker_first}
+use Rattle.yaml_recognizers.{proofs.Basics.Solid.white_no_ns, specs.{BlockNodes.bar, CanonicalFlowNodes.canonical_flow}}
+use Rattle.yaml_recognizers.specs.{Comments.closes_line, Ends.solid, Prefixes.sign, CanonicalBlockNodes.canonical_indented}
+use Rattle.yaml_recognizers.specs.CanonicalBlockNodes.{canonical_items, canonical_node, canonical_pair, canonical_pairs}
 use Rattle.yaml_recognizers.specs.CanonicalComments.{canonical_comments, canonical_sep}
-use Rattle.yaml_recognizers.proofs.Flow.FlowNodesBegin.{Opens, flow_opens, key_unmarked, reserved}
-use Rattle.yaml_recognizers.proofs.Separation.LineEnds.{comments_no_ns, comments_unsolid, fits_end, no_comments_parts}
-use Rattle.yaml_recognizers.proofs.Basics.Solid.{marker_first, white_no_ns}
 
 -- ---- white before something solid
 

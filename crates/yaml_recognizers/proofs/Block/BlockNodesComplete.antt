@@ -1,7 +1,6 @@
 -- A block node that fits is read whole, before a line that ends it.
-use Rattle.std.proofs.Common.{ap, append_assoc, arith, inl, inr, refl, subst, sym, ◌∙◌, ◌≡◌, ◌≤◌}
-use Rattle.std.specs.Prelude.{Bool, List, None, Some, [], cond, false, is_some, nat_le, not, suc, true, zero, ℕ, ◌&&◌, ◌++◌, ◌+◌, ◌==◌}
-use Rattle.std.specs.Prelude.{◌||◌, ◌∷◌}
+use Rattle.std.{proofs.Common.{ap, append_assoc, arith, inl, inr, refl, subst, sym, ◌∙◌, ◌≡◌, ◌≤◌}, specs.Prelude.{Bool, List, None, Some}}
+use Rattle.std.specs.Prelude.{[], cond, false, is_some, nat_le, not, suc, true, zero, ℕ, ◌&&◌, ◌++◌, ◌+◌, ◌==◌, ◌||◌, ◌∷◌}
 use Rattle.yaml_recognizers.proofs.Prelude.{and_from, and_left, and_parts, and_right, eq-eqb, false≢true, le-leb, le-ltb, not-true}
 use Rattle.yaml_recognizers.proofs.Prelude.{not_from_false, not_from_true, or_from, or_left, or_right, ns, space, white, Indented, Items}
 use Rattle.yaml_recognizers.proofs.Prelude.{Node, Pair, Pairs, asked, asked_alone, block, compact_items, compact_pairs, flow, indented_text}
@@ -9,23 +8,22 @@ use Rattle.yaml_recognizers.proofs.Prelude.{is_omitted, item, item_and, items, i
 use Rattle.yaml_recognizers.proofs.Prelude.{pair, pair_and, pair_text, pairs, pairs_text, BlockScalar, block_text, past_spaces}
 use Rattle.yaml_recognizers.proofs.Prelude.{spaces_before, Flow, flow_text, short_key, block_key, outer, LineEnd, Sep, comments_text}
 use Rattle.yaml_recognizers.proofs.Prelude.{indents, inline, lines, sep_text, list_all, begins, first, is_empty, spaces, starts_line}
-use Rattle.yaml_recognizers.specs.{CanonicalBlockScalars.canonical_block, CanonicalFlowNodes.canonical_flow, Comments.all_comments}
-use Rattle.yaml_recognizers.specs.{Prefixes.sign, Reading.Read, Reading.on}
-use Rattle.yaml_recognizers.specs.BlockNodes.{asked_key, bar, flow_with, key_value, leaf_at, leaf_after, more_items, more_pairs, node_below}
-use Rattle.yaml_recognizers.specs.BlockNodes.{omits, opens_pair, read_indented, read_items, read_node, read_pair, read_pairs, sep_at}
-use Rattle.yaml_recognizers.specs.CanonicalBlockNodes.{canonical_indented, canonical_items, canonical_node, canonical_pair, canonical_pairs}
-use Rattle.yaml_recognizers.specs.CanonicalComments.{canonical_comments, canonical_sep, is_line_end}
-use Rattle.yaml_recognizers.specs.Ends.{block_node_stops, less_deep, solid}
 use Rattle.yaml_recognizers.proofs.Block.BlockNodesBegin.{Prefix, KeyParts, append_some, block_prefix, closes, comments_closed}
 use Rattle.yaml_recognizers.proofs.Block.BlockNodesBegin.{indented_apart, items_start, key_parts, lead_deep, node_apart, pairs_prefix}
 use Rattle.yaml_recognizers.proofs.Block.BlockNodesEnd.{colon_stop, dash_goes_on, deep_goes_on, block_node_stops_at, block_node_stops_items}
 use Rattle.yaml_recognizers.proofs.Block.BlockNodesEnd.{block_node_stops_last, block_node_stops_pairs, block_node_stops_shallow}
 use Rattle.yaml_recognizers.proofs.Block.BlockNodesEnd.{block_node_stops_value, items_stop, not_ended}
-use Rattle.yaml_recognizers.proofs.Separation.CommentsComplete.{at_line, comments_all, no_comments, not_line_end}
-use Rattle.yaml_recognizers.proofs.Flow.FlowNodesBegin.{Opens, flow_opens}
-use Rattle.yaml_recognizers.proofs.Basics.Prefixes.{drop_while_all, spaces_counted, spaces_passed, take_while_all}
-use Rattle.yaml_recognizers.proofs.Separation.LineEnds.{comments_no_ns, comments_unsolid, fits_end, no_comments_parts}
-use Rattle.yaml_recognizers.proofs.Basics.Solid.{dash_solid, lead_past, solid_not_white, solid_some, solid_space, unsolid_sign, white_no_ns}
+use Rattle.yaml_recognizers.proofs.Separation.{CommentsComplete.{at_line, comments_all, no_comments, not_line_end}, LineEnds.comments_no_ns}
+use Rattle.yaml_recognizers.proofs.{Separation.LineEnds.{comments_unsolid, fits_end, no_comments_parts}, Flow.FlowNodesBegin.Opens}
+use Rattle.yaml_recognizers.proofs.{Flow.FlowNodesBegin.flow_opens, Basics.Prefixes.{drop_while_all, spaces_counted, spaces_passed}}
+use Rattle.yaml_recognizers.proofs.Basics.{Prefixes.take_while_all, Solid.{dash_solid, lead_past, solid_not_white, solid_some, solid_space}}
+use Rattle.yaml_recognizers.{proofs.Basics.Solid.{unsolid_sign, white_no_ns}, specs.CanonicalBlockScalars.canonical_block}
+use Rattle.yaml_recognizers.specs.{CanonicalFlowNodes.canonical_flow, Comments.all_comments, Prefixes.sign, Reading.{Read, on}}
+use Rattle.yaml_recognizers.specs.BlockNodes.{asked_key, bar, flow_with, key_value, leaf_at, leaf_after, more_items, more_pairs, node_below}
+use Rattle.yaml_recognizers.specs.BlockNodes.{omits, opens_pair, read_indented, read_items, read_node, read_pair, read_pairs, sep_at}
+use Rattle.yaml_recognizers.specs.CanonicalBlockNodes.{canonical_indented, canonical_items, canonical_node, canonical_pair, canonical_pairs}
+use Rattle.yaml_recognizers.specs.{CanonicalComments.{canonical_comments, canonical_sep, is_line_end}, Ends.{block_node_stops, less_deep}}
+use Rattle.yaml_recognizers.specs.Ends.{solid}
 
 -- ---- how deep the recognizer goes
 

@@ -1,20 +1,17 @@
 -- The recognizer of block nodes finds the same at each depth that is enough for the text; so its parts can be said by
 -- one another.
-use Rattle.std.proofs.Common.{ap, arith, length-append, refl, sym, ◌∙◌, ◌≡◌, ◌≤◌}
-use Rattle.std.specs.Prelude.{Bool, List, None, Some, [], false, if◌then◌else◌, length, nat_le, not, suc, true, zero, ℕ, ◌&&◌, ◌*◌, ◌++◌}
-use Rattle.std.specs.Prelude.{◌+◌, ◌==◌, ◌||◌, ◌∷◌}
+use Rattle.std.{proofs.Common.{ap, arith, length-append, refl, sym, ◌∙◌, ◌≡◌, ◌≤◌}, specs.Prelude.{Bool, List, None, Some, [], false}}
+use Rattle.std.specs.Prelude.{if◌then◌else◌, length, nat_le, not, suc, true, zero, ℕ, ◌&&◌, ◌*◌, ◌++◌, ◌+◌, ◌==◌, ◌||◌, ◌∷◌}
 use Rattle.yaml_recognizers.proofs.Prelude.{and_parts, Indented, Items, Node, Pair, Pairs, asked, compact_items, compact_pairs}
 use Rattle.yaml_recognizers.proofs.Prelude.{indented_text, is_omitted, item_and, items, keyed, node, pair_and, pair_text, pairs}
 use Rattle.yaml_recognizers.proofs.Prelude.{BlockScalar, past_spaces, spaces_before, Flow, flow_text, LineEnd, comments_text, is_empty}
-use Rattle.yaml_recognizers.proofs.Prelude.{spaces}
-use Rattle.yaml_recognizers.specs.{Comments.all_comments, Ends.block_node_stops, Prefixes.past, Prefixes.sign, Reading.Read, Reading.on}
+use Rattle.yaml_recognizers.proofs.{Prelude.spaces, Block.{BlockNodesBegin.pair_long, BlockNodesSound.{BlockOf, FlowOf, IndentedOf, KeyOf}}}
+use Rattle.yaml_recognizers.proofs.{Block.BlockNodesSound.{PairOf, indented_sound, pair_sound}, Separation.CommentsSound.all_sound}
+use Rattle.yaml_recognizers.proofs.Basics.{Prefixes.spaces_split, Solid.head_of, Reading.{Sound, cond_same, on_same, sound_is}}
+use Rattle.yaml_recognizers.specs.{Comments.all_comments, Ends.block_node_stops, Prefixes.{past, sign}, Reading.{Read, on}}
 use Rattle.yaml_recognizers.specs.BlockNodes.{asked_key, deep_indented, deep_items, deep_node, deep_pair, deep_pairs, indented_node}
 use Rattle.yaml_recognizers.specs.BlockNodes.{key_value, more_items, more_pairs, node_below, omits, opens_pair, read_indented, read_items}
 use Rattle.yaml_recognizers.specs.BlockNodes.{read_node, read_pair, read_pairs}
-use Rattle.yaml_recognizers.proofs.{Block.BlockNodesBegin.pair_long, Separation.CommentsSound.all_sound, Basics.Prefixes.spaces_split}
-use Rattle.yaml_recognizers.proofs.{Basics.Solid.head_of}
-use Rattle.yaml_recognizers.proofs.Block.BlockNodesSound.{BlockOf, FlowOf, IndentedOf, KeyOf, PairOf, indented_sound, pair_sound}
-use Rattle.yaml_recognizers.proofs.Basics.Reading.{Sound, cond_same, on_same, sound_is}
 
 -- ---- what is left of a text
 

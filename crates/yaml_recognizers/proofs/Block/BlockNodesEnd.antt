@@ -1,15 +1,13 @@
 -- Where block nodes end, and where they go on.
-use Rattle.std.proofs.Common.{arith, inl, inr, refl, subst, sym, ◌<◌, ◌∙◌, ◌≡◌, ◌≤◌}
-use Rattle.std.specs.Prelude.{Bool, List, [], cond, false, nat_le, nat_lt, not, suc, true, zero, ℕ, ◌&&◌, ◌++◌, ◌==◌, ◌||◌, ◌∷◌}
+use Rattle.std.{proofs.Common.{arith, inl, inr, refl, subst, sym, ◌<◌, ◌∙◌, ◌≡◌, ◌≤◌}, specs.Prelude.{Bool, List, [], cond, false, nat_le}}
+use Rattle.std.specs.Prelude.{nat_lt, not, suc, true, zero, ℕ, ◌&&◌, ◌++◌, ◌==◌, ◌||◌, ◌∷◌}
 use Rattle.yaml_recognizers.proofs.Prelude.{and_cases, and_from, and_left, and_parts, and_right, cases_Bool, eqb-true, false≢true, le-leb}
 use Rattle.yaml_recognizers.proofs.Prelude.{le-ltb, leb-false, leb-true, lt-leb, lt-ltb, ltb-true, not-true, not_from_false, not_from_true}
 use Rattle.yaml_recognizers.proofs.Prelude.{or_cases, or_from, or_left, or_right, space, past_spaces, spaces_before, first, is_empty}
-use Rattle.yaml_recognizers.proofs.Prelude.{marker, spaces}
-use Rattle.yaml_recognizers.specs.{CanonicalComments.is_line_end, Ends.block_node_stops, Ends.solid, Prefixes.sign}
-use Rattle.yaml_recognizers.proofs.Separation.CommentsComplete.{not_line_end}
-use Rattle.yaml_recognizers.proofs.Basics.Prefixes.{every_space, spaces_counted, spaces_passed, spaces_split}
-use Rattle.yaml_recognizers.proofs.Basics.Solid.{colon_unmarked, dash_solid, dash_unmarked, marker_first, sign_solid, solid_some}
-use Rattle.yaml_recognizers.proofs.Basics.Solid.{solid_space}
+use Rattle.yaml_recognizers.proofs.{Prelude.{marker, spaces}, Separation.CommentsComplete.not_line_end, Basics.Prefixes.every_space}
+use Rattle.yaml_recognizers.proofs.Basics.{Prefixes.{spaces_counted, spaces_passed, spaces_split}, Solid.{colon_unmarked, dash_solid}}
+use Rattle.yaml_recognizers.proofs.Basics.Solid.{dash_unmarked, marker_first, sign_solid, solid_some, solid_space}
+use Rattle.yaml_recognizers.specs.{CanonicalComments.is_line_end, Ends.{block_node_stops, solid}, Prefixes.sign}
 
 -- ---- what ends a node ends those in it
 

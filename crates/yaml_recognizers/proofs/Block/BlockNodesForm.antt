@@ -1,7 +1,7 @@
 -- The canonical form of block nodes: comments, separation, flow nodes and block scalars in it are canonical, and
 -- further lines of comments after the node are taken in, by its last comments. Text and meaning stay.
-use Rattle.std.proofs.Common.{ap, append_assoc, refl, sym, ◌∙◌, ◌≡◌}
-use Rattle.std.specs.Prelude.{Bool, List, None, Option, [], cond, false, nat_le, not, suc, true, ℕ, ◌&&◌, ◌++◌, ◌+◌, ◌==◌, ◌∷◌}
+use Rattle.std.{proofs.Common.{ap, append_assoc, refl, sym, ◌∙◌, ◌≡◌}, specs.Prelude.{Bool, List, None, Option, [], cond, false, nat_le}}
+use Rattle.std.specs.Prelude.{not, suc, true, ℕ, ◌&&◌, ◌++◌, ◌+◌, ◌==◌, ◌∷◌}
 use Rattle.yaml_recognizers.proofs.Prelude.{and_from, and_parts, not_from_false, append-nil, ns, white, Indented, Items, Node, Pair, Pairs}
 use Rattle.yaml_recognizers.proofs.Prelude.{asked, asked_alone, block, compact_items, compact_pairs, flow, indented_end, indented_events}
 use Rattle.yaml_recognizers.proofs.Prelude.{indented_fits, indented_text, is_omitted, item, item_and, items, items_end, items_events}
@@ -9,16 +9,15 @@ use Rattle.yaml_recognizers.proofs.Prelude.{items_fit, items_text, keyed, keyed_
 use Rattle.yaml_recognizers.proofs.Prelude.{omitted, pair, pair_and, pair_end, pair_events, pair_fits, pair_text, pairs, pairs_end}
 use Rattle.yaml_recognizers.proofs.Prelude.{pairs_events, pairs_fit, pairs_text, BlockScalar, block_fits, block_text, flow_fits, flow_text}
 use Rattle.yaml_recognizers.proofs.Prelude.{short_key, block_key, outer, LineEnd, comments_fit, comments_text, sep_fits, sep_text, list_all}
-use Rattle.yaml_recognizers.proofs.Prelude.{first, spaces, starts_line}
-use Rattle.yaml_recognizers.specs.{CanonicalComments.is_line_end, CanonicalFlowNodes.canonical_flow, Ends.solid}
-use Rattle.yaml_recognizers.specs.CanonicalBlockNodes.{canonical_indented, canonical_items, canonical_node, canonical_pair, canonical_pairs}
-use Rattle.yaml_recognizers.proofs.{Separation.CommentsComplete.not_line_end, Basics.Prefixes.every_space, Basics.Solid.dash_solid}
+use Rattle.yaml_recognizers.proofs.{Prelude.{first, spaces, starts_line}, Separation.CommentsComplete.not_line_end}
+use Rattle.yaml_recognizers.proofs.Separation.CommentsForm.{comments_form_fit, comments_joined, joined_before, sep_form, sep_form_fits}
+use Rattle.yaml_recognizers.proofs.{Separation.CommentsForm.sep_form_text, Basics.{Prefixes.every_space, Solid.dash_solid}}
 use Rattle.yaml_recognizers.proofs.Block.BlockNodesBegin.{block_prefix, items_start, pairs_prefix}
 use Rattle.yaml_recognizers.proofs.BlockScalars.BlockScalarsForm.{block_form, block_form_events, block_form_fits, block_form_text}
 use Rattle.yaml_recognizers.proofs.BlockScalars.BlockScalarsForm.{block_open, bare_form_text, takes, takes_none}
-use Rattle.yaml_recognizers.proofs.Separation.CommentsForm.{comments_form_fit, comments_joined, joined_before, sep_form, sep_form_fits}
-use Rattle.yaml_recognizers.proofs.Separation.CommentsForm.{sep_form_text}
 use Rattle.yaml_recognizers.proofs.Flow.FlowNodesForm.{flow_form, flow_form_events, flow_form_fits, flow_form_text, form_solid}
+use Rattle.yaml_recognizers.specs.{CanonicalComments.is_line_end, CanonicalFlowNodes.canonical_flow, Ends.solid}
+use Rattle.yaml_recognizers.specs.CanonicalBlockNodes.{canonical_indented, canonical_items, canonical_node, canonical_pair, canonical_pairs}
 
 abbrev mutual
   -- a node in its canonical form, with further comment lines

@@ -1,26 +1,23 @@
 -- What the recognizer of block nodes reads is at the start of the text, and fits.
-use Rattle.std.proofs.Common.{ap, append_assoc, inl, inr, refl, subst, sym, ◌∙◌, ◌≡◌}
-use Rattle.std.specs.Prelude.{Bool, List, None, Option, Some, [], false, if◌then◌else◌, is_some, nat_le, not, suc, true, zero, ℕ, ◌&&◌}
-use Rattle.std.specs.Prelude.{◌++◌, ◌+◌, ◌==◌, ◌||◌, ◌∷◌}
+use Rattle.std.{proofs.Common.{ap, append_assoc, inl, inr, refl, subst, sym, ◌∙◌, ◌≡◌}, specs.Prelude.{Bool, List, None, Option, Some, []}}
+use Rattle.std.specs.Prelude.{false, if◌then◌else◌, is_some, nat_le, not, suc, true, zero, ℕ, ◌&&◌, ◌++◌, ◌+◌, ◌==◌, ◌||◌, ◌∷◌}
 use Rattle.yaml_recognizers.proofs.Prelude.{and_from, and_parts, cond_both, eqb-true, false≢true, not-true, not_from_false, or_cases}
 use Rattle.yaml_recognizers.proofs.Prelude.{or_right, ns, white, Indented, Items, Node, Pair, Pairs, asked, asked_alone, block}
 use Rattle.yaml_recognizers.proofs.Prelude.{compact_items, compact_pairs, flow, indented_text, is_omitted, item, item_and, items}
 use Rattle.yaml_recognizers.proofs.Prelude.{items_text, keyed, keyed_alone, node, node_text, omitted, pair, pair_and, pair_text, pairs}
 use Rattle.yaml_recognizers.proofs.Prelude.{pairs_text, BlockScalar, block_text, past_spaces, spaces_before, Flow, flow_text, short_key}
 use Rattle.yaml_recognizers.proofs.Prelude.{block_key, outer, LineEnd, Sep, comments_text, indents, inline, lines, sep_text, list_all}
-use Rattle.yaml_recognizers.proofs.Prelude.{first, is_empty, spaces, starts_line}
-use Rattle.yaml_recognizers.specs.{CanonicalBlockScalars.canonical_block, CanonicalFlowNodes.canonical_flow, Comments.all_comments}
-use Rattle.yaml_recognizers.specs.{Comments.closes_line, Ends.block_node_stops, Ends.solid, Reading.Read, Reading.on}
-use Rattle.yaml_recognizers.specs.BlockNodes.{asked_key, bar, flow_with, indented_node, key_value, leaf_at, leaf_after, more_items}
-use Rattle.yaml_recognizers.specs.BlockNodes.{more_pairs, node_below, omits, opens_pair, read_indented, read_items, read_node, read_pair}
-use Rattle.yaml_recognizers.specs.BlockNodes.{read_pairs, sep_at}
-use Rattle.yaml_recognizers.specs.CanonicalBlockNodes.{canonical_indented, canonical_items, canonical_node, canonical_pair, canonical_pairs}
-use Rattle.yaml_recognizers.specs.CanonicalComments.{canonical_comments, canonical_sep, is_line_end}
-use Rattle.yaml_recognizers.specs.Prefixes.{drop_while, past, sign, take_while}
-use Rattle.yaml_recognizers.proofs.{Separation.CommentsComplete.not_line_end, Separation.CommentsSound.CommentsOf}
-use Rattle.yaml_recognizers.proofs.{Separation.CommentsSound.all_sound, Flow.FlowNodesBegin.flow_opens, Basics.Reading.Sound}
-use Rattle.yaml_recognizers.proofs.{Basics.Reading.sound_on, Basics.Solid.dash_solid, Basics.Solid.head_of, Basics.Solid.sign_solid}
-use Rattle.yaml_recognizers.proofs.Basics.Prefixes.{every_space, spaces_split, take_while_every, take_while_split}
+use Rattle.yaml_recognizers.proofs.{Prelude.{first, is_empty, spaces, starts_line}, Separation.CommentsComplete.not_line_end}
+use Rattle.yaml_recognizers.proofs.{Separation.CommentsSound.{CommentsOf, all_sound}, Flow.FlowNodesBegin.flow_opens, Basics.Reading.Sound}
+use Rattle.yaml_recognizers.proofs.Basics.{Reading.sound_on, Solid.{dash_solid, head_of, sign_solid}, Prefixes.{every_space, spaces_split}}
+use Rattle.yaml_recognizers.{proofs.Basics.Prefixes.{take_while_every, take_while_split}, specs.CanonicalBlockScalars.canonical_block}
+use Rattle.yaml_recognizers.specs.{CanonicalFlowNodes.canonical_flow, Comments.{all_comments, closes_line}, Ends.{block_node_stops, solid}}
+use Rattle.yaml_recognizers.specs.{Reading.{Read, on}, BlockNodes.{asked_key, bar, flow_with, indented_node, key_value, leaf_at}}
+use Rattle.yaml_recognizers.specs.BlockNodes.{leaf_after, more_items, more_pairs, node_below, omits, opens_pair, read_indented, read_items}
+use Rattle.yaml_recognizers.specs.{BlockNodes.{read_node, read_pair, read_pairs, sep_at}, CanonicalBlockNodes.canonical_indented}
+use Rattle.yaml_recognizers.specs.CanonicalBlockNodes.{canonical_items, canonical_node, canonical_pair, canonical_pairs}
+use Rattle.yaml_recognizers.specs.{CanonicalComments.{canonical_comments, canonical_sep, is_line_end}, Prefixes.{drop_while, past, sign}}
+use Rattle.yaml_recognizers.specs.Prefixes.{take_while}
 
 -- after a node
 pub tail_fit : (cs : List LineEnd) (rest : List ℕ)

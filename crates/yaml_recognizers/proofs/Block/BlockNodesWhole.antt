@@ -1,18 +1,17 @@
 -- Block nodes, from recognizers of scalars alone: complete, sound, and so unique.
-use Rattle.std.proofs.Common.{ap, arith, length-append, sym, ◌∙◌, ◌≡◌, ◌≤◌}
-use Rattle.std.specs.Prelude.{Bool, List, Some, codes, false, length, suc, true, ℕ, ◌*◌, ◌++◌, ◌+◌}
+use Rattle.std.{proofs.Common.{ap, arith, length-append, sym, ◌∙◌, ◌≡◌, ◌≤◌}, specs.Prelude.{Bool, List, Some, codes, false, length, suc}}
+use Rattle.std.specs.Prelude.{true, ℕ, ◌*◌, ◌++◌, ◌+◌}
 use Rattle.yaml_recognizers.proofs.Prelude.{Indented, Items, Node, Pair, Pairs, asked, asked_alone, block, compact_items, compact_pairs}
 use Rattle.yaml_recognizers.proofs.Prelude.{flow, indented_text, item, item_and, items, items_text, keyed, keyed_alone, node, node_text}
 use Rattle.yaml_recognizers.proofs.Prelude.{omitted, pair, pair_and, pair_text, pairs, pairs_text, BlockScalar, Flow, flow_text, is_plain}
-use Rattle.yaml_recognizers.proofs.Prelude.{FlowContext, Scalar, outer, LineEnd, comments_text, spaces}
-use Rattle.yaml_recognizers.specs.{BlockNodes.block_key_at, BlockNodes.whole_node, CanonicalBlockNodes.canonical_node}
-use Rattle.yaml_recognizers.specs.{CanonicalComments.canonical_comments, CanonicalFlowNodes.canonical_flow, Ends.block_node_stops}
-use Rattle.yaml_recognizers.specs.{Ends.less_deep, FlowNodes.whole_flow, Reading.Read, Scalars.ReadsBlocks, Scalars.ReadsScalars}
-use Rattle.yaml_recognizers.proofs.Block.BlockKeys.{WholeKey, before_comments_stops, flow_no_key, keys_read, keys_sound, whole_key}
+use Rattle.yaml_recognizers.proofs.{Prelude.{FlowContext, Scalar, outer, LineEnd, comments_text, spaces}, Block.BlockKeys.WholeKey}
+use Rattle.yaml_recognizers.proofs.Block.BlockKeys.{before_comments_stops, flow_no_key, keys_read, keys_sound, whole_key}
 use Rattle.yaml_recognizers.proofs.Block.BlockNodesComplete.{indented_size, items_size, node_read, node_size, pair_size, pairs_size}
-use Rattle.yaml_recognizers.proofs.Block.BlockNodesSound.{BlockOf, KeyOf, NodeOf, node_sound}
-use Rattle.yaml_recognizers.proofs.Flow.FlowNodesWhole.{whole_flow_read, whole_flow_sound}
-use Rattle.yaml_recognizers.proofs.Basics.Reading.{Sound, some_parts, sound_is, sound_of, sound_to}
+use Rattle.yaml_recognizers.proofs.{Block.BlockNodesSound.{BlockOf, KeyOf, NodeOf, node_sound}, Flow.FlowNodesWhole.whole_flow_read}
+use Rattle.yaml_recognizers.proofs.{Flow.FlowNodesWhole.whole_flow_sound, Basics.Reading.{Sound, some_parts, sound_is, sound_of, sound_to}}
+use Rattle.yaml_recognizers.specs.{BlockNodes.{block_key_at, whole_node}, CanonicalBlockNodes.canonical_node}
+use Rattle.yaml_recognizers.specs.{CanonicalComments.canonical_comments, CanonicalFlowNodes.canonical_flow, Ends.block_node_stops}
+use Rattle.yaml_recognizers.specs.{Ends.less_deep, FlowNodes.whole_flow, Reading.Read, Scalars.{ReadsBlocks, ReadsScalars}}
 
 -- ---- a node goes no deeper than its length allows
 

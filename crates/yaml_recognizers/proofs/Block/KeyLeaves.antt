@@ -1,18 +1,16 @@
 -- A block key is a flow node of the wider context that is on one line, is short, and has white and a `:` after it: so
 -- one reading decides both.
-use Rattle.std.proofs.Common.{ap, refl, subst, sym, ◌∙◌, ◌≡◌, inl, inr}
-use Rattle.std.specs.Prelude.{Bool, List, None, Some, false, true, ℕ, ◌&&◌, ◌++◌, ◌∷◌}
+use Rattle.std.{proofs.Common.{ap, refl, subst, sym, ◌∙◌, ◌≡◌, inl, inr}, specs.Prelude.{Bool, List, None, Some, false, true, ℕ, ◌&&◌}}
+use Rattle.std.specs.Prelude.{◌++◌, ◌∷◌}
 use Rattle.yaml_recognizers.proofs.Prelude.{and_parts, false≢true, ns, white, Flow, flow_text, is_plain, short_key, block_key, outer}
-use Rattle.yaml_recognizers.proofs.Prelude.{list_all, first}
-use Rattle.yaml_recognizers.specs.{CanonicalFlowNodes.canonical_flow, Ends.Stops, FlowScalars.read_scalar, OneLine.on_one_line}
-use Rattle.yaml_recognizers.specs.{Reading.Read, Recognizers.StandsFlow, Recognizers.block_key_in, Recognizers.flow_node_at}
-use Rattle.yaml_recognizers.specs.Prefixes.{drop_while, past, sign, take_while}
-use Rattle.yaml_recognizers.proofs.{Flow.FlowNodesFound.stands, Flow.FlowNodesNarrower.flow_key_line, Flow.FlowNodesNarrower.flow_narrower}
-use Rattle.yaml_recognizers.proofs.{Flow.FlowNodesWhole.whole_flow_read, Flow.FlowNodesWhole.whole_flow_sound}
+use Rattle.yaml_recognizers.proofs.{Prelude.{list_all, first}, Flow.{FlowNodesFound.stands, FlowNodesNarrower.flow_key_line}}
+use Rattle.yaml_recognizers.proofs.Flow.{FlowNodesNarrower.flow_narrower, FlowNodesWhole.{whole_flow_read, whole_flow_sound}}
 use Rattle.yaml_recognizers.proofs.{Flow.FlowNodesWider.flow_wider, Scalars.ScalarsInNodes.reads_scalars, Basics.Solid.head_of}
-use Rattle.yaml_recognizers.proofs.Block.BlockKeys.{WholeKey, keys_read, whole_key}
-use Rattle.yaml_recognizers.proofs.Basics.Prefixes.{drop_while_all, take_while_all, take_while_every, take_while_split}
-use Rattle.yaml_recognizers.proofs.Basics.Reading.{none_some, some_parts, sound_is}
+use Rattle.yaml_recognizers.proofs.Basics.{Prefixes.{drop_while_all, take_while_all, take_while_every, take_while_split}, Reading.none_some}
+use Rattle.yaml_recognizers.proofs.{Basics.Reading.{some_parts, sound_is}, Block.BlockKeys.{WholeKey, keys_read, whole_key}}
+use Rattle.yaml_recognizers.specs.{CanonicalFlowNodes.canonical_flow, Ends.Stops, FlowScalars.read_scalar, OneLine.on_one_line}
+use Rattle.yaml_recognizers.specs.{Reading.Read, Recognizers.{StandsFlow, block_key_in, flow_node_at}, Prefixes.{drop_while, past, sign}}
+use Rattle.yaml_recognizers.specs.Prefixes.{take_while}
 
 -- before the `:` of a key a scalar ends
 before_colon : (n : ℕ) (after_plain : Bool) (gap rest : List ℕ) → list_all white gap ≡ true → first ns rest ≡ false

@@ -1,15 +1,13 @@
 -- What is between the header and the comments: what fits is read, and what is read fits.
-use Rattle.std.proofs.Common.{◌≡◌, refl, sym, ◌∙◌, ap, subst, append_assoc, ◌<◌}
-use Rattle.std.specs.Prelude.{ℕ, suc, ◌+◌, ◌-◌, true, false, not, ◌&&◌, List, ◌++◌, length, Option, Some, None}
+use Rattle.std.{proofs.Common.{◌≡◌, refl, sym, ◌∙◌, ap, subst, append_assoc, ◌<◌}, specs.Prelude.{ℕ, suc, ◌+◌, ◌-◌, true, false, not, ◌&&◌}}
+use Rattle.std.specs.Prelude.{List, ◌++◌, length, Option, Some, None}
 use Rattle.yaml_recognizers.proofs.Prelude.{and_parts, and_from, eq-eqb, not-true, not_from_false, BlockEmptyLine, block_empties_text}
 use Rattle.yaml_recognizers.proofs.Prelude.{TextLine, text_lines_text, Body, body_text, block_empties_fit, text_lines_fit, goes_on}
-use Rattle.yaml_recognizers.proofs.Prelude.{indent_fits, body_fits}
-use Rattle.yaml_recognizers.specs.Reading.{on}
-use Rattle.yaml_recognizers.specs.BlockScalars.{empties_at, all_empties, lines_at, find_indent, body_at, read_body}
-use Rattle.yaml_recognizers.proofs.{Basics.Reading.Sound, Basics.Reading.sound_on, Basics.Spaces.at_most}
+use Rattle.yaml_recognizers.proofs.{Prelude.{indent_fits, body_fits}, Basics.{Reading.{Sound, sound_on}, Spaces.at_most}}
 use Rattle.yaml_recognizers.proofs.BlockScalars.EmptyLines.{fit_meet, EmptiesOf, empties_at_read, empties_of_sound}
-use Rattle.yaml_recognizers.proofs.BlockScalars.Indentation.{indent_found, Found, IfFound, indent_sound}
-use Rattle.yaml_recognizers.proofs.BlockScalars.TextLines.{lines_no_empty, lines_read, lines_few, LinesOf, lines_sound}
+use Rattle.yaml_recognizers.proofs.BlockScalars.{Indentation.{indent_found, Found, IfFound, indent_sound}, TextLines.lines_no_empty}
+use Rattle.yaml_recognizers.{proofs.BlockScalars.TextLines.{lines_read, lines_few, LinesOf, lines_sound}, specs.Reading.on}
+use Rattle.yaml_recognizers.specs.BlockScalars.{empties_at, all_empties, lines_at, find_indent, body_at, read_body}
 
 -- what a body that fits has
 pub record BodyParts (digit : Option ℕ) (m : ℕ) (b : Body) (after : List ℕ) : Type 0 where

@@ -1,17 +1,14 @@
 -- The header of a block scalar: what fits is read, and what is read fits.
-use Rattle.std.proofs.Common.{◌≡◌, refl, sym, ◌∙◌, ap, subst, inl, inr, append_assoc, arith, ◌≤◌}
-use Rattle.std.specs.Prelude.{ℕ, ◌+◌, ◌-◌, Bool, true, false, not, ◌&&◌, ◌||◌, ◌==◌, nat_le, List, [], ◌∷◌, ◌++◌, Option, Some, None}
-use Rattle.std.specs.Prelude.{is_some, codes, if◌then◌else◌}
+use Rattle.std.{proofs.Common.{◌≡◌, refl, sym, ◌∙◌, ap, subst, inl, inr, append_assoc, arith, ◌≤◌}, specs.Prelude.{ℕ, ◌+◌, ◌-◌, Bool, true}}
+use Rattle.std.specs.Prelude.{false, not, ◌&&◌, ◌||◌, ◌==◌, nat_le, List, [], ◌∷◌, ◌++◌, Option, Some, None, is_some, codes, if◌then◌else◌}
 use Rattle.yaml_recognizers.proofs.Prelude.{and_parts, and_from, or_cases, or_left, false≢true, eqb-true, cond_both, leb-true, le-leb}
 use Rattle.yaml_recognizers.proofs.Prelude.{not_from_false, cases_Bool, in_range, white, line_break, list_all, is_empty, optional}
 use Rattle.yaml_recognizers.proofs.Prelude.{ends_word, Break, lf, cr, cr_lf, break_text, stop_fits, LineEnd, comment_text, line_end_text}
 use Rattle.yaml_recognizers.proofs.Prelude.{comment_fits, line_end_fits, Chomping, strip, clip, keep, Header, digit_text, chomping_text}
-use Rattle.yaml_recognizers.proofs.Prelude.{header_text, digit_fits, header_fits}
-use Rattle.yaml_recognizers.specs.{CanonicalBlockScalars.canonical_header, Comments.read_line_end}
-use Rattle.yaml_recognizers.specs.BlockScalars.{read_digit, read_mark, read_header_end, header_at, after_mark, after_digit, read_header}
-use Rattle.yaml_recognizers.proofs.Basics.Reading.{Sound, sound_on, sound_to}
-use Rattle.yaml_recognizers.proofs.Separation.CommentsComplete.{line_end_read}
-use Rattle.yaml_recognizers.proofs.Separation.CommentsSound.{LineOf, line_sound}
+use Rattle.yaml_recognizers.proofs.{Prelude.{header_text, digit_fits, header_fits}, Basics.Reading.{Sound, sound_on, sound_to}}
+use Rattle.yaml_recognizers.proofs.Separation.{CommentsComplete.line_end_read, CommentsSound.{LineOf, line_sound}}
+use Rattle.yaml_recognizers.specs.{CanonicalBlockScalars.canonical_header, Comments.read_line_end, BlockScalars.{read_digit, read_mark}}
+use Rattle.yaml_recognizers.specs.BlockScalars.{read_header_end, header_at, after_mark, after_digit, read_header}
 
 -- ---- the end of the header's line
 

@@ -2,10 +2,9 @@
 -- document, the least indentation that it may have, and the text from there on; and the event that it gives, whose
 -- range is counted from the document's start, with what is left of the text. The checker computes both sides. The
 -- expected values come from YAML 1.2.2 and from other readers of these texts.
-use Rattle.std.proofs.Common.{◌≡◌, refl}
-use Rattle.std.specs.Prelude.{ℕ, List, [], ◌∷◌, Some, None, codes}
-use Rattle.yaml_recognizers.proofs.Prelude.{block_events, Event, scalar_event, literal_style, folded_style}
-use Rattle.yaml_recognizers.specs.{Reading.Read, Reading.on, BlockScalars.read_block}
+use Rattle.std.{proofs.Common.{◌≡◌, refl}, specs.Prelude.{ℕ, List, [], ◌∷◌, Some, None, codes}}
+use Rattle.yaml_recognizers.{proofs.Prelude.{block_events, Event, scalar_event, literal_style, folded_style}, specs.Reading.{Read, on}}
+use Rattle.yaml_recognizers.specs.BlockScalars.{read_block}
 
 -- the events of the block scalar at the start, and what is left
 abbrev read_events : ℕ → ℕ → List ℕ → Read (List Event)

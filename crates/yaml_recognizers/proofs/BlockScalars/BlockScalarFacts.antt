@@ -1,18 +1,15 @@
 -- What is read is what is at the start of the text, and means what each presentation there means. If nothing is read,
 -- nothing is there. These lemmas are over the grammar's own conditions, without those of the canonical form.
-use Rattle.std.proofs.Common.{◌≡◌, refl, sym, ◌∙◌, ap, append_assoc}
-use Rattle.std.specs.Prelude.{ℕ, ◌+◌, Bool, true, false, not, ◌&&◌, ◌||◌, List, [], ◌∷◌, ◌++◌, Option, Some, None, is_some, if◌then◌else◌}
+use Rattle.std.{proofs.Common.{◌≡◌, refl, sym, ◌∙◌, ap, append_assoc}, specs.Prelude.{ℕ, ◌+◌, Bool, true, false, not, ◌&&◌, ◌||◌, List, []}}
+use Rattle.std.specs.Prelude.{◌∷◌, ◌++◌, Option, Some, None, is_some, if◌then◌else◌}
 use Rattle.yaml_recognizers.proofs.Prelude.{is_empty, byte_len, LineEnd, line_end_text, comments_text, Chomping, strip, clip, keep, Header}
 use Rattle.yaml_recognizers.proofs.Prelude.{Body, BlockScalar, chomping_text, header_text, body_text, bare_block_text, block_value, Event}
-use Rattle.yaml_recognizers.proofs.Prelude.{scalar_event, literal_style, folded_style}
-use Rattle.yaml_recognizers.specs.Scalars.{ReadsBlocks}
-use Rattle.yaml_recognizers.specs.BlockScalars.{read_header, read_body, read_trail, block_of, read_block}
-use Rattle.yaml_recognizers.specs.BlockScalarFacts.{HeaderStands, IsHeader, NoHeader, BodyStands, IsBody, NoBody, BlockStands, SameBlock}
-use Rattle.yaml_recognizers.specs.BlockScalarFacts.{NoBlock}
-use Rattle.yaml_recognizers.proofs.Basics.Reading.{none_some, some_parts, sound_is}
-use Rattle.yaml_recognizers.proofs.BlockScalars.BlockHeaders.{bar, signs, header_read, HeaderOf, header_sound}
-use Rattle.yaml_recognizers.proofs.BlockScalars.BlockBodies.{body_read, BodyOf, body_sound}
-use Rattle.yaml_recognizers.proofs.BlockScalars.BlockScalarsWhole.{BlockParts, block_parts, block_read, BlockOf, block_sound}
+use Rattle.yaml_recognizers.proofs.{Prelude.{scalar_event, literal_style, folded_style}, Basics.Reading.{none_some, some_parts, sound_is}}
+use Rattle.yaml_recognizers.proofs.BlockScalars.{BlockHeaders.{bar, signs, header_read, HeaderOf, header_sound}, BlockBodies.body_read}
+use Rattle.yaml_recognizers.proofs.BlockScalars.{BlockBodies.{BodyOf, body_sound}, BlockScalarsWhole.{BlockParts, block_parts, block_read}}
+use Rattle.yaml_recognizers.{proofs.BlockScalars.BlockScalarsWhole.{BlockOf, block_sound}, specs.Scalars.ReadsBlocks}
+use Rattle.yaml_recognizers.specs.{BlockScalars.{read_header, read_body, read_trail, block_of, read_block}, BlockScalarFacts.HeaderStands}
+use Rattle.yaml_recognizers.specs.BlockScalarFacts.{IsHeader, NoHeader, BodyStands, IsBody, NoBody, BlockStands, SameBlock, NoBlock}
 
 -- ---- the recognizer as block nodes take it
 

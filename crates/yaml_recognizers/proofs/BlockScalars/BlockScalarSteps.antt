@@ -1,16 +1,14 @@
 -- One step of each of the recognizer's loops over lines, for a scanner that goes over the lines of a text: what is read
 -- after a line does not depend on how far the recognizer may go.
-use Rattle.std.proofs.Common.{ap, append_assoc, arith, inl, inr, length-append, refl, subst, sym, ◌<◌, ◌∙◌, ◌≡◌}
-use Rattle.std.specs.Prelude.{Bool, List, None, Some, [], drop, false, length, suc, true, zero, ℕ, ◌++◌, ◌∷◌}
+use Rattle.std.{proofs.Common.{ap, append_assoc, arith, inl, inr, length-append, refl, subst, sym, ◌<◌, ◌∙◌, ◌≡◌}, specs.Prelude.Bool}
+use Rattle.std.specs.Prelude.{List, None, Some, [], drop, false, length, suc, true, zero, ℕ, ◌++◌, ◌∷◌}
 use Rattle.yaml_recognizers.proofs.Prelude.{and_from, cases_Bool, BlockEmptyLine, TextLine, block_empties_text, goes_on, past_spaces}
-use Rattle.yaml_recognizers.proofs.Prelude.{spaces_before, Break, break_fits, break_text, optional, spaces}
-use Rattle.yaml_recognizers.specs.{Comments.read_break, Reading.Read, Reading.on}
-use Rattle.yaml_recognizers.specs.BlockScalars.{empties_of, lines_at, read_text_line, read_text_lines}
-use Rattle.yaml_recognizers.proofs.Basics.Breaks.{BreakOf, break_sound}
-use Rattle.yaml_recognizers.proofs.BlockScalars.EmptyLines.{EmptiesOf, empty_split, empties_of_read, empties_of_sound}
-use Rattle.yaml_recognizers.proofs.Basics.Reading.{Sound, sound_is, sound_to}
-use Rattle.yaml_recognizers.proofs.Basics.Spaces.{TextAt, at_most, empty_here, goes_on_text}
-use Rattle.yaml_recognizers.proofs.BlockScalars.TextLines.{LineOf, after_indent, line_sound, some_long}
+use Rattle.yaml_recognizers.proofs.{Prelude.{spaces_before, Break, break_fits, break_text, optional, spaces}, Basics.Breaks.BreakOf}
+use Rattle.yaml_recognizers.proofs.Basics.{Breaks.break_sound, Reading.{Sound, sound_is, sound_to}, Spaces.{TextAt, at_most, empty_here}}
+use Rattle.yaml_recognizers.proofs.{Basics.Spaces.goes_on_text, BlockScalars.EmptyLines.{EmptiesOf, empty_split, empties_of_read}}
+use Rattle.yaml_recognizers.proofs.BlockScalars.{EmptyLines.empties_of_sound, TextLines.{LineOf, after_indent, line_sound, some_long}}
+use Rattle.yaml_recognizers.specs.{Comments.read_break, Reading.{Read, on}, BlockScalars.{empties_of, lines_at, read_text_line}}
+use Rattle.yaml_recognizers.specs.BlockScalars.{read_text_lines}
 
 -- ---- empty lines
 

@@ -1,19 +1,16 @@
 -- The canonical form of block scalars: the digit of the header is first, and further lines of comments after the scalar
 -- are taken in. Whether the lines after a node may be taken in, where a scalar without comments ends it.
-use Rattle.std.proofs.Common.{ap, append_assoc, inl, inr, refl, subst, sym, ◌∙◌, ◌≡◌}
-use Rattle.std.specs.Prelude.{Bool, List, None, Option, Some, [], cond, false, if◌then◌else◌, is_some, length, nat_lt, not, suc, true, ℕ}
-use Rattle.std.specs.Prelude.{◌&&◌, ◌++◌, ◌==◌, ◌||◌, ◌∷◌}
+use Rattle.std.{proofs.Common.{ap, append_assoc, inl, inr, refl, subst, sym, ◌∙◌, ◌≡◌}, specs.Prelude.{Bool, List, None, Option, Some, []}}
+use Rattle.std.specs.Prelude.{cond, false, if◌then◌else◌, is_some, length, nat_lt, not, suc, true, ℕ, ◌&&◌, ◌++◌, ◌==◌, ◌||◌, ◌∷◌}
 use Rattle.yaml_recognizers.proofs.Prelude.{and_from, and_left, and_parts, and_right, cases_Bool, eqb-true, false≢true, not_from_false}
 use Rattle.yaml_recognizers.proofs.Prelude.{or_parts, space, white, BlockScalar, Chomping, Header, bare_block_text, block_events}
 use Rattle.yaml_recognizers.proofs.Prelude.{block_fits, block_text, body_fits, body_text, chomping_text, clip, digit_text, header_fits}
 use Rattle.yaml_recognizers.proofs.Prelude.{header_text, keep, past_spaces, spaces_before, strip, trail_fits, Break, LineEnd, break_text}
 use Rattle.yaml_recognizers.proofs.Prelude.{comment_line_fits, comment_text, comments_fit, comments_text, cr, cr_lf, lf, line_end_text}
-use Rattle.yaml_recognizers.proofs.Prelude.{stop_fits, list_all, first, is_empty, optional}
-use Rattle.yaml_recognizers.specs.CanonicalBlockScalars.{canonical_block, whole_trail}
-use Rattle.yaml_recognizers.specs.CanonicalComments.{hash, is_line_end}
-use Rattle.yaml_recognizers.proofs.Basics.Prefixes.{spaces_counted, spaces_passed}
-use Rattle.yaml_recognizers.proofs.Separation.LineEnds.{LineParts, line_parts, line_regrouped, tail_not_white}
-use Rattle.yaml_recognizers.proofs.Separation.CommentsForm.{comments_joined, joined_before, joined_fit}
+use Rattle.yaml_recognizers.proofs.{Prelude.{stop_fits, list_all, first, is_empty, optional}, Basics.Prefixes.spaces_counted}
+use Rattle.yaml_recognizers.proofs.{Basics.Prefixes.spaces_passed, Separation.LineEnds.{LineParts, line_parts, line_regrouped}}
+use Rattle.yaml_recognizers.proofs.Separation.{LineEnds.tail_not_white, CommentsForm.{comments_joined, joined_before, joined_fit}}
+use Rattle.yaml_recognizers.specs.{CanonicalBlockScalars.{canonical_block, whole_trail}, CanonicalComments.{hash, is_line_end}}
 
 -- ---- the header
 

@@ -1,16 +1,12 @@
 -- Block scalars: what fits in its canonical form is read, and what is read fits in its canonical form. So a text has at
 -- most one canonical block scalar at its start.
-use Rattle.std.proofs.Common.{◌≡◌, sym, ◌∙◌, ap, subst, append_assoc}
-use Rattle.std.specs.Prelude.{ℕ, true, ◌&&◌, List, ◌++◌, Some}
+use Rattle.std.{proofs.Common.{◌≡◌, sym, ◌∙◌, ap, subst, append_assoc}, specs.Prelude.{ℕ, true, ◌&&◌, List, ◌++◌, Some}}
 use Rattle.yaml_recognizers.proofs.Prelude.{and_parts, and_from, LineEnd, comments_text, Header, Body, BlockScalar, header_text, body_text}
-use Rattle.yaml_recognizers.proofs.Prelude.{block_text, header_fits, body_fits, trail_fits, block_fits}
-use Rattle.yaml_recognizers.specs.CanonicalBlockScalars.{canonical_header, whole_trail, canonical_block}
-use Rattle.yaml_recognizers.specs.Reading.{on}
+use Rattle.yaml_recognizers.proofs.{Prelude.{block_text, header_fits, body_fits, trail_fits, block_fits}, Basics.Reading.{Sound, sound_on}}
+use Rattle.yaml_recognizers.proofs.BlockScalars.{BlockBodies.{body_read, BodyOf, body_sound}, BlockHeaders.{header_read, HeaderOf}}
+use Rattle.yaml_recognizers.proofs.BlockScalars.{BlockHeaders.header_sound, Trails.{trail_read, TrailOf, trail_sound}}
+use Rattle.yaml_recognizers.specs.{CanonicalBlockScalars.{canonical_header, whole_trail, canonical_block}, Reading.on}
 use Rattle.yaml_recognizers.specs.BlockScalars.{read_header, read_body, read_trail, block_of, read_block}
-use Rattle.yaml_recognizers.proofs.Basics.Reading.{Sound, sound_on}
-use Rattle.yaml_recognizers.proofs.BlockScalars.BlockBodies.{body_read, BodyOf, body_sound}
-use Rattle.yaml_recognizers.proofs.BlockScalars.BlockHeaders.{header_read, HeaderOf, header_sound}
-use Rattle.yaml_recognizers.proofs.BlockScalars.Trails.{trail_read, TrailOf, trail_sound}
 
 -- ---- the parts of a block scalar
 

@@ -1,14 +1,12 @@
 -- Lines of spaces: those that fit are read, and those that are read fit, up to where there is none.
-use Rattle.std.proofs.Common.{ap, append_assoc, arith, inl, inr, length-append, refl, subst, sym, ◌<◌, ◌∙◌, ◌≡◌, ◌≤◌}
-use Rattle.std.specs.Prelude.{Bool, List, None, Some, [], false, is_some, length, max, nat_le, suc, true, zero, ℕ, ◌&&◌, ◌++◌, ◌+◌, ◌∷◌}
+use Rattle.std.{proofs.Common.{ap, append_assoc, arith, inl, inr, length-append, refl, subst, sym, ◌<◌, ◌∙◌, ◌≡◌, ◌≤◌}, specs.Prelude.Bool}
+use Rattle.std.specs.Prelude.{List, None, Some, [], false, is_some, length, max, nat_le, suc, true, zero, ℕ, ◌&&◌, ◌++◌, ◌+◌, ◌∷◌}
 use Rattle.yaml_recognizers.proofs.Prelude.{and_from, and_left, and_parts, cases_Bool, cond_both, le-leb, leb-true, line_break, space}
 use Rattle.yaml_recognizers.proofs.Prelude.{BlockEmptyLine, block_empties_fit, block_empties_text, past_spaces, spaces_before, widest}
-use Rattle.yaml_recognizers.proofs.Prelude.{Break, break_fits, break_text, cr, cr_lf, lf, first, spaces}
-use Rattle.yaml_recognizers.specs.{Comments.read_break, Reading.Read}
-use Rattle.yaml_recognizers.specs.BlockScalars.{empties_at, empties_of, more_empties, read_empties}
-use Rattle.yaml_recognizers.proofs.{Basics.Prefixes.spaces_split, Basics.Reading.Sound, Basics.Reading.sound_to}
-use Rattle.yaml_recognizers.proofs.Basics.Breaks.{BreakOf, break_read, break_some, break_sound, unbroken}
-use Rattle.yaml_recognizers.proofs.Basics.Spaces.{at_most, empty_here, no_space, spaces_added, spaces_past}
+use Rattle.yaml_recognizers.proofs.{Prelude.{Break, break_fits, break_text, cr, cr_lf, lf, first, spaces}, Basics.Prefixes.spaces_split}
+use Rattle.yaml_recognizers.proofs.Basics.{Reading.{Sound, sound_to}, Breaks.{BreakOf, break_read, break_some, break_sound, unbroken}}
+use Rattle.yaml_recognizers.{proofs.Basics.Spaces.{at_most, empty_here, no_space, spaces_added, spaces_past}, specs.Comments.read_break}
+use Rattle.yaml_recognizers.specs.{Reading.Read, BlockScalars.{empties_at, empties_of, more_empties, read_empties}}
 
 -- empty lines whose widths meet p
 abbrev pub empties_meet : (ℕ → Bool) → List BlockEmptyLine → List ℕ → Bool

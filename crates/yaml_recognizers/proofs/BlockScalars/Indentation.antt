@@ -1,19 +1,18 @@
 -- The indentation: where a body fits its indentation is found, and where one is found it fits.
-use Rattle.std.proofs.Common.{◌≡◌, refl, sym, ◌∙◌, ap, subst, inl, inr, append_assoc, arith, ◌<◌, ◌≤◌}
-use Rattle.std.specs.Prelude.{ℕ, suc, ◌+◌, ◌-◌, max, Bool, true, false, not, ◌&&◌, ◌||◌, ◌==◌, nat_le, nat_lt, List, [], ◌∷◌, ◌++◌, Option}
-use Rattle.std.specs.Prelude.{Some, None, if◌then◌else◌}
+use Rattle.std.{proofs.Common.{◌≡◌, refl, sym, ◌∙◌, ap, subst, inl, inr, append_assoc, arith, ◌<◌, ◌≤◌}, specs.Prelude.{ℕ, suc, ◌+◌, ◌-◌}}
+use Rattle.std.specs.Prelude.{max, Bool, true, false, not, ◌&&◌, ◌||◌, ◌==◌, nat_le, nat_lt, List, [], ◌∷◌, ◌++◌, Option, Some, None}
+use Rattle.std.specs.Prelude.{if◌then◌else◌}
 use Rattle.yaml_recognizers.proofs.Prelude.{and_parts, and_from, and_left, and_right, or_cases, or_parts, or_from, false≢true, eqb-true}
 use Rattle.yaml_recognizers.proofs.Prelude.{eq-eqb, ne_eqb, cond-true, cond-false, ltb-true, ltb-false, leb-true, le-leb, le-ltb, not-true}
 use Rattle.yaml_recognizers.proofs.Prelude.{not-false, not_from_true, cond_both, cases_Bool, line_break, space, nb, first, begins, is_empty}
 use Rattle.yaml_recognizers.proofs.Prelude.{spaces, optional, no_marker, break_text, BlockEmptyLine, block_empties_text, TextLine}
 use Rattle.yaml_recognizers.proofs.Prelude.{text_lines_text, block_empties_fit, text_line_fits, text_lines_fit, spaces_before, past_spaces}
 use Rattle.yaml_recognizers.proofs.Prelude.{goes_on, widest, last_spaces, sets_none, is_detected_indent, indent_fits}
-use Rattle.yaml_recognizers.specs.BlockScalars.{empties_at, all_empties, indent_after, find_indent}
 use Rattle.yaml_recognizers.proofs.BlockScalars.EmptyLines.{empties_meet, fit_all, all_fit, EmptiesOf, empties_of_read, empties_of_sound}
-use Rattle.yaml_recognizers.proofs.BlockScalars.EmptyLines.{empties_at_read}
-use Rattle.yaml_recognizers.proofs.Basics.Spaces.{spaces_added, spaces_past, no_space, nb_unbroken, marked, Ended, ended_parts, TextHere}
-use Rattle.yaml_recognizers.proofs.Basics.Spaces.{text_goes_on}
-use Rattle.yaml_recognizers.proofs.BlockScalars.TextLines.{after_indent, TextLineParts, text_line_parts, line_here, LinesOf}
+use Rattle.yaml_recognizers.proofs.BlockScalars.{EmptyLines.empties_at_read, TextLines.{after_indent, TextLineParts, text_line_parts}}
+use Rattle.yaml_recognizers.proofs.{BlockScalars.TextLines.{line_here, LinesOf}, Basics.Spaces.{spaces_added, spaces_past, no_space}}
+use Rattle.yaml_recognizers.proofs.Basics.Spaces.{nb_unbroken, marked, Ended, ended_parts, TextHere, text_goes_on}
+use Rattle.yaml_recognizers.specs.BlockScalars.{empties_at, all_empties, indent_after, find_indent}
 
 -- ---- where the first line that holds something sets none
 

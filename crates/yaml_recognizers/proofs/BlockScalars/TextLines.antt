@@ -1,18 +1,16 @@
 -- Text lines at an indentation: those that fit are read, and those that are read fit, up to the first other line.
-use Rattle.std.proofs.Common.{◌≡◌, refl, sym, ◌∙◌, ap, subst, append_assoc, length-append, arith, ◌<◌}
-use Rattle.std.specs.Prelude.{ℕ, zero, suc, Bool, true, false, not, ◌&&◌, List, [], ◌∷◌, ◌++◌, length, drop, Some}
+use Rattle.std.{proofs.Common.{◌≡◌, refl, sym, ◌∙◌, ap, subst, append_assoc, length-append, arith, ◌<◌}, specs.Prelude.{ℕ, zero, suc, Bool}}
+use Rattle.std.specs.Prelude.{true, false, not, ◌&&◌, List, [], ◌∷◌, ◌++◌, length, drop, Some}
 use Rattle.yaml_recognizers.proofs.Prelude.{and_parts, and_from, false≢true, cond_both, nb, list_all, first, is_empty, spaces, optional}
 use Rattle.yaml_recognizers.proofs.Prelude.{no_marker, break_text, stop_fits, block_empties_text, TextLine, text_line_text, text_lines_text}
 use Rattle.yaml_recognizers.proofs.Prelude.{block_empties_fit, text_line_fits, text_lines_fit, goes_on}
-use Rattle.yaml_recognizers.specs.{Comments.read_stop, Prefixes.take_while, Prefixes.drop_while, Reading.Read, Reading.on}
-use Rattle.yaml_recognizers.specs.BlockScalars.{empties_at, read_text_line, read_text_lines}
-use Rattle.yaml_recognizers.proofs.{Separation.CommentsComplete.stop_read, Separation.LineEnds.stop_not_nb}
-use Rattle.yaml_recognizers.proofs.Separation.CommentsSound.{StopOf, stop_sound}
-use Rattle.yaml_recognizers.proofs.Basics.Prefixes.{take_while_all, drop_while_all, take_while_split, take_while_every}
-use Rattle.yaml_recognizers.proofs.Basics.Reading.{Sound, sound_on}
-use Rattle.yaml_recognizers.proofs.BlockScalars.EmptyLines.{fit_meet, EmptiesOf, empties_at_read, empties_of_sound}
-use Rattle.yaml_recognizers.proofs.Basics.Spaces.{spaces_dropped, empty_here, at_most, Ended, ended_parts, TextHere, text_goes_on}
-use Rattle.yaml_recognizers.proofs.Basics.Spaces.{text_no_empty, TextAt, goes_on_text}
+use Rattle.yaml_recognizers.proofs.Separation.{CommentsComplete.stop_read, LineEnds.stop_not_nb, CommentsSound.{StopOf, stop_sound}}
+use Rattle.yaml_recognizers.proofs.Basics.{Prefixes.{take_while_all, drop_while_all, take_while_split, take_while_every}, Reading.Sound}
+use Rattle.yaml_recognizers.proofs.Basics.{Reading.sound_on, Spaces.{spaces_dropped, empty_here, at_most, Ended, ended_parts, TextHere}}
+use Rattle.yaml_recognizers.proofs.{Basics.Spaces.{text_goes_on, text_no_empty, TextAt, goes_on_text}, BlockScalars.EmptyLines.fit_meet}
+use Rattle.yaml_recognizers.{proofs.BlockScalars.EmptyLines.{EmptiesOf, empties_at_read, empties_of_sound}, specs.Comments.read_stop}
+use Rattle.yaml_recognizers.specs.{Prefixes.{take_while, drop_while}, Reading.{Read, on}, BlockScalars.{empties_at, read_text_line}}
+use Rattle.yaml_recognizers.specs.BlockScalars.{read_text_lines}
 
 -- what a text line has after its indentation
 abbrev pub after_indent : TextLine → List ℕ → List ℕ

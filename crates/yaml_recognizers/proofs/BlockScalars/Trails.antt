@@ -1,19 +1,17 @@
 -- The comments after a block scalar: what fits is read, where no further line may belong to them, and what is read
 -- fits.
-use Rattle.std.proofs.Common.{◌≡◌, refl, sym, ◌∙◌, ap, inl, inr, append_assoc, arith}
-use Rattle.std.specs.Prelude.{ℕ, zero, suc, true, false, ◌&&◌, ◌==◌, nat_lt, List, [], ◌∷◌, ◌++◌, length, Option, Some, None, is_some}
+use Rattle.std.{proofs.Common.{◌≡◌, refl, sym, ◌∙◌, ap, inl, inr, append_assoc, arith}, specs.Prelude.{ℕ, zero, suc, true, false, ◌&&◌}}
+use Rattle.std.specs.Prelude.{◌==◌, nat_lt, List, [], ◌∷◌, ◌++◌, length, Option, Some, None, is_some}
 use Rattle.yaml_recognizers.proofs.Prelude.{and_parts, and_from, false≢true, eqb-true, not-true, not_from_false, cond_both, cases_Bool}
 use Rattle.yaml_recognizers.proofs.Prelude.{cond-true, cond-false, white, space, list_all, first, spaces, optional, Break, lf, cr, cr_lf}
 use Rattle.yaml_recognizers.proofs.Prelude.{break_text, stop_fits, LineEnd, comment_text, line_end_text, comment_line_fits, comments_text}
-use Rattle.yaml_recognizers.proofs.Prelude.{comments_fit, spaces_before, past_spaces, trail_fits}
-use Rattle.yaml_recognizers.specs.{CanonicalBlockScalars.whole_trail, CanonicalComments.hash, CanonicalComments.is_line_end}
-use Rattle.yaml_recognizers.specs.{Comments.all_comments, Comments.read_line_end, Prefixes.take_while, Prefixes.drop_while}
-use Rattle.yaml_recognizers.specs.{BlockScalars.trail_here, BlockScalars.read_trail}
-use Rattle.yaml_recognizers.proofs.Basics.Prefixes.{take_while_all, drop_while_all, spaces_split, every_space}
+use Rattle.yaml_recognizers.proofs.{Prelude.{comments_fit, spaces_before, past_spaces, trail_fits}, Basics.Prefixes.take_while_all}
+use Rattle.yaml_recognizers.proofs.Basics.{Prefixes.{drop_while_all, spaces_split, every_space}, Reading.none_some}
 use Rattle.yaml_recognizers.proofs.Separation.LineEnds.{LineParts, line_parts, line_regrouped, tail_not_white}
-use Rattle.yaml_recognizers.proofs.Basics.Reading.{none_some}
-use Rattle.yaml_recognizers.proofs.Separation.CommentsComplete.{line_end_read, no_line, comments_all}
-use Rattle.yaml_recognizers.proofs.Separation.CommentsSound.{CommentsOf, all_sound, comments_end}
+use Rattle.yaml_recognizers.proofs.Separation.{CommentsComplete.{line_end_read, no_line, comments_all}, CommentsSound.CommentsOf}
+use Rattle.yaml_recognizers.{proofs.Separation.CommentsSound.{all_sound, comments_end}, specs.CanonicalBlockScalars.whole_trail}
+use Rattle.yaml_recognizers.specs.{CanonicalComments.{hash, is_line_end}, Comments.{all_comments, read_line_end}, Prefixes.take_while}
+use Rattle.yaml_recognizers.specs.{Prefixes.drop_while, BlockScalars.{trail_here, read_trail}}
 
 -- ---- what fits is read
 

@@ -1,12 +1,11 @@
 -- What comes after a document ends its node: lines of white or comments, and then the end of the text or a marker.
-use Rattle.std.proofs.Common.{ap, append_assoc, refl, subst, sym, ◌∙◌, ◌≡◌}
-use Rattle.std.specs.Prelude.{Bool, List, [], false, flat_map, true, ℕ, ◌++◌, ◌∷◌}
+use Rattle.std.{proofs.Common.{ap, append_assoc, refl, subst, sym, ◌∙◌, ◌≡◌}, specs.Prelude.{Bool, List, [], false, flat_map, true, ℕ}}
+use Rattle.std.specs.Prelude.{◌++◌, ◌∷◌}
 use Rattle.yaml_recognizers.proofs.Prelude.{and_from, and_parts, append-nil, LineEnd, comment_line_fits, comments_text, line_end_text}
 use Rattle.yaml_recognizers.proofs.Prelude.{Explicit, Part, Stream, content, document_text, explicit_fits, explicit_text, fits, further}
 use Rattle.yaml_recognizers.proofs.Prelude.{line, nothing, part_fits, part_text, parts_fit, parts_text, suffix_text, suffixes, ends_word}
-use Rattle.yaml_recognizers.proofs.Prelude.{marker, optional, starts_line}
+use Rattle.yaml_recognizers.proofs.{Prelude.{marker, optional, starts_line}, Documents.{StreamsBegin.marked, StreamsForm.line_wider}}
 use Rattle.yaml_recognizers.specs.{CanonicalComments.is_line_end, StandingNodes.EndsNode}
-use Rattle.yaml_recognizers.proofs.{Documents.StreamsBegin.marked, Documents.StreamsForm.line_wider}
 
 -- a marker ends a document's node
 at_mark : (text : List ℕ) → is_line_end text ≡ false → marker text ≡ true → EndsNode 0 false text

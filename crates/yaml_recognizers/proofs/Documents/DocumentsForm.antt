@@ -1,17 +1,16 @@
 -- The canonical form of documents: comments in it are canonical, and further lines of comments after it are taken in by
 -- its node, or by the comments after its `---` where it has none.
-use Rattle.std.proofs.Common.{ap, append_assoc, refl, sym, ◌≡◌}
-use Rattle.std.specs.Prelude.{Bool, List, None, Option, false, not, true, ℕ, ◌&&◌, ◌++◌, ◌∷◌}
+use Rattle.std.{proofs.Common.{ap, append_assoc, refl, sym, ◌≡◌}, specs.Prelude.{Bool, List, None, Option, false, not, true, ℕ, ◌&&◌, ◌++◌}}
+use Rattle.std.specs.Prelude.{◌∷◌}
 use Rattle.yaml_recognizers.proofs.Prelude.{and_from, and_parts, not_from_false, white, node_fits, node_text, LineEnd, comments_fit}
 use Rattle.yaml_recognizers.proofs.Prelude.{comments_text, Document, Explicit, bare, content, directed, directive_text, document_events}
 use Rattle.yaml_recognizers.proofs.Prelude.{document_text, explicit, explicit_events, explicit_fits, explicit_text, nothing, list_all}
-use Rattle.yaml_recognizers.proofs.Prelude.{ends_word, is_empty}
-use Rattle.yaml_recognizers.specs.CanonicalComments.{canonical_comments, is_line_end}
-use Rattle.yaml_recognizers.specs.CanonicalStreams.{canonical_document, canonical_explicit}
-use Rattle.yaml_recognizers.proofs.{BlockScalars.BlockScalarsForm.takes, Documents.StreamsFlatFit.flat_document_fits}
-use Rattle.yaml_recognizers.proofs.Block.BlockNodesForm.{node_before, node_form, node_form_events, node_form_fits, node_form_text}
-use Rattle.yaml_recognizers.proofs.Block.BlockNodesForm.{node_open}
+use Rattle.yaml_recognizers.proofs.{Prelude.{ends_word, is_empty}, BlockScalars.BlockScalarsForm.takes}
+use Rattle.yaml_recognizers.proofs.{Documents.StreamsFlatFit.flat_document_fits, Block.BlockNodesForm.{node_before, node_form}}
+use Rattle.yaml_recognizers.proofs.Block.BlockNodesForm.{node_form_events, node_form_fits, node_form_text, node_open}
 use Rattle.yaml_recognizers.proofs.Separation.CommentsForm.{comments_form_fit, comments_joined, joined_before}
+use Rattle.yaml_recognizers.specs.{CanonicalComments.{canonical_comments, is_line_end}, CanonicalStreams.canonical_document}
+use Rattle.yaml_recognizers.specs.CanonicalStreams.{canonical_explicit}
 
 -- what follows `---`, in its canonical form, with further comment lines
 abbrev pub explicit_form : Explicit → List LineEnd → Explicit

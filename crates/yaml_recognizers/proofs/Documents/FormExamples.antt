@@ -1,11 +1,8 @@
 -- Worked examples of the canonical form: presentations of one text that differ, and the form that they share.
-use Rattle.std.proofs.Common.{refl, ◌≡◌}
-use Rattle.std.specs.Prelude.{Bool, List, None, Some, [], codes, false, true, ℕ, ◌∷◌}
+use Rattle.std.{proofs.Common.{refl, ◌≡◌}, specs.Prelude.{Bool, List, None, Some, [], codes, false, true, ℕ, ◌∷◌}}
 use Rattle.yaml_recognizers.proofs.Prelude.{Node, block, flow, strip, scalar, plain, LineEnd, Sep, inline, lf, lines, Part, Stream, bare}
-use Rattle.yaml_recognizers.proofs.Prelude.{fits, line, stream_text}
-use Rattle.yaml_recognizers.specs.CanonicalStreams.{line as line_section}
-use Rattle.yaml_recognizers.specs.CanonicalStreams.{Section, document}
-use Rattle.yaml_recognizers.proofs.Documents.StreamsForm.{stream_form}
+use Rattle.yaml_recognizers.proofs.{Prelude.{fits, line, stream_text}, Documents.StreamsForm.stream_form}
+use Rattle.yaml_recognizers.specs.CanonicalStreams.{line as line_section, Section, document}
 
 -- two presentations of a text that fit, and their one form
 record Share (one other : Stream) (source : List ℕ) (sections : List Section) : Type 0 where

@@ -1,20 +1,19 @@
 -- The nested form of a canonical flat stream fits, spells the same, and means the same.
-use Rattle.std.proofs.Common.{ap, append_assoc, arith, refl, subst, sym, ◌∙◌, ◌≡◌}
-use Rattle.std.specs.Prelude.{Bool, List, None, Option, Some, [], false, if◌then◌else◌, not, true, ℕ, ◌&&◌, ◌++◌, ◌+◌, ◌||◌, ◌∷◌}
+use Rattle.std.{proofs.Common.{ap, append_assoc, arith, refl, subst, sym, ◌∙◌, ◌≡◌}, specs.Prelude.{Bool, List, None, Option, Some, []}}
+use Rattle.std.specs.Prelude.{false, if◌then◌else◌, not, true, ℕ, ◌&&◌, ◌++◌, ◌+◌, ◌||◌, ◌∷◌}
 use Rattle.yaml_recognizers.proofs.Prelude.{and_from, and_parts, false≢true, append-nil, Event, CanRead, Presents, LineEnd, comment_fits}
 use Rattle.yaml_recognizers.proofs.Prelude.{comment_line_fits, comments_fit, comments_text, line_end_text, Document, bare, directed}
 use Rattle.yaml_recognizers.proofs.Prelude.{document_events, document_fits, document_text, explicit, explicit_events, explicit_fits}
 use Rattle.yaml_recognizers.proofs.Prelude.{explicit_text, fits, mark_text, stream_events, optional_document_events, optional_document_fits}
 use Rattle.yaml_recognizers.proofs.Prelude.{part_fits, part_text, parts_events, parts_fit, parts_text, stream_text, suffix_fits}
 use Rattle.yaml_recognizers.proofs.Prelude.{suffix_text, suffixes, byte_len, ends_word, is_empty, optional, starts_line}
-use Rattle.yaml_recognizers.specs.CanonicalComments.{canonical_comments}
-use Rattle.yaml_recognizers.specs.CanonicalStreams.{FlatStream, Section, canonical_document, canonical_explicit, canonical_sections}
-use Rattle.yaml_recognizers.specs.CanonicalStreams.{canonical_stream, document, flat_events, flat_text, line, sections_events}
-use Rattle.yaml_recognizers.specs.CanonicalStreams.{sections_text, suffix}
-use Rattle.yaml_recognizers.specs.NestedStreams.{Opened, closed_sections, nested_stream, opened_sections}
-use Rattle.yaml_recognizers.proofs.{Separation.LineEnds.LineParts, Separation.LineEnds.line_parts, Documents.StreamsComplete.section_some}
+use Rattle.yaml_recognizers.proofs.{Separation.LineEnds.{LineParts, line_parts}, Documents.StreamsComplete.section_some}
 use Rattle.yaml_recognizers.proofs.Meanings.CanonicalFits.{comments_fit_too, document_fits_too, explicit_fits_too}
 use Rattle.yaml_recognizers.proofs.Basics.LineStarts.{byte_len_joined, comments_start, line_not_end, line_starts, starts_joined}
+use Rattle.yaml_recognizers.specs.{CanonicalComments.canonical_comments, CanonicalStreams.{FlatStream, Section, canonical_document}}
+use Rattle.yaml_recognizers.specs.CanonicalStreams.{canonical_explicit, canonical_sections, canonical_stream, document, flat_events}
+use Rattle.yaml_recognizers.specs.{CanonicalStreams.{flat_text, line, sections_events, sections_text, suffix}, NestedStreams.Opened}
+use Rattle.yaml_recognizers.specs.NestedStreams.{closed_sections, nested_stream, opened_sections}
 
 -- ---- what it spells
 

@@ -1,17 +1,15 @@
 -- Worked examples at the edges of productions: what is refused there though it looks much like what is read, and what
 -- is read. The checker computes both sides. The expected events come from YAML 1.2.2 and from other readers of these
 -- texts, never from the recognizer.
-use Rattle.std.proofs.Common.{◌≡◌, refl}
-use Rattle.std.specs.Prelude.{List, [], ◌∷◌, ◌++◌, codes}
+use Rattle.std.{proofs.Common.{◌≡◌, refl}, specs.Prelude.{List, [], ◌∷◌, ◌++◌, codes}}
 use Rattle.yaml_recognizers.proofs.Prelude.{document_start, document_end, seq_start, seq_end, map_start, map_end, scalar_event, plain_style}
-use Rattle.yaml_recognizers.proofs.Prelude.{double_style, literal_style, folded_style}
-use Rattle.yaml_recognizers.specs.{FlowNodes.read_flow, BlockNodes.read_node, Streams.read_explicit, Streams.read_section}
-use Rattle.yaml_recognizers.specs.{Streams.read_sections, Repeated.repeated, Joins.read_empty, Joins.after_blank, Joins.read_join}
-use Rattle.yaml_recognizers.specs.{FlowScalars.read_scalar, FlowScalars.scalar_ends}
-use Rattle.yaml_recognizers.specs.QuotedScalars.{read_held, read_quoted_line, read_quoted, read_single_one, single_closes, read_single}
-use Rattle.yaml_recognizers.specs.QuotedScalars.{read_item, double_closes, read_double}
-use Rattle.yaml_recognizers.specs.PlainScalars.{read_run, read_plain_line, read_plain, last_of, last_char, plain_ends}
-use Rattle.yaml_recognizers.proofs.Documents.StreamExamples.{Example, found, read, refused, wanted}
+use Rattle.yaml_recognizers.proofs.{Prelude.{double_style, literal_style, folded_style}, Documents.StreamExamples.{Example, found, read}}
+use Rattle.yaml_recognizers.{proofs.Documents.StreamExamples.{refused, wanted}, specs.{FlowNodes.read_flow, BlockNodes.read_node}}
+use Rattle.yaml_recognizers.specs.{Streams.{read_explicit, read_section, read_sections}, Repeated.repeated, Joins.{read_empty, after_blank}}
+use Rattle.yaml_recognizers.specs.{Joins.read_join, FlowScalars.{read_scalar, scalar_ends}, QuotedScalars.{read_held, read_quoted_line}}
+use Rattle.yaml_recognizers.specs.QuotedScalars.{read_quoted, read_single_one, single_closes, read_single, read_item, double_closes}
+use Rattle.yaml_recognizers.specs.{QuotedScalars.read_double, PlainScalars.{read_run, read_plain_line, read_plain, last_of, last_char}}
+use Rattle.yaml_recognizers.specs.PlainScalars.{plain_ends}
 
 -- ---- comments, and where they begin
 

@@ -1,16 +1,14 @@
 -- Worked examples of streams: texts, with the events that each means, or that it is refused. The checker computes both
 -- sides. The expected events come from YAML 1.2.2 and from other readers of these texts, never from the recognizer.
-use Rattle.std.proofs.Common.{◌≡◌, refl}
-use Rattle.std.specs.Prelude.{ℕ, List, [], ◌∷◌, ◌++◌, Option, Some, None, codes, replicate}
+use Rattle.std.{proofs.Common.{◌≡◌, refl}, specs.Prelude.{ℕ, List, [], ◌∷◌, ◌++◌, Option, Some, None, codes, replicate}}
 use Rattle.yaml_recognizers.proofs.Prelude.{Event, document_start, document_end, seq_start, seq_end, map_start, map_end, scalar_event}
 use Rattle.yaml_recognizers.proofs.Prelude.{plain_style, single_style, double_style, literal_style, folded_style, omitted_style}
-use Rattle.yaml_recognizers.specs.{CanonicalStreams.FlatStream, CanonicalStreams.flat_events, FlowNodes.read_flow, BlockNodes.read_node}
-use Rattle.yaml_recognizers.specs.{Repeated.repeated, FlowScalars.read_scalar, FlowScalars.scalar_ends, Recognizers.stream_at}
-use Rattle.yaml_recognizers.specs.Streams.{read_explicit, read_section, read_sections}
-use Rattle.yaml_recognizers.specs.Joins.{read_empty, after_blank, read_join}
-use Rattle.yaml_recognizers.specs.QuotedScalars.{read_held, read_quoted_line, read_quoted, read_single_one, single_closes, read_single}
-use Rattle.yaml_recognizers.specs.QuotedScalars.{read_item, double_closes, read_double}
-use Rattle.yaml_recognizers.specs.PlainScalars.{read_run, read_plain_line, read_plain, last_of, last_char, plain_ends}
+use Rattle.yaml_recognizers.specs.{CanonicalStreams.{FlatStream, flat_events}, FlowNodes.read_flow, BlockNodes.read_node, Repeated.repeated}
+use Rattle.yaml_recognizers.specs.{FlowScalars.{read_scalar, scalar_ends}, Recognizers.stream_at, Streams.{read_explicit, read_section}}
+use Rattle.yaml_recognizers.specs.{Streams.read_sections, Joins.{read_empty, after_blank, read_join}, QuotedScalars.read_held}
+use Rattle.yaml_recognizers.specs.QuotedScalars.{read_quoted_line, read_quoted, read_single_one, single_closes, read_single, read_item}
+use Rattle.yaml_recognizers.specs.{QuotedScalars.{double_closes, read_double}, PlainScalars.{read_run, read_plain_line, read_plain}}
+use Rattle.yaml_recognizers.specs.PlainScalars.{last_of, last_char, plain_ends}
 
 -- a text, and what it means or that it is refused
 pub record Example : Type 0 where

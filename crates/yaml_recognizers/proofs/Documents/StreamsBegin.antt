@@ -1,7 +1,7 @@
 -- What the node of a document and the sections of a stream begin with, and what ends a document.
-use Rattle.std.proofs.Common.{ap, append_assoc, arith, inl, inr, length-append, refl, subst, sym, ◌∙◌, ◌≡◌, ◌≤◌}
-use Rattle.std.specs.Prelude.{Bool, List, [], codes, false, flat_map, if◌then◌else◌, length, nat_le, not, suc, true, zero, ℕ, ◌&&◌, ◌++◌}
-use Rattle.std.specs.Prelude.{◌==◌, ◌||◌, ◌∷◌}
+use Rattle.std.{proofs.Common.{ap, append_assoc, arith, inl, inr, length-append, refl, subst, sym, ◌∙◌, ◌≡◌, ◌≤◌}, specs.Prelude.Bool}
+use Rattle.std.specs.Prelude.{List, [], codes, false, flat_map, if◌then◌else◌, length, nat_le, not, suc, true, zero, ℕ, ◌&&◌, ◌++◌, ◌==◌}
+use Rattle.std.specs.Prelude.{◌||◌, ◌∷◌}
 use Rattle.yaml_recognizers.proofs.Prelude.{and_left, and_parts, and_right, eqb-true, false≢true, le-ltb, or_cases, or_from, or_left}
 use Rattle.yaml_recognizers.proofs.Prelude.{or_right, white, Items, Node, Pairs, block, flow, item, item_and, items, items_text, node_text}
 use Rattle.yaml_recognizers.proofs.Prelude.{pair, pair_and, pair_text, pairs, pairs_text, BlockScalar, block_text, spaces_before, Flow}
@@ -9,19 +9,17 @@ use Rattle.yaml_recognizers.proofs.Prelude.{flow_text, map, scalar, seq, FlowCon
 use Rattle.yaml_recognizers.proofs.Prelude.{plain_kind, plain_line, plain_text, single, LineEnd, Sep, comment_line_fits, comments_text}
 use Rattle.yaml_recognizers.proofs.Prelude.{indents, inline, line_end_text, lines, sep_text, Explicit, bare, content, directed, explicit}
 use Rattle.yaml_recognizers.proofs.Prelude.{explicit_text, nothing, list_all, ends_word, first, is_empty, marker, spaces, starts_line}
-use Rattle.yaml_recognizers.specs.{BlockNodes.bar, BlockNodes.omits, CanonicalBlockScalars.canonical_block}
-use Rattle.yaml_recognizers.specs.{CanonicalFlowNodes.canonical_flow, Comments.all_comments, Ends.block_node_stops, Ends.solid}
-use Rattle.yaml_recognizers.specs.{Prefixes.sign}
-use Rattle.yaml_recognizers.specs.CanonicalBlockNodes.{canonical_items, canonical_node, canonical_pairs}
-use Rattle.yaml_recognizers.specs.CanonicalComments.{canonical_comments, canonical_sep, is_line_end}
+use Rattle.yaml_recognizers.proofs.Separation.{CommentsSound.line_is_end, CommentsComplete.{comments_all, no_comments, no_line}}
+use Rattle.yaml_recognizers.proofs.{Separation.CommentsComplete.not_line_end, Basics.{Prefixes.every_space, LineStarts.comments_start}}
+use Rattle.yaml_recognizers.proofs.Basics.{LineStarts.{line_not_end, starts_joined}, Solid.{dash_solid, dash_unmarked, marker_first}}
+use Rattle.yaml_recognizers.proofs.{Basics.Solid.sign_head, Scalars.PlainScalars.plain_texts, Block.BlockNodesBegin.{Prefix, append_some}}
+use Rattle.yaml_recognizers.proofs.{Block.BlockNodesBegin.{block_prefix, items_start, pair_long, pairs_prefix}, Flow.FlowNodesBegin.Opens}
+use Rattle.yaml_recognizers.{proofs.Flow.FlowNodesBegin.{flow_opens, key_unmarked, plain_prefix, reserved}, specs.BlockNodes.{bar, omits}}
+use Rattle.yaml_recognizers.specs.{CanonicalBlockScalars.canonical_block, CanonicalFlowNodes.canonical_flow, Comments.all_comments}
+use Rattle.yaml_recognizers.specs.{Ends.{block_node_stops, solid}, Prefixes.sign, CanonicalBlockNodes.{canonical_items, canonical_node}}
+use Rattle.yaml_recognizers.specs.{CanonicalBlockNodes.canonical_pairs, CanonicalComments.{canonical_comments, canonical_sep, is_line_end}}
 use Rattle.yaml_recognizers.specs.CanonicalStreams.{Section, canonical_explicit, canonical_sections, document, line, section_text}
 use Rattle.yaml_recognizers.specs.CanonicalStreams.{sections_text, suffix}
-use Rattle.yaml_recognizers.proofs.{Separation.CommentsSound.line_is_end, Basics.Prefixes.every_space, Scalars.PlainScalars.plain_texts}
-use Rattle.yaml_recognizers.proofs.Block.BlockNodesBegin.{Prefix, append_some, block_prefix, items_start, pair_long, pairs_prefix}
-use Rattle.yaml_recognizers.proofs.Separation.CommentsComplete.{comments_all, no_comments, no_line, not_line_end}
-use Rattle.yaml_recognizers.proofs.Flow.FlowNodesBegin.{Opens, flow_opens, key_unmarked, plain_prefix, reserved}
-use Rattle.yaml_recognizers.proofs.Basics.LineStarts.{comments_start, line_not_end, starts_joined}
-use Rattle.yaml_recognizers.proofs.Basics.Solid.{dash_solid, dash_unmarked, marker_first, sign_head}
 
 -- ---- where lines start
 

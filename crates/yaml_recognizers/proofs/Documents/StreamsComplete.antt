@@ -1,23 +1,21 @@
 -- A stream that is canonical is read whole.
-use Rattle.std.proofs.Common.{ap, append_assoc, arith, inl, inr, length-append, refl, subst, sym, ◌<◌, ◌∙◌, ◌≡◌, ◌≤◌}
-use Rattle.std.specs.Prelude.{Bool, List, Some, [], codes, drop, false, length, not, suc, true, zero, ℕ, ◌&&◌, ◌++◌, ◌==◌, ◌∷◌}
+use Rattle.std.{proofs.Common.{ap, append_assoc, arith, inl, inr, length-append, refl, subst, sym, ◌<◌, ◌∙◌, ◌≡◌, ◌≤◌}, specs.Prelude.Bool}
+use Rattle.std.specs.Prelude.{List, Some, [], codes, drop, false, length, not, suc, true, zero, ℕ, ◌&&◌, ◌++◌, ◌==◌, ◌∷◌}
 use Rattle.yaml_recognizers.proofs.Prelude.{and_from, and_parts, and_right, cases_Bool, cases_eq, eqb-true, false≢true, ne_eqb, not-true}
 use Rattle.yaml_recognizers.proofs.Prelude.{or_parts, white, Node, node_text, LineEnd, comments_text, line_end_text, Explicit, bare}
 use Rattle.yaml_recognizers.proofs.Prelude.{content, directed, document_text, explicit, explicit_text, mark_text, nothing, Version}
 use Rattle.yaml_recognizers.proofs.Prelude.{yaml_1_1, yaml_1_2, version_text, list_all, begins, ends_word, first, is_empty, marker}
-use Rattle.yaml_recognizers.proofs.Prelude.{starts_line}
-use Rattle.yaml_recognizers.specs.{BlockNodes.omits, CanonicalBlockNodes.canonical_node, CanonicalComments.canonical_comments}
-use Rattle.yaml_recognizers.specs.{CanonicalComments.is_line_end, Comments.all_comments, Comments.closes_line, Ends.block_node_stops}
-use Rattle.yaml_recognizers.specs.{Reading.Read, Reading.on}
-use Rattle.yaml_recognizers.specs.CanonicalStreams.{FlatStream, Section, canonical_explicit, canonical_section, canonical_sections}
-use Rattle.yaml_recognizers.specs.CanonicalStreams.{canonical_stream, document, flat_text, line, opens, section_text, sections_text, suffix}
-use Rattle.yaml_recognizers.specs.Streams.{directed_with, marker_of, more_sections, order_mark, percent, section_and, read_directed}
-use Rattle.yaml_recognizers.specs.Streams.{read_explicit, read_section, read_sections, read_version, stream_of, suffix_with, with_mark}
-use Rattle.yaml_recognizers.proofs.{Block.BlockNodesBegin.closes, Separation.CommentsSound.line_is_end, Flow.FlowNodesBegin.reserved}
-use Rattle.yaml_recognizers.proofs.{Separation.LineEnds.line_long}
-use Rattle.yaml_recognizers.proofs.Separation.CommentsComplete.{comments_all, line_end_read}
-use Rattle.yaml_recognizers.proofs.Basics.Prefixes.{drop_while_all, take_while_all}
+use Rattle.yaml_recognizers.proofs.{Prelude.starts_line, Block.BlockNodesBegin.closes, Separation.CommentsSound.line_is_end}
+use Rattle.yaml_recognizers.proofs.Separation.{LineEnds.line_long, CommentsComplete.{comments_all, line_end_read}}
+use Rattle.yaml_recognizers.proofs.{Flow.FlowNodesBegin.reserved, Basics.Prefixes.{drop_while_all, take_while_all}}
 use Rattle.yaml_recognizers.proofs.Documents.StreamsBegin.{Bare, bare_prefix, content_given, document_ended, node_prefix, node_long}
+use Rattle.yaml_recognizers.specs.{BlockNodes.omits, CanonicalBlockNodes.canonical_node, CanonicalComments.canonical_comments}
+use Rattle.yaml_recognizers.specs.{CanonicalComments.is_line_end, Comments.{all_comments, closes_line}, Ends.block_node_stops, Reading.Read}
+use Rattle.yaml_recognizers.specs.{Reading.on, CanonicalStreams.{FlatStream, Section, canonical_explicit, canonical_section}}
+use Rattle.yaml_recognizers.specs.CanonicalStreams.{canonical_sections, canonical_stream, document, flat_text, line, opens, section_text}
+use Rattle.yaml_recognizers.specs.{CanonicalStreams.{sections_text, suffix}, Streams.{directed_with, marker_of, more_sections, order_mark}}
+use Rattle.yaml_recognizers.specs.Streams.{percent, section_and, read_directed, read_explicit, read_section, read_sections, read_version}
+use Rattle.yaml_recognizers.specs.Streams.{stream_of, suffix_with, with_mark}
 
 -- there is a marker where one is found
 pub begins_split : (cs text : List ℕ) → begins cs text ≡ true → text ≡ cs ++ drop (length cs) text

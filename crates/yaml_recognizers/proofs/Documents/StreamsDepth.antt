@@ -1,12 +1,11 @@
 -- The recognizer of streams by its steps, where the count of sections is no matter.
-use Rattle.std.proofs.Common.{ap, arith, length-append, refl, ◌<◌, ◌≡◌, ◌≤◌}
-use Rattle.std.specs.Prelude.{Bool, List, None, Option, Some, [], drop, false, if◌then◌else◌, length, suc, true, zero, ℕ, ◌∷◌}
-use Rattle.yaml_recognizers.proofs.Prelude.{Node, first, is_empty, starts_line}
-use Rattle.yaml_recognizers.specs.{CanonicalStreams.Section, CanonicalStreams.opens, CanonicalStreams.section_text, Reading.Read}
-use Rattle.yaml_recognizers.specs.Streams.{more_sections, order_mark, section_and, read_section, read_sections, stream_of, with_mark}
-use Rattle.yaml_recognizers.proofs.{Block.BlockNodesSound.NodeOf, Documents.StreamsComplete.section_long}
-use Rattle.yaml_recognizers.proofs.Basics.Reading.{Sound, cond_same, sound_is}
-use Rattle.yaml_recognizers.proofs.Documents.StreamsSound.{SectionOf, section_sound}
+use Rattle.std.{proofs.Common.{ap, arith, length-append, refl, ◌<◌, ◌≡◌, ◌≤◌}, specs.Prelude.{Bool, List, None, Option, Some, [], drop}}
+use Rattle.std.specs.Prelude.{false, if◌then◌else◌, length, suc, true, zero, ℕ, ◌∷◌}
+use Rattle.yaml_recognizers.proofs.{Prelude.{Node, first, is_empty, starts_line}, Block.BlockNodesSound.NodeOf}
+use Rattle.yaml_recognizers.proofs.{Documents.{StreamsComplete.section_long, StreamsSound.{SectionOf, section_sound}}, Basics.Reading.Sound}
+use Rattle.yaml_recognizers.{proofs.Basics.Reading.{cond_same, sound_is}, specs.CanonicalStreams.{Section, opens, section_text}}
+use Rattle.yaml_recognizers.specs.{Reading.Read, Streams.{more_sections, order_mark, section_and, read_section, read_sections, stream_of}}
+use Rattle.yaml_recognizers.specs.Streams.{with_mark}
 
 -- recognizers that agree on what is left read the same sections
 more_same : (again again' : Section → List ℕ → Option (List Section)) (r : Read Section)

@@ -1,17 +1,15 @@
 -- A stream as a flat list of sections, with the same text and meaning: each line before or after a document is a section of
 -- its own, and so are the lines of comments that a bare document begins with. The other comments are as they were.
-use Rattle.std.proofs.Common.{append_assoc, refl, sym, ◌∙◌, ◌≡◌}
-use Rattle.std.specs.Prelude.{List, None, Option, Some, [], flat_map, if◌then◌else◌, ℕ, ◌++◌, ◌+◌, ◌∷◌}
+use Rattle.std.{proofs.Common.{append_assoc, refl, sym, ◌∙◌, ◌≡◌}, specs.Prelude.{List, None, Option, Some, [], flat_map, if◌then◌else◌, ℕ}}
+use Rattle.std.specs.Prelude.{◌++◌, ◌+◌, ◌∷◌}
 use Rattle.yaml_recognizers.proofs.Prelude.{add-zero, add_assoc, flat_map-append, append-nil, node_events, node_text, as_document, LineEnd}
 use Rattle.yaml_recognizers.proofs.Prelude.{comments_text, line_end_text, Document, Part, Stream, bare, directed, directive_text}
 use Rattle.yaml_recognizers.proofs.Prelude.{document_events, document_text, explicit, explicit_text, further, mark_text, stream_events}
 use Rattle.yaml_recognizers.proofs.Prelude.{optional_document_events, part_events, part_text, parts_events, parts_text, stream_text}
-use Rattle.yaml_recognizers.proofs.Prelude.{suffix_text, suffixes, byte_len, optional}
-use Rattle.yaml_grammar.specs.Streams.{line as part_line}
+use Rattle.yaml_recognizers.proofs.{Prelude.{suffix_text, suffixes, byte_len, optional}, Block.BareNodes.{leading, parted_events}}
+use Rattle.yaml_recognizers.proofs.{Block.BareNodes.{parted_text, unled}, Basics.LineStarts.byte_len_joined}
 use Rattle.yaml_recognizers.specs.CanonicalStreams.{Section, document, line, section_events, section_text, sections_events, sections_text}
-use Rattle.yaml_recognizers.specs.CanonicalStreams.{suffix}
-use Rattle.yaml_recognizers.proofs.Block.BareNodes.{leading, parted_events, parted_text, unled}
-use Rattle.yaml_recognizers.proofs.Basics.LineStarts.{byte_len_joined}
+use Rattle.{yaml_recognizers.specs.CanonicalStreams.suffix, yaml_grammar.specs.Streams.line as part_line}
 
 -- ---- the sections
 

@@ -1,20 +1,19 @@
 -- The sections of a stream that fits fit: each where it is, handed whether a line starts there, as reckoned from the text
 -- before it.
-use Rattle.std.proofs.Common.{ap, append_assoc, refl, subst, sym, ◌∙◌, ◌≡◌}
-use Rattle.std.specs.Prelude.{Bool, List, None, Option, Some, [], false, flat_map, not, true, ℕ, ◌&&◌, ◌++◌, ◌∷◌}
+use Rattle.std.{proofs.Common.{ap, append_assoc, refl, subst, sym, ◌∙◌, ◌≡◌}, specs.Prelude.{Bool, List, None, Option, Some, [], false}}
+use Rattle.std.specs.Prelude.{flat_map, not, true, ℕ, ◌&&◌, ◌++◌, ◌∷◌}
 use Rattle.yaml_recognizers.proofs.Prelude.{and_from, and_parts, not_from_false, append-nil, node_fits, node_text, LineEnd}
 use Rattle.yaml_recognizers.proofs.Prelude.{comment_line_fits, comments_fit, comments_text, line_end_text, Document, Part, Stream, bare}
 use Rattle.yaml_recognizers.proofs.Prelude.{content, directed, document_fits, document_text, explicit, explicit_fits, fits, further}
 use Rattle.yaml_recognizers.proofs.Prelude.{nothing, optional_document_fits, part_fits, part_text, parts_fit, parts_text, suffix_fits}
-use Rattle.yaml_recognizers.proofs.Prelude.{suffix_text, suffixes, suffixes_fit, is_empty, optional, starts_line}
-use Rattle.yaml_grammar.specs.Streams.{line as part_line}
-use Rattle.yaml_recognizers.specs.CanonicalComments.{is_line_end}
-use Rattle.yaml_recognizers.specs.CanonicalStreams.{Section, document, line, opens, section_text, sections_text, suffix}
-use Rattle.yaml_recognizers.proofs.Block.BareNodes.{Parted, leading, node_parted, parted_text, unled}
-use Rattle.yaml_recognizers.proofs.Basics.LineStarts.{comments_at, comments_start, line_not_end, line_or_end, line_starts, starts_joined}
+use Rattle.yaml_recognizers.proofs.{Prelude.{suffix_text, suffixes, suffixes_fit, is_empty, optional, starts_line}, Block.BareNodes.Parted}
+use Rattle.yaml_recognizers.proofs.{Block.BareNodes.{leading, node_parted, parted_text, unled}, Basics.LineStarts.comments_at}
+use Rattle.yaml_recognizers.proofs.Basics.LineStarts.{comments_start, line_not_end, line_or_end, line_starts, starts_joined}
 use Rattle.yaml_recognizers.proofs.Documents.StreamsFlat.{document_sections, lines_sections, lines_sections_text, optional_sections}
 use Rattle.yaml_recognizers.proofs.Documents.StreamsFlat.{optional_sections_text, part_sections, parts_sections, parts_sections_text}
 use Rattle.yaml_recognizers.proofs.Documents.StreamsFlat.{sections_joined, stream_sections, suffixes_sections, suffixes_sections_text}
+use Rattle.yaml_recognizers.specs.{CanonicalComments.is_line_end, CanonicalStreams.{Section, document, line, opens, section_text}}
+use Rattle.{yaml_recognizers.specs.CanonicalStreams.{sections_text, suffix}, yaml_grammar.specs.Streams.line as part_line}
 
 -- ---- what the sections have to meet: a bare document begins with no line of comments
 

@@ -1,22 +1,21 @@
 -- The canonical form of streams: of its sections each document and each suffix takes in the lines after it that it may
 -- have.
-use Rattle.std.proofs.Common.{ap, append_assoc, refl, subst, sym, ◌∙◌, ◌≡◌}
-use Rattle.std.specs.Prelude.{Bool, List, None, Option, Some, [], false, if◌then◌else◌, true, ℕ, ◌&&◌, ◌++◌, ◌+◌, ◌∷◌}
+use Rattle.std.{proofs.Common.{ap, append_assoc, refl, subst, sym, ◌∙◌, ◌≡◌}, specs.Prelude.{Bool, List, None, Option, Some, [], false}}
+use Rattle.std.specs.Prelude.{if◌then◌else◌, true, ℕ, ◌&&◌, ◌++◌, ◌+◌, ◌∷◌}
 use Rattle.yaml_recognizers.proofs.Prelude.{add-zero, add_assoc, and_from, and_parts, cond_both, not-true, not_from_false, append-nil}
 use Rattle.yaml_recognizers.proofs.Prelude.{Event, LineEnd, comment_fits, comment_line_fits, comments_fit, comments_text, line_end_text}
 use Rattle.yaml_recognizers.proofs.Prelude.{Document, Stream, bare, directed, document_events, document_text, explicit, fits, mark_text}
-use Rattle.yaml_recognizers.proofs.Prelude.{suffix_fits, suffix_text, byte_len, ends_word, starts_line}
-use Rattle.yaml_recognizers.specs.{CanonicalComments.is_line_end, CanonicalForms.IsCanonicalFormOf}
-use Rattle.yaml_recognizers.specs.CanonicalStreams.{FlatStream, Section, canonical_document, canonical_sections, document, line, opens}
-use Rattle.yaml_recognizers.specs.CanonicalStreams.{section_events, section_text, sections_events, sections_text, suffix}
-use Rattle.yaml_recognizers.proofs.Separation.LineEnds.{LineParts, line_parts}
-use Rattle.yaml_recognizers.proofs.BlockScalars.BlockScalarsForm.{takes, takes_not}
-use Rattle.yaml_recognizers.proofs.Separation.CommentsForm.{comments_form_fit, comments_joined, joined_before}
-use Rattle.yaml_recognizers.proofs.Documents.DocumentsForm.{document_form, document_form_events, document_form_fits, document_form_text}
-use Rattle.yaml_recognizers.proofs.Documents.DocumentsForm.{document_open, explicit_stop}
-use Rattle.yaml_recognizers.proofs.Basics.LineStarts.{byte_len_joined, starts_joined}
-use Rattle.yaml_recognizers.proofs.Documents.StreamsFlat.{stream_sections, stream_sections_events, stream_sections_text}
-use Rattle.yaml_recognizers.proofs.Documents.StreamsFlatFit.{flat_document_fits, section_fits, sections_fit, stream_sections_fit}
+use Rattle.yaml_recognizers.proofs.{Prelude.{suffix_fits, suffix_text, byte_len, ends_word, starts_line}, Separation.LineEnds.LineParts}
+use Rattle.yaml_recognizers.proofs.Separation.{LineEnds.line_parts, CommentsForm.{comments_form_fit, comments_joined, joined_before}}
+use Rattle.yaml_recognizers.proofs.{BlockScalars.BlockScalarsForm.{takes, takes_not}, Documents.DocumentsForm.document_form}
+use Rattle.yaml_recognizers.proofs.Documents.DocumentsForm.{document_form_events, document_form_fits, document_form_text, document_open}
+use Rattle.yaml_recognizers.proofs.Documents.{DocumentsForm.explicit_stop, StreamsFlat.{stream_sections, stream_sections_events}}
+use Rattle.yaml_recognizers.proofs.Documents.{StreamsFlat.stream_sections_text, StreamsFlatFit.{flat_document_fits, section_fits}}
+use Rattle.yaml_recognizers.proofs.{Documents.StreamsFlatFit.{sections_fit, stream_sections_fit}, Basics.LineStarts.byte_len_joined}
+use Rattle.yaml_recognizers.{proofs.Basics.LineStarts.starts_joined, specs.CanonicalComments.is_line_end}
+use Rattle.yaml_recognizers.specs.{CanonicalForms.IsCanonicalFormOf, CanonicalStreams.{FlatStream, Section, canonical_document}}
+use Rattle.yaml_recognizers.specs.CanonicalStreams.{canonical_sections, document, line, opens, section_events, section_text}
+use Rattle.yaml_recognizers.specs.CanonicalStreams.{sections_events, sections_text, suffix}
 
 -- ---- the lines at the start of sections, and what comes after them
 

@@ -1,24 +1,20 @@
 -- What the recognizer of streams reads is the whole text, and is canonical.
-use Rattle.std.proofs.Common.{ap, append_assoc, refl, subst, sym, ◌∙◌, ◌≡◌}
-use Rattle.std.specs.Prelude.{Bool, List, None, Option, Some, [], codes, drop, false, if◌then◌else◌, length, suc, true, zero, ℕ, ◌&&◌, ◌++◌}
-use Rattle.std.specs.Prelude.{◌∷◌}
+use Rattle.std.{proofs.Common.{ap, append_assoc, refl, subst, sym, ◌∙◌, ◌≡◌}, specs.Prelude.{Bool, List, None, Option, Some, [], codes}}
+use Rattle.std.specs.Prelude.{drop, false, if◌then◌else◌, length, suc, true, zero, ℕ, ◌&&◌, ◌++◌, ◌∷◌}
 use Rattle.yaml_recognizers.proofs.Prelude.{and_from, and_parts, cond_both, eqb-true, false≢true, not_from_false, white, Node, LineEnd}
 use Rattle.yaml_recognizers.proofs.Prelude.{comments_text, Document, Explicit, bare, content, directed, document_text, explicit}
 use Rattle.yaml_recognizers.proofs.Prelude.{explicit_text, mark_text, nothing, Version, yaml_1_1, yaml_1_2, version_text, list_all, begins}
-use Rattle.yaml_recognizers.proofs.Prelude.{ends_word, first, is_empty, starts_line}
-use Rattle.yaml_recognizers.specs.{BlockNodes.omits, CanonicalComments.canonical_comments, CanonicalComments.is_line_end}
-use Rattle.yaml_recognizers.specs.{Ends.block_node_stops, Prefixes.drop_while, Prefixes.take_while, Reading.Read, Reading.on}
-use Rattle.yaml_recognizers.specs.CanonicalStreams.{FlatStream, Section, canonical_document, canonical_explicit, canonical_section}
-use Rattle.yaml_recognizers.specs.CanonicalStreams.{canonical_sections, canonical_stream, document, flat_text, line, opens, section_text}
-use Rattle.yaml_recognizers.specs.CanonicalStreams.{sections_text, suffix}
-use Rattle.yaml_recognizers.specs.Comments.{all_comments, closes_line, read_line_end}
-use Rattle.yaml_recognizers.specs.Streams.{directed_with, explicit_with, marker_of, more_sections, order_mark, percent, section_and}
-use Rattle.yaml_recognizers.specs.Streams.{read_directed, read_explicit, read_section, read_sections, read_version, stream_of, suffix_with}
-use Rattle.yaml_recognizers.specs.Streams.{version_with, with_mark}
-use Rattle.yaml_recognizers.proofs.{Block.BlockNodesSound.NodeOf, Block.BlockNodesSound.tail_fit, Basics.Prefixes.take_while_every}
-use Rattle.yaml_recognizers.proofs.{Basics.Prefixes.take_while_split, Basics.Reading.Sound, Basics.Reading.sound_on}
-use Rattle.yaml_recognizers.proofs.{Documents.StreamsComplete.begins_split}
-use Rattle.yaml_recognizers.proofs.Separation.CommentsSound.{CommentsOf, LineOf, all_sound, line_sound}
+use Rattle.yaml_recognizers.proofs.{Prelude.{ends_word, first, is_empty, starts_line}, Block.BlockNodesSound.{NodeOf, tail_fit}}
+use Rattle.yaml_recognizers.proofs.Basics.{Prefixes.{take_while_every, take_while_split}, Reading.{Sound, sound_on}}
+use Rattle.yaml_recognizers.proofs.{Documents.StreamsComplete.begins_split, Separation.CommentsSound.{CommentsOf, LineOf, all_sound}}
+use Rattle.yaml_recognizers.{proofs.Separation.CommentsSound.line_sound, specs.{BlockNodes.omits, CanonicalComments.canonical_comments}}
+use Rattle.yaml_recognizers.specs.{CanonicalComments.is_line_end, Ends.block_node_stops, Prefixes.{drop_while, take_while}, Reading.Read}
+use Rattle.yaml_recognizers.specs.{Reading.on, CanonicalStreams.{FlatStream, Section, canonical_document, canonical_explicit}}
+use Rattle.yaml_recognizers.specs.CanonicalStreams.{canonical_section, canonical_sections, canonical_stream, document, flat_text, line}
+use Rattle.yaml_recognizers.specs.{CanonicalStreams.{opens, section_text, sections_text, suffix}, Comments.{all_comments, closes_line}}
+use Rattle.yaml_recognizers.specs.{Comments.read_line_end, Streams.{directed_with, explicit_with, marker_of, more_sections, order_mark}}
+use Rattle.yaml_recognizers.specs.Streams.{percent, section_and, read_directed, read_explicit, read_section, read_sections, read_version}
+use Rattle.yaml_recognizers.specs.Streams.{stream_of, suffix_with, version_with, with_mark}
 
 -- what follows `---` is canonical there, before the rest
 abbrev pub ExplicitOf : List ℕ → Explicit → List ℕ → Type 0

@@ -1,11 +1,10 @@
 -- Streams, from recognizers of scalars alone: complete, sound, and so unique.
-use Rattle.std.proofs.Common.{ap, sym, ◌∙◌, ◌≡◌}
-use Rattle.std.specs.Prelude.{Bool, List, None, Option, Some, false, true, ℕ}
-use Rattle.yaml_recognizers.proofs.Prelude.{Node, BlockScalar, FlowContext, Scalar}
-use Rattle.yaml_recognizers.specs.{BlockNodes.whole_node, Reading.Read, Scalars.ReadsBlocks, Scalars.ReadsScalars, Streams.read_stream}
-use Rattle.yaml_recognizers.specs.CanonicalStreams.{FlatStream, canonical_stream, flat_text}
-use Rattle.yaml_recognizers.proofs.{Basics.Reading.none_some, Documents.StreamsComplete.stream_read, Documents.StreamsSound.stream_is}
-use Rattle.yaml_recognizers.proofs.Block.BlockNodesWhole.{whole_node_read, whole_node_sound}
+use Rattle.std.{proofs.Common.{ap, sym, ◌∙◌, ◌≡◌}, specs.Prelude.{Bool, List, None, Option, Some, false, true, ℕ}}
+use Rattle.yaml_recognizers.proofs.{Prelude.{Node, BlockScalar, FlowContext, Scalar}, Basics.Reading.none_some}
+use Rattle.yaml_recognizers.proofs.{Documents.{StreamsComplete.stream_read, StreamsSound.stream_is}, Block.BlockNodesWhole.whole_node_read}
+use Rattle.yaml_recognizers.{proofs.Block.BlockNodesWhole.whole_node_sound, specs.{BlockNodes.whole_node, Reading.Read}}
+use Rattle.yaml_recognizers.specs.{Scalars.{ReadsBlocks, ReadsScalars}, Streams.read_stream, CanonicalStreams.FlatStream}
+use Rattle.yaml_recognizers.specs.CanonicalStreams.{canonical_stream, flat_text}
 
 module _ (read_scalar : ℕ → FlowContext → Bool → List ℕ → Read Scalar) (scalars : ReadsScalars read_scalar)
     (read_block : ℕ → List ℕ → Read BlockScalar) (blocks : ReadsBlocks read_block) where

@@ -1,16 +1,14 @@
 -- One step of the reading of a flow node over its open brackets.
-use Rattle.std.proofs.Common.{ap, refl, sym, ◌∙◌, ◌≡◌}
-use Rattle.std.specs.Prelude.{Bool, List, None, Option, Some, [], false, true, is_some, ℕ, ◌++◌, ◌==◌, ◌||◌, ◌&&◌, not, ◌∷◌}
-use Rattle.yaml_recognizers.proofs.Prelude.{Entries, Entry, Flow, absent, empty, given, is_plain, last, next, none, scalar}
-use Rattle.yaml_recognizers.proofs.Prelude.{FlowContext, in_flow, one_line, Sep, gap_text, first, starts_line}
-use Rattle.yaml_recognizers.specs.{Ends.is_colon, FlowScalars.read_scalar, Prefixes.past, Gaps.GapRead, Gaps.read_gap}
-use Rattle.yaml_recognizers.specs.FlowFrames.{Bracket, DoneEntry, OpenFlow, asked_key, close_with, closer, collection_of, entries_of}
-use Rattle.yaml_recognizers.specs.FlowFrames.{entry_of, first_node, entries_onto, plug, unwind}
-use Rattle.yaml_recognizers.specs.FlowNodes.{asked_entry, asked_with, ends_entry, is_asked, entry_if_short, next_entry}
-use Rattle.yaml_recognizers.specs.Reading.{Read, read_closing, on}
+use Rattle.std.{proofs.Common.{ap, refl, sym, ◌∙◌, ◌≡◌}, specs.Prelude.{Bool, List, None, Option, Some, [], false, true, is_some, ℕ, ◌++◌}}
+use Rattle.std.specs.Prelude.{◌==◌, ◌||◌, ◌&&◌, not, ◌∷◌}
+use Rattle.yaml_recognizers.proofs.Prelude.{Entries, Entry, Flow, absent, empty, given, is_plain, last, next, none, scalar, FlowContext}
+use Rattle.yaml_recognizers.proofs.{Prelude.{in_flow, one_line, Sep, gap_text, first, starts_line}, Flow.FlowNodesDepth.entries_step}
+use Rattle.yaml_recognizers.proofs.{Flow.FlowNodesDepth.{entry_step, flow_step, value_step}, Scalars.ScalarsInNodes.reads_scalars}
+use Rattle.yaml_recognizers.specs.{Ends.is_colon, FlowScalars.read_scalar, Prefixes.past, Gaps.{GapRead, read_gap}, FlowFrames.Bracket}
+use Rattle.yaml_recognizers.specs.FlowFrames.{DoneEntry, OpenFlow, asked_key, close_with, closer, collection_of, entries_of, entry_of}
+use Rattle.yaml_recognizers.specs.{FlowFrames.{first_node, entries_onto, plug, unwind}, FlowNodes.{asked_entry, asked_with, ends_entry}}
+use Rattle.yaml_recognizers.specs.{FlowNodes.{is_asked, entry_if_short, next_entry}, Reading.{Read, read_closing, on}}
 use Rattle.yaml_recognizers.specs.Recognizers.{flow_entries_at, flow_entry_at, flow_node_at, flow_value_at}
-use Rattle.yaml_recognizers.proofs.Flow.FlowNodesDepth.{entries_step, entry_step, flow_step, value_step}
-use Rattle.yaml_recognizers.proofs.Scalars.ScalarsInNodes.{reads_scalars}
 
 -- two steps after what was read are one step of both
 on_on : {A B C : Type 0} (r : Read A) (f : A → List ℕ → Read B) (g : B → List ℕ → Read C) → on (on r f) g ≡ on r (λ a t. on (f a t) g)

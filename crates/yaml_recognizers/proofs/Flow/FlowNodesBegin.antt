@@ -1,16 +1,15 @@
 -- What the text of a flow node starts with, and what distinguishes its alternatives.
-use Rattle.std.proofs.Common.{ap, append_assoc, inl, inr, refl, subst, sym, ◌∙◌, ◌≡◌, ◌⊎◌}
-use Rattle.std.specs.Prelude.{Bool, List, None, Some, [], codes, cond, false, not, true, ℕ, ◌&&◌, ◌++◌, ◌==◌, ◌||◌, ◌∷◌}
+use Rattle.std.{proofs.Common.{ap, append_assoc, inl, inr, refl, subst, sym, ◌∙◌, ◌≡◌, ◌⊎◌}, specs.Prelude.{Bool, List, None, Some, []}}
+use Rattle.std.specs.Prelude.{codes, cond, false, not, true, ℕ, ◌&&◌, ◌++◌, ◌==◌, ◌||◌, ◌∷◌}
 use Rattle.yaml_recognizers.proofs.Prelude.{and_left, and_parts, cases_eq, eqb-true, false≢true, ne_eqb, not-true, not_from_true, or_cases}
 use Rattle.yaml_recognizers.proofs.Prelude.{or_from, indicator, is_in, ns, Entries, Entry, Flow, entries_text, entry, entry_text, flow_text}
 use Rattle.yaml_recognizers.proofs.Prelude.{last, map, next, none, scalar, seq, single_pair, value_text, FlowContext, Line, Scalar}
 use Rattle.yaml_recognizers.proofs.Prelude.{block_key, double, flow_key, inner, lines_after, lines_text, one_line, outer, plain}
 use Rattle.yaml_recognizers.proofs.Prelude.{plain_first, plain_kind, plain_line, plain_lines, plain_text, safe, scalar_fits, scalar_text}
-use Rattle.yaml_recognizers.proofs.Prelude.{single, gap_text, first, is_empty, marker, no_marker}
-use Rattle.yaml_recognizers.specs.{BlockNodes.bar, FlowNodes.ends_entry, FlowNodes.is_asked, Prefixes.sign}
-use Rattle.yaml_recognizers.specs.CanonicalFlowNodes.{canonical_entries, canonical_entry, canonical_flow}
-use Rattle.yaml_recognizers.specs.Ends.{closing, between_brackets, solid}
-use Rattle.yaml_recognizers.proofs.{Scalars.PlainScalars.plain_regrouped, Basics.Solid.marker_first, Basics.Solid.plain_solid}
+use Rattle.yaml_recognizers.proofs.{Prelude.{single, gap_text, first, is_empty, marker, no_marker}, Scalars.PlainScalars.plain_regrouped}
+use Rattle.yaml_recognizers.{proofs.Basics.Solid.{marker_first, plain_solid}, specs.{BlockNodes.bar, FlowNodes.{ends_entry, is_asked}}}
+use Rattle.yaml_recognizers.specs.{Prefixes.sign, CanonicalFlowNodes.{canonical_entries, canonical_entry, canonical_flow}, Ends.closing}
+use Rattle.yaml_recognizers.specs.Ends.{between_brackets, solid}
 
 -- ---- plain scalars
 

@@ -1,22 +1,19 @@
 -- A flow node that fits is read whole, where what comes after it stops a plain scalar.
-use Rattle.std.proofs.Common.{ap, append_assoc, arith, inl, inr, refl, subst, sym, ◌∙◌, ◌≡◌, ◌≤◌}
-use Rattle.std.specs.Prelude.{Bool, List, None, Option, Some, [], cond, false, is_some, not, suc, true, zero, ℕ, ◌&&◌, ◌++◌, ◌+◌, ◌==◌}
-use Rattle.std.specs.Prelude.{◌||◌, ◌∷◌}
+use Rattle.std.{proofs.Common.{ap, append_assoc, arith, inl, inr, refl, subst, sym, ◌∙◌, ◌≡◌, ◌≤◌}, specs.Prelude.{Bool, List, None}}
+use Rattle.std.specs.Prelude.{Option, Some, [], cond, false, is_some, not, suc, true, zero, ℕ, ◌&&◌, ◌++◌, ◌+◌, ◌==◌, ◌||◌, ◌∷◌}
 use Rattle.yaml_recognizers.proofs.Prelude.{and_from, and_left, and_parts, eq-eqb, eqb-true, false≢true, or_cases, or_left, Entries, Entry}
 use Rattle.yaml_recognizers.proofs.Prelude.{Flow, Value, absent, before_colon, empty, entries_text, entry, entry_text, flow_text, given}
 use Rattle.yaml_recognizers.proofs.Prelude.{is_plain, last, map, next, none, scalar, seq, short_key, single_pair, value_text, FlowContext}
 use Rattle.yaml_recognizers.proofs.Prelude.{Scalar, block_key, flow_key, inner, in_flow, one_line, outer, safe, scalar_text, Sep, gap_text}
-use Rattle.yaml_recognizers.proofs.Prelude.{sep_text, first, starts_line}
+use Rattle.yaml_recognizers.proofs.{Prelude.{sep_text, first, starts_line}, Flow.FlowNodesBegin.{bracket, bracket_closing}}
+use Rattle.yaml_recognizers.proofs.Flow.FlowNodesBegin.{bracket_no_comma, entries_begin, entry_opens, flow_begins, scalar_begins}
+use Rattle.yaml_recognizers.proofs.{Flow.FlowNodesWider.{flow_wider, gap_wider}, Separation.GapsComplete.{gap_read, sep_unsafe}}
 use Rattle.yaml_recognizers.specs.{CanonicalComments.canonical_gap, Gaps.read_gap, Scalars.ReadsScalars}
 use Rattle.yaml_recognizers.specs.CanonicalFlowNodes.{canonical_entries, canonical_entry, canonical_flow, canonical_value}
-use Rattle.yaml_recognizers.specs.Ends.{BetweenBrackets, Stops, closing, between_brackets, is_colon, solid}
-use Rattle.yaml_recognizers.specs.FlowNodes.{asked_entry, ends_entry, flow_ends, given_value, in_brackets, is_asked, keyed_entry}
-use Rattle.yaml_recognizers.specs.FlowNodes.{entry_if_short, next_entry, read_entries, read_entry, read_flow, read_value, some_value}
-use Rattle.yaml_recognizers.specs.Reading.{Read, read_closing, on}
-use Rattle.yaml_recognizers.proofs.Flow.FlowNodesBegin.{bracket, bracket_closing, bracket_no_comma, entries_begin, entry_opens, flow_begins}
-use Rattle.yaml_recognizers.proofs.Flow.FlowNodesBegin.{scalar_begins}
-use Rattle.yaml_recognizers.proofs.Flow.FlowNodesWider.{flow_wider, gap_wider}
-use Rattle.yaml_recognizers.proofs.Separation.GapsComplete.{gap_read, sep_unsafe}
+use Rattle.yaml_recognizers.specs.{Ends.{BetweenBrackets, Stops, closing, between_brackets, is_colon, solid}, FlowNodes.asked_entry}
+use Rattle.yaml_recognizers.specs.FlowNodes.{ends_entry, flow_ends, given_value, in_brackets, is_asked, keyed_entry, entry_if_short}
+use Rattle.yaml_recognizers.specs.{FlowNodes.{next_entry, read_entries, read_entry, read_flow, read_value, some_value}, Reading.Read}
+use Rattle.yaml_recognizers.specs.Reading.{read_closing, on}
 
 -- ---- how deep the recognizer goes
 

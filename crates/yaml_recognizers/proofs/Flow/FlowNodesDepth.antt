@@ -1,17 +1,14 @@
 -- The recognizer of flow nodes finds the same at each depth that is enough for the text.
-use Rattle.std.proofs.Common.{ap, arith, length-append, refl, sym, ◌∙◌, ◌≡◌, ◌≤◌}
-use Rattle.std.specs.Prelude.{Bool, List, None, Option, Some, false, if◌then◌else◌, is_some, length, not, suc, true, zero, ℕ, ◌&&◌, ◌*◌}
-use Rattle.std.specs.Prelude.{◌++◌, ◌+◌, ◌==◌, ◌||◌, ◌∷◌}
+use Rattle.std.{proofs.Common.{ap, arith, length-append, refl, sym, ◌∙◌, ◌≡◌, ◌≤◌}, specs.Prelude.{Bool, List, None, Option, Some, false}}
+use Rattle.std.specs.Prelude.{if◌then◌else◌, is_some, length, not, suc, true, zero, ℕ, ◌&&◌, ◌*◌, ◌++◌, ◌+◌, ◌==◌, ◌||◌, ◌∷◌}
 use Rattle.yaml_recognizers.proofs.Prelude.{Entries, Entry, Flow, Value, entry, entry_text, flow_text, given, is_plain, map, next, none}
 use Rattle.yaml_recognizers.proofs.Prelude.{scalar, seq, FlowContext, Scalar, in_flow, one_line, Sep, gap_text, first, starts_line}
-use Rattle.yaml_recognizers.specs.{Ends.is_colon, Prefixes.past, Gaps.GapRead, Gaps.read_gap, Scalars.ReadsScalars}
-use Rattle.yaml_recognizers.specs.FlowNodes.{asked_entry, asked_with, ends_entry, in_brackets, is_asked, keyed_entry, entry_if_short}
-use Rattle.yaml_recognizers.specs.FlowNodes.{next_entry, read_entries, read_entry, read_flow, read_value, some_value, whole_entries}
-use Rattle.yaml_recognizers.specs.FlowNodes.{whole_entry, whole_flow, whole_value}
-use Rattle.yaml_recognizers.specs.Reading.{Read, read_closing, on}
-use Rattle.yaml_recognizers.proofs.{Basics.Prefixes.head_is, Separation.GapsSound.gap_sound}
-use Rattle.yaml_recognizers.proofs.Flow.FlowNodesSound.{asked_head, colon_parts, entry_sound, flow_sound}
-use Rattle.yaml_recognizers.proofs.Basics.Reading.{cond_same, on_same}
+use Rattle.yaml_recognizers.proofs.{Basics.{Prefixes.head_is, Reading.{cond_same, on_same}}, Separation.GapsSound.gap_sound}
+use Rattle.yaml_recognizers.{proofs.Flow.FlowNodesSound.{asked_head, colon_parts, entry_sound, flow_sound}, specs.Ends.is_colon}
+use Rattle.yaml_recognizers.specs.{Prefixes.past, Gaps.{GapRead, read_gap}, Scalars.ReadsScalars, FlowNodes.{asked_entry, asked_with}}
+use Rattle.yaml_recognizers.specs.FlowNodes.{ends_entry, in_brackets, is_asked, keyed_entry, entry_if_short, next_entry, read_entries}
+use Rattle.yaml_recognizers.specs.FlowNodes.{read_entry, read_flow, read_value, some_value, whole_entries, whole_entry, whole_flow}
+use Rattle.yaml_recognizers.specs.{FlowNodes.whole_value, Reading.{Read, read_closing, on}}
 
 -- a gap leaves no more than the text
 gap_left : (n : ℕ) (key : Bool) (text : List ℕ) → length (read_gap n key text).1 ≤ length text

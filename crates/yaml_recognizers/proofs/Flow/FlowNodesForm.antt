@@ -1,15 +1,14 @@
 -- The canonical form of flow nodes: their separation is canonical. Text and meaning stay.
-use Rattle.std.proofs.Common.{refl, ◌≡◌}
-use Rattle.std.specs.Prelude.{Bool, List, None, Option, Some, cond, false, is_some, not, true, ℕ, ◌&&◌, ◌++◌, ◌||◌, ◌∷◌}
+use Rattle.std.{proofs.Common.{refl, ◌≡◌}, specs.Prelude.{Bool, List, None, Option, Some, cond, false, is_some, not, true, ℕ, ◌&&◌, ◌++◌}}
+use Rattle.std.specs.Prelude.{◌||◌, ◌∷◌}
 use Rattle.yaml_recognizers.proofs.Prelude.{and_from, and_parts, Entries, Entry, Flow, Value, absent, asked_text, before_colon, empty}
 use Rattle.yaml_recognizers.proofs.Prelude.{entries_events, entries_fit, entries_text, entry, entry_events, entry_fits, entry_text}
 use Rattle.yaml_recognizers.proofs.Prelude.{flow_events, flow_fits, flow_text, given, is_pair, is_plain, last, map, next, none, scalar, seq}
 use Rattle.yaml_recognizers.proofs.Prelude.{short_key, single_pair, value_events, value_fits, value_text, FlowContext, flow_key, in_flow}
-use Rattle.yaml_recognizers.proofs.Prelude.{one_line, safe, Sep, gap_fits, gap_text, first, starts_line}
-use Rattle.yaml_recognizers.specs.CanonicalFlowNodes.{canonical_entries, canonical_entry, canonical_flow, canonical_value}
-use Rattle.yaml_recognizers.specs.Ends.{solid}
-use Rattle.yaml_recognizers.proofs.Flow.FlowNodesBegin.{bracket, entries_begin, flow_begins}
-use Rattle.yaml_recognizers.proofs.Separation.CommentsForm.{gap_form, gap_form_fits, gap_form_text, sep_form_text}
+use Rattle.yaml_recognizers.proofs.{Prelude.{one_line, safe, Sep, gap_fits, gap_text, first, starts_line}, Flow.FlowNodesBegin.bracket}
+use Rattle.yaml_recognizers.proofs.{Flow.FlowNodesBegin.{entries_begin, flow_begins}, Separation.CommentsForm.{gap_form, gap_form_fits}}
+use Rattle.yaml_recognizers.{proofs.Separation.CommentsForm.{gap_form_text, sep_form_text}, specs.CanonicalFlowNodes.canonical_entries}
+use Rattle.yaml_recognizers.specs.{CanonicalFlowNodes.{canonical_entry, canonical_flow, canonical_value}, Ends.solid}
 
 abbrev mutual
   -- a flow node in its canonical form

@@ -1,11 +1,9 @@
 -- Flow nodes: what is at the start of a text is found, and what is found is there.
-use Rattle.std.proofs.Common.{ap, sym, ◌∙◌, ◌≡◌}
-use Rattle.std.specs.Prelude.{Bool, List, None, Some, length, true, ℕ, ◌*◌, ◌+◌}
-use Rattle.yaml_recognizers.proofs.Prelude.{Flow, is_plain, FlowContext}
-use Rattle.yaml_recognizers.specs.{Ends.Stops, FlowScalars.read_scalar}
+use Rattle.std.{proofs.Common.{ap, sym, ◌∙◌, ◌≡◌}, specs.Prelude.{Bool, List, None, Some, length, true, ℕ, ◌*◌, ◌+◌}}
+use Rattle.yaml_recognizers.proofs.{Prelude.{Flow, is_plain, FlowContext}, Flow.{FlowNodesComplete.stops_flow, FlowNodesWhole.flow_found}}
+use Rattle.yaml_recognizers.proofs.{Flow.FlowNodesWhole.flow_is, Basics.Reading.{none_some, some_parts}}
+use Rattle.yaml_recognizers.{proofs.Scalars.ScalarsInNodes.reads_scalars, specs.{Ends.Stops, FlowScalars.read_scalar}}
 use Rattle.yaml_recognizers.specs.Recognizers.{StandsFlow, flow_node_at, flow_node_stops}
-use Rattle.yaml_recognizers.proofs.{Flow.FlowNodesComplete.stops_flow, Flow.FlowNodesWhole.flow_found, Flow.FlowNodesWhole.flow_is}
-use Rattle.yaml_recognizers.proofs.{Basics.Reading.none_some, Basics.Reading.some_parts, Scalars.ScalarsInNodes.reads_scalars}
 
 -- a flow node that is there is read
 pub found : (n : ℕ) (c : FlowContext) (bol : Bool) (text : List ℕ) (f : Flow) (rest : List ℕ)

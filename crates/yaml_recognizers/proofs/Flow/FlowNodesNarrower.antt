@@ -1,15 +1,14 @@
 -- What fits as a flow node and is on one line fits as a key too: so a reader may read a node once, and then learn that
 -- it was a key.
-use Rattle.std.proofs.Common.{refl, subst, sym, ◌≡◌}
-use Rattle.std.specs.Prelude.{Bool, List, None, Option, Some, cond, false, not, true, ℕ, ◌&&◌}
+use Rattle.std.{proofs.Common.{refl, subst, sym, ◌≡◌}, specs.Prelude.{Bool, List, None, Option, Some, cond, false, not, true, ℕ, ◌&&◌}}
 use Rattle.yaml_recognizers.proofs.Prelude.{and_from, and_parts, false≢true, or_left, Entries, Entry, Flow, Value, absent, empty, entry}
 use Rattle.yaml_recognizers.proofs.Prelude.{given, last, map, next, none, scalar, seq, single_pair, FlowContext, Scalar, flow_key, in_flow}
-use Rattle.yaml_recognizers.proofs.Prelude.{one_line, scalar_fits, Sep, inline, lines}
-use Rattle.yaml_recognizers.specs.{CanonicalComments.canonical_gap, WholeScalars.stands_on_one_line}
-use Rattle.yaml_recognizers.specs.CanonicalFlowNodes.{canonical_entries, canonical_entry, canonical_flow, canonical_value}
-use Rattle.yaml_recognizers.specs.OneLine.{entries_on_one_line, entry_on_one_line, gap_on_one_line, on_one_line, value_on_one_line, widens}
-use Rattle.yaml_recognizers.proofs.Flow.FlowNodesWider.{either, first_safe, key_line, safe_same, widens_cases, wider_in_flow}
-use Rattle.yaml_recognizers.proofs.Scalars.ScalarKeys.{fits_same, key_on_one_line}
+use Rattle.yaml_recognizers.proofs.{Prelude.{one_line, scalar_fits, Sep, inline, lines}, Flow.FlowNodesWider.{either, first_safe, key_line}}
+use Rattle.yaml_recognizers.proofs.{Flow.FlowNodesWider.{safe_same, widens_cases, wider_in_flow}, Scalars.ScalarKeys.fits_same}
+use Rattle.yaml_recognizers.{proofs.Scalars.ScalarKeys.key_on_one_line, specs.CanonicalComments.canonical_gap}
+use Rattle.yaml_recognizers.specs.{WholeScalars.stands_on_one_line, CanonicalFlowNodes.{canonical_entries, canonical_entry, canonical_flow}}
+use Rattle.yaml_recognizers.specs.{CanonicalFlowNodes.canonical_value, OneLine.{entries_on_one_line, entry_on_one_line, gap_on_one_line}}
+use Rattle.yaml_recognizers.specs.OneLine.{on_one_line, value_on_one_line, widens}
 
 -- a gap on one line fits in either way
 gap_narrower : (n m : ℕ) (key key' : Bool) (gap : Option Sep) (after : List ℕ) → gap_on_one_line gap ≡ true

@@ -1,18 +1,15 @@
 -- What the recognizer of flow nodes reads is at the start of the text, and fits.
-use Rattle.std.proofs.Common.{ap, append_assoc, inl, inr, refl, subst, sym, ◌∙◌, ◌≡◌}
-use Rattle.std.specs.Prelude.{Bool, List, None, Option, Some, [], cond, false, is_some, not, suc, true, zero, ℕ, ◌&&◌, ◌++◌, ◌==◌, ◌||◌}
-use Rattle.std.specs.Prelude.{◌∷◌}
+use Rattle.std.{proofs.Common.{ap, append_assoc, inl, inr, refl, subst, sym, ◌∙◌, ◌≡◌}, specs.Prelude.{Bool, List, None, Option, Some, []}}
+use Rattle.std.specs.Prelude.{cond, false, is_some, not, suc, true, zero, ℕ, ◌&&◌, ◌++◌, ◌==◌, ◌||◌, ◌∷◌}
 use Rattle.yaml_recognizers.proofs.Prelude.{and_from, and_parts, eqb-true, false≢true, or_parts, Entries, Entry, Flow, Value, absent, empty}
 use Rattle.yaml_recognizers.proofs.Prelude.{entries_text, entry, entry_text, flow_text, given, is_plain, last, map, next, none, scalar, seq}
 use Rattle.yaml_recognizers.proofs.Prelude.{single_pair, value_text, FlowContext, Scalar, in_flow, one_line, safe, scalar_fits, scalar_text}
-use Rattle.yaml_recognizers.proofs.Prelude.{Sep, gap_text, first, starts_line}
+use Rattle.yaml_recognizers.proofs.{Prelude.{Sep, gap_text, first, starts_line}, Basics.{Prefixes.head_is, Reading.{chosen, closed_parts}}}
+use Rattle.yaml_recognizers.proofs.{Basics.Reading.{if_fits_parts, none_some, on_parts, some_parts}, Separation.GapsSound.gap_sound}
 use Rattle.yaml_recognizers.specs.{CanonicalComments.canonical_gap, Ends.is_colon, Prefixes.past, Reading.Read, Scalars.ReadsScalars}
 use Rattle.yaml_recognizers.specs.CanonicalFlowNodes.{canonical_entries, canonical_entry, canonical_flow, canonical_value}
 use Rattle.yaml_recognizers.specs.FlowNodes.{asked_with, ends_entry, flow_ends, is_asked, key_is_short, read_entries, read_entry, read_flow}
-use Rattle.yaml_recognizers.specs.FlowNodes.{read_value}
-use Rattle.yaml_recognizers.specs.Gaps.{GapRead, read_gap}
-use Rattle.yaml_recognizers.proofs.{Basics.Prefixes.head_is, Separation.GapsSound.gap_sound}
-use Rattle.yaml_recognizers.proofs.Basics.Reading.{chosen, closed_parts, if_fits_parts, none_some, on_parts, some_parts}
+use Rattle.yaml_recognizers.specs.{FlowNodes.read_value, Gaps.{GapRead, read_gap}}
 
 -- an asked key starts with `?`
 pub asked_head : (d : FlowContext) (text : List ℕ) → is_asked d text ≡ true → text ≡ 63 ∷ past text

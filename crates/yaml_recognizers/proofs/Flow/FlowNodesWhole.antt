@@ -1,14 +1,11 @@
 -- The recognizer of flow nodes with all the depth that a text may need: complete, sound, and so unique.
-use Rattle.std.proofs.Common.{arith, length-append, ◌≡◌, ◌≤◌}
-use Rattle.std.specs.Prelude.{Bool, List, Some, codes, length, true, ℕ, ◌*◌, ◌++◌, ◌+◌}
+use Rattle.std.{proofs.Common.{arith, length-append, ◌≡◌, ◌≤◌}, specs.Prelude.{Bool, List, Some, codes, length, true, ℕ, ◌*◌, ◌++◌, ◌+◌}}
 use Rattle.yaml_recognizers.proofs.Prelude.{Entries, Entry, Flow, Value, absent, asked_text, empty, entries_text, entry, entry_text}
 use Rattle.yaml_recognizers.proofs.Prelude.{flow_text, given, is_plain, last, map, next, none, scalar, seq, value_text, FlowContext, Scalar}
-use Rattle.yaml_recognizers.proofs.Prelude.{gap_text}
-use Rattle.yaml_recognizers.specs.{CanonicalFlowNodes.canonical_flow, Ends.Stops, Reading.Read, Scalars.ReadsScalars}
-use Rattle.yaml_recognizers.specs.FlowNodes.{flow_ends, read_flow, whole_flow}
-use Rattle.yaml_recognizers.proofs.Flow.FlowNodesComplete.{entries_size, entry_size, flow_read, flow_size, stops_flow, value_size}
-use Rattle.yaml_recognizers.proofs.Flow.FlowNodesSound.{FlowOfAt, flow_sound}
-use Rattle.yaml_recognizers.proofs.Basics.Reading.{Sound, sound_of}
+use Rattle.yaml_recognizers.proofs.{Prelude.gap_text, Flow.FlowNodesComplete.{entries_size, entry_size, flow_read, flow_size, stops_flow}}
+use Rattle.yaml_recognizers.proofs.{Flow.{FlowNodesComplete.value_size, FlowNodesSound.{FlowOfAt, flow_sound}}, Basics.Reading.Sound}
+use Rattle.yaml_recognizers.{proofs.Basics.Reading.sound_of, specs.{CanonicalFlowNodes.canonical_flow, Ends.Stops, Reading.Read}}
+use Rattle.yaml_recognizers.specs.{Scalars.ReadsScalars, FlowNodes.{flow_ends, read_flow, whole_flow}}
 
 -- ---- a node goes no deeper than four times its length
 

@@ -1,12 +1,10 @@
 -- What fits as a key, on one line, fits as a flow node in each wider context and at each indentation.
-use Rattle.std.proofs.Common.{refl, subst, ◌≡◌}
-use Rattle.std.specs.Prelude.{Bool, List, None, Option, Some, cond, false, not, true, ℕ, ◌&&◌, ◌||◌}
+use Rattle.std.{proofs.Common.{refl, subst, ◌≡◌}, specs.Prelude.{Bool, List, None, Option, Some, cond, false, not, true, ℕ, ◌&&◌, ◌||◌}}
 use Rattle.yaml_recognizers.proofs.Prelude.{and_from, and_parts, false≢true, Entries, Entry, Flow, Value, absent, empty, entry, given, last}
 use Rattle.yaml_recognizers.proofs.Prelude.{map, next, none, scalar, seq, single_pair, FlowContext, Scalar, block_key, flow_key, inner}
 use Rattle.yaml_recognizers.proofs.Prelude.{in_flow, one_line, outer, safe, scalar_fits, Sep, inline, lines, first}
-use Rattle.yaml_recognizers.specs.{CanonicalComments.canonical_gap, OneLine.widens}
-use Rattle.yaml_recognizers.specs.CanonicalFlowNodes.{canonical_entries, canonical_entry, canonical_flow, canonical_value}
-use Rattle.yaml_recognizers.proofs.Scalars.ScalarKeys.{first_same, fits_same, key_on_one_line}
+use Rattle.yaml_recognizers.{proofs.Scalars.ScalarKeys.{first_same, fits_same, key_on_one_line}, specs.CanonicalComments.canonical_gap}
+use Rattle.yaml_recognizers.specs.{OneLine.widens, CanonicalFlowNodes.{canonical_entries, canonical_entry, canonical_flow, canonical_value}}
 
 -- what holds of each of the four pairs holds of the two contexts
 pub widens_cases : (P : FlowContext → FlowContext → Type 0) (c d : FlowContext) → widens c d ≡ true

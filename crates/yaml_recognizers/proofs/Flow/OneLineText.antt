@@ -1,7 +1,6 @@
 -- A flow node is on one line exactly where its text has no break.
-use Rattle.std.proofs.Common.{ap, arith, refl, sym, ◌∙◌, ◌≡◌}
-use Rattle.std.specs.Prelude.{Bool, List, None, Option, Some, [], codes, cond, false, flat_map, not, true, ℕ, ◌&&◌, ◌++◌, ◌==◌, ◌||◌, ◌∷◌}
-use Rattle.std.specs.Prelude.{if◌then◌else◌, is_some}
+use Rattle.std.{proofs.Common.{ap, arith, refl, sym, ◌∙◌, ◌≡◌}, specs.Prelude.{Bool, List, None, Option, Some, [], codes, cond, false}}
+use Rattle.std.specs.Prelude.{flat_map, not, true, ℕ, ◌&&◌, ◌++◌, ◌==◌, ◌||◌, ◌∷◌, if◌then◌else◌, is_some}
 use Rattle.yaml_recognizers.proofs.Prelude.{list_all, and_from, and_parts, cond_both, false≢true, nat_tests, is_in, line_break, nb_json, ns}
 use Rattle.yaml_recognizers.proofs.Prelude.{white, Entries, Entry, Flow, Value, absent, asked_text, before_colon, empty, entries_text}
 use Rattle.yaml_recognizers.proofs.Prelude.{entry, entry_text, flow_text, given, is_plain, last, map, next, none, scalar, seq, short_key}
@@ -10,11 +9,10 @@ use Rattle.yaml_recognizers.proofs.Prelude.{quoted_char_fits, escape, flow_key, 
 use Rattle.yaml_recognizers.proofs.Prelude.{number, one_line, plain, plain_line, plain_next, plain_run, plain_text, raw, scalar_fits}
 use Rattle.yaml_recognizers.proofs.Prelude.{scalar_text, single, single_text, Break, Sep, break_text, comment_line_fits, comment_text}
 use Rattle.yaml_recognizers.proofs.Prelude.{comments_fit, comments_text, cr, cr_lf, gap_text, inline, lf, line_end_text, lines, stop_fits}
-use Rattle.yaml_recognizers.proofs.Prelude.{is_empty, optional, starts_line}
-use Rattle.yaml_recognizers.specs.{CanonicalComments.canonical_gap, CanonicalComments.is_line_end, WholeScalars.stands_on_one_line}
+use Rattle.yaml_recognizers.proofs.{Prelude.{is_empty, optional, starts_line}, Separation.LineEnds.line_parts}
+use Rattle.yaml_recognizers.specs.{CanonicalComments.{canonical_gap, is_line_end}, WholeScalars.stands_on_one_line}
 use Rattle.yaml_recognizers.specs.CanonicalFlowNodes.{canonical_entries, canonical_entry, canonical_flow, canonical_value}
 use Rattle.yaml_recognizers.specs.OneLine.{entries_on_one_line, entry_on_one_line, gap_on_one_line, on_one_line, value_on_one_line}
-use Rattle.yaml_recognizers.proofs.Separation.LineEnds.{line_parts}
 
 -- the text has no break
 abbrev pub unbroken : List ℕ → Bool

@@ -1,12 +1,11 @@
 -- A single pair: what its key has to meet, said of the key as it was read between the brackets. It doesn't depend on
 -- the value.
-use Rattle.std.proofs.Common.{refl, sym, ◌≡◌}
-use Rattle.std.specs.Prelude.{Bool, List, None, Option, Some, false, true, ℕ, ◌&&◌, ◌++◌}
+use Rattle.std.{proofs.Common.{refl, sym, ◌≡◌}, specs.Prelude.{Bool, List, None, Option, Some, false, true, ℕ, ◌&&◌, ◌++◌}}
 use Rattle.yaml_recognizers.proofs.Prelude.{and_parts, Flow, Value, absent, before_colon, empty, given, has_colon, is_plain, short_key}
 use Rattle.yaml_recognizers.proofs.Prelude.{value_text, FlowContext, flow_key, one_line, Sep, inline, lines}
-use Rattle.yaml_recognizers.specs.{CanonicalComments.canonical_gap, CanonicalFlowNodes.canonical_flow, CanonicalFlowNodes.canonical_value}
-use Rattle.yaml_recognizers.specs.{FlowNodes.key_is_short, OneLine.gap_on_one_line, OneLine.on_one_line, OneLine.widens}
-use Rattle.yaml_recognizers.proofs.Flow.FlowNodesNarrower.{flow_key_line, flow_narrower}
+use Rattle.yaml_recognizers.{proofs.Flow.FlowNodesNarrower.{flow_key_line, flow_narrower}, specs.CanonicalComments.canonical_gap}
+use Rattle.yaml_recognizers.specs.{CanonicalFlowNodes.{canonical_flow, canonical_value}, FlowNodes.key_is_short, OneLine.gap_on_one_line}
+use Rattle.yaml_recognizers.specs.OneLine.{on_one_line, widens}
 
 -- two tests that hold of the same
 same_test : (a b : Bool) → (a ≡ true → b ≡ true) → (b ≡ true → a ≡ true) → a ≡ b

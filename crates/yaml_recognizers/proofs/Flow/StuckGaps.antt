@@ -1,11 +1,9 @@
 -- Between brackets nothing goes on after a gap whose last line is indented too little: what is left then begins with
 -- white or a break.
-use Rattle.std.proofs.Common.{ap, arith, refl, ◌∙◌, ◌≡◌}
-use Rattle.std.specs.Prelude.{Bool, List, None, Some, false, true, ℕ, ◌&&◌, ◌==◌, ◌||◌, ◌∷◌}
+use Rattle.std.{proofs.Common.{ap, arith, refl, ◌∙◌, ◌≡◌}, specs.Prelude.{Bool, List, None, Some, false, true, ℕ, ◌&&◌, ◌==◌, ◌||◌, ◌∷◌}}
 use Rattle.yaml_recognizers.proofs.Prelude.{nat_tests, line_break, ns, white, Flow, scalar, FlowContext, no_marker}
-use Rattle.yaml_recognizers.specs.{Ends.is_colon, FlowFrames.closer, FlowNodes.ends_entry, FlowScalars.read_scalar, PlainScalars.read_plain}
-use Rattle.yaml_recognizers.specs.{Reading.read_closing, Reading.on, Recognizers.flow_node_at}
-use Rattle.yaml_recognizers.proofs.Flow.FlowFrames.{is_scalar}
+use Rattle.yaml_recognizers.{proofs.Flow.FlowFrames.is_scalar, specs.{Ends.is_colon, FlowFrames.closer, FlowNodes.ends_entry}}
+use Rattle.yaml_recognizers.specs.{FlowScalars.read_scalar, PlainScalars.read_plain, Reading.{read_closing, on}, Recognizers.flow_node_at}
 
 -- whitespace or a break
 abbrev pub blank : ℕ → Bool

@@ -1,6 +1,6 @@
 -- What is canonical fits, as the grammar says it.
-use Rattle.std.proofs.Common.{refl, ◌≡◌}
-use Rattle.std.specs.Prelude.{Bool, List, None, Option, Some, cond, false, not, suc, true, ℕ, ◌&&◌, ◌++◌, ◌+◌, ◌==◌}
+use Rattle.std.{proofs.Common.{refl, ◌≡◌}, specs.Prelude.{Bool, List, None, Option, Some, cond, false, not, suc, true, ℕ, ◌&&◌, ◌++◌, ◌+◌}}
+use Rattle.std.specs.Prelude.{◌==◌}
 use Rattle.yaml_recognizers.proofs.Prelude.{and_from, and_parts, white, Indented, Items, Node, Pair, Pairs, asked, asked_alone, block}
 use Rattle.yaml_recognizers.proofs.Prelude.{compact_items, compact_pairs, flow, indented_fits, item, item_and, items, items_fit, keyed}
 use Rattle.yaml_recognizers.proofs.Prelude.{keyed_alone, node, node_fits, omitted, pair, pair_and, pair_fits, pairs, pairs_fit, BlockScalar}
@@ -10,10 +10,9 @@ use Rattle.yaml_recognizers.proofs.Prelude.{block_key, flow_key, in_flow, one_li
 use Rattle.yaml_recognizers.proofs.Prelude.{inline, lines, sep_fits, Document, Explicit, bare, content, directed, document_fits, explicit}
 use Rattle.yaml_recognizers.proofs.Prelude.{explicit_fits, explicit_text, nothing, list_all, is_empty}
 use Rattle.yaml_recognizers.specs.CanonicalBlockNodes.{canonical_indented, canonical_items, canonical_node, canonical_pair, canonical_pairs}
-use Rattle.yaml_recognizers.specs.CanonicalBlockScalars.{canonical_block}
-use Rattle.yaml_recognizers.specs.CanonicalComments.{canonical_comments, canonical_gap, canonical_sep}
-use Rattle.yaml_recognizers.specs.CanonicalFlowNodes.{canonical_entries, canonical_entry, canonical_flow, canonical_value}
-use Rattle.yaml_recognizers.specs.CanonicalStreams.{canonical_document, canonical_explicit}
+use Rattle.yaml_recognizers.specs.{CanonicalBlockScalars.canonical_block, CanonicalComments.{canonical_comments, canonical_gap}}
+use Rattle.yaml_recognizers.specs.{CanonicalComments.canonical_sep, CanonicalFlowNodes.{canonical_entries, canonical_entry, canonical_flow}}
+use Rattle.yaml_recognizers.specs.{CanonicalFlowNodes.canonical_value, CanonicalStreams.{canonical_document, canonical_explicit}}
 
 -- canonical comments fit
 pub comments_fit_too : (bol : Bool) (es : List LineEnd) (after : List ℕ) → canonical_comments bol es after ≡ true

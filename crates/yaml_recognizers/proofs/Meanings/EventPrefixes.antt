@@ -1,10 +1,9 @@
 -- The events of what is read of a collection are a prefix of the collection's events.
-use Rattle.std.proofs.Common.{ap, append_assoc, refl, sym, ◌∙◌, ◌≡◌}
-use Rattle.std.specs.Prelude.{Bool, List, [], ℕ, ◌++◌, ◌+◌, ◌∷◌}
+use Rattle.std.{proofs.Common.{ap, append_assoc, refl, sym, ◌∙◌, ◌≡◌}, specs.Prelude.{Bool, List, [], ℕ, ◌++◌, ◌+◌, ◌∷◌}}
 use Rattle.yaml_recognizers.proofs.Prelude.{Indented, Items, Pair, Pairs, indented_end, indented_events, indented_text, item, items_end}
 use Rattle.yaml_recognizers.proofs.Prelude.{items_events, pair, pair_end, pair_events, pair_text, pairs_end, pairs_events, Event, Entries}
-use Rattle.yaml_recognizers.proofs.Prelude.{entries_events, entry_events, entry_text, gap_text, byte_len}
-use Rattle.yaml_recognizers.specs.{BlockFrames.joined_items, BlockFrames.joined_pairs, FlowFrames.DoneEntry, FlowFrames.entries_onto}
+use Rattle.yaml_recognizers.{proofs.Prelude.{entries_events, entry_events, entry_text, gap_text, byte_len}, specs.BlockFrames.joined_items}
+use Rattle.yaml_recognizers.specs.{BlockFrames.joined_pairs, FlowFrames.{DoneEntry, entries_onto}}
 
 -- ---- brackets
 

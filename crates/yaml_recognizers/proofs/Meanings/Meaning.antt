@@ -1,14 +1,10 @@
 -- A text has at most one meaning, whatever its presentations; and the recognizer of streams finds it.
-use Rattle.std.proofs.Common.{ap, sym, ◌∙◌, ◌≡◌}
-use Rattle.std.specs.Prelude.{Bool, List, None, Option, Some, true, ℕ}
+use Rattle.std.{proofs.Common.{ap, sym, ◌∙◌, ◌≡◌}, specs.Prelude.{Bool, List, None, Option, Some, true, ℕ}}
 use Rattle.yaml_recognizers.proofs.Prelude.{BlockScalar, Event, FlowContext, Scalar, CanRead, Presents, Reads, Stream, stream_events}
-use Rattle.yaml_recognizers.proofs.Prelude.{IsText}
-use Rattle.yaml_recognizers.specs.{CanonicalForms.IsCanonicalFormOf, Reading.Read, Streams.read_stream}
-use Rattle.yaml_recognizers.specs.CanonicalStreams.{FlatStream, canonical_stream, flat_events, flat_text}
-use Rattle.yaml_recognizers.specs.Scalars.{ReadsBlocks, ReadsScalars}
-use Rattle.yaml_recognizers.proofs.Documents.NestedStreams.{can_read}
-use Rattle.yaml_recognizers.proofs.Documents.StreamsForm.{stream_form, stream_form_is}
-use Rattle.yaml_recognizers.proofs.Documents.StreamsWhole.{whole_stream_is, whole_stream_read}
+use Rattle.yaml_recognizers.proofs.{Prelude.IsText, Documents.{NestedStreams.can_read, StreamsForm.{stream_form, stream_form_is}}}
+use Rattle.yaml_recognizers.{proofs.Documents.StreamsWhole.{whole_stream_is, whole_stream_read}, specs.CanonicalForms.IsCanonicalFormOf}
+use Rattle.yaml_recognizers.specs.{Reading.Read, Streams.read_stream, CanonicalStreams.{FlatStream, canonical_stream, flat_events}}
+use Rattle.yaml_recognizers.specs.{CanonicalStreams.flat_text, Scalars.{ReadsBlocks, ReadsScalars}}
 
 module _ (read_scalar : ℕ → FlowContext → Bool → List ℕ → Read Scalar) (scalars : ReadsScalars read_scalar)
     (read_block : ℕ → List ℕ → Read BlockScalar) (blocks : ReadsBlocks read_block) where

@@ -1,7 +1,7 @@
 -- Each node of a presentation that fits is whole at its place: what comes after it ends it.
-use Rattle.std.proofs.Common.{ap, append-nil, append_assoc, arith, inl, inr, refl, subst, sym, ◌∙◌, ◌≡◌}
-use Rattle.std.specs.Prelude.{All, Bool, List, None, Option, Some, [], cond, false, flat_map, if◌then◌else◌, is_some, nat_le, not, suc}
-use Rattle.std.specs.Prelude.{true, ℕ, ◌&&◌, ◌++◌, ◌+◌, ◌==◌, ◌||◌, ◌∷◌}
+use Rattle.std.{proofs.Common.{ap, append-nil, append_assoc, arith, inl, inr, refl, subst, sym, ◌∙◌, ◌≡◌}, specs.Prelude.{All, Bool, List}}
+use Rattle.std.specs.Prelude.{None, Option, Some, [], cond, false, flat_map, if◌then◌else◌, is_some, nat_le, not, suc, true, ℕ, ◌&&◌, ◌++◌}
+use Rattle.std.specs.Prelude.{◌+◌, ◌==◌, ◌||◌, ◌∷◌}
 use Rattle.yaml_recognizers.proofs.Prelude.{and_parts, cases_Bool, false≢true, le-leb, not_from_false, All-append, All-cons, All-nil, ns}
 use Rattle.yaml_recognizers.proofs.Prelude.{white, Indented, Items, Node, Pair, Pairs, asked, asked_alone, block, compact_items}
 use Rattle.yaml_recognizers.proofs.Prelude.{compact_pairs, flow, indented_fits, indented_text, is_omitted, item, item_and, items, items_fit}
@@ -14,27 +14,23 @@ use Rattle.yaml_recognizers.proofs.Prelude.{comments_fit, comments_text, gap_fit
 use Rattle.yaml_recognizers.proofs.Prelude.{Stream, bare, content, directed, directive_text, document_fits, document_text, explicit}
 use Rattle.yaml_recognizers.proofs.Prelude.{explicit_fits, fits, further, line, nothing, optional_document_fits, part_fits, part_text}
 use Rattle.yaml_recognizers.proofs.Prelude.{parts_fit, parts_text, suffix_text, suffixes, list_all, byte_len, first, optional, spaces}
-use Rattle.yaml_recognizers.proofs.Prelude.{starts_line}
-use Rattle.yaml_recognizers.specs.{CanonicalFlowNodes.canonical_value, CanonicalComments.canonical_comments, Prefixes.sign}
-use Rattle.yaml_recognizers.specs.{Recognizers.flow_node_stops, StandingNodes.EndsNode}
-use Rattle.yaml_recognizers.specs.CanonicalBlockNodes.{canonical_node, canonical_pairs}
-use Rattle.yaml_recognizers.specs.Ends.{BetweenBrackets, Stops, closing, block_node_stops, between_brackets, solid}
-use Rattle.yaml_recognizers.specs.NodePlaces.{NodePlace, NodeStands, block_at, document_places, entries_places, entry_places}
-use Rattle.yaml_recognizers.specs.NodePlaces.{explicit_places, flow_at, flow_places, indented_places, items_places, node_places}
-use Rattle.yaml_recognizers.specs.NodePlaces.{optional_document_places, pair_places, pairs_places, part_places, parts_places, stream_places}
-use Rattle.yaml_recognizers.specs.NodePlaces.{value_places}
-use Rattle.yaml_recognizers.proofs.{Separation.CommentsComplete.not_line_end, Documents.DocumentEnds.parts_end}
-use Rattle.yaml_recognizers.proofs.{Flow.FlowNodesFound.ends_here, Basics.Prefixes.every_space, Separation.LineEnds.comments_no_ns}
-use Rattle.yaml_recognizers.proofs.{Basics.Solid.solid_space}
-use Rattle.yaml_recognizers.proofs.Block.BlockNodesBegin.{Prefix, node_apart, pairs_prefix}
+use Rattle.yaml_recognizers.proofs.{Prelude.starts_line, Separation.{CommentsComplete.not_line_end, LineEnds.comments_no_ns}}
+use Rattle.yaml_recognizers.proofs.Separation.CommentsForm.{comments_form_fit, gap_form, gap_form_fits, gap_form_text, joined_before}
+use Rattle.yaml_recognizers.proofs.{Documents.DocumentEnds.parts_end, Flow.{FlowNodesFound.ends_here, FlowNodesComplete.closing_solid}}
+use Rattle.yaml_recognizers.proofs.Flow.FlowNodesComplete.{closing_stop, in_flow_between_brackets, value_either, value_stop}
+use Rattle.yaml_recognizers.proofs.{Flow.FlowNodesForm.{value_form, value_form_fits, value_form_text}, Basics.Prefixes.every_space}
+use Rattle.yaml_recognizers.proofs.{Basics.Solid.solid_space, Block.BlockNodesBegin.{Prefix, node_apart, pairs_prefix}}
 use Rattle.yaml_recognizers.proofs.Block.BlockNodesEnd.{block_node_stops_at, block_node_stops_items, block_node_stops_last}
 use Rattle.yaml_recognizers.proofs.Block.BlockNodesEnd.{block_node_stops_pairs, block_node_stops_shallow, block_node_stops_value}
 use Rattle.yaml_recognizers.proofs.Block.BlockNodesForm.{node_before, node_form, node_form_fits, node_open, pairs_form, pairs_form_fit}
-use Rattle.yaml_recognizers.proofs.Block.BlockNodesForm.{pairs_form_text, pairs_open}
-use Rattle.yaml_recognizers.proofs.BlockScalars.BlockScalarsForm.{takes, takes_not}
-use Rattle.yaml_recognizers.proofs.Separation.CommentsForm.{comments_form_fit, gap_form, gap_form_fits, gap_form_text, joined_before}
-use Rattle.yaml_recognizers.proofs.Flow.FlowNodesComplete.{closing_solid, closing_stop, in_flow_between_brackets, value_either, value_stop}
-use Rattle.yaml_recognizers.proofs.Flow.FlowNodesForm.{value_form, value_form_fits, value_form_text}
+use Rattle.yaml_recognizers.proofs.{Block.BlockNodesForm.{pairs_form_text, pairs_open}, BlockScalars.BlockScalarsForm.{takes, takes_not}}
+use Rattle.yaml_recognizers.specs.{CanonicalFlowNodes.canonical_value, CanonicalComments.canonical_comments, Prefixes.sign}
+use Rattle.yaml_recognizers.specs.{Recognizers.flow_node_stops, StandingNodes.EndsNode, CanonicalBlockNodes.canonical_node}
+use Rattle.yaml_recognizers.specs.{CanonicalBlockNodes.canonical_pairs, Ends.{BetweenBrackets, Stops, closing, block_node_stops}}
+use Rattle.yaml_recognizers.specs.{Ends.{between_brackets, solid}, NodePlaces.{NodePlace, NodeStands, block_at, document_places}}
+use Rattle.yaml_recognizers.specs.NodePlaces.{entries_places, entry_places, explicit_places, flow_at, flow_places, indented_places}
+use Rattle.yaml_recognizers.specs.NodePlaces.{items_places, node_places, optional_document_places, pair_places, pairs_places, part_places}
+use Rattle.yaml_recognizers.specs.NodePlaces.{parts_places, stream_places, value_places}
 
 -- each of the nodes stands at its place
 abbrev Each : List NodePlace → Type 0

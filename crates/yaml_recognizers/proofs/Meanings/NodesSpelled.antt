@@ -1,7 +1,6 @@
 -- Each node of a presentation is spelled at its place.
-use Rattle.std.proofs.Common.{ap, append-nil, append_assoc, arith, refl, subst, sym, ◌∙◌, ◌≡◌}
-use Rattle.std.specs.Prelude.{All, Bool, List, None, Option, Some, [], codes, cond, false, flat_map, if◌then◌else◌, is_some, suc, true, ℕ}
-use Rattle.std.specs.Prelude.{◌++◌, ◌+◌, ◌==◌, ◌∷◌}
+use Rattle.std.{proofs.Common.{ap, append-nil, append_assoc, arith, refl, subst, sym, ◌∙◌, ◌≡◌}, specs.Prelude.{All, Bool, List, None}}
+use Rattle.std.specs.Prelude.{Option, Some, [], codes, cond, false, flat_map, if◌then◌else◌, is_some, suc, true, ℕ, ◌++◌, ◌+◌, ◌==◌, ◌∷◌}
 use Rattle.yaml_recognizers.proofs.Prelude.{All-append, All-cons, All-nil, Indented, Items, Node, Pair, Pairs, asked, asked_alone, block}
 use Rattle.yaml_recognizers.proofs.Prelude.{compact_items, compact_pairs, flow, indented_text, item, item_and, items, items_text, keyed}
 use Rattle.yaml_recognizers.proofs.Prelude.{keyed_alone, node, node_text, omitted, pair, pair_and, pair_text, pairs, pairs_text, Entries}
@@ -10,13 +9,11 @@ use Rattle.yaml_recognizers.proofs.Prelude.{given, last, map, next, none, scalar
 use Rattle.yaml_recognizers.proofs.Prelude.{flow_key, in_flow, outer, comments_text, gap_text, sep_text, Document, Explicit, Part, Stream}
 use Rattle.yaml_recognizers.proofs.Prelude.{bare, content, directed, directive_text, document_text, explicit, explicit_text, further, line}
 use Rattle.yaml_recognizers.proofs.Prelude.{mark_text, nothing, part_text, parts_text, stream_text, suffix_text, suffixes, byte_len}
-use Rattle.yaml_recognizers.proofs.Prelude.{optional, spaces, starts_line}
-use Rattle.yaml_recognizers.specs.NodePlaces.{NodePlace, NodeSpelled, SpelledAt, block_at, document_places, entries_places, entry_places}
-use Rattle.yaml_recognizers.specs.NodePlaces.{explicit_places, flow_at, flow_places, indented_places, items_places, node_places}
-use Rattle.yaml_recognizers.specs.NodePlaces.{optional_document_places, pair_places, pairs_places, part_places, parts_places, stream_places}
-use Rattle.yaml_recognizers.specs.NodePlaces.{value_places}
-use Rattle.yaml_recognizers.proofs.Basics.LineStarts.{byte_len_joined}
-use Rattle.yaml_recognizers.proofs.Meanings.Ranges.{byte_len-spaces, len3, len4, mark_len}
+use Rattle.yaml_recognizers.proofs.{Prelude.{optional, spaces, starts_line}, Basics.LineStarts.byte_len_joined}
+use Rattle.yaml_recognizers.{proofs.Meanings.Ranges.{byte_len-spaces, len3, len4, mark_len}, specs.NodePlaces.{NodePlace, NodeSpelled}}
+use Rattle.yaml_recognizers.specs.NodePlaces.{SpelledAt, block_at, document_places, entries_places, entry_places, explicit_places, flow_at}
+use Rattle.yaml_recognizers.specs.NodePlaces.{flow_places, indented_places, items_places, node_places, optional_document_places}
+use Rattle.yaml_recognizers.specs.NodePlaces.{pair_places, pairs_places, part_places, parts_places, stream_places, value_places}
 
 -- ---- parts of a part
 

@@ -17,15 +17,13 @@ use Rattle.yaml_recognizers.proofs.Prelude.{Document, Explicit, Part, Stream, ba
 use Rattle.yaml_recognizers.proofs.Prelude.{document_text, explicit, explicit_fits, explicit_text, fits, further, line, mark_text, nothing}
 use Rattle.yaml_recognizers.proofs.Prelude.{optional_document_fits, part_fits, part_text, parts_fit, parts_text, stream_text, suffix_fits}
 use Rattle.yaml_recognizers.proofs.Prelude.{suffix_text, suffixes, suffixes_fit, byte_len, first, is_empty, optional, spaces, starts_line}
+use Rattle.yaml_recognizers.proofs.{Flow.FlowNodesForm.{flow_form, flow_form_fits, flow_form_text}, Basics.LineStarts.break_starts}
+use Rattle.yaml_recognizers.proofs.Basics.LineStarts.{comments_at, comments_start, line_not_end, line_or_end, starts_joined, stop_starts}
+use Rattle.yaml_recognizers.proofs.Documents.{StreamsBegin.{block_long, flow_long, items_long, pairs_long}, StreamsForm.line_wider}
 use Rattle.yaml_recognizers.specs.NodePlaces.{NodePlace, NodeStarts, StartsAt, block_at, document_places, entries_places, entry_places}
 use Rattle.yaml_recognizers.specs.NodePlaces.{explicit_places, flow_at, flow_places, indented_places, items_places, node_places}
 use Rattle.yaml_recognizers.specs.NodePlaces.{optional_document_places, pair_places, pairs_places, part_places, parts_places, stream_places}
 use Rattle.yaml_recognizers.specs.NodePlaces.{value_places}
-use Rattle.yaml_recognizers.proofs.Flow.FlowNodesForm.{flow_form, flow_form_fits, flow_form_text}
-use Rattle.yaml_recognizers.proofs.Basics.LineStarts.{break_starts, comments_at, comments_start, line_not_end, line_or_end, starts_joined}
-use Rattle.yaml_recognizers.proofs.Basics.LineStarts.{stop_starts}
-use Rattle.yaml_recognizers.proofs.Documents.StreamsBegin.{block_long, flow_long, items_long, pairs_long}
-use Rattle.yaml_recognizers.proofs.Documents.StreamsForm.{line_wider}
 
 -- ---- the last character says whether a line starts after a text
 

@@ -1,7 +1,6 @@
 -- The ranges of scalars are in order, in each part of a presentation.
-use Rattle.std.proofs.Common.{arith, refl, ◌≡◌, ◌≤◌}
-use Rattle.std.specs.Prelude.{Bool, List, None, Option, Some, [], codes, false, flat_map, if◌then◌else◌, not, suc, true, zero, ℕ, ◌++◌, ◌+◌}
-use Rattle.std.specs.Prelude.{◌∷◌}
+use Rattle.std.{proofs.Common.{arith, refl, ◌≡◌, ◌≤◌}, specs.Prelude.{Bool, List, None, Option, Some, [], codes, false, flat_map}}
+use Rattle.std.specs.Prelude.{if◌then◌else◌, not, suc, true, zero, ℕ, ◌++◌, ◌+◌, ◌∷◌}
 use Rattle.yaml_recognizers.proofs.Prelude.{Indented, Items, Node, Pair, Pairs, asked, asked_alone, block, compact_items, compact_pairs}
 use Rattle.yaml_recognizers.proofs.Prelude.{flow, indented_end, indented_events, indented_text, item, item_and, items, items_end}
 use Rattle.yaml_recognizers.proofs.Prelude.{items_events, items_text, keyed, keyed_alone, node, node_end, node_events, node_text, omitted}
@@ -14,9 +13,7 @@ use Rattle.yaml_recognizers.proofs.Prelude.{value_text, comments_text, gap_text,
 use Rattle.yaml_recognizers.proofs.Prelude.{directed, directive_text, document_events, document_text, explicit, explicit_events}
 use Rattle.yaml_recognizers.proofs.Prelude.{explicit_text, further, line, mark_text, stream_events, nothing, optional_document_events}
 use Rattle.yaml_recognizers.proofs.Prelude.{part_events, part_text, parts_events, parts_text, stream_text, suffix_text, suffixes, byte_len}
-use Rattle.yaml_recognizers.proofs.Prelude.{optional, spaces}
-use Rattle.yaml_recognizers.specs.Ranges.{RangesInOrder}
-use Rattle.yaml_recognizers.proofs.Basics.LineStarts.{byte_len_joined}
+use Rattle.yaml_recognizers.{proofs.{Prelude.{optional, spaces}, Basics.LineStarts.byte_len_joined}, specs.Ranges.RangesInOrder}
 
 -- ---- ranges in a row
 

@@ -1,23 +1,20 @@
 -- Nodes in whatever form are found where they are: what is found is their canonical form.
-use Rattle.std.proofs.Common.{ap, append_assoc, inl, inr, refl, subst, sym, ◌∙◌, ◌≡◌}
-use Rattle.std.specs.Prelude.{Bool, List, None, Some, [], true, ℕ, ◌++◌, ◌||◌, ◌∷◌}
+use Rattle.std.{proofs.{Common.{ap, append_assoc, inl, inr, refl, subst, sym, ◌∙◌, ◌≡◌}, Math.Logic.◌⊎◌}, specs.Prelude.{Bool, List, None}}
+use Rattle.std.specs.Prelude.{Some, [], true, ℕ, ◌++◌, ◌||◌, ◌∷◌}
 use Rattle.yaml_recognizers.proofs.Prelude.{and_from, and_parts, cases_Bool, not_from_false, or_left, or_right, Node, node_end, node_events}
 use Rattle.yaml_recognizers.proofs.Prelude.{node_fits, node_text, Flow, flow_events, flow_text, map, scalar, seq, FlowContext, LineEnd}
 use Rattle.yaml_recognizers.proofs.Prelude.{comments_fit, comments_text, line_end_text, is_empty, marker}
-use Rattle.std.proofs.Math.Logic.{◌⊎◌}
-use Rattle.yaml_recognizers.specs.{BlockScalars.read_block, CanonicalBlockNodes.canonical_node, CanonicalComments.is_line_end}
-use Rattle.yaml_recognizers.specs.{Comments.all_comments, Ends.block_node_stops, FlowScalars.read_scalar}
-use Rattle.yaml_recognizers.specs.Recognizers.{StandsFlow, block_node_at, flow_node_at, flow_node_stops}
-use Rattle.yaml_recognizers.specs.StandingNodes.{BlockNodeStands, EndsNode, FlowNodeStands, IsBlockNode, IsFlowNode, NoBlockNode}
-use Rattle.yaml_recognizers.specs.StandingNodes.{NoFlowNode, SameBlockNode, SameFlowNode}
-use Rattle.yaml_recognizers.proofs.{Block.BlockNodesWhole.whole_node_is, Block.BlockNodesWhole.whole_node_read}
-use Rattle.yaml_recognizers.proofs.{BlockScalars.BlockScalarFacts.blocks_read, BlockScalars.BlockScalarsForm.takes}
-use Rattle.yaml_recognizers.proofs.{BlockScalars.BlockScalarsForm.takes_not, Meanings.CanonicalFits.flow_fits_too}
-use Rattle.yaml_recognizers.proofs.{Meanings.CanonicalFits.node_fits_too, Separation.CommentsComplete.comments_all}
-use Rattle.yaml_recognizers.proofs.{Separation.CommentsSound.line_is_end, Flow.FlowNodesFound.found, Flow.FlowNodesFound.stands}
-use Rattle.yaml_recognizers.proofs.{Basics.Reading.none_some, Basics.Reading.some_parts, Scalars.ScalarsInNodes.reads_scalars}
-use Rattle.yaml_recognizers.proofs.Block.BlockNodesForm.{node_before, node_form, node_form_end, node_form_events, node_form_fits, node_open}
-use Rattle.yaml_recognizers.proofs.Flow.FlowNodesForm.{flow_form, flow_form_events, flow_form_fits, flow_form_text}
+use Rattle.yaml_recognizers.proofs.Block.{BlockNodesWhole.{whole_node_is, whole_node_read}, BlockNodesForm.{node_before, node_form}}
+use Rattle.yaml_recognizers.proofs.Block.BlockNodesForm.{node_form_end, node_form_events, node_form_fits, node_open}
+use Rattle.yaml_recognizers.proofs.BlockScalars.{BlockScalarFacts.blocks_read, BlockScalarsForm.{takes, takes_not}}
+use Rattle.yaml_recognizers.proofs.{Meanings.CanonicalFits.{flow_fits_too, node_fits_too}, Separation.CommentsComplete.comments_all}
+use Rattle.yaml_recognizers.proofs.{Separation.CommentsSound.line_is_end, Flow.{FlowNodesFound.{found, stands}, FlowNodesForm.flow_form}}
+use Rattle.yaml_recognizers.proofs.{Flow.FlowNodesForm.{flow_form_events, flow_form_fits, flow_form_text}, Basics.Reading.none_some}
+use Rattle.yaml_recognizers.{proofs.{Basics.Reading.some_parts, Scalars.ScalarsInNodes.reads_scalars}, specs.BlockScalars.read_block}
+use Rattle.yaml_recognizers.specs.{CanonicalBlockNodes.canonical_node, CanonicalComments.is_line_end, Comments.all_comments}
+use Rattle.yaml_recognizers.specs.{Ends.block_node_stops, FlowScalars.read_scalar, Recognizers.{StandsFlow, block_node_at, flow_node_at}}
+use Rattle.yaml_recognizers.specs.{Recognizers.flow_node_stops, StandingNodes.{BlockNodeStands, EndsNode, FlowNodeStands, IsBlockNode}}
+use Rattle.yaml_recognizers.specs.StandingNodes.{IsFlowNode, NoBlockNode, NoFlowNode, SameBlockNode, SameFlowNode}
 
 -- ---- flow nodes
 

@@ -1,21 +1,18 @@
 -- The steps of the recognizers of block nodes and streams, from what is known of keys, flow nodes and scalars.
-use Rattle.std.proofs.Common.{◌≡◌}
-use Rattle.std.specs.Prelude.{Bool, List, None, Some, [], drop, false, if◌then◌else◌, nat_le, suc, true, ℕ, ◌&&◌, ◌+◌, ◌==◌}
+use Rattle.std.{proofs.Common.◌≡◌, specs.Prelude.{Bool, List, None, Some, [], drop, false, if◌then◌else◌, nat_le, suc, true, ℕ, ◌&&◌, ◌+◌}}
+use Rattle.std.specs.Prelude.{◌==◌}
 use Rattle.yaml_recognizers.proofs.Prelude.{compact_items, compact_pairs, past_spaces, spaces_before, outer, first, is_empty, starts_line}
-use Rattle.yaml_recognizers.specs.{BlockScalars.read_block, CanonicalStreams.opens, CanonicalStreams.section_text, Comments.all_comments}
-use Rattle.yaml_recognizers.specs.{FlowScalars.read_scalar, Prefixes.past, Prefixes.sign, Reading.on}
-use Rattle.yaml_recognizers.specs.BlockNodes.{asked_key, indented_node, key_value, more_items, more_pairs, node_below, opens_pair}
-use Rattle.yaml_recognizers.specs.Recognizers.{block_indented_at, block_items_at, block_key_in, block_node_at, block_pair_at}
-use Rattle.yaml_recognizers.specs.Recognizers.{block_pairs_at, document_node_at, flow_leaf_at, flow_node_at, section_at, sections_at}
-use Rattle.yaml_recognizers.specs.Recognizers.{stream_at}
-use Rattle.yaml_recognizers.specs.Streams.{more_sections, order_mark, with_mark}
-use Rattle.yaml_recognizers.proofs.{Block.BlockKeys.WholeKey, Block.BlockKeys.whole_key, Block.BlockNodesWhole.whole_node_sound}
-use Rattle.yaml_recognizers.proofs.{BlockScalars.BlockScalarFacts.blocks_read, Flow.FlowNodesWhole.whole_flow_read}
-use Rattle.yaml_recognizers.proofs.{Flow.FlowNodesWhole.whole_flow_sound, Scalars.ScalarsInNodes.reads_scalars}
-use Rattle.yaml_recognizers.proofs.{Documents.StreamsDepth.sections_step, Documents.StreamsDepth.stream_step}
-use Rattle.yaml_recognizers.proofs.Block.BlockNodesDepth.{indented_step, items_step, node_step, pair_step, pairs_step}
-use Rattle.yaml_recognizers.proofs.Block.BlockNodesSound.{BlockOf, FlowOf, KeyOf, NodeOf}
-use Rattle.yaml_recognizers.proofs.Basics.Reading.{Sound, sound_of, sound_to}
+use Rattle.yaml_recognizers.proofs.Block.{BlockKeys.{WholeKey, whole_key}, BlockNodesWhole.whole_node_sound, BlockNodesDepth.indented_step}
+use Rattle.yaml_recognizers.proofs.Block.{BlockNodesDepth.{items_step, node_step, pair_step, pairs_step}, BlockNodesSound.{BlockOf, FlowOf}}
+use Rattle.yaml_recognizers.proofs.{Block.BlockNodesSound.{KeyOf, NodeOf}, BlockScalars.BlockScalarFacts.blocks_read}
+use Rattle.yaml_recognizers.proofs.{Flow.FlowNodesWhole.{whole_flow_read, whole_flow_sound}, Scalars.ScalarsInNodes.reads_scalars}
+use Rattle.yaml_recognizers.proofs.{Documents.StreamsDepth.{sections_step, stream_step}, Basics.Reading.{Sound, sound_of, sound_to}}
+use Rattle.yaml_recognizers.specs.{BlockScalars.read_block, CanonicalStreams.{opens, section_text}, Comments.all_comments}
+use Rattle.yaml_recognizers.specs.{FlowScalars.read_scalar, Prefixes.{past, sign}, Reading.on, BlockNodes.{asked_key, indented_node}}
+use Rattle.yaml_recognizers.specs.{BlockNodes.{key_value, more_items, more_pairs, node_below, opens_pair}, Recognizers.block_indented_at}
+use Rattle.yaml_recognizers.specs.Recognizers.{block_items_at, block_key_in, block_node_at, block_pair_at, block_pairs_at, document_node_at}
+use Rattle.yaml_recognizers.specs.{Recognizers.{flow_leaf_at, flow_node_at, section_at, sections_at, stream_at}, Streams.more_sections}
+use Rattle.yaml_recognizers.specs.Streams.{order_mark, with_mark}
 
 -- a key that is read fits
 key_parts_of : (bol : Bool) (text : List ℕ) → Sound (KeyOf bol text) (block_key_in bol text)

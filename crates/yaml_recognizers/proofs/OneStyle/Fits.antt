@@ -1,17 +1,16 @@
 -- The presentation of a tree fits.
-use Rattle.std.proofs.Common.{◌≡◌, refl, ◌∙◌, arith, ◌≤◌}
-use Rattle.std.specs.Prelude.{ℕ, zero, suc, ◌+◌, Bool, true, false, cond, not, ◌||◌, ◌==◌, List, [], ◌∷◌, ◌++◌, codes, length}
+use Rattle.std.{proofs.Common.{◌≡◌, refl, ◌∙◌, arith, ◌≤◌}, specs.Prelude.{ℕ, zero, suc, ◌+◌, Bool, true, false, cond, not, ◌||◌, ◌==◌}}
+use Rattle.std.specs.Prelude.{List, [], ◌∷◌, ◌++◌, codes, length}
 use Rattle.yaml_recognizers.proofs.Prelude.{append-nil, and_parts, and_from, or_left, or_parts, not-true, le-leb, ltb-false, false≢true, ns}
 use Rattle.yaml_recognizers.proofs.Prelude.{line_break, IsText, first, spaces, starts_line, ends_word, sep_fits, comments_fit, outer}
 use Rattle.yaml_recognizers.proofs.Prelude.{block_key, flow_text, short_key, Node, flow, node_text, node_fits, items_text, items_fit}
 use Rattle.yaml_recognizers.proofs.Prelude.{Indented, indented_text, indented_fits, node, Pair, pair_text, pair_fits, pairs_text, pairs_fit}
 use Rattle.yaml_recognizers.proofs.Prelude.{asked, keyed, fits, Tree, text, sequence, mapping, Elements, no_element, element, Members}
 use Rattle.yaml_recognizers.proofs.Prelude.{no_member, member, IsTextTree, AreTextElements, AreTextMembers, plain_in_style, letter}
-use Rattle.yaml_recognizers.proofs.Prelude.{in_double_quotes, key_text, long_key, key_lines, style_text}
-use Rattle.yaml_recognizers.proofs.{OneStyle.Closings.ends_from, OneStyle.StyleLines.style_lined, OneStyle.Characters.of_letter}
-use Rattle.yaml_recognizers.proofs.OneStyle.Presented.{feed, one_space, word_flow, pair_of, element_of, value_of, items_from, pairs_from}
-use Rattle.yaml_recognizers.proofs.OneStyle.Presented.{Place, at_start, after_marker, place_sep, place_comments, top_node, presentation_of}
-use Rattle.yaml_recognizers.proofs.OneStyle.Presented.{framed_presentation_of}
+use Rattle.yaml_recognizers.proofs.{Prelude.{in_double_quotes, key_text, long_key, key_lines, style_text}, OneStyle.Closings.ends_from}
+use Rattle.yaml_recognizers.proofs.OneStyle.{StyleLines.style_lined, Characters.of_letter, Presented.{feed, one_space, word_flow, pair_of}}
+use Rattle.yaml_recognizers.proofs.OneStyle.Presented.{element_of, value_of, items_from, pairs_from, Place, at_start, after_marker}
+use Rattle.yaml_recognizers.proofs.OneStyle.Presented.{place_sep, place_comments, top_node, presentation_of, framed_presentation_of}
 use Rattle.yaml_recognizers.proofs.OneStyle.Spelled.{top_spelled, element_spelled, pair_spelled, word_flow_spelled, two_more}
 use Rattle.yaml_recognizers.proofs.OneStyle.ScalarsFit.{Below, word_flow_fits, scalar_node_fits}
 

@@ -1,16 +1,13 @@
 -- The texts of records and bases are closed once, at their end, and where they are joined or torn at the ends of the
 -- whole ones.
-use Rattle.std.proofs.Common.{◌≡◌, refl, sym, ◌∙◌, ap, inl, inr, arith, ◌<◌, ◌≤◌, append_assoc, length-append}
-use Rattle.std.specs.Prelude.{ℕ, ◌+◌, ◌/◌, ◌%◌, Bool, true, false, cond, not, ◌&&◌, nat_lt, nat_le, ◌==◌, List, [], ◌∷◌, ◌++◌, length}
-use Rattle.std.specs.Prelude.{replicate, codes, encode_utf8_all}
+use Rattle.std.proofs.{Common.{◌≡◌, refl, sym, ◌∙◌, ap, inl, inr, arith, ◌<◌, ◌≤◌, append_assoc, length-append}, Math.Utf8.encode}
+use Rattle.std.{proofs.lemmas.Str.{encode_ascii, encodes-append}, specs.Prelude.{ℕ, ◌+◌, ◌/◌, ◌%◌, Bool, true, false, cond, not, ◌&&◌}}
+use Rattle.std.specs.Prelude.{nat_lt, nat_le, ◌==◌, List, [], ◌∷◌, ◌++◌, length, replicate, codes, encode_utf8_all}
 use Rattle.yaml_recognizers.proofs.Prelude.{append-nil, cases_lt, and_parts, and_from, le-leb, leb-true, ne_eqb, ltb-true, false≢true}
-use Rattle.yaml_recognizers.proofs.Prelude.{list_all, Tree, style_text, ClosesAt}
-use Rattle.std.proofs.Math.Utf8.{encode}
-use Rattle.std.proofs.lemmas.Str.{encode_ascii, encodes-append}
+use Rattle.yaml_recognizers.proofs.{Prelude.{list_all, Tree, style_text, ClosesAt}, OneStyle.Closings.{ends_from, closes, dotless, Piece}}
+use Rattle.yaml_recognizers.proofs.OneStyle.Closings.{closes_from, closes_at, piece_closes, piece_closes_end, piece_closes_more}
+use Rattle.yaml_recognizers.proofs.OneStyle.{Closings.{closes_before_padding, closes_within}, StyleLines.{Lined, not_both, style_lined}}
 use Rattle.yaml_recognizers.specs.Closings.{framed_text_bytes, all_framed_bytes, EndsWhole, ClosedOnce, TornClosings}
-use Rattle.yaml_recognizers.proofs.OneStyle.Closings.{ends_from, closes, dotless, Piece, closes_from, closes_at, piece_closes}
-use Rattle.yaml_recognizers.proofs.OneStyle.Closings.{piece_closes_end, piece_closes_more, closes_before_padding, closes_within}
-use Rattle.yaml_recognizers.proofs.OneStyle.StyleLines.{Lined, not_both, style_lined}
 
 -- ---- lines and dots are the same in bytes
 

@@ -1,6 +1,5 @@
 -- The presentation of a tree means the events of that tree.
-use Rattle.std.proofs.Common.{◌≡◌, refl, sym, ◌∙◌, ap}
-use Rattle.std.specs.Prelude.{ℕ, ◌+◌, Bool, true, false, cond, not, ◌&&◌, List, [], ◌∷◌, ◌++◌}
+use Rattle.std.{proofs.Common.{◌≡◌, refl, sym, ◌∙◌, ap}, specs.Prelude.{ℕ, ◌+◌, Bool, true, false, cond, not, ◌&&◌, List, [], ◌∷◌, ◌++◌}}
 use Rattle.yaml_recognizers.proofs.Prelude.{append-nil, and_parts, not-true, code_point, is_in, list_all, IsText, first, byte_len, Sep}
 use Rattle.yaml_recognizers.proofs.Prelude.{char_value, quoted_char_value, values, plain, double, scalar, flow_text, flow_events, Node}
 use Rattle.yaml_recognizers.proofs.Prelude.{flow, block, node_events, items_events, Indented, indented_text, indented_events, node, Pair}
@@ -9,11 +8,11 @@ use Rattle.yaml_recognizers.proofs.Prelude.{document_end, seq_start, seq_end, ma
 use Rattle.yaml_recognizers.proofs.Prelude.{no_element, element, Members, no_member, member, Shape, scalar_of, seq_to, map_to, seq_from}
 use Rattle.yaml_recognizers.proofs.Prelude.{map_from, shape, document_from, document_to, shapes, tree_shapes, elements_shapes}
 use Rattle.yaml_recognizers.proofs.Prelude.{members_shapes, IsTextTree, AreTextElements, AreTextMembers, IsTreeOf, plain_in_style}
-use Rattle.yaml_recognizers.proofs.Prelude.{literal_in_style, long_key, space_or_feed, shown_or_feed}
-use Rattle.yaml_recognizers.proofs.{OneStyle.Spelled.two_more, OneStyle.QuotedChars.item_quotes, OneStyle.Literals.literal_meant}
-use Rattle.yaml_recognizers.proofs.OneStyle.Presented.{feed, one_space, items_of_text, word_flow, literal_block, scalar_node, pair_of}
-use Rattle.yaml_recognizers.proofs.OneStyle.Presented.{element_of, value_of, items_from, pairs_from, Place, at_start, after_marker}
-use Rattle.yaml_recognizers.proofs.OneStyle.Presented.{place_sep, top_node, presentation_of, framed_presentation_of}
+use Rattle.yaml_recognizers.proofs.{Prelude.{literal_in_style, long_key, space_or_feed, shown_or_feed}, OneStyle.Spelled.two_more}
+use Rattle.yaml_recognizers.proofs.OneStyle.{QuotedChars.item_quotes, Literals.literal_meant, Presented.{feed, one_space, items_of_text}}
+use Rattle.yaml_recognizers.proofs.OneStyle.Presented.{word_flow, literal_block, scalar_node, pair_of, element_of, value_of, items_from}
+use Rattle.yaml_recognizers.proofs.OneStyle.Presented.{pairs_from, Place, at_start, after_marker, place_sep, top_node, presentation_of}
+use Rattle.yaml_recognizers.proofs.OneStyle.Presented.{framed_presentation_of}
 
 -- the shapes of events, joined, are the shapes of each, joined
 shapes_joined : (one other : List Event) → shapes (one ++ other) ≡ shapes one ++ shapes other

@@ -1,12 +1,11 @@
 -- Bytes have one list of pieces, and the pieces of torn texts are the whole ones.
-use Rattle.std.proofs.Common.{◌≡◌, refl, sym, ◌∙◌, ap, inl, inr, arith, ◌<◌, ◌≤◌, append_assoc}
-use Rattle.std.specs.Prelude.{ℕ, true, List, [], ◌∷◌, ◌++◌, length, replicate, map}
+use Rattle.std.{proofs.Common.{◌≡◌, refl, sym, ◌∙◌, ap, inl, inr, arith, ◌<◌, ◌≤◌, append_assoc}, specs.Prelude.{ℕ, true, List, [], ◌∷◌}}
+use Rattle.std.specs.Prelude.{◌++◌, length, replicate, map}
 use Rattle.yaml_recognizers.proofs.Prelude.{All, concat, append-nil, All-nil, All-cons, All-head, All-tail, cases_lt, false≢true, Tree}
-use Rattle.yaml_recognizers.proofs.Prelude.{ClosesAt, ClosesOnce}
-use Rattle.yaml_recognizers.specs.Closings.{framed_text_bytes, all_framed_bytes, TornPieces, TornInPieces, OnePieces}
-use Rattle.yaml_recognizers.proofs.OneStyle.Closings.{closes, closes_from, closes_at, piece_closes, padding_closed, closes_before_padding}
-use Rattle.yaml_recognizers.proofs.OneStyle.Closings.{closes_within}
-use Rattle.yaml_recognizers.proofs.OneStyle.FramedClosings.{framed_piece, framed_once, cut_after}
+use Rattle.yaml_recognizers.proofs.{Prelude.{ClosesAt, ClosesOnce}, OneStyle.Closings.{closes, closes_from, closes_at, piece_closes}}
+use Rattle.yaml_recognizers.proofs.OneStyle.{Closings.{padding_closed, closes_before_padding, closes_within}, FramedClosings.framed_piece}
+use Rattle.yaml_recognizers.{proofs.OneStyle.FramedClosings.{framed_once, cut_after}, specs.Closings.{framed_text_bytes, all_framed_bytes}}
+use Rattle.yaml_recognizers.specs.Closings.{TornPieces, TornInPieces, OnePieces}
 
 -- ---- one list of pieces
 

@@ -1,12 +1,10 @@
 -- Each closing ends a piece, and so all bytes are cut into pieces.
 use Rattle.std.proofs.Common.{◌≡◌, refl, sym, ◌∙◌, ap, subst, append_assoc, inl, inr, ◌⊎◌, arith, ◌<◌, ◌≤◌, length-take, length-drop}
-use Rattle.std.proofs.Common.{take-append-drop}
-use Rattle.std.specs.Prelude.{ℕ, zero, suc, ◌+◌, true, false, List, [], ◌∷◌, ◌++◌, length, take, drop}
+use Rattle.std.{proofs.Common.take-append-drop, specs.Prelude.{ℕ, zero, suc, ◌+◌, true, false, List, [], ◌∷◌, ◌++◌, length, take, drop}}
 use Rattle.yaml_recognizers.proofs.Prelude.{concat, append-nil, All-nil, All-cons, cases_Bool, cases_lt, false≢true, ends_line, ClosesAt}
-use Rattle.yaml_recognizers.proofs.Prelude.{ClosesOnce, Pieces}
-use Rattle.yaml_recognizers.specs.Closings.{PieceBetween, RestUnclosed, SomePieces}
-use Rattle.yaml_recognizers.proofs.OneStyle.Closings.{ends_same, closes, closes_from, closes_at, closes_within, closes_from_line}
-use Rattle.yaml_recognizers.proofs.OneStyle.Closings.{closes_range}
+use Rattle.yaml_recognizers.proofs.{Prelude.{ClosesOnce, Pieces}, OneStyle.Closings.{ends_same, closes, closes_from, closes_at}}
+use Rattle.yaml_recognizers.{proofs.OneStyle.Closings.{closes_within, closes_from_line, closes_range}, specs.Closings.PieceBetween}
+use Rattle.yaml_recognizers.specs.Closings.{RestUnclosed, SomePieces}
 
 -- closings after the start of a line, and those of what is there
 further : (prefix rest : List ℕ) (q : ℕ) → ends_line prefix ≡ true → ClosesAt rest q → ClosesAt (prefix ++ rest) (length prefix + q)

@@ -1,12 +1,11 @@
 -- What is written for a character between double quotes fits there, and means that character.
-use Rattle.std.proofs.Common.{◌≡◌, refl, sym, ◌∙◌, ap, subst, inl, inr, arith, ◌<◌, ◌≤◌}
-use Rattle.std.specs.Prelude.{ℕ, ◌/◌, ◌%◌, Bool, true, false, not, ◌&&◌, ◌||◌, nat_le, ◌==◌, [], ◌∷◌}
+use Rattle.std.{proofs.Common.{◌≡◌, refl, sym, ◌∙◌, ap, subst, inl, inr, arith, ◌<◌, ◌≤◌}, specs.Prelude.{ℕ, ◌/◌, ◌%◌, Bool, true, false}}
+use Rattle.std.specs.Prelude.{not, ◌&&◌, ◌||◌, nat_le, ◌==◌, [], ◌∷◌}
 use Rattle.yaml_recognizers.proofs.Prelude.{cond_both, and_parts, and_from, or_parts, or_cases, or_right, or_from, not_from_false, eqb-true}
 use Rattle.yaml_recognizers.proofs.Prelude.{le-leb, leb-true, agree_below_at, false≢true, cases_lt, ne_eqb, in_range, is_in, code_point}
 use Rattle.yaml_recognizers.proofs.Prelude.{printable, nb_json, QuotedChar, raw, escape, number, quoted_char_fits, quoted_char_value}
 use Rattle.yaml_recognizers.proofs.Prelude.{hex_digit, digit_of, hex_value, escaped_char, shown, hex, letter_escape}
-use Rattle.yaml_recognizers.proofs.OneStyle.Presented.{item_of}
-use Rattle.yaml_recognizers.proofs.OneStyle.Characters.{from_range, to_range, after_not, code_point_high, shown_low}
+use Rattle.yaml_recognizers.proofs.OneStyle.{Presented.item_of, Characters.{from_range, to_range, after_not, code_point_high, shown_low}}
 
 -- the item may be between double quotes and means c
 abbrev pub Quotes : ℕ → QuotedChar → Type 0

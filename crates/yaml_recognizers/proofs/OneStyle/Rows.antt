@@ -1,12 +1,8 @@
 -- Worked trees, and worked closings, by computation.
-use Rattle.std.proofs.Common.{◌≡◌, refl}
-use Rattle.std.specs.Prelude.{true, false, ◌++◌, codes}
-use Rattle.yaml_grammar.specs.Streams.{stream_text, fits, stream_events}
-use Rattle.yaml_grammar.specs.Trees.{Tree, text, sequence, mapping, no_element, element, no_member, member, IsTreeOf}
-use Rattle.yaml_grammar.specs.Style.{style_text}
-use Rattle.yaml_grammar.specs.Closings.{ClosesAt}
-use Rattle.yaml_recognizers.proofs.OneStyle.Presented.{presentation_of, framed_presentation_of}
-use Rattle.yaml_recognizers.proofs.OneStyle.Closings.{closes, closes_at}
+use Rattle.std.{proofs.Common.{◌≡◌, refl}, specs.Prelude.{true, false, ◌++◌, codes}}
+use Rattle.yaml_grammar.specs.{Streams.{stream_text, fits, stream_events}, Trees.{Tree, text, sequence, mapping, no_element, element}}
+use Rattle.yaml_grammar.specs.{Trees.{no_member, member, IsTreeOf}, Style.style_text, Closings.ClosesAt}
+use Rattle.yaml_recognizers.proofs.OneStyle.{Presented.{presentation_of, framed_presentation_of}, Closings.{closes, closes_at}}
 
 -- ---- a tree with a kept, a stripped and a quoted text, and with empty collections
 

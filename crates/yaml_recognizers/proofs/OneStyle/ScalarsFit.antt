@@ -1,6 +1,6 @@
 -- The scalars of a tree in the one style fit where they are.
-use Rattle.std.proofs.Common.{◌≡◌, refl, sym, ◌∙◌, ap, inl, inr, arith, ◌≤◌}
-use Rattle.std.specs.Prelude.{ℕ, zero, suc, ◌+◌, Bool, true, false, cond, not, ◌&&◌, ◌||◌, nat_le, ◌==◌, List, [], ◌∷◌, ◌++◌, codes}
+use Rattle.std.{proofs.Common.{◌≡◌, refl, sym, ◌∙◌, ap, inl, inr, arith, ◌≤◌}, specs.Prelude.{ℕ, zero, suc, ◌+◌, Bool, true, false, cond}}
+use Rattle.std.specs.Prelude.{not, ◌&&◌, ◌||◌, nat_le, ◌==◌, List, [], ◌∷◌, ◌++◌, codes}
 use Rattle.yaml_recognizers.proofs.Prelude.{list_all, cases_Bool, and_parts, and_from, and_left, and_right, or_parts, or_cases, or_left}
 use Rattle.yaml_recognizers.proofs.Prelude.{or_right, or_from, cond_both, leb-true, not-true, not_from_false, le-leb, le-ltb, ne_eqb}
 use Rattle.yaml_recognizers.proofs.Prelude.{false≢true, in_range, is_in, code_point, printable, nb, ns, white, line_break, indicator}
@@ -10,8 +10,7 @@ use Rattle.yaml_recognizers.proofs.Prelude.{flow_text, flow_fits, block_empties_
 use Rattle.yaml_recognizers.proofs.Prelude.{spaces_before, past_spaces, goes_on, block_text, block_fits, flow, block, node_fits, letter}
 use Rattle.yaml_recognizers.proofs.Prelude.{word_char, plain_in_style, literal_in_style, shown, shown_or_feed, space_or_feed}
 use Rattle.yaml_recognizers.proofs.OneStyle.Presented.{feed, items_of_text, word_flow, bare_empties, line_with, held_by, empties_in}
-use Rattle.yaml_recognizers.proofs.OneStyle.Presented.{lines_in, literal_block, scalar_node}
-use Rattle.yaml_recognizers.proofs.OneStyle.Characters.{from_range, of_letter, of_word}
+use Rattle.yaml_recognizers.proofs.OneStyle.{Presented.{lines_in, literal_block, scalar_node}, Characters.{from_range, of_letter, of_word}}
 use Rattle.yaml_recognizers.proofs.OneStyle.QuotedChars.{item_quotes}
 
 -- ---- words

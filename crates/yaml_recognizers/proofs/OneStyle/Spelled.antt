@@ -1,7 +1,6 @@
 -- The presentation of a tree spells the tree's text in the one style.
-use Rattle.std.proofs.Common.{◌≡◌, refl, sym, ◌∙◌, ap, inl, inr, append_assoc, arith}
-use Rattle.std.specs.Prelude.{ℕ, zero, suc, ◌+◌, ◌/◌, ◌%◌, Bool, true, false, cond, not, ◌&&◌, ◌||◌, nat_le, ◌==◌, List, [], ◌∷◌, ◌++◌}
-use Rattle.std.specs.Prelude.{codes, flat_map}
+use Rattle.std.{proofs.Common.{◌≡◌, refl, sym, ◌∙◌, ap, inl, inr, append_assoc, arith}, specs.Prelude.{ℕ, zero, suc, ◌+◌, ◌/◌, ◌%◌, Bool}}
+use Rattle.std.specs.Prelude.{true, false, cond, not, ◌&&◌, ◌||◌, nat_le, ◌==◌, List, [], ◌∷◌, ◌++◌, codes, flat_map}
 use Rattle.yaml_recognizers.proofs.Prelude.{append-nil, cases_Bool, and_parts, or_parts, not-true, in_range, is_in, list_all, spaces, first}
 use Rattle.yaml_recognizers.proofs.Prelude.{Sep, sep_text, raw, escape, number, quoted_char_text, plain_text, plain, double, scalar_text}
 use Rattle.yaml_recognizers.proofs.Prelude.{scalar, flow_text, chomping_text, block_empties_text, text_lines_text, block_text, flow, block}
@@ -10,12 +9,11 @@ use Rattle.yaml_recognizers.proofs.Prelude.{node, Tree, text, sequence, mapping,
 use Rattle.yaml_recognizers.proofs.Prelude.{stream_text, plain_in_style, literal_in_style, shown, shown_or_feed, space_or_feed, hex}
 use Rattle.yaml_recognizers.proofs.Prelude.{letter_escape, quoted_char, quoted_chars, in_double_quotes, literal_mark, literal_lines}
 use Rattle.yaml_recognizers.proofs.Prelude.{feeds_at_end, scalar_lines, key_text, long_key, key_lines, elements_after, lines_after_dash}
-use Rattle.yaml_recognizers.proofs.Prelude.{members_after, value_at, style_text}
-use Rattle.yaml_recognizers.specs.Closings.{framed_text}
-use Rattle.yaml_recognizers.proofs.OneStyle.Presented.{feed, one_space, item_of, items_of_text, word_flow, bare_empties, held_by}
-use Rattle.yaml_recognizers.proofs.OneStyle.Presented.{empties_in, lines_in, chomping_of, literal_block, scalar_node, pair_of, element_of}
-use Rattle.yaml_recognizers.proofs.OneStyle.Presented.{value_of, items_from, pairs_from, Place, at_start, after_marker, place_sep, top_node}
-use Rattle.yaml_recognizers.proofs.OneStyle.Presented.{presentation_of, framed_presentation_of}
+use Rattle.yaml_recognizers.proofs.{Prelude.{members_after, value_at, style_text}, OneStyle.Presented.{feed, one_space, item_of}}
+use Rattle.yaml_recognizers.proofs.OneStyle.Presented.{items_of_text, word_flow, bare_empties, held_by, empties_in, lines_in, chomping_of}
+use Rattle.yaml_recognizers.proofs.OneStyle.Presented.{literal_block, scalar_node, pair_of, element_of, value_of, items_from, pairs_from}
+use Rattle.yaml_recognizers.proofs.OneStyle.Presented.{Place, at_start, after_marker, place_sep, top_node, presentation_of}
+use Rattle.yaml_recognizers.{proofs.OneStyle.Presented.framed_presentation_of, specs.Closings.framed_text}
 
 -- ---- scalars on one line
 

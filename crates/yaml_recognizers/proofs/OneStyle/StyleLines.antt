@@ -1,14 +1,13 @@
 -- In the one style each text ends with a line's end, and no line begins with a dot.
-use Rattle.std.proofs.Common.{◌≡◌, refl, sym, ◌∙◌, ap, subst, arith, append_assoc}
-use Rattle.std.specs.Prelude.{ℕ, zero, suc, ◌+◌, Bool, true, false, cond, not, ◌&&◌, nat_lt, ◌==◌, List, [], ◌∷◌, ◌++◌, codes}
+use Rattle.std.{proofs.Common.{◌≡◌, refl, sym, ◌∙◌, ap, subst, arith, append_assoc}, specs.Prelude.{ℕ, zero, suc, ◌+◌, Bool, true, false}}
+use Rattle.std.specs.Prelude.{cond, not, ◌&&◌, nat_lt, ◌==◌, List, [], ◌∷◌, ◌++◌, codes}
 use Rattle.yaml_recognizers.proofs.Prelude.{cond_both, and_parts, and_from, not-true, not_from_false, ne_eqb, false≢true, list_all, spaces}
 use Rattle.yaml_recognizers.proofs.Prelude.{Tree, text, sequence, mapping, Elements, no_element, element, Members, no_member, member}
 use Rattle.yaml_recognizers.proofs.Prelude.{letter, word_char, hex, quoted_chars, in_double_quotes, plain_in_style, literal_in_style}
 use Rattle.yaml_recognizers.proofs.Prelude.{literal_mark, literal_lines, feeds_at_end, scalar_lines, key_text, long_key, key_lines}
 use Rattle.yaml_recognizers.proofs.Prelude.{elements_at, elements_after, lines_after_dash, members_at, members_after, value_at, style_text}
 use Rattle.yaml_recognizers.proofs.OneStyle.Characters.{every_joined, of_letter, of_word, shown_low, Writes, quoted_chars_all}
-use Rattle.yaml_recognizers.proofs.OneStyle.Spelled.{item_regrouped, pair_regrouped}
-use Rattle.yaml_recognizers.proofs.OneStyle.Closings.{ends_from, dotless}
+use Rattle.yaml_recognizers.proofs.OneStyle.{Spelled.{item_regrouped, pair_regrouped}, Closings.{ends_from, dotless}}
 
 -- no line of the text begins with a dot; bol and end say whether a line starts at its start and after it
 abbrev pub Lined : Bool → List ℕ → Bool → Type 0

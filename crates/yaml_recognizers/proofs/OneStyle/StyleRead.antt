@@ -1,12 +1,10 @@
 -- The one style presents each tree, alone and framed, and where no text has two meanings it reads as that tree.
 use Rattle.std.proofs.Common.{◌≡◌, refl, ◌∙◌, ℕ, List}
 use Rattle.yaml_recognizers.proofs.Prelude.{CanRead, Presents, Reads, Stream, stream_events, Tree, style_text}
-use Rattle.yaml_recognizers.specs.StyleLaws.{CanReadAs, StylePresents, FramedPresents, StyleReads, FramedReads}
-use Rattle.yaml_recognizers.specs.Closings.{framed_text}
-use Rattle.yaml_recognizers.proofs.{OneStyle.Presented.presentation_of, OneStyle.Presented.framed_presentation_of}
-use Rattle.yaml_recognizers.proofs.{OneStyle.Spelled.presentation_spelled, OneStyle.Spelled.framed_spelled, OneStyle.Fits.presentation_fits}
-use Rattle.yaml_recognizers.proofs.{OneStyle.Fits.framed_fits, OneStyle.Meant.presentation_meant, OneStyle.Meant.framed_meant}
-use Rattle.yaml_recognizers.proofs.{OneStyle.StyleTexts.style_is_text, OneStyle.StyleTexts.framed_is_text}
+use Rattle.yaml_recognizers.proofs.OneStyle.{Presented.{presentation_of, framed_presentation_of}, Spelled.presentation_spelled}
+use Rattle.yaml_recognizers.proofs.OneStyle.{Spelled.framed_spelled, Fits.{presentation_fits, framed_fits}, Meant.presentation_meant}
+use Rattle.yaml_recognizers.{proofs.OneStyle.{Meant.framed_meant, StyleTexts.{style_is_text, framed_is_text}}, specs.StyleLaws.CanReadAs}
+use Rattle.yaml_recognizers.specs.{StyleLaws.{StylePresents, FramedPresents, StyleReads, FramedReads}, Closings.framed_text}
 
 -- the text of a tree has a presentation that means the tree
 pub style_presented : StylePresents

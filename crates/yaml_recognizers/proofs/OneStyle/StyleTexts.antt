@@ -1,14 +1,13 @@
 -- A tree of texts, in the one style, is a text.
-use Rattle.std.proofs.Common.{◌≡◌, refl, arith, ◌<◌, ◌≤◌}
-use Rattle.std.specs.Prelude.{ℕ, zero, suc, ◌+◌, Bool, true, false, nat_lt, ◌==◌, List, [], ◌∷◌, ◌++◌, codes}
+use Rattle.std.{proofs.Common.{◌≡◌, refl, arith, ◌<◌, ◌≤◌}, specs.Prelude.{ℕ, zero, suc, ◌+◌, Bool, true, false, nat_lt, ◌==◌, List, []}}
+use Rattle.std.specs.Prelude.{◌∷◌, ◌++◌, codes}
 use Rattle.yaml_recognizers.proofs.Prelude.{cond_both, and_parts, and_from, or_left, le-leb, in_range, code_point, list_all, IsText, spaces}
 use Rattle.yaml_recognizers.proofs.Prelude.{Tree, text, sequence, mapping, Elements, no_element, element, Members, no_member, member}
 use Rattle.yaml_recognizers.proofs.Prelude.{IsTextTree, AreTextElements, AreTextMembers, hex, quoted_chars, in_double_quotes}
 use Rattle.yaml_recognizers.proofs.Prelude.{plain_in_style, literal_in_style, literal_mark, literal_lines, feeds_at_end, scalar_lines}
 use Rattle.yaml_recognizers.proofs.Prelude.{key_text, long_key, key_lines, elements_at, elements_after, lines_after_dash, members_at}
-use Rattle.yaml_recognizers.proofs.Prelude.{members_after, value_at, style_text}
-use Rattle.yaml_recognizers.specs.Closings.{framed_text}
-use Rattle.yaml_recognizers.proofs.OneStyle.Characters.{every_joined, code_point_high, Writes, quoted_chars_all}
+use Rattle.yaml_recognizers.proofs.{Prelude.{members_after, value_at, style_text}, OneStyle.Characters.{every_joined, code_point_high}}
+use Rattle.yaml_recognizers.{proofs.OneStyle.Characters.{Writes, quoted_chars_all}, specs.Closings.framed_text}
 
 -- two texts, joined, are a text
 joined : (prefix after : List ℕ) → IsText prefix → IsText after → IsText (prefix ++ after)

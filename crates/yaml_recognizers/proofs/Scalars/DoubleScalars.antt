@@ -1,18 +1,16 @@
 -- Double-quoted scalars: what fits is read, and what is read fits.
-use Rattle.std.proofs.Common.{◌≡◌, refl, sym, ◌∙◌, ap, subst, append_assoc, arith, ◌≤◌, inl, inr, take-append-drop}
-use Rattle.std.specs.Prelude.{ℕ, Bool, true, false, cond, ◌||◌, ◌==◌, List, [], ◌∷◌, ◌++◌, length, take, drop, Some, None, codes}
+use Rattle.std.{proofs.Common.{◌≡◌, refl, sym, ◌∙◌, ap, subst, append_assoc, arith, ◌≤◌, inl, inr, take-append-drop}, specs.Prelude.ℕ}
+use Rattle.std.specs.Prelude.{Bool, true, false, cond, ◌||◌, ◌==◌, List, [], ◌∷◌, ◌++◌, length, take, drop, Some, None, codes}
 use Rattle.std.specs.Prelude.{if◌then◌else◌}
 use Rattle.yaml_recognizers.proofs.Prelude.{take-append_seam, drop-append_seam, and_parts, and_from, or_cases, or_parts, or_from, eqb-true}
 use Rattle.yaml_recognizers.proofs.Prelude.{false≢true, not_from_false, not-true, cond_both, cond-true, cond-false, cases_Bool, white}
 use Rattle.yaml_recognizers.proofs.Prelude.{nb_json, is_in, first, Break, lf, cr, cr_lf, break_text, FlowContext, Line, QuotedChar, raw}
 use Rattle.yaml_recognizers.proofs.Prelude.{escape, number, double, quoted_char_text, is_blank_char, digits_after, quoted_char_fits}
-use Rattle.yaml_recognizers.proofs.Prelude.{lines_text, double_kind, quoted_lines, scalar_fits}
-use Rattle.yaml_recognizers.specs.{Prefixes.past, Reading.Read, Reading.on, FlowScalars.scalar_ends, FlowScalars.Stands}
-use Rattle.yaml_recognizers.specs.Joins.{at_break, read_join, after_blank}
+use Rattle.yaml_recognizers.proofs.{Prelude.{lines_text, double_kind, quoted_lines, scalar_fits}, Basics.{Blanks.inked, Reading.Sound}}
+use Rattle.yaml_recognizers.proofs.{Basics.Reading.sound_on, Scalars.{SingleScalars.{nb_json_unbroken, white_is}, QuotedScalars.OneOf}}
+use Rattle.yaml_recognizers.{proofs.Scalars.QuotedScalars.{Readable, EndsLines, QuotedOf, quoted_read, quoted_sound}, specs.Prefixes.past}
+use Rattle.yaml_recognizers.specs.{Reading.{Read, on}, FlowScalars.{scalar_ends, Stands}, Joins.{at_break, read_join, after_blank}}
 use Rattle.yaml_recognizers.specs.QuotedScalars.{read_held, read_quoted, read_number, read_escape, read_item, double_closes, read_double}
-use Rattle.yaml_recognizers.proofs.{Basics.Blanks.inked, Basics.Reading.Sound, Basics.Reading.sound_on}
-use Rattle.yaml_recognizers.proofs.{Scalars.SingleScalars.nb_json_unbroken, Scalars.SingleScalars.white_is}
-use Rattle.yaml_recognizers.proofs.Scalars.QuotedScalars.{OneOf, Readable, EndsLines, QuotedOf, quoted_read, quoted_sound}
 
 -- ---- one item
 

@@ -2,13 +2,12 @@
 -- left. Each fact is closed, and the checker computes both its sides. The expected values come from YAML 1.2.2 and from
 -- two other readers of these texts, never from the recognizer. So an edit of it that changes one of them is refused
 -- here.
-use Rattle.std.proofs.Common.{◌≡◌, refl}
-use Rattle.std.specs.Prelude.{ℕ, true, List, [], ◌∷◌, Option, Some, None, codes}
-use Rattle.yaml_recognizers.proofs.Prelude.{FlowContext, outer, inner, block_key, flow_key, Scalar, scalar_value}
-use Rattle.yaml_recognizers.specs.{Reading.Read, Repeated.repeated, Joins.read_empty, Joins.after_blank, Joins.read_join}
-use Rattle.yaml_recognizers.specs.{PlainScalars.read_run, PlainScalars.read_plain_line, PlainScalars.read_plain, FlowScalars.read_scalar}
-use Rattle.yaml_recognizers.specs.QuotedScalars.{read_held, read_quoted_line, read_quoted, read_single_one, single_closes, read_single}
-use Rattle.yaml_recognizers.specs.QuotedScalars.{read_item, double_closes, read_double}
+use Rattle.std.{proofs.Common.{◌≡◌, refl}, specs.Prelude.{ℕ, true, List, [], ◌∷◌, Option, Some, None, codes}}
+use Rattle.yaml_recognizers.{proofs.Prelude.{FlowContext, outer, inner, block_key, flow_key, Scalar, scalar_value}, specs.Reading.Read}
+use Rattle.yaml_recognizers.specs.{Repeated.repeated, Joins.{read_empty, after_blank, read_join}, PlainScalars.{read_run, read_plain_line}}
+use Rattle.yaml_recognizers.specs.{PlainScalars.read_plain, FlowScalars.read_scalar, QuotedScalars.{read_held, read_quoted_line}}
+use Rattle.yaml_recognizers.specs.QuotedScalars.{read_quoted, read_single_one, single_closes, read_single, read_item, double_closes}
+use Rattle.yaml_recognizers.specs.QuotedScalars.{read_double}
 
 -- the value that is read, and the rest
 abbrev value_of : Read Scalar → Option (List ℕ × List ℕ)

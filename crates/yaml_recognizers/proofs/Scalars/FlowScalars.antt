@@ -1,15 +1,13 @@
 -- Flow scalars: the recognizer finds the one scalar that is at the start of a text, where there is one.
-use Rattle.std.proofs.Common.{◌≡◌, refl, sym, ◌∙◌, ap, subst, append_assoc, inl, inr}
-use Rattle.std.specs.Prelude.{ℕ, Bool, true, false, not, ◌&&◌, ◌||◌, ◌==◌, List, [], ◌∷◌, ◌++◌, Some, None, codes, if◌then◌else◌}
+use Rattle.std.{proofs.Common.{◌≡◌, refl, sym, ◌∙◌, ap, subst, append_assoc, inl, inr}, specs.Prelude.{ℕ, Bool, true, false, not, ◌&&◌}}
+use Rattle.std.specs.Prelude.{◌||◌, ◌==◌, List, [], ◌∷◌, ◌++◌, Some, None, codes, if◌then◌else◌}
 use Rattle.yaml_recognizers.proofs.Prelude.{and_parts, eqb-true, ne_eqb, false≢true, not-true, cond_both, cond-false, cases_eq, is_in}
 use Rattle.yaml_recognizers.proofs.Prelude.{indicator, first, FlowContext, Line, Scalar, plain, single, double, single_text}
 use Rattle.yaml_recognizers.proofs.Prelude.{quoted_char_text, lines_text, safe, plain_first, scalar_text, scalar_fits}
-use Rattle.yaml_recognizers.specs.{QuotedScalars.read_single, QuotedScalars.read_double, PlainScalars.read_plain}
-use Rattle.yaml_recognizers.specs.FlowScalars.{read_scalar, scalar_ends, Stands}
-use Rattle.yaml_recognizers.proofs.Basics.Reading.{Sound, sound_is, none_some, some_parts}
-use Rattle.yaml_recognizers.proofs.Scalars.SingleScalars.{single_read, single_sound}
-use Rattle.yaml_recognizers.proofs.Scalars.DoubleScalars.{double_read, double_sound}
-use Rattle.yaml_recognizers.proofs.Scalars.PlainScalars.{plain_regrouped, plain_read, plain_sound}
+use Rattle.yaml_recognizers.proofs.{Basics.Reading.{Sound, sound_is, none_some, some_parts}, Scalars.SingleScalars.single_read}
+use Rattle.yaml_recognizers.proofs.Scalars.{SingleScalars.single_sound, DoubleScalars.{double_read, double_sound}}
+use Rattle.yaml_recognizers.{proofs.Scalars.PlainScalars.{plain_regrouped, plain_read, plain_sound}, specs.QuotedScalars.read_single}
+use Rattle.yaml_recognizers.specs.{QuotedScalars.read_double, PlainScalars.read_plain, FlowScalars.{read_scalar, scalar_ends, Stands}}
 
 -- an indicator begins a plain scalar only where it is `?`, `:` or `-`
 no_indicator : (c : FlowContext) (x k : ℕ) (xs : List ℕ) → indicator k ≡ true → is_in k (codes "?:-") ≡ false

@@ -1,11 +1,10 @@
 -- The recognizer of joins, a step at a time: the break, each empty line after it, and the start of the next line. A
 -- scanner's loop over empty lines goes by these, with the empty lines so far before it.
-use Rattle.std.proofs.Common.{ap, append-nil, refl, ◌∙◌, ◌≡◌}
-use Rattle.std.specs.Prelude.{Bool, List, None, Some, [], false, true, ℕ, ◌&&◌, ◌++◌, ◌∷◌}
+use Rattle.std.{proofs.Common.{ap, append-nil, refl, ◌∙◌, ◌≡◌}, specs.Prelude.{Bool, List, None, Some, [], false, true, ℕ, ◌&&◌, ◌++◌, ◌∷◌}}
 use Rattle.yaml_recognizers.proofs.Prelude.{cond-false, cond-true, white, FlowEmptyLine, Break, indents, no_marker}
-use Rattle.yaml_recognizers.specs.{Comments.read_break, Prefixes.drop_while, Prefixes.take_while, Reading.Read, Reading.on, Repeated.all_of}
-use Rattle.yaml_recognizers.specs.Joins.{after_blank, read_empty, read_join, with_lead}
-use Rattle.yaml_recognizers.proofs.{Scalars.Joins.empty_shrinks, Basics.Repeated.all_none, Basics.Repeated.all_some}
+use Rattle.yaml_recognizers.{proofs.{Scalars.Joins.empty_shrinks, Basics.Repeated.{all_none, all_some}}, specs.Comments.read_break}
+use Rattle.yaml_recognizers.specs.{Prefixes.{drop_while, take_while}, Reading.{Read, on}, Repeated.all_of, Joins.{after_blank, read_empty}}
+use Rattle.yaml_recognizers.specs.Joins.{read_join, with_lead}
 
 -- ---- its start; a join without a backslash begins as `unescaped_read` says
 

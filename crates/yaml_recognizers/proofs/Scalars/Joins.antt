@@ -6,14 +6,13 @@ use Rattle.yaml_recognizers.proofs.Prelude.{and_from, and_parts, cond-false, con
 use Rattle.yaml_recognizers.proofs.Prelude.{or_cases, space, white, FlowEmptyLine, Kind, Line, flow_empties_fit, flow_empties_text}
 use Rattle.yaml_recognizers.proofs.Prelude.{flow_empty_fits, flow_empty_text, ends, join_fits, Break, break_fits, break_text, cr, cr_lf}
 use Rattle.yaml_recognizers.proofs.Prelude.{indents, lf, list_all, begins, first, is_empty, no_marker, spaces}
-use Rattle.yaml_recognizers.specs.{Comments.read_break, Prefixes.drop_while, Prefixes.past, Prefixes.take_while, Joins.Join, Joins.at_break}
-use Rattle.yaml_recognizers.specs.{Joins.after_blank, Joins.prefix_text, Joins.join_of, Joins.line_of, Joins.read_empty, Joins.read_join}
-use Rattle.yaml_recognizers.specs.{Joins.join_text_then, Joins.with_lead, Reading.Read, Reading.on, Repeated.repeated}
 use Rattle.yaml_recognizers.proofs.Basics.Blanks.{drop_while_first, inked, inked_no_white, inked_not_at_break, white_at_break}
-use Rattle.yaml_recognizers.proofs.Basics.Breaks.{BreakOf, break_first, break_read, break_sound, unbroken}
-use Rattle.yaml_recognizers.proofs.Basics.Prefixes.{drop_while_all, take_while_all, take_while_every, take_while_split}
-use Rattle.yaml_recognizers.proofs.Basics.Reading.{Sound, sound_is, sound_on}
-use Rattle.yaml_recognizers.proofs.Basics.Repeated.{Each, Shrinks, repeated_read, repeated_sound}
+use Rattle.yaml_recognizers.proofs.Basics.{Breaks.{BreakOf, break_first, break_read, break_sound, unbroken}, Prefixes.drop_while_all}
+use Rattle.yaml_recognizers.proofs.Basics.{Prefixes.{take_while_all, take_while_every, take_while_split}, Reading.{Sound, sound_is}}
+use Rattle.yaml_recognizers.proofs.Basics.{Reading.sound_on, Repeated.{Each, Shrinks, repeated_read, repeated_sound}}
+use Rattle.yaml_recognizers.specs.{Comments.read_break, Prefixes.{drop_while, past, take_while}, Joins.{Join, at_break, after_blank}}
+use Rattle.yaml_recognizers.specs.{Joins.{prefix_text, join_of, line_of, read_empty, read_join, join_text_then, with_lead}, Reading.Read}
+use Rattle.yaml_recognizers.specs.{Reading.on, Repeated.repeated}
 
 -- ---- empty lines
 

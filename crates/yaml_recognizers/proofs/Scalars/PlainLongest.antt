@@ -1,14 +1,13 @@
 -- The recognizer reads the longest plain scalar: none that fits at the start of the text goes further.
-use Rattle.std.proofs.Common.{◌≡◌, sym, ◌∙◌, ap, subst, append_assoc, length-append, length-drop, arith, ◌≤◌}
-use Rattle.std.specs.Prelude.{ℕ, zero, suc, Bool, true, false, cond, not, ◌||◌, List, [], ◌∷◌, ◌++◌, length, drop, flat_map, Some}
+use Rattle.std.{proofs.Common.{◌≡◌, sym, ◌∙◌, ap, subst, append_assoc, length-append, length-drop, arith, ◌≤◌}, specs.Prelude.{ℕ, zero}}
+use Rattle.std.specs.Prelude.{suc, Bool, true, false, cond, not, ◌||◌, List, [], ◌∷◌, ◌++◌, length, drop, flat_map, Some}
 use Rattle.yaml_recognizers.proofs.Prelude.{and_parts, and_from, false≢true, cond-true, is_empty, no_marker, FlowContext, one_line, Line}
 use Rattle.yaml_recognizers.proofs.Prelude.{Scalar, plain, plain_text, line_text, lines_text, lines_after, plain_kind, plain_lines}
-use Rattle.yaml_recognizers.proofs.Prelude.{scalar_text, scalar_fits}
-use Rattle.yaml_recognizers.specs.{Reading.Read, Repeated.and_more, Repeated.repeated, Joins.join_of, Joins.line_of}
-use Rattle.yaml_recognizers.specs.PlainScalars.{read_run, read_plain_line, plain_lines_at, with_lines, read_plain, last_of}
-use Rattle.yaml_recognizers.proofs.{Basics.Repeated.repeated_shorter, Scalars.Joins.line_joins, Scalars.PlainRuns.run_goes_on}
-use Rattle.yaml_recognizers.proofs.Scalars.PlainScalars.{plain_regrouped, lines_spelled, join_stops, run_past, plain_line_goes_on}
-use Rattle.yaml_recognizers.proofs.Scalars.PlainScalars.{lines_long, line_shrinks}
+use Rattle.yaml_recognizers.proofs.{Prelude.{scalar_text, scalar_fits}, Basics.Repeated.repeated_shorter, Scalars.Joins.line_joins}
+use Rattle.yaml_recognizers.proofs.Scalars.{PlainRuns.run_goes_on, PlainScalars.{plain_regrouped, lines_spelled, join_stops, run_past}}
+use Rattle.yaml_recognizers.{proofs.Scalars.PlainScalars.{plain_line_goes_on, lines_long, line_shrinks}, specs.Reading.Read}
+use Rattle.yaml_recognizers.specs.{Repeated.{and_more, repeated}, Joins.{join_of, line_of}, PlainScalars.{read_run, read_plain_line}}
+use Rattle.yaml_recognizers.specs.PlainScalars.{plain_lines_at, with_lines, read_plain, last_of}
 
 -- before a further line nothing goes on
 before_line : (n : ℕ) (c : FlowContext) (prev : ℕ) (before : List ℕ) (l : Line ℕ) (ls : List (Line ℕ))

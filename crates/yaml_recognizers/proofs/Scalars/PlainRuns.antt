@@ -1,11 +1,10 @@
 -- The plain characters of a line: a run that fits is read whole, and what is read fits and goes no further.
-use Rattle.std.proofs.Common.{◌≡◌, refl, sym, ◌∙◌, ap, subst, append-nil, inl, inr}
-use Rattle.std.specs.Prelude.{ℕ, Bool, true, false, cond, not, ◌&&◌, ◌||◌, ◌==◌, List, [], ◌∷◌, ◌++◌, length, drop}
+use Rattle.std.{proofs.Common.{◌≡◌, refl, sym, ◌∙◌, ap, subst, append-nil, inl, inr}, specs.Prelude.{ℕ, Bool, true, false, cond, not, ◌&&◌}}
+use Rattle.std.specs.Prelude.{◌||◌, ◌==◌, List, [], ◌∷◌, ◌++◌, length, drop}
 use Rattle.yaml_recognizers.proofs.Prelude.{and_parts, and_from, and_left, or_cases, eqb-true, false≢true, not_from_false, not-true}
 use Rattle.yaml_recognizers.proofs.Prelude.{cond_both, cases_Bool, white, line_break, ns, list_all, is_empty, Break, lf, cr, cr_lf}
 use Rattle.yaml_recognizers.proofs.Prelude.{break_text, FlowContext, outer, inner, block_key, flow_key, safe, plain_next, plain_run, ends}
-use Rattle.yaml_recognizers.specs.PlainScalars.{read_run, last_of}
-use Rattle.yaml_recognizers.proofs.Scalars.SingleScalars.{white_is}
+use Rattle.yaml_recognizers.{proofs.Scalars.SingleScalars.white_is, specs.PlainScalars.{read_run, last_of}}
 
 -- ---- what is no plain character
 

@@ -1,21 +1,19 @@
 -- Plain scalars: what fits is read, where it ends before what comes after it, and what is read fits and ends.
-use Rattle.std.proofs.Common.{◌≡◌, refl, sym, ◌∙◌, ap, subst, append_assoc, append-nil, length-append, arith, ◌≤◌}
-use Rattle.std.specs.Prelude.{ℕ, Bool, true, false, cond, not, ◌&&◌, ◌||◌, List, [], ◌∷◌, ◌++◌, length, drop, flat_map, Some, None, is_some}
+use Rattle.std.{proofs.Common.{◌≡◌, refl, sym, ◌∙◌, ap, subst, append_assoc, append-nil, length-append, arith, ◌≤◌}, specs.Prelude.ℕ}
+use Rattle.std.specs.Prelude.{Bool, true, false, cond, not, ◌&&◌, ◌||◌, List, [], ◌∷◌, ◌++◌, length, drop, flat_map, Some, None, is_some}
 use Rattle.std.specs.Prelude.{codes, if◌then◌else◌}
 use Rattle.yaml_recognizers.proofs.Prelude.{drop-append_seam, drop-append-add, and_parts, and_from, or_from, false≢true, not_from_false}
 use Rattle.yaml_recognizers.proofs.Prelude.{not-true, cond_both, cond-true, white, list_all, first, is_empty, no_marker, break_text}
 use Rattle.yaml_recognizers.proofs.Prelude.{FlowContext, one_line, Line, plain, plain_text, line_text, lines_text, flow_empties_text, ends}
 use Rattle.yaml_recognizers.proofs.Prelude.{join_fits, lines_after, plain_first, plain_next, plain_run, plain_line, plain_more, plain_kind}
-use Rattle.yaml_recognizers.proofs.Prelude.{plain_lines, scalar_fits}
-use Rattle.yaml_recognizers.specs.{Reading.Read, Reading.on, Repeated.repeated, FlowScalars.scalar_ends, FlowScalars.Stands}
-use Rattle.yaml_recognizers.specs.Joins.{Join, join_of, line_of, join_text_then, read_join}
+use Rattle.yaml_recognizers.proofs.{Prelude.{plain_lines, scalar_fits}, Basics.{Blanks.inked, Reading.{Sound, sound_on, sound_is}}}
+use Rattle.yaml_recognizers.proofs.{Basics.Repeated.{Each, repeated_read, repeated_sound, Shrinks, repeated_end}, Scalars.Joins.break_long}
+use Rattle.yaml_recognizers.proofs.Scalars.Joins.{Joins, JoinOf, join_read, join_sound, line_joins, line_fits, line_regrouped}
+use Rattle.yaml_recognizers.proofs.Scalars.PlainRuns.{plain_unbroken, no_run_at_break, white_stops, run_goes_on, run_read, run_prefix}
+use Rattle.yaml_recognizers.{proofs.Scalars.PlainRuns.{run_fits, run_end, run_ends}, specs.{Reading.{Read, on}, Repeated.repeated}}
+use Rattle.yaml_recognizers.specs.{FlowScalars.{scalar_ends, Stands}, Joins.{Join, join_of, line_of, join_text_then, read_join}}
 use Rattle.yaml_recognizers.specs.PlainScalars.{read_run, with_run, read_plain_line, plain_lines_at, with_lines, read_plain, last_of}
 use Rattle.yaml_recognizers.specs.PlainScalars.{last_char, plain_ends}
-use Rattle.yaml_recognizers.proofs.{Basics.Blanks.inked, Basics.Reading.Sound, Basics.Reading.sound_on, Basics.Reading.sound_is}
-use Rattle.yaml_recognizers.proofs.Basics.Repeated.{Each, repeated_read, repeated_sound, Shrinks, repeated_end}
-use Rattle.yaml_recognizers.proofs.Scalars.Joins.{break_long, Joins, JoinOf, join_read, join_sound, line_joins, line_fits, line_regrouped}
-use Rattle.yaml_recognizers.proofs.Scalars.PlainRuns.{plain_unbroken, no_run_at_break, white_stops, run_goes_on, run_read, run_prefix}
-use Rattle.yaml_recognizers.proofs.Scalars.PlainRuns.{run_fits, run_end, run_ends}
 
 -- ---- texts
 

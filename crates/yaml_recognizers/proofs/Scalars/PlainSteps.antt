@@ -1,13 +1,11 @@
 -- The recognizer of plain scalars, a step at a time: what it gives of a text by what it gives of the text after a
 -- character, a join or a line. A scanner's loop goes by these, and by `run_goes_on` over a run.
-use Rattle.std.proofs.Common.{◌≡◌, refl, ap}
-use Rattle.std.specs.Prelude.{ℕ, Bool, true, false, cond, ◌&&◌, List, [], ◌∷◌, length, drop, Some, None}
+use Rattle.std.{proofs.Common.{◌≡◌, refl, ap}, specs.Prelude.{ℕ, Bool, true, false, cond, ◌&&◌, List, [], ◌∷◌, length, drop, Some, None}}
 use Rattle.yaml_recognizers.proofs.Prelude.{cond-true, cond-false, white, is_empty, no_marker, FlowContext, one_line, Line, plain_first}
-use Rattle.yaml_recognizers.proofs.Prelude.{plain_next}
-use Rattle.yaml_recognizers.specs.{Reading.Read, Reading.on, Repeated.all_of, Joins.Join, Joins.read_join}
-use Rattle.yaml_recognizers.specs.PlainScalars.{read_run, with_run, read_plain_line, plain_lines_at, with_lines, read_plain}
-use Rattle.yaml_recognizers.proofs.{Scalars.PlainRuns.white_unplain, Scalars.PlainScalars.line_shrinks}
-use Rattle.yaml_recognizers.proofs.Basics.Repeated.{all_none, all_some}
+use Rattle.yaml_recognizers.proofs.{Prelude.plain_next, Scalars.{PlainRuns.white_unplain, PlainScalars.line_shrinks}}
+use Rattle.yaml_recognizers.{proofs.Basics.Repeated.{all_none, all_some}, specs.{Reading.{Read, on}, Repeated.all_of, Joins.Join}}
+use Rattle.yaml_recognizers.specs.{Joins.read_join, PlainScalars.{read_run, with_run, read_plain_line, plain_lines_at, with_lines}}
+use Rattle.yaml_recognizers.specs.PlainScalars.{read_plain}
 
 -- ---- characters
 

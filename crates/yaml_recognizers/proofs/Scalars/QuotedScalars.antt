@@ -1,18 +1,15 @@
 -- What is between quotes is read where it fits, and what is read fits: for any style, by what it holds.
-use Rattle.std.proofs.Common.{◌≡◌, refl, sym, ◌∙◌, ap, subst, append_assoc, length-append, arith, ◌≤◌, inl, inr}
-use Rattle.std.specs.Prelude.{ℕ, Bool, true, false, cond, not, ◌&&◌, ◌||◌, List, [], ◌∷◌, ◌++◌, length, flat_map, Some, None, codes}
-use Rattle.std.specs.Prelude.{if◌then◌else◌}
+use Rattle.std.{proofs.Common.{◌≡◌, refl, sym, ◌∙◌, ap, subst, append_assoc, length-append, arith, ◌≤◌, inl, inr}, specs.Prelude.{ℕ, Bool}}
+use Rattle.std.specs.Prelude.{true, false, cond, not, ◌&&◌, ◌||◌, List, [], ◌∷◌, ◌++◌, length, flat_map, Some, None, codes, if◌then◌else◌}
 use Rattle.yaml_recognizers.proofs.Prelude.{list_all, and_parts, and_from, false≢true, cond_both, cond-true, cond-false, cases_Bool, white}
 use Rattle.yaml_recognizers.proofs.Prelude.{first, is_empty, Break, break_text, FlowContext, one_line, Line, Kind, line_text, lines_text}
-use Rattle.yaml_recognizers.proofs.Prelude.{flow_empties_text, ends, join_fits, lines_after, quoted_lines}
-use Rattle.yaml_recognizers.specs.{Prefixes.past, Reading.Read, Reading.on, Repeated.repeated}
-use Rattle.yaml_recognizers.specs.Joins.{Join, join_of, line_of, join_text_then, at_break, read_join}
-use Rattle.yaml_recognizers.specs.QuotedScalars.{read_held, line_things, read_quoted_line, apart, read_closing_quote, further, read_quoted}
-use Rattle.yaml_recognizers.proofs.Basics.Blanks.{inked, inked_not_at_break}
-use Rattle.yaml_recognizers.proofs.Basics.Reading.{Sound, sound_on, sound_to, sound_is}
-use Rattle.yaml_recognizers.proofs.Basics.Repeated.{Each, repeated_read, repeated_sound}
-use Rattle.yaml_recognizers.proofs.Scalars.Joins.{break_long, Joins, JoinOf, join_read, join_sound, line_joins, line_fits, joins_at_break}
-use Rattle.yaml_recognizers.proofs.Scalars.Joins.{line_regrouped}
+use Rattle.yaml_recognizers.proofs.{Prelude.{flow_empties_text, ends, join_fits, lines_after, quoted_lines}, Basics.Blanks.inked}
+use Rattle.yaml_recognizers.proofs.Basics.{Blanks.inked_not_at_break, Reading.{Sound, sound_on, sound_to, sound_is}, Repeated.Each}
+use Rattle.yaml_recognizers.proofs.{Basics.Repeated.{repeated_read, repeated_sound}, Scalars.Joins.{break_long, Joins, JoinOf, join_read}}
+use Rattle.yaml_recognizers.{proofs.Scalars.Joins.{join_sound, line_joins, line_fits, joins_at_break, line_regrouped}, specs.Prefixes.past}
+use Rattle.yaml_recognizers.specs.{Reading.{Read, on}, Repeated.repeated, Joins.{Join, join_of, line_of, join_text_then, at_break}}
+use Rattle.yaml_recognizers.specs.{Joins.read_join, QuotedScalars.{read_held, line_things, read_quoted_line, apart, read_closing_quote}}
+use Rattle.yaml_recognizers.specs.QuotedScalars.{further, read_quoted}
 
 -- one thing that a line holds is at the start
 abbrev pub OneOf : {A : Type 0} → Kind A → (A → Bool) → List ℕ → A → List ℕ → Type 0

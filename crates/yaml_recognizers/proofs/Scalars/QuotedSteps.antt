@@ -1,15 +1,14 @@
 -- The recognizer of what is between quotes, a step at a time: what it gives of a text by what it gives of the text
 -- after one thing, after a run of things, or after a join. A scanner's loop goes by these.
-use Rattle.std.proofs.Common.{◌≡◌, refl, sym, ◌∙◌, ap, append_assoc, length-append, arith}
-use Rattle.std.specs.Prelude.{ℕ, Bool, true, false, cond, not, ◌&&◌, ◌||◌, List, [], ◌∷◌, ◌++◌, flat_map, Some, None, if◌then◌else◌}
+use Rattle.std.{proofs.Common.{◌≡◌, refl, sym, ◌∙◌, ap, append_assoc, length-append, arith}, specs.Prelude.{ℕ, Bool, true, false, cond}}
+use Rattle.std.specs.Prelude.{not, ◌&&◌, ◌||◌, List, [], ◌∷◌, ◌++◌, flat_map, Some, None, if◌then◌else◌}
 use Rattle.yaml_recognizers.proofs.Prelude.{list_all, and_parts, false≢true, cond-true, cond-false, is_empty, FlowContext, one_line, Line}
-use Rattle.yaml_recognizers.proofs.Prelude.{Kind, line_text, line_value, ends, values}
-use Rattle.yaml_recognizers.specs.{Prefixes.past, Reading.Read, Reading.on, Repeated.all_of}
-use Rattle.yaml_recognizers.specs.Joins.{Join, line_of, at_break, read_join}
-use Rattle.yaml_recognizers.specs.QuotedScalars.{read_held, line_things, read_quoted_line, apart, read_closing_quote, further, read_quoted}
+use Rattle.yaml_recognizers.proofs.{Prelude.{Kind, line_text, line_value, ends, values}, Basics.{Reading.sound_is, Repeated.Shrinks}}
+use Rattle.yaml_recognizers.proofs.{Basics.Repeated.{all_none, all_some}, Scalars.QuotedScalars.{Readable, LineOf, longer, held_next}}
+use Rattle.yaml_recognizers.{proofs.Scalars.QuotedScalars.{held_sound, quoted_line_sound, lines_long}, specs.{Prefixes.past, Reading.Read}}
+use Rattle.yaml_recognizers.specs.{Reading.on, Repeated.all_of, Joins.{Join, line_of, at_break, read_join}, QuotedScalars.read_held}
+use Rattle.yaml_recognizers.specs.QuotedScalars.{line_things, read_quoted_line, apart, read_closing_quote, further, read_quoted}
 use Rattle.yaml_recognizers.specs.QuotedSteps.{read_after_join, with_thing, with_things, with_join, quoted_value, with_prefix, join_value}
-use Rattle.yaml_recognizers.proofs.{Basics.Reading.sound_is, Basics.Repeated.Shrinks, Basics.Repeated.all_none, Basics.Repeated.all_some}
-use Rattle.yaml_recognizers.proofs.Scalars.QuotedScalars.{Readable, LineOf, longer, held_next, held_sound, quoted_line_sound, lines_long}
 
 -- ---- values
 

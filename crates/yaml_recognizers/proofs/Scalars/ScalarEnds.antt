@@ -1,8 +1,7 @@
 -- A flow scalar ends before what comes after it in a node: a key's `:`, a comma, a closing bracket, or comments with a
 -- line after them that is less deep.
-use Rattle.std.proofs.Common.{ap, append_assoc, arith, inl, inr, refl, subst, sym, ◌<◌, ◌∙◌, ◌≡◌, ◌⊎◌}
-use Rattle.std.specs.Prelude.{Bool, List, None, Option, Some, [], cond, false, is_some, length, nat_lt, not, suc, true, zero, ℕ, ◌&&◌, ◌++◌}
-use Rattle.std.specs.Prelude.{◌==◌, ◌||◌, ◌∷◌}
+use Rattle.std.{proofs.Common.{ap, append_assoc, arith, inl, inr, refl, subst, sym, ◌<◌, ◌∙◌, ◌≡◌, ◌⊎◌}, specs.Prelude.{Bool, List, None}}
+use Rattle.std.specs.Prelude.{Option, Some, [], cond, false, is_some, length, nat_lt, not, suc, true, zero, ℕ, ◌&&◌, ◌++◌, ◌==◌, ◌||◌, ◌∷◌}
 use Rattle.yaml_recognizers.proofs.Prelude.{and_from, and_left, and_parts, and_right, cases_Bool, cond-false, cond-true, cond_both}
 use Rattle.yaml_recognizers.proofs.Prelude.{eqb-true, false≢true, lt-ltb, ltb-true, not-false, not-true, not_from_false, not_from_true}
 use Rattle.yaml_recognizers.proofs.Prelude.{or_cases, line_break, ns, space, white, spaces_before, is_plain, scalar, FlowEmptyLine}
@@ -10,16 +9,14 @@ use Rattle.yaml_recognizers.proofs.Prelude.{FlowContext, Line, Scalar, block_key
 use Rattle.yaml_recognizers.proofs.Prelude.{plain_next, safe, single, Break, LineEnd, Sep, break_text, comment_fits, comment_line_fits}
 use Rattle.yaml_recognizers.proofs.Prelude.{comment_text, comments_fit, comments_text, gap_fits, gap_text, indents, inline, line_end_text}
 use Rattle.yaml_recognizers.proofs.Prelude.{lines, stop_fits, list_all, begins, first, is_empty, marker, no_marker, optional, spaces}
-use Rattle.yaml_recognizers.specs.{Comments.read_break, FlowScalars.scalar_ends, Prefixes.drop_while, Prefixes.take_while}
-use Rattle.yaml_recognizers.specs.{QuotedScalars.quote, Reading.Read, Reading.on, Repeated.and_more, Repeated.repeated}
-use Rattle.yaml_recognizers.specs.Ends.{closing, between_brackets, is_colon, less_deep}
-use Rattle.yaml_recognizers.specs.Joins.{Join, at_break, after_blank, read_empty, read_join, with_lead}
-use Rattle.yaml_recognizers.specs.PlainScalars.{last_char, plain_ends, read_plain_line, read_run, with_run}
-use Rattle.yaml_recognizers.proofs.{Basics.Blanks.white_at_break, Basics.Prefixes.drop_while_all, Scalars.Joins.no_empty}
-use Rattle.yaml_recognizers.proofs.{Scalars.SingleScalars.white_is}
-use Rattle.yaml_recognizers.proofs.Basics.Breaks.{break_first, break_read, unbroken}
-use Rattle.yaml_recognizers.proofs.Separation.LineEnds.{LineParts, line_parts, line_regrouped, tail_not_white}
-use Rattle.yaml_recognizers.proofs.Scalars.PlainRuns.{no_run, no_run_at_break, no_run_at_end, unplain, white_stops}
+use Rattle.yaml_recognizers.proofs.Basics.{Blanks.white_at_break, Prefixes.drop_while_all, Breaks.{break_first, break_read, unbroken}}
+use Rattle.yaml_recognizers.proofs.Scalars.{Joins.no_empty, SingleScalars.white_is, PlainRuns.{no_run, no_run_at_break, no_run_at_end}}
+use Rattle.yaml_recognizers.proofs.{Scalars.PlainRuns.{unplain, white_stops}, Separation.LineEnds.{LineParts, line_parts, line_regrouped}}
+use Rattle.yaml_recognizers.{proofs.Separation.LineEnds.tail_not_white, specs.{Comments.read_break, FlowScalars.scalar_ends}}
+use Rattle.yaml_recognizers.specs.{Prefixes.{drop_while, take_while}, QuotedScalars.quote, Reading.{Read, on}, Repeated.and_more}
+use Rattle.yaml_recognizers.specs.{Repeated.repeated, Ends.{closing, between_brackets, is_colon, less_deep}, Joins.{Join, at_break}}
+use Rattle.yaml_recognizers.specs.{Joins.{after_blank, read_empty, read_join, with_lead}, PlainScalars.{last_char, plain_ends}}
+use Rattle.yaml_recognizers.specs.PlainScalars.{read_plain_line, read_run, with_run}
 
 -- a further line of a plain scalar begins with this text
 abbrev pub goes_on : ℕ → FlowContext → List ℕ → Bool

@@ -1,13 +1,11 @@
 -- A scalar on one line is read in a key's context as it is in the wider one: so a reader may read a node once, and then
 -- learn that it was a key.
-use Rattle.std.proofs.Common.{◌≡◌, refl, sym, ◌∙◌, ap}
-use Rattle.std.specs.Prelude.{ℕ, Bool, true, false, not, ◌||◌, List, [], ◌∷◌, ◌++◌, Some}
+use Rattle.std.{proofs.Common.{◌≡◌, refl, sym, ◌∙◌, ap}, specs.Prelude.{ℕ, Bool, true, false, not, ◌||◌, List, [], ◌∷◌, ◌++◌, Some}}
 use Rattle.yaml_recognizers.proofs.Prelude.{and_parts, and_from, or_left, false≢true, first, is_empty, no_marker, FlowContext, one_line}
 use Rattle.yaml_recognizers.proofs.Prelude.{Scalar, plain, single, double, safe, plain_text, lines_text, plain_first, plain_next, plain_run}
-use Rattle.yaml_recognizers.proofs.Prelude.{plain_line, scalar_fits}
-use Rattle.yaml_recognizers.specs.{PlainScalars.read_run, PlainScalars.last_char, PlainScalars.plain_ends, FlowScalars.read_scalar}
-use Rattle.yaml_recognizers.specs.{FlowScalars.scalar_ends, FlowScalars.Stands, WholeScalars.stands_on_one_line}
-use Rattle.yaml_recognizers.proofs.Scalars.FlowScalars.{complete, sound}
+use Rattle.yaml_recognizers.{proofs.{Prelude.{plain_line, scalar_fits}, Scalars.FlowScalars.{complete, sound}}, specs.PlainScalars.read_run}
+use Rattle.yaml_recognizers.specs.{PlainScalars.{last_char, plain_ends}, FlowScalars.{read_scalar, scalar_ends, Stands}}
+use Rattle.yaml_recognizers.specs.WholeScalars.{stands_on_one_line}
 
 -- two contexts with the same safe characters
 module _ (c d : FlowContext) (same : (x : ℕ) → safe c x ≡ safe d x) where

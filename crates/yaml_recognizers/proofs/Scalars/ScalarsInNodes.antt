@@ -1,13 +1,11 @@
 -- The recognizer of flow scalars is one as nodes ask for: it finds what fits before what comes after a scalar in a
 -- node.
-use Rattle.std.proofs.Common.{inl, inr, refl, subst, sym, ◌≡◌}
-use Rattle.std.specs.Prelude.{List, [], false, true, ℕ, ◌∷◌}
+use Rattle.std.{proofs.Common.{inl, inr, refl, subst, sym, ◌≡◌}, specs.Prelude.{List, [], false, true, ℕ, ◌∷◌}}
 use Rattle.yaml_recognizers.proofs.Prelude.{and_parts, not-true, or_parts, line_break, white, is_plain, scalar, FlowContext, Scalar, first}
-use Rattle.yaml_recognizers.specs.{CanonicalComments.is_line_end, CanonicalComments.stops, FlowScalars.read_scalar, FlowScalars.scalar_ends}
-use Rattle.yaml_recognizers.specs.{Prefixes.drop_while, Joins.at_break, Scalars.ReadsScalars}
-use Rattle.yaml_recognizers.specs.Ends.{BeforeColon, BeforeComments, BetweenBrackets, Stops}
-use Rattle.yaml_recognizers.proofs.{Meanings.CanonicalFits.gap_fits_too, Scalars.FlowScalars.scalar_read, Scalars.FlowScalars.sound}
+use Rattle.yaml_recognizers.proofs.{Meanings.CanonicalFits.gap_fits_too, Scalars.FlowScalars.{scalar_read, sound}}
 use Rattle.yaml_recognizers.proofs.Scalars.ScalarEnds.{ends_before_colon, ends_before_comments, ends_between_brackets}
+use Rattle.yaml_recognizers.specs.{CanonicalComments.{is_line_end, stops}, FlowScalars.{read_scalar, scalar_ends}, Prefixes.drop_while}
+use Rattle.yaml_recognizers.specs.{Joins.at_break, Scalars.ReadsScalars, Ends.{BeforeColon, BeforeComments, BetweenBrackets, Stops}}
 
 -- where no line of comments begins there is no line of white
 no_blank_line : (text : List ℕ) → is_line_end text ≡ false → at_break text ≡ false

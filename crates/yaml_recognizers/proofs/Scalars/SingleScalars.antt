@@ -1,14 +1,13 @@
 -- Single-quoted scalars: what fits is read, and what is read fits.
-use Rattle.std.proofs.Common.{◌≡◌, refl, sym, ◌∙◌, ap, subst, append_assoc, arith, ◌≤◌, inl, inr}
-use Rattle.std.specs.Prelude.{ℕ, Bool, true, false, cond, ◌==◌, List, [], ◌∷◌, ◌++◌, length, Some, None, codes}
+use Rattle.std.{proofs.Common.{◌≡◌, refl, sym, ◌∙◌, ap, subst, append_assoc, arith, ◌≤◌, inl, inr}, specs.Prelude.{ℕ, Bool, true, false}}
+use Rattle.std.specs.Prelude.{cond, ◌==◌, List, [], ◌∷◌, ◌++◌, length, Some, None, codes}
 use Rattle.yaml_recognizers.proofs.Prelude.{and_parts, and_from, or_cases, or_from, eqb-true, false≢true, not_from_false, not-true}
 use Rattle.yaml_recognizers.proofs.Prelude.{cond_both, cond-false, cases_Bool, white, line_break, nb_json, first, FlowContext, Line, single}
-use Rattle.yaml_recognizers.proofs.Prelude.{single_text, lines_text, single_kind, quoted_lines, scalar_fits}
-use Rattle.yaml_recognizers.specs.{Prefixes.past, Reading.Read, Reading.on, FlowScalars.scalar_ends, FlowScalars.Stands}
-use Rattle.yaml_recognizers.specs.Joins.{at_break, read_join, after_blank}
-use Rattle.yaml_recognizers.specs.QuotedScalars.{read_held, read_quoted, quote, read_single_one, single_closes, read_single}
-use Rattle.yaml_recognizers.proofs.{Basics.Blanks.inked, Basics.Reading.Sound, Basics.Reading.sound_on}
-use Rattle.yaml_recognizers.proofs.Scalars.QuotedScalars.{OneOf, Readable, EndsLines, QuotedOf, quoted_read, quoted_sound}
+use Rattle.yaml_recognizers.proofs.{Prelude.{single_text, lines_text, single_kind, quoted_lines, scalar_fits}, Basics.Blanks.inked}
+use Rattle.yaml_recognizers.proofs.{Basics.Reading.{Sound, sound_on}, Scalars.QuotedScalars.{OneOf, Readable, EndsLines, QuotedOf}}
+use Rattle.yaml_recognizers.{proofs.Scalars.QuotedScalars.{quoted_read, quoted_sound}, specs.{Prefixes.past, Reading.{Read, on}}}
+use Rattle.yaml_recognizers.specs.{FlowScalars.{scalar_ends, Stands}, Joins.{at_break, read_join, after_blank}, QuotedScalars.read_held}
+use Rattle.yaml_recognizers.specs.QuotedScalars.{read_quoted, quote, read_single_one, single_closes, read_single}
 
 -- an nb-json is no break
 pub nb_json_unbroken : (c : ℕ) → nb_json c ≡ true → line_break c ≡ false

@@ -1,18 +1,15 @@
 -- A scalar ends where the recognizer says exactly if it is whole. So the recognizer decides whether one is whole at
 -- the start of a text, and finds it.
-use Rattle.std.proofs.Common.{◌≡◌, refl, sym, ◌∙◌, ap, subst, append_assoc, append-nil, length-append, arith, ◌≤◌}
-use Rattle.std.specs.Prelude.{ℕ, Bool, true, List, [], ◌∷◌, ◌++◌, length, drop, flat_map, Some, None}
+use Rattle.std.{proofs.Common.{◌≡◌, refl, sym, ◌∙◌, ap, subst, append_assoc, append-nil, length-append, arith, ◌≤◌}, specs.Prelude.ℕ}
+use Rattle.std.specs.Prelude.{Bool, true, List, [], ◌∷◌, ◌++◌, length, drop, flat_map, Some, None}
 use Rattle.yaml_recognizers.proofs.Prelude.{drop-append_seam, and_parts, false≢true, not-true, not_from_false, append_cancel_right}
 use Rattle.yaml_recognizers.proofs.Prelude.{FlowContext, Line, Scalar, plain, single, double, plain_text, line_text, flow_empties_text}
 use Rattle.yaml_recognizers.proofs.Prelude.{join_text, plain_more, plain_lines, plain_kind, lines_after, scalar_text, scalar_fits}
-use Rattle.yaml_recognizers.proofs.Prelude.{scalar_value, style_of}
-use Rattle.yaml_recognizers.specs.PlainScalars.{read_plain, last_of, last_char, plain_ends}
-use Rattle.yaml_recognizers.specs.FlowScalars.{read_scalar, scalar_ends, Stands}
-use Rattle.yaml_recognizers.specs.WholeScalars.{Longest, StandsWhole, IsScalar, NoScalar}
-use Rattle.yaml_recognizers.proofs.Basics.Reading.{sound_is, some_parts}
-use Rattle.yaml_recognizers.proofs.Scalars.PlainScalars.{plain_texts, plain_read, plain_sound}
-use Rattle.yaml_recognizers.proofs.Scalars.PlainLongest.{Reaches, plain_reaches}
-use Rattle.yaml_recognizers.proofs.Scalars.FlowScalars.{sound, once, none_stands}
+use Rattle.yaml_recognizers.proofs.{Prelude.{scalar_value, style_of}, Basics.Reading.{sound_is, some_parts}}
+use Rattle.yaml_recognizers.proofs.Scalars.{PlainScalars.{plain_texts, plain_read, plain_sound}, PlainLongest.{Reaches, plain_reaches}}
+use Rattle.yaml_recognizers.{proofs.Scalars.FlowScalars.{sound, once, none_stands}, specs.PlainScalars.{read_plain, last_of, last_char}}
+use Rattle.yaml_recognizers.specs.{PlainScalars.plain_ends, FlowScalars.{read_scalar, scalar_ends, Stands}, WholeScalars.Longest}
+use Rattle.yaml_recognizers.specs.WholeScalars.{StandsWhole, IsScalar, NoScalar}
 
 -- ---- the last character of a plain scalar is that of its text
 

@@ -1,16 +1,14 @@
 -- Comments that fit are read whole; if there are none, none are read.
-use Rattle.std.proofs.Common.{ap, append_assoc, arith, length-append, refl, subst, sym, ◌<◌, ◌∙◌, ◌≡◌}
-use Rattle.std.specs.Prelude.{Bool, List, None, Option, Some, [], false, length, not, suc, true, zero, ℕ, ◌&&◌, ◌++◌, ◌==◌, ◌||◌, ◌∷◌}
+use Rattle.std.{proofs.Common.{ap, append_assoc, arith, length-append, refl, subst, sym, ◌<◌, ◌∙◌, ◌≡◌}, specs.Prelude.{Bool, List, None}}
+use Rattle.std.specs.Prelude.{Option, Some, [], false, length, not, suc, true, zero, ℕ, ◌&&◌, ◌++◌, ◌==◌, ◌||◌, ◌∷◌}
 use Rattle.yaml_recognizers.proofs.Prelude.{and_parts, cond_both, false≢true, not-true, or_parts, line_break, nb, white, Break, LineEnd}
 use Rattle.yaml_recognizers.proofs.Prelude.{break_text, comment_fits, comment_line_fits, comment_text, comments_text, cr, cr_lf, lf}
-use Rattle.yaml_recognizers.proofs.Prelude.{line_end_text, stop_fits, list_all, first, is_empty, optional}
-use Rattle.yaml_recognizers.specs.{Ends.solid, Prefixes.drop_while, Prefixes.past, Prefixes.take_while, Reading.Read}
-use Rattle.yaml_recognizers.specs.CanonicalComments.{canonical_comments, hash, is_line_end, stops}
-use Rattle.yaml_recognizers.specs.Comments.{all_comments, more_comments, read_after_blank, read_comments, read_line_end, read_stop}
-use Rattle.yaml_recognizers.specs.Comments.{line_end_with_stop}
-use Rattle.yaml_recognizers.proofs.{Basics.Prefixes.drop_while_all, Basics.Prefixes.take_while_all, Basics.Solid.solid_parts}
-use Rattle.yaml_recognizers.proofs.Separation.LineEnds.{comments_parts, fits_end, line_parts, lines_long, no_comments_parts, stop_not_nb}
-use Rattle.yaml_recognizers.proofs.Separation.LineEnds.{tail_not_white}
+use Rattle.yaml_recognizers.proofs.{Prelude.{line_end_text, stop_fits, list_all, first, is_empty, optional}, Basics.Prefixes.drop_while_all}
+use Rattle.yaml_recognizers.proofs.{Basics.{Prefixes.take_while_all, Solid.solid_parts}, Separation.LineEnds.{comments_parts, fits_end}}
+use Rattle.yaml_recognizers.proofs.Separation.LineEnds.{line_parts, lines_long, no_comments_parts, stop_not_nb, tail_not_white}
+use Rattle.yaml_recognizers.specs.{Ends.solid, Prefixes.{drop_while, past, take_while}, Reading.Read, CanonicalComments.canonical_comments}
+use Rattle.yaml_recognizers.specs.{CanonicalComments.{hash, is_line_end, stops}, Comments.{all_comments, more_comments, read_after_blank}}
+use Rattle.yaml_recognizers.specs.Comments.{read_comments, read_line_end, read_stop, line_end_with_stop}
 
 -- ---- breaks
 

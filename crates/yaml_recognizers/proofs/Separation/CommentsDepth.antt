@@ -1,12 +1,9 @@
 -- The recognizers of comments and gaps by their steps, where the count of lines is no matter.
-use Rattle.std.proofs.Common.{ap, arith, refl, ◌<◌, ◌∙◌, ◌≡◌}
-use Rattle.std.specs.Prelude.{Bool, List, None, Some, false, length, suc, true, zero, ℕ, ◌∷◌}
-use Rattle.yaml_recognizers.proofs.Prelude.{white, LineEnd}
-use Rattle.yaml_recognizers.specs.{Prefixes.drop_while, Prefixes.take_while, Reading.Read}
-use Rattle.yaml_recognizers.specs.Comments.{all_comments, more_comments, read_comments, read_line_end}
-use Rattle.yaml_recognizers.specs.Gaps.{gap_after, gap_from, inline_gap, read_gap}
-use Rattle.yaml_recognizers.proofs.Separation.CommentsSound.{LineOf, line_sound, shorter}
-use Rattle.yaml_recognizers.proofs.Basics.Reading.{sound_is}
+use Rattle.std.{proofs.Common.{ap, arith, refl, ◌<◌, ◌∙◌, ◌≡◌}, specs.Prelude.{Bool, List, None, Some, false, length, suc, true, zero, ℕ}}
+use Rattle.std.specs.Prelude.{◌∷◌}
+use Rattle.yaml_recognizers.proofs.{Prelude.{white, LineEnd}, Separation.CommentsSound.{LineOf, line_sound, shorter}}
+use Rattle.yaml_recognizers.{proofs.Basics.Reading.sound_is, specs.{Prefixes.{drop_while, take_while}, Reading.Read, Comments.all_comments}}
+use Rattle.yaml_recognizers.specs.{Comments.{more_comments, read_comments, read_line_end}, Gaps.{gap_after, gap_from, inline_gap, read_gap}}
 
 -- a line's end takes something of the text
 line_left : (bol : Bool) (text : List ℕ) (e : LineEnd) (rest : List ℕ) → read_line_end bol text ≡ Some (e, rest) → length rest < length text

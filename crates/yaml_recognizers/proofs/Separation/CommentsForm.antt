@@ -1,13 +1,12 @@
 -- The canonical form of comments and separation. It has the same text; further lines of comments after it are taken in.
-use Rattle.std.proofs.Common.{append_assoc, refl, sym, ◌∙◌, ◌≡◌}
-use Rattle.std.specs.Prelude.{Bool, List, None, Option, Some, [], false, not, true, ℕ, ◌&&◌, ◌++◌, ◌||◌, ◌∷◌}
+use Rattle.std.{proofs.Common.{append_assoc, refl, sym, ◌∙◌, ◌≡◌}, specs.Prelude.{Bool, List, None, Option, Some, [], false, not, true, ℕ}}
+use Rattle.std.specs.Prelude.{◌&&◌, ◌++◌, ◌||◌, ◌∷◌}
 use Rattle.yaml_recognizers.proofs.Prelude.{and_from, and_parts, false≢true, not_from_false, or_left, flat_map-append, white, LineEnd, Sep}
 use Rattle.yaml_recognizers.proofs.Prelude.{comment_line_fits, comments_fit, comments_text, gap_fits, gap_text, indents, inline}
 use Rattle.yaml_recognizers.proofs.Prelude.{line_end_text, lines, sep_fits, sep_text, list_all, first, is_empty}
-use Rattle.yaml_recognizers.specs.CanonicalComments.{canonical_comments, canonical_gap, canonical_sep, is_line_end}
-use Rattle.yaml_recognizers.specs.Ends.{solid}
 use Rattle.yaml_recognizers.proofs.{Block.BlockNodesBegin.append_some, Separation.CommentsComplete.not_line_end}
-use Rattle.yaml_recognizers.proofs.Basics.LineStarts.{line_not_end, lines_filled}
+use Rattle.yaml_recognizers.{proofs.Basics.LineStarts.{line_not_end, lines_filled}, specs.CanonicalComments.canonical_comments}
+use Rattle.yaml_recognizers.specs.{CanonicalComments.{canonical_gap, canonical_sep, is_line_end}, Ends.solid}
 
 -- ---- comments with further lines
 

@@ -1,18 +1,16 @@
 -- What is read as comments fits, and comments are read up to where there is none.
-use Rattle.std.proofs.Common.{ap, append_assoc, arith, inl, inr, length-append, refl, subst, sym, ◌<◌, ◌∙◌, ◌≡◌}
-use Rattle.std.specs.Prelude.{Bool, List, None, Option, Some, [], false, if◌then◌else◌, is_some, length, not, suc, true, zero, ℕ, ◌&&◌}
-use Rattle.std.specs.Prelude.{◌++◌, ◌==◌, ◌||◌, ◌∷◌}
+use Rattle.std.{proofs.Common.{ap, append_assoc, arith, inl, inr, length-append, refl, subst, sym, ◌<◌, ◌∙◌, ◌≡◌}, specs.Prelude.Bool}
+use Rattle.std.specs.Prelude.{List, None, Option, Some, [], false, if◌then◌else◌, is_some, length, not, suc, true, zero, ℕ, ◌&&◌, ◌++◌}
+use Rattle.std.specs.Prelude.{◌==◌, ◌||◌, ◌∷◌}
 use Rattle.yaml_recognizers.proofs.Prelude.{and_from, and_parts, cases_Bool, cond_both, eqb-true, false≢true, not_from_false, or_cases}
 use Rattle.yaml_recognizers.proofs.Prelude.{line_break, nb, white, Break, LineEnd, break_text, comment_fits, comment_line_fits}
 use Rattle.yaml_recognizers.proofs.Prelude.{comment_text, comments_text, cr, cr_lf, lf, line_end_text, stop_fits, list_all, first, is_empty}
-use Rattle.yaml_recognizers.proofs.Prelude.{optional}
-use Rattle.yaml_recognizers.specs.{Prefixes.drop_while, Prefixes.past, Prefixes.take_while, Reading.Read}
-use Rattle.yaml_recognizers.specs.CanonicalComments.{canonical_comments, hash, is_line_end, stops}
-use Rattle.yaml_recognizers.specs.Comments.{all_comments, more_comments, read_after_blank, read_comments, read_cr, read_line_end, read_stop}
+use Rattle.yaml_recognizers.proofs.{Prelude.optional, Basics.{Breaks.cr_sound, Prefixes.{take_while_every, take_while_split}}}
+use Rattle.yaml_recognizers.proofs.{Basics.Reading.{Sound, none_some, sound_to}, Separation.CommentsComplete.{line_end_read, no_line}}
+use Rattle.yaml_recognizers.{proofs.Separation.LineEnds.{comments_from, line_long}, specs.Prefixes.{drop_while, past, take_while}}
+use Rattle.yaml_recognizers.specs.{Reading.Read, CanonicalComments.{canonical_comments, hash, is_line_end, stops}, Comments.all_comments}
+use Rattle.yaml_recognizers.specs.Comments.{more_comments, read_after_blank, read_comments, read_cr, read_line_end, read_stop}
 use Rattle.yaml_recognizers.specs.Comments.{line_end_with_stop}
-use Rattle.yaml_recognizers.proofs.{Basics.Breaks.cr_sound, Separation.CommentsComplete.line_end_read, Separation.CommentsComplete.no_line}
-use Rattle.yaml_recognizers.proofs.{Basics.Prefixes.take_while_every, Basics.Prefixes.take_while_split, Separation.LineEnds.comments_from}
-use Rattle.yaml_recognizers.proofs.{Separation.LineEnds.line_long, Basics.Reading.Sound, Basics.Reading.none_some, Basics.Reading.sound_to}
 
 -- ---- the ends of lines
 

@@ -1,15 +1,13 @@
 -- A gap that fits is read, where something solid comes after it.
-use Rattle.std.proofs.Common.{ap, append_assoc, arith, length-append, refl, ◌<◌, ◌∙◌, ◌≡◌}
-use Rattle.std.specs.Prelude.{Bool, List, None, Option, Some, [], false, length, true, ℕ, ◌++◌, ◌∷◌}
+use Rattle.std.{proofs.Common.{ap, append_assoc, arith, length-append, refl, ◌<◌, ◌∙◌, ◌≡◌}, specs.Prelude.{Bool, List, None, Option, Some}}
+use Rattle.std.specs.Prelude.{[], false, length, true, ℕ, ◌++◌, ◌∷◌}
 use Rattle.yaml_recognizers.proofs.Prelude.{and_parts, false≢true, white, FlowContext, safe, Sep, comment_line_fits, comments_text}
 use Rattle.yaml_recognizers.proofs.Prelude.{gap_text, indents, inline, line_end_text, lines, sep_text, list_all, first}
-use Rattle.yaml_recognizers.specs.{Comments.read_line_end, Ends.solid, Prefixes.drop_while}
-use Rattle.yaml_recognizers.specs.CanonicalComments.{canonical_comments, canonical_gap}
-use Rattle.yaml_recognizers.specs.Gaps.{gap_after, gap_from, inline_gap, lines_gap, read_gap}
-use Rattle.yaml_recognizers.proofs.Separation.CommentsComplete.{comments_read, line_end_read, solid_no_line}
-use Rattle.yaml_recognizers.proofs.Basics.Prefixes.{drop_while_all, take_while_all}
-use Rattle.yaml_recognizers.proofs.Separation.LineEnds.{comments_parts, line_long, line_unsafe, lines_long, white_unsafe}
-use Rattle.yaml_recognizers.proofs.Basics.Solid.{solid_not_white, solid_parts, solid_undropped, solid_untaken}
+use Rattle.yaml_recognizers.proofs.Separation.{CommentsComplete.{comments_read, line_end_read, solid_no_line}, LineEnds.comments_parts}
+use Rattle.yaml_recognizers.proofs.{Separation.LineEnds.{line_long, line_unsafe, lines_long, white_unsafe}, Basics.Prefixes.drop_while_all}
+use Rattle.yaml_recognizers.proofs.Basics.{Prefixes.take_while_all, Solid.{solid_not_white, solid_parts, solid_undropped, solid_untaken}}
+use Rattle.yaml_recognizers.specs.{Comments.read_line_end, Ends.solid, Prefixes.drop_while, CanonicalComments.canonical_comments}
+use Rattle.yaml_recognizers.specs.{CanonicalComments.canonical_gap, Gaps.{gap_after, gap_from, inline_gap, lines_gap, read_gap}}
 
 -- a separation that isn't empty begins with no safe character
 pub sep_unsafe : (n : ℕ) (key : Bool) (d : FlowContext) (sep : Sep) (after : List ℕ)

@@ -1,14 +1,13 @@
 -- A gap that is read fits.
-use Rattle.std.proofs.Common.{ap, append_assoc, refl, subst, sym, ◌<◌, ◌∙◌, ◌≡◌}
-use Rattle.std.specs.Prelude.{Bool, List, None, Some, [], false, length, true, ℕ, ◌++◌, ◌∷◌}
+use Rattle.std.{proofs.Common.{ap, append_assoc, refl, subst, sym, ◌<◌, ◌∙◌, ◌≡◌}, specs.Prelude.{Bool, List, None, Some, [], false}}
+use Rattle.std.specs.Prelude.{length, true, ℕ, ◌++◌, ◌∷◌}
 use Rattle.yaml_recognizers.proofs.Prelude.{and_from, cond_both, white, LineEnd, comment_line_fits, comments_text, gap_text, indents}
-use Rattle.yaml_recognizers.proofs.Prelude.{line_end_text, lines, list_all}
-use Rattle.yaml_recognizers.specs.{Comments.read_comments, Comments.read_line_end, Prefixes.drop_while, Prefixes.take_while, Reading.Read}
-use Rattle.yaml_recognizers.specs.CanonicalComments.{canonical_comments, canonical_gap, is_line_end}
-use Rattle.yaml_recognizers.specs.Gaps.{GapRead, gap_from, inline_gap, read_gap}
-use Rattle.yaml_recognizers.proofs.{Separation.LineEnds.comments_from, Basics.Reading.Sound}
-use Rattle.yaml_recognizers.proofs.Separation.CommentsSound.{CommentsOf, LineOf, comments_end, comments_sound, line_sound, shorter}
-use Rattle.yaml_recognizers.proofs.Basics.Prefixes.{take_while_every, take_while_split}
+use Rattle.yaml_recognizers.proofs.{Prelude.{line_end_text, lines, list_all}, Separation.{LineEnds.comments_from, CommentsSound.CommentsOf}}
+use Rattle.yaml_recognizers.proofs.Separation.CommentsSound.{LineOf, comments_end, comments_sound, line_sound, shorter}
+use Rattle.yaml_recognizers.{proofs.Basics.{Reading.Sound, Prefixes.{take_while_every, take_while_split}}, specs.Comments.read_comments}
+use Rattle.yaml_recognizers.specs.{Comments.read_line_end, Prefixes.{drop_while, take_while}, Reading.Read}
+use Rattle.yaml_recognizers.specs.{CanonicalComments.{canonical_comments, canonical_gap, is_line_end}, Gaps.{GapRead, gap_from, inline_gap}}
+use Rattle.yaml_recognizers.specs.Gaps.{read_gap}
 
 -- the gap fits at the start of the text, before the rest
 abbrev pub GapOf : ℕ → Bool → List ℕ → GapRead → Type 0

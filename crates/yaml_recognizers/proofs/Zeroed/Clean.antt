@@ -1,7 +1,6 @@
 -- No presentation that fits spells a zero, production by production.
-use Rattle.std.proofs.Common.{◌≡◌, refl, sym, ◌∙◌, inl, inr, arith}
-use Rattle.std.specs.Prelude.{ℕ, zero, suc, ◌+◌, Bool, true, false, not, ◌&&◌, ◌||◌, ◌==◌, List, [], ◌∷◌, ◌++◌, Option, Some, None}
-use Rattle.std.specs.Prelude.{flat_map, codes, if◌then◌else◌}
+use Rattle.std.{proofs.Common.{◌≡◌, refl, sym, ◌∙◌, inl, inr, arith}, specs.Prelude.{ℕ, zero, suc, ◌+◌, Bool, true, false, not, ◌&&◌, ◌||◌}}
+use Rattle.std.specs.Prelude.{◌==◌, List, [], ◌∷◌, ◌++◌, Option, Some, None, flat_map, codes, if◌then◌else◌}
 use Rattle.yaml_recognizers.proofs.Prelude.{and_parts, and_from, or_cases, ne_eqb, not_from_false, false≢true, list_all, white, nb, ns}
 use Rattle.yaml_recognizers.proofs.Prelude.{nb_json, is_in, spaces, optional, is_empty, first, Break, lf, cr, cr_lf, break_text, LineEnd}
 use Rattle.yaml_recognizers.proofs.Prelude.{line_end_text, comment_fits, comment_text, line_end_fits, comment_line_fits, comments_text}
@@ -14,8 +13,7 @@ use Rattle.yaml_recognizers.proofs.Prelude.{plain_kind, plain_lines, quoted_char
 use Rattle.yaml_recognizers.proofs.Prelude.{hex_digit, Chomping, strip, clip, keep, Header, BlockEmptyLine, TextLine, BlockScalar}
 use Rattle.yaml_recognizers.proofs.Prelude.{digit_text, chomping_text, header_text, block_empty_text, block_empties_text, text_line_text}
 use Rattle.yaml_recognizers.proofs.Prelude.{text_lines_text, body_text, bare_block_text, block_text, text_line_fits, text_lines_fit}
-use Rattle.yaml_recognizers.proofs.Prelude.{trail_fits, header_fits, block_fits}
-use Rattle.yaml_recognizers.specs.Zeroed.{no_zero}
+use Rattle.yaml_recognizers.{proofs.Prelude.{trail_fits, header_fits, block_fits}, specs.Zeroed.no_zero}
 
 -- ---- texts
 

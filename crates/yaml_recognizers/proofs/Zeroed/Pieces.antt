@@ -5,9 +5,8 @@ use Rattle.yaml_recognizers.proofs.Prelude.{All, concat, append-nil, concat-appe
 use Rattle.yaml_recognizers.proofs.Prelude.{Contains-append_left, Contains-append_right, cases_Bool, cases_lt, and_parts, and_from}
 use Rattle.yaml_recognizers.proofs.Prelude.{or_cases, or_left, or_right, not-true, eqb-true, false≢true, begins, ClosesAt, ClosesOnce}
 use Rattle.yaml_recognizers.proofs.OneStyle.Closings.{ends_from, closes, closes_from, closes_at, closes_within, closes_from_line}
-use Rattle.yaml_recognizers.proofs.OneStyle.Closings.{closes_range}
-use Rattle.yaml_recognizers.specs.Zeroed.{Zeroed, no_zero, NoClosingMade, AreLeft, PiecesLeft, HoleAfter, HolesAfter, WholeBehind}
-use Rattle.yaml_recognizers.specs.Zeroed.{CutsAreZeroed}
+use Rattle.yaml_recognizers.{proofs.OneStyle.Closings.closes_range, specs.Zeroed.{Zeroed, no_zero, NoClosingMade, AreLeft, PiecesLeft}}
+use Rattle.yaml_recognizers.specs.Zeroed.{HoleAfter, HolesAfter, WholeBehind, CutsAreZeroed}
 
 -- ---- closing lines
 

@@ -1,7 +1,7 @@
 -- Nodes, documents and streams that fit have no zero; nor have their bytes.
-use Rattle.std.proofs.Common.{◌≡◌, refl, sym, ◌∙◌, ap, inl, inr, ◌⊎◌, arith, ◌≤◌}
-use Rattle.std.specs.Prelude.{ℕ, suc, ◌+◌, ◌/◌, ◌%◌, Bool, true, false, not, cond, ◌&&◌, ◌==◌, nat_lt, List, [], ◌∷◌, ◌++◌, Option, Some}
-use Rattle.std.specs.Prelude.{None, flat_map, codes, if◌then◌else◌, is_some, encode_utf8_all}
+use Rattle.std.{proofs.Common.{◌≡◌, refl, sym, ◌∙◌, ap, inl, inr, ◌⊎◌, arith, ◌≤◌}, specs.Prelude.{ℕ, suc, ◌+◌, ◌/◌, ◌%◌, Bool, true}}
+use Rattle.std.specs.Prelude.{false, not, cond, ◌&&◌, ◌==◌, nat_lt, List, [], ◌∷◌, ◌++◌, Option, Some, None, flat_map, codes, if◌then◌else◌}
+use Rattle.std.specs.Prelude.{is_some, encode_utf8_all}
 use Rattle.yaml_recognizers.proofs.Prelude.{chars, encode, and_parts, and_from, ne_eqb, not_from_false, encodes-chars, white, spaces}
 use Rattle.yaml_recognizers.proofs.Prelude.{optional, starts_line, LineEnd, comments_text, Sep, sep_text, gap_text, gap_fits, FlowContext}
 use Rattle.yaml_recognizers.proofs.Prelude.{outer, block_key, flow_key, in_flow, one_line, Flow, scalar, seq, map, Entries, none, last}
@@ -14,12 +14,10 @@ use Rattle.yaml_recognizers.proofs.Prelude.{node_fits, items_fit, pairs_fit, pai
 use Rattle.yaml_recognizers.proofs.Prelude.{yaml_1_1, yaml_1_2, Document, bare, explicit, directed, Part, suffixes, line, further, Stream}
 use Rattle.yaml_recognizers.proofs.Prelude.{explicit_text, version_text, document_text, directive_text, suffix_text, part_text, parts_text}
 use Rattle.yaml_recognizers.proofs.Prelude.{mark_text, stream_text, explicit_fits, document_fits, optional_document_fits, suffix_fits}
-use Rattle.yaml_recognizers.proofs.Prelude.{suffixes_fit, part_fits, parts_fit, fits}
-use Rattle.yaml_recognizers.specs.Closings.{framed_text}
-use Rattle.yaml_recognizers.specs.StyleLaws.{FramedPresents, CanReadAs}
-use Rattle.yaml_recognizers.specs.Zeroed.{no_zero, NoZeroPresented, NoZeroByte, NoZeroWritten}
-use Rattle.yaml_recognizers.proofs.Zeroed.Clean.{joined, tested, spaces_clean, comment_line_clean, comments_clean, sep_clean, gap_clean}
-use Rattle.yaml_recognizers.proofs.Zeroed.Clean.{scalar_clean, block_clean}
+use Rattle.yaml_recognizers.proofs.{Prelude.{suffixes_fit, part_fits, parts_fit, fits}, Zeroed.Clean.{joined, tested, spaces_clean}}
+use Rattle.yaml_recognizers.proofs.Zeroed.Clean.{comment_line_clean, comments_clean, sep_clean, gap_clean, scalar_clean, block_clean}
+use Rattle.yaml_recognizers.specs.{Closings.framed_text, StyleLaws.{FramedPresents, CanReadAs}, Zeroed.{no_zero, NoZeroPresented}}
+use Rattle.yaml_recognizers.specs.Zeroed.{NoZeroByte, NoZeroWritten}
 
 -- ---- flow nodes
 

@@ -1,7 +1,6 @@
 -- The number doesn't go on with the byte.
 use Rattle.std.proofs.Common.{rules}
-use Rattle.command_line.specs.Numbers.{is_decimal}
-use Rattle.command_line.proofs.WordLemmas.{stops_at}
+use Rattle.command_line.{specs.Numbers.is_decimal, proofs.WordLemmas.stops_at}
 use Rattle.command_line.proofs.numbers.is_decimal.Goals as goal
 
 pub returns-in-None : goal.returns-in-None

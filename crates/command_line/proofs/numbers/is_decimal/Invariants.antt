@@ -1,6 +1,5 @@
 -- What is left goes on so behind the part.
-use Rattle.std.proofs.Common.{◌≡◌, drop}
-use Rattle.std.specs.Prelude.{Some}
+use Rattle.std.{proofs.Common.{◌≡◌, drop}, specs.Prelude.Some}
 use Rattle.command_line.specs.Numbers.{goes_on, is_decimal}
 use Rattle.command_line.proofs.numbers.is_decimal.Given as goal
 

@@ -1,8 +1,6 @@
 -- The arguments before have another letter, or none.
-use Rattle.std.proofs.Common.{◌≡◌, drop, map}
-use Rattle.std.specs.Prelude.{find}
-use Rattle.command_line.specs.Rows.{row_of}
-use Rattle.command_line.specs.Forms.{has_letter}
+use Rattle.std.{proofs.Common.{◌≡◌, drop, map}, specs.Prelude.find}
+use Rattle.command_line.specs.{Rows.row_of, Forms.has_letter}
 use Rattle.command_line.proofs.reader.lettered.Given as goal
 
 abbrev pub invariant-loop-argument : goal.invariant-loop-argument

@@ -1,8 +1,6 @@
 -- The arguments before have other names.
-use Rattle.std.proofs.Common.{◌≡◌, drop, map}
-use Rattle.std.specs.Prelude.{find}
-use Rattle.command_line.specs.Rows.{row_of}
-use Rattle.command_line.specs.Forms.{is_option_of}
+use Rattle.std.{proofs.Common.{◌≡◌, drop, map}, specs.Prelude.find}
+use Rattle.command_line.specs.{Rows.row_of, Forms.is_option_of}
 use Rattle.command_line.proofs.reader.option_of.Given as goal
 
 abbrev pub invariant-loop-argument : goal.invariant-loop-argument

@@ -1,6 +1,5 @@
 -- What the search for a first `-` says.
-use Rattle.std.proofs.Common.{arith}
-use Rattle.std.proofs.lemmas.Str.Pattern.{strip_prefix_char}
+use Rattle.std.proofs.{Common.arith, lemmas.Str.Pattern.strip_prefix_char}
 use Rattle.command_line.proofs.LookLemmas.{stripped}
 use Rattle.command_line.proofs.words.after_dash.Goals as goal
 

@@ -1,8 +1,6 @@
 -- What the search for a first `=` says.
-use Rattle.std.proofs.Common.{Some, None, arith, ap, sym, ◌∙◌}
-use Rattle.std.proofs.lemmas.Str.Pattern.{split_parts}
-use Rattle.command_line.specs.Looks.{name_in, text_in}
-use Rattle.command_line.proofs.LookLemmas.{before_at, before_none, behind_at, behind_none}
+use Rattle.std.proofs.{Common.{Some, None, arith, ap, sym, ◌∙◌}, lemmas.Str.Pattern.split_parts}
+use Rattle.command_line.{specs.Looks.{name_in, text_in}, proofs.LookLemmas.{before_at, before_none, behind_at, behind_none}}
 use Rattle.command_line.proofs.words.name_and_text.Goals as goal
 
 pub returns-in-Some-clause-name : goal.returns-in-Some-clause-name

@@ -1,8 +1,5 @@
-use Rattle.std.proofs.Common.{◌-◌, sym, subst, arith, rules}
-use Rattle.std.specs.Prelude.{false, slice_index}
-use Rattle.yaml_chars.specs.Classes.{white}
-use Rattle.std.proofs.Common.{◌≡◌}
-use Rattle.comments_kept.proofs.BlankEnds.{run_more}
+use Rattle.std.{proofs.Common.{◌-◌, sym, subst, arith, rules, ◌≡◌}, specs.Prelude.{false, slice_index}}
+use Rattle.{yaml_chars.specs.Classes.white, comments_kept.proofs.BlankEnds.run_more}
 use Rattle.comments_kept.proofs.blanks.blanks_start.Goals as goal
 
 pub loop-start-preserved : goal.loop-start-preserved

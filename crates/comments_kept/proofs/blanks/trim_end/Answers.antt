@@ -1,7 +1,5 @@
-use Rattle.std.proofs.Common.{ap, subst, ◌∙◌, length}
-use Rattle.std.specs.Str.{chars}
-use Rattle.comments_kept.specs.Blanks.{IsWhiteRun}
-use Rattle.comments_kept.proofs.BlankEnds.{before_is, cut_before_white, trim_is}
+use Rattle.std.{proofs.Common.{ap, subst, ◌∙◌, length}, specs.Str.chars}
+use Rattle.comments_kept.{specs.Blanks.IsWhiteRun, proofs.BlankEnds.{before_is, cut_before_white, trim_is}}
 use Rattle.comments_kept.proofs.blanks.trim_end.Goals as goal
 
 pub range-requires-clause-end_boundary : goal.range-requires-clause-end_boundary

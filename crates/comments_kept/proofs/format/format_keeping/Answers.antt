@@ -1,11 +1,7 @@
-use Rattle.std.proofs.Common.{sym, subst, string_bytes, inr}
-use Rattle.std.specs.Prelude.{MatchBool}
-use Rattle.std.proofs.lemmas.Str.{IsUtf8-string_bytes}
-use Rattle.yaml_config.specs.Kept.{limits_of}
-use Rattle.yaml_data.specs.Seen.{tree_of}
-use Rattle.yaml_tree.specs.Reading.{IsRead}
-use Rattle.comments_kept.specs.Keeping.{Writes, Changes}
-use Rattle.comments_kept.proofs.Keeping.{read_again, same_tree, settled, writes, written_bare, written_comments, written_style}
+use Rattle.std.{proofs.{Common.{sym, subst, string_bytes, inr}, lemmas.Str.IsUtf8-string_bytes}, specs.Prelude.MatchBool}
+use Rattle.{yaml_config.specs.Kept.limits_of, yaml_data.specs.Seen.tree_of, yaml_tree.specs.Reading.IsRead}
+use Rattle.comments_kept.{specs.Keeping.{Writes, Changes}, proofs.Keeping.{read_again, same_tree, settled, writes, written_bare}}
+use Rattle.comments_kept.proofs.Keeping.{written_comments, written_style}
 use Rattle.comments_kept.proofs.format.format_keeping.Goals as goal
 
 pub returns-then-branch-clause-tree : goal.returns-then-branch-clause-tree

@@ -1,10 +1,7 @@
-use Rattle.std.proofs.Common.{◌≡◌, ap, sym, subst, ◌∙◌, string_bytes}
-use Rattle.std.specs.Prelude.{nat_eq}
+use Rattle.std.{proofs.Common.{◌≡◌, ap, sym, subst, ◌∙◌, string_bytes}, specs.Prelude.nat_eq}
 use lib.Pointwise.{pointwise}
 use Rattle.std.specs.Cmp.Lexicographic.{same_text}
-use Rattle.comments_kept.specs.Keeping.{IsWritten, Writes}
-use Rattle.yaml_data.specs.Seen.{tree_of}
-use Rattle.comments_kept.proofs.Keeping.{writes, compared}
+use Rattle.{comments_kept.{specs.Keeping.{IsWritten, Writes}, proofs.Keeping.{writes, compared}}, yaml_data.specs.Seen.tree_of}
 use Rattle.comments_kept.proofs.format.is_settled.Goals as goal
 
 pub returns-in-Ok-clause-settled : goal.returns-in-Ok-clause-settled

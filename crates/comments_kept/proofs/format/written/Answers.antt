@@ -1,12 +1,6 @@
-use Rattle.std.proofs.Common.{sym, ◌∙◌, ap, subst}
-use Rattle.std.specs.List.{list_all}
-use Rattle.yaml_chars.specs.Classes.{nb}
-use Rattle.yaml_events.specs.Meant.{events_of}
-use Rattle.std.specs.Prelude.{MatchOption, string_bytes}
-use Rattle.yaml_data.specs.Seen.{tree_of}
-use Rattle.comments_kept.specs.Keeping.{texts_at}
-use Rattle.comments_kept.specs.Places.{marks, marks_of}
-use Rattle.comments_kept.specs.Weaving.{texts_of, IsWoven, LeavesOver}
+use Rattle.std.{proofs.Common.{sym, ◌∙◌, ap, subst}, specs.{List.list_all, Prelude.{MatchOption, string_bytes}}}
+use Rattle.{yaml_chars.specs.Classes.nb, yaml_events.specs.Meant.events_of, yaml_data.specs.Seen.tree_of}
+use Rattle.comments_kept.specs.{Keeping.texts_at, Places.{marks, marks_of}, Weaving.{texts_of, IsWoven, LeavesOver}}
 use Rattle.comments_kept.proofs.Keeping.{AreFound, found}
 use Rattle.comments_kept.proofs.format.written.Goals as goal
 

@@ -1,7 +1,6 @@
 use Rattle.std.proofs.Common.{◌≡◌, ◌++◌, ◌∷◌, sym, ap₂, ◌∙◌, subst, arith}
-use Rattle.yaml_writer.proofs.Prelude.{IsCharBoundary-after_ascii, MatchOption, chars, IsUtf8, line_feed}
-use Rattle.yaml_writer.specs.Lines.{IsOneLine}
-use Rattle.yaml_writer.proofs.LineLemmas.{first_feed, one_line_from_bytes, cut_at_feed, line_before}
+use Rattle.yaml_writer.proofs.{Prelude.{IsCharBoundary-after_ascii, MatchOption, chars, IsUtf8, line_feed}, LineLemmas.first_feed}
+use Rattle.yaml_writer.{proofs.LineLemmas.{one_line_from_bytes, cut_at_feed, line_before}, specs.Lines.IsOneLine}
 use Rattle.comments_kept.proofs.lines.split_line.Goals as goal
 
 pub range_from-requires : goal.range_from-requires

@@ -1,6 +1,5 @@
 use Rattle.std.proofs.Common.{subst, sym, ◌∙◌}
-use Rattle.yaml_writer.proofs.Prelude.{on_ok_weaker, chars}
-use Rattle.yaml_writer.proofs.StyleLemmas.{key_plain, key_quoted}
+use Rattle.yaml_writer.proofs.{Prelude.{on_ok_weaker, chars}, StyleLemmas.{key_plain, key_quoted}}
 use Rattle.comments_kept.proofs.long_key.write_key_text.Goals as goal
 
 pub returns-in-Plain : goal.returns-in-Plain

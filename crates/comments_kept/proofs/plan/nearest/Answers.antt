@@ -1,9 +1,6 @@
-use Rattle.std.proofs.Common.{◌≡◌, ◌+◌, ◌-◌, ℕ, suc, zero, List, sym, ap, ◌∙◌, arith, length}
-use Rattle.std.specs.Prelude.{Option, Some}
-use Rattle.comments_kept.specs.Lines.{held}
-use Rattle.comments_kept.specs.Places.{holders, better, with_outer}
+use Rattle.std.{proofs.Common.{◌≡◌, ◌+◌, ◌-◌, ℕ, suc, zero, List, sym, ap, ◌∙◌, arith, length}, specs.Prelude.{Option, Some}}
+use Rattle.comments_kept.specs.{Lines.held, Places.{holders, better, with_outer}, declared.rows.Collection.Collection}
 use Rattle.comments_kept.specs.Places as place
-use Rattle.comments_kept.specs.declared.rows.Collection.{Collection}
 use Rattle.comments_kept.proofs.plan.nearest.Goals as goal
 
 -- one more collection

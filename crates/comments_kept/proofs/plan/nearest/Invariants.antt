@@ -1,6 +1,5 @@
 -- What is nearest from here on is nearest from the start.
-use Rattle.std.proofs.Common.{◌≡◌, ◌-◌, length}
-use Rattle.std.specs.Prelude.{None}
+use Rattle.std.{proofs.Common.{◌≡◌, ◌-◌, length}, specs.Prelude.None}
 use Rattle.comments_kept.specs.Places.{holders}
 use Rattle.comments_kept.specs.Places as place
 use Rattle.comments_kept.proofs.plan.nearest.Given as goal

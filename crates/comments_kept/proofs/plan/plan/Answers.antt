@@ -1,8 +1,6 @@
 use Rattle.std.proofs.Common.{◌≡◌, ◌+◌, ◌++◌, ap, ap₂, sym, ◌∙◌, subst, drop, get_or, length, append_assoc, append-nil, arith}
 use Rattle.std.proofs.lemmas.List.{drop_all, drop_more}
-use Rattle.comments_kept.specs.Keeping.{AreTexts, texts_at}
-use Rattle.comments_kept.specs.Places.{marks_from, marks_of, empties_between, step_of}
-use Rattle.comments_kept.specs.Weaving.{texts_of}
+use Rattle.comments_kept.specs.{Keeping.{AreTexts, texts_at}, Places.{marks_from, marks_of, empties_between, step_of}, Weaving.texts_of}
 use Rattle.comments_kept.proofs.plan.plan.Goals as goal
 
 pub push_comment-requires-clause-utf8 : goal.push_comment-requires-clause-utf8

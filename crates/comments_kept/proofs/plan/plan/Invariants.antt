@@ -1,8 +1,6 @@
 -- What is kept so far has the comments before the next one.
 use Rattle.std.proofs.Common.{◌≡◌, ◌++◌, [], drop}
-use Rattle.comments_kept.specs.Keeping.{AreTexts, texts_at}
-use Rattle.comments_kept.specs.Places.{marks_from, marks_of}
-use Rattle.comments_kept.specs.Weaving.{texts_of}
+use Rattle.comments_kept.specs.{Keeping.{AreTexts, texts_at}, Places.{marks_from, marks_of}, Weaving.texts_of}
 use Rattle.comments_kept.proofs.plan.plan.Given as goal
 
 abbrev pub invariant-loop-comment : goal.invariant-loop-comment

@@ -1,7 +1,5 @@
-use Rattle.std.proofs.Common.{◌++◌, ◌∷◌, [], ap, ◌∙◌}
-use Rattle.std.specs.Str.{chars}
-use Rattle.comments_kept.specs.Weaving.{texts_of}
-use Rattle.comments_kept.proofs.Planning.{comment_added}
+use Rattle.std.{proofs.Common.{◌++◌, ◌∷◌, [], ap, ◌∙◌}, specs.Str.chars}
+use Rattle.comments_kept.{specs.Weaving.texts_of, proofs.Planning.comment_added}
 use Rattle.comments_kept.proofs.plan.push_comment.Goals as goal
 
 pub returns-then-is_before-clause-texts : goal.returns-then-is_before-clause-texts

@@ -1,6 +1,5 @@
 use Rattle.std.proofs.Common.{ap, rules, ◌∙◌}
-use Rattle.comments_kept.specs.Weaving.{texts_of}
-use Rattle.comments_kept.proofs.Planning.{empty_line_added}
+use Rattle.comments_kept.{specs.Weaving.texts_of, proofs.Planning.empty_line_added}
 use Rattle.comments_kept.proofs.plan.push_empty_line.Goals as goal
 
 pub returns-clause-texts : goal.returns-clause-texts

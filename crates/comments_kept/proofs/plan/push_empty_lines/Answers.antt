@@ -1,8 +1,6 @@
-use Rattle.std.proofs.Common.{◌∙◌, ◌++◌, ◌+◌, ap, sym, append_assoc, append-nil, arith, get_or}
-use Rattle.std.specs.Prelude.{None}
-use Rattle.comments_kept.specs.Places.{empties, empty_above, empties_between, marks_of}
-use Rattle.comments_kept.specs.declared.rows.Row.{Row}
-use Rattle.comments_kept.proofs.Ranges.{range_more, range_none}
+use Rattle.std.{proofs.Common.{◌∙◌, ◌++◌, ◌+◌, ap, sym, append_assoc, append-nil, arith, get_or}, specs.Prelude.None}
+use Rattle.comments_kept.{specs.{Places.{empties, empty_above, empties_between, marks_of}, declared.rows.Row.Row}, proofs.Ranges.range_more}
+use Rattle.comments_kept.proofs.Ranges.{range_none}
 use Rattle.comments_kept.proofs.plan.push_empty_lines.Goals as goal
 
 pub loop-row-preserved : goal.loop-row-preserved

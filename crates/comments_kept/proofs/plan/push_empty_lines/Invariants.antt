@@ -1,8 +1,6 @@
 -- What is kept so far, and the empty lines above the lines from here on, are what is kept behind the loop.
 use Rattle.std.proofs.Common.{◌≡◌, ◌++◌}
-use Rattle.comments_kept.specs.Keeping.{HasNoBlankLine}
-use Rattle.comments_kept.specs.Places.{empties_between, marks_of}
-use Rattle.comments_kept.specs.Weaving.{texts_of}
+use Rattle.comments_kept.specs.{Keeping.HasNoBlankLine, Places.{empties_between, marks_of}, Weaving.texts_of}
 use Rattle.comments_kept.proofs.plan.push_empty_lines.Given as goal
 
 abbrev pub invariant-loop-row : goal.invariant-loop-row

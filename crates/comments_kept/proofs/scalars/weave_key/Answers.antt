@@ -1,7 +1,5 @@
-use Rattle.std.proofs.Common.{sym}
-use Rattle.std.specs.Str.{chars}
-use Rattle.yaml_writer.proofs.Prelude.{on_ok_weaker}
-use Rattle.comments_kept.proofs.ScalarParts.{key_woven}
+use Rattle.std.{proofs.Common.sym, specs.Str.chars}
+use Rattle.{yaml_writer.proofs.Prelude.on_ok_weaker, comments_kept.proofs.ScalarParts.key_woven}
 use Rattle.comments_kept.proofs.scalars.weave_key.Goals as goal
 
 pub returns : goal.returns

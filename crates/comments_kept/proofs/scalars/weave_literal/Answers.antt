@@ -1,6 +1,5 @@
 use Rattle.std.proofs.Common.{subst}
-use Rattle.yaml_writer.proofs.Prelude.{on_ok_weaker}
-use Rattle.comments_kept.specs.Weaving.{Wrote}
+use Rattle.{yaml_writer.proofs.Prelude.on_ok_weaker, comments_kept.specs.Weaving.Wrote}
 use Rattle.comments_kept.proofs.scalars.weave_literal.Goals as goal
 
 pub returns : goal.returns

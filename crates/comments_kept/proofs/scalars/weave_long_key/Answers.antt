@@ -1,7 +1,5 @@
-use Rattle.std.proofs.Common.{codes, refl, subst}
-use Rattle.std.specs.Str.{chars}
-use Rattle.yaml_writer.proofs.Prelude.{on_ok_weaker, chars-literal}
-use Rattle.comments_kept.specs.Weaving.{Wrote}
+use Rattle.std.{proofs.Common.{codes, refl, subst}, specs.Str.chars}
+use Rattle.{yaml_writer.proofs.Prelude.{on_ok_weaker, chars-literal}, comments_kept.specs.Weaving.Wrote}
 use Rattle.comments_kept.proofs.ScalarParts.{long_key_woven}
 use Rattle.comments_kept.proofs.scalars.weave_long_key.Goals as goal
 

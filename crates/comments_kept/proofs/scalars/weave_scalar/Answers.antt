@@ -1,11 +1,7 @@
-use Rattle.std.proofs.Common.{codes, refl, sym, subst, ◌∙◌}
-use Rattle.std.proofs.lemmas.Str.{encodes-chars}
-use Rattle.comments_kept.specs.Laid.{ends_blank}
-use Rattle.comments_kept.specs.Weaving.{WroteBelow}
-use Rattle.std.specs.Str.{chars}
+use Rattle.std.{proofs.{Common.{codes, refl, sym, subst, ◌∙◌}, lemmas.Str.encodes-chars}, specs.Str.chars}
+use Rattle.comments_kept.{specs.{Laid.ends_blank, Weaving.WroteBelow}, proofs.ScalarParts.{is_plain, is_double, is_strip, is_clip, is_keep}}
+use Rattle.comments_kept.proofs.ScalarParts.{plain_woven, double_woven, short_literal, filled_literal}
 use Rattle.yaml_writer.proofs.Prelude.{on_ok_weaker, chars-literal}
-use Rattle.comments_kept.proofs.ScalarParts.{is_plain, is_double, is_strip, is_clip, is_keep, plain_woven, double_woven}
-use Rattle.comments_kept.proofs.ScalarParts.{short_literal, filled_literal}
 use Rattle.comments_kept.proofs.scalars.weave_scalar.Goals as goal
 
 pub weave_literal-requires-clause-header : goal.weave_literal-requires-clause-header

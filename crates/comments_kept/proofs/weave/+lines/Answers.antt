@@ -1,13 +1,10 @@
-use Rattle.std.proofs.Common.{◌≡◌, ◌+◌, drop, length, codes, subst, refl, sym, ap, ◌∙◌, arith}
-use Rattle.std.specs.Str.{chars}
-use Rattle.yaml_writer.proofs.Prelude.{eqb-true, eqb-false, drop_all, on_ok_weaker, elements_depth, members_depth, chars-literal}
-use Rattle.yaml_writer.proofs.Prelude.{drop_item, tree_of-Text, tree_of-Seq, tree_of-Map, tree_of, elements_of, members_of}
-use Rattle.yaml_data.specs.TextBytes.{text_bytes}
-use Rattle.comments_kept.specs.Weaving.{Wrote, WovenElement, WovenElements, WovenMembers, WovenValue, WovenKey, WovenScalar}
-use Rattle.comments_kept.proofs.Weaving.{line}
-use Rattle.comments_kept.proofs.Walks.{element_taken, no_elements, member_taken, no_members, element_text, element_no_items}
-use Rattle.comments_kept.proofs.Walks.{element_items, element_no_pairs, element_pairs, value_text, value_no_items, value_no_pairs}
-use Rattle.comments_kept.proofs.Walks.{value_items, value_pairs}
+use Rattle.std.{proofs.Common.{◌≡◌, ◌+◌, drop, length, codes, subst, refl, sym, ap, ◌∙◌, arith}, specs.Str.chars}
+use Rattle.yaml_writer.proofs.Prelude.{eqb-true, eqb-false, drop_all, on_ok_weaker, elements_depth, members_depth, chars-literal, drop_item}
+use Rattle.yaml_writer.proofs.Prelude.{tree_of-Text, tree_of-Seq, tree_of-Map, tree_of, elements_of, members_of}
+use Rattle.{yaml_data.specs.TextBytes.text_bytes, comments_kept.specs.Weaving.{Wrote, WovenElement, WovenElements, WovenMembers}}
+use Rattle.comments_kept.{specs.Weaving.{WovenValue, WovenKey, WovenScalar}, proofs.{Weaving.line, Walks.{element_taken, no_elements}}}
+use Rattle.comments_kept.proofs.Walks.{member_taken, no_members, element_text, element_no_items, element_items, element_no_pairs}
+use Rattle.comments_kept.proofs.Walks.{element_pairs, value_text, value_no_items, value_no_pairs, value_items, value_pairs}
 use Rattle.comments_kept.proofs.weave.+lines.Goals as goal
 
 -- ---- sequences

@@ -1,7 +1,6 @@
 -- What is left has room, and what ends it from here ends all of it from the start.
 use Rattle.std.proofs.Common.{◌+◌, ◌*◌, ◌<◌, drop}
-use Rattle.yaml_grammar.specs.Trees.{elements_depth, members_depth}
-use Rattle.yaml_data.specs.Seen.{elements_of, members_of}
+use Rattle.{yaml_grammar.specs.Trees.{elements_depth, members_depth}, yaml_data.specs.Seen.{elements_of, members_of}}
 use Rattle.comments_kept.specs.Weaving.{WovenElements, WovenMembers}
 use Rattle.comments_kept.proofs.weave.+lines.Given as goal
 

@@ -1,7 +1,5 @@
 use Rattle.std.proofs.Common.{arith, refl, ◌∙◌}
-use Rattle.yaml_writer.proofs.Prelude.{drop_all}
-use Rattle.yaml_data.specs.Seen.{tree_of}
-use Rattle.comments_kept.specs.declared.weaver.Weaver.{Weaver}
+use Rattle.{yaml_writer.proofs.Prelude.drop_all, yaml_data.specs.Seen.tree_of, comments_kept.specs.declared.weaver.Weaver.Weaver}
 use Rattle.comments_kept.proofs.Wholes.{whole, rest_is, some_left}
 use Rattle.comments_kept.proofs.weave.weave.Goals as goal
 

@@ -1,11 +1,8 @@
-use Rattle.std.proofs.Common.{◌≡◌, length, codes, subst, refl, sym, ap, ◌∙◌, arith}
-use Rattle.std.specs.Str.{chars}
-use Rattle.yaml_writer.proofs.Prelude.{eqb-true, eqb-false, on_ok_weaker, chars-literal, tree_of-Text, tree_of-Seq, tree_of-Map}
-use Rattle.yaml_writer.proofs.Prelude.{tree_of, elements_of, members_of}
-use Rattle.yaml_data.specs.TextBytes.{text_bytes}
-use Rattle.comments_kept.specs.Weaving.{Wrote, WovenElements, WovenMembers, WovenScalar, WovenTop}
-use Rattle.comments_kept.proofs.Weaving.{line}
-use Rattle.comments_kept.proofs.Walks.{top_text, top_no_items, top_items, top_no_pairs, top_pairs}
+use Rattle.std.{proofs.Common.{◌≡◌, length, codes, subst, refl, sym, ap, ◌∙◌, arith}, specs.Str.chars}
+use Rattle.yaml_writer.proofs.Prelude.{eqb-true, eqb-false, on_ok_weaker, chars-literal, tree_of-Text, tree_of-Seq, tree_of-Map, tree_of}
+use Rattle.{yaml_writer.proofs.Prelude.{elements_of, members_of}, yaml_data.specs.TextBytes.text_bytes, comments_kept.specs.Weaving.Wrote}
+use Rattle.comments_kept.{specs.Weaving.{WovenElements, WovenMembers, WovenScalar, WovenTop}, proofs.{Weaving.line, Walks.top_text}}
+use Rattle.comments_kept.proofs.Walks.{top_no_items, top_items, top_no_pairs, top_pairs}
 use Rattle.comments_kept.proofs.weave.weave_tree.Goals as goal
 
 pub returns-in-Text : goal.returns-in-Text

@@ -1,6 +1,5 @@
 use Rattle.std.proofs.Common.{rules, sym, ap, ◌∙◌}
-use Rattle.conf_about.proofs.Prelude.{mapping, members_of, the_lemmas, tree_of, tree_of-Map}
-use Rattle.conf_about.proofs.AddLemmas.{pair-off}
+use Rattle.conf_about.proofs.{Prelude.{mapping, members_of, the_lemmas, tree_of, tree_of-Map}, AddLemmas.pair-off}
 use Rattle.conf_about.proofs.adding.pop_pair.Goals as goal
 
 pub returns-in-Map : goal.returns-in-Map

@@ -1,7 +1,6 @@
 use Rattle.std.proofs.Common.{ap, ◌∙◌}
-use Rattle.conf_about.proofs.Prelude.{Pair, chars, members_of, text_bytes, tree_of-Text}
+use Rattle.conf_about.proofs.{Prelude.{Pair, chars, members_of, text_bytes, tree_of-Text}, AddLemmas.members-push}
 use Rattle.yaml_data.specs.declared.tree.Tree.{Text}
-use Rattle.conf_about.proofs.AddLemmas.{members-push}
 use Rattle.conf_about.proofs.adding.push_last.Goals as goal
 
 pub returns-clause-ok : goal.returns-clause-ok

@@ -1,6 +1,5 @@
 use Rattle.std.proofs.Common.{sym, ap, ◌∙◌}
-use Rattle.conf_about.proofs.Prelude.{members_of, tree_of, tree_of-Map}
-use Rattle.conf_about.specs.Abouts.{fault_of, first_of, pairs_fault, whole_fault}
+use Rattle.conf_about.{proofs.Prelude.{members_of, tree_of, tree_of-Map}, specs.Abouts.{fault_of, first_of, pairs_fault, whole_fault}}
 use Rattle.conf_about.proofs.finding.first_fault.Goals as goal
 
 pub returns-in-Some : goal.returns-in-Some

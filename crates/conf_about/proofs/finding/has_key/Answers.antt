@@ -1,6 +1,5 @@
 use Rattle.std.proofs.Common.{true, false, sym, ap, ◌∙◌, arith}
-use Rattle.conf_about.proofs.Prelude.{bytes_eq}
-use Rattle.conf_about.proofs.PairLemmas.{key-turn}
+use Rattle.conf_about.proofs.{Prelude.bytes_eq, PairLemmas.key-turn}
 use Rattle.conf_about.proofs.finding.has_key.Goals as goal
 
 pub returns-then-eq : goal.returns-then-eq

@@ -1,8 +1,5 @@
-use Rattle.std.proofs.Common.{true, false, length, refl, sym, ◌∙◌}
-use Rattle.std.specs.Prelude.{nat_lt}
-use Rattle.conf_about.proofs.Prelude.{chars, tree_of}
-use Rattle.conf_about.specs.Abouts.{is_text, key_limit}
-use Rattle.conf_about.proofs.{FaultLemmas.pair-is, PairLemmas.bytes-empty}
+use Rattle.std.{proofs.Common.{true, false, length, refl, sym, ◌∙◌}, specs.Prelude.nat_lt}
+use Rattle.conf_about.{proofs.{Prelude.{chars, tree_of}, FaultLemmas.pair-is, PairLemmas.bytes-empty}, specs.Abouts.{is_text, key_limit}}
 use Rattle.conf_about.proofs.finding.pair_fault.Goals as goal
 
 pub returns-then-is_empty : goal.returns-then-is_empty

@@ -1,6 +1,5 @@
 use Rattle.std.proofs.Common.{◌≡◌, drop}
-use Rattle.conf_about.proofs.Prelude.{members_of}
-use Rattle.conf_about.specs.Abouts.{pairs_fault}
+use Rattle.conf_about.{proofs.Prelude.members_of, specs.Abouts.pairs_fault}
 use Rattle.conf_about.proofs.finding.pairs_fault.Given as goal
 
 -- the pairs before have no fault

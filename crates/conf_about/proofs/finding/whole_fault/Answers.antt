@@ -1,9 +1,7 @@
-use Rattle.std.proofs.Common.{true, false, refl, sym, ap, ◌∙◌, arith}
-use Rattle.std.specs.Prelude.{◌==◌, nat_lt}
-use Rattle.conf_about.proofs.Prelude.{byte_len, depth, keys_differ, le-ltb, lt-ltb, members_of, style_text}
-use Rattle.conf_about.specs.Abouts.{pair_count, pair_limit, style_limit}
-use Rattle.conf_about.proofs.FaultLemmas.{None-pairs, is_large, pairs-shallow, whole-is}
-use Rattle.conf_about.proofs.PairLemmas.{count-pairs}
+use Rattle.std.{proofs.Common.{true, false, refl, sym, ap, ◌∙◌, arith}, specs.Prelude.{◌==◌, nat_lt}}
+use Rattle.conf_about.proofs.{Prelude.{byte_len, depth, keys_differ, le-ltb, lt-ltb, members_of, style_text}, FaultLemmas.None-pairs}
+use Rattle.conf_about.{proofs.{FaultLemmas.{is_large, pairs-shallow, whole-is}, PairLemmas.count-pairs}, specs.Abouts.pair_count}
+use Rattle.conf_about.specs.Abouts.{pair_limit, style_limit}
 use Rattle.conf_about.proofs.finding.whole_fault.Goals as goal
 
 pub is_large-requires : goal.is_large-requires

@@ -1,7 +1,6 @@
 use Rattle.std.proofs.Common.{ap, ◌∙◌, arith}
-use Rattle.conf_about.proofs.Prelude.{Pair, chars, text, tree_of-Text}
+use Rattle.conf_about.proofs.{Prelude.{Pair, chars, text, tree_of-Text}, WordLemmas.{words-end, words-turn}}
 use Rattle.yaml_data.specs.declared.tree.Tree.{Text}
-use Rattle.conf_about.proofs.WordLemmas.{words-end, words-turn}
 use Rattle.conf_about.proofs.words.pairs_of.Goals as goal
 
 pub loop-word-preserved : goal.loop-word-preserved

@@ -1,6 +1,5 @@
 use Rattle.std.proofs.Common.{◌≡◌, drop}
-use Rattle.conf_about.proofs.WordLemmas.{behind, texts}
-use Rattle.conf_about.specs.AboutWords.{members_in}
+use Rattle.conf_about.{proofs.WordLemmas.{behind, texts}, specs.AboutWords.members_in}
 use Rattle.conf_about.proofs.words.pairs_of.Given as goal
 
 -- the pairs that were made, and then those that are left, are those of all words

@@ -1,7 +1,5 @@
-use Rattle.std.proofs.Common.{Some, arith, sym, subst}
-use Rattle.std.proofs.lemmas.Str.Pattern.{split_parts}
-use Rattle.conf_about.proofs.Prelude.{IsCharBoundary}
-use Rattle.conf_about.proofs.WordLemmas.{chars-split, chars-whole}
+use Rattle.std.proofs.{Common.{Some, arith, sym, subst}, lemmas.Str.Pattern.split_parts}
+use Rattle.conf_about.proofs.{Prelude.IsCharBoundary, WordLemmas.{chars-split, chars-whole}}
 use Rattle.conf_about.proofs.words.split.Goals as goal
 
 pub returns-in-Some : goal.returns-in-Some

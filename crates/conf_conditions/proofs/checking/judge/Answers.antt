@@ -1,8 +1,6 @@
-use Rattle.std.proofs.Common.{◌≡◌, sym, ap, subst, ◌∙◌}
-use Rattle.std.specs.Str.{chars}
-use Rattle.yaml_data.specs.Seen.{tree_of}
-use Rattle.conf_state.specs.Commands.{text_of}
-use Rattle.conf_conditions.specs.Conditions.{Judges, condition_of, fault_of, test_at}
+use Rattle.std.{proofs.Common.{◌≡◌, sym, ap, subst, ◌∙◌}, specs.Str.chars}
+use Rattle.{yaml_data.specs.Seen.tree_of, conf_state.specs.Commands.text_of, conf_conditions.specs.Conditions.{Judges, condition_of}}
+use Rattle.conf_conditions.specs.Conditions.{fault_of, test_at}
 use Rattle.conf_conditions.proofs.checking.judge.Goals as goal
 
 pub returns-in-Test : goal.returns-in-Test

@@ -1,6 +1,5 @@
 use Rattle.std.proofs.Common.{ap, sym, ◌∙◌}
-use Rattle.conf_conditions.specs.SameTrees.{same_tree}
-use Rattle.conf_conditions.proofs.SameLemmas.{same_tree-true, same_tree-self}
+use Rattle.conf_conditions.{specs.SameTrees.same_tree, proofs.SameLemmas.{same_tree-true, same_tree-self}}
 use Rattle.conf_conditions.proofs.laws.same_trees_are_equal.Goals as goal
 
 pub returns : goal.returns

@@ -1,6 +1,5 @@
 use Rattle.std.proofs.Common.{◌≡◌, drop}
-use Rattle.yaml_data.specs.Seen.{elements_of, members_of}
-use Rattle.conf_conditions.specs.SameTrees.{same_elements, same_members}
+use Rattle.{yaml_data.specs.Seen.{elements_of, members_of}, conf_conditions.specs.SameTrees.{same_elements, same_members}}
 use Rattle.conf_conditions.proofs.same_tree.+same.Given as goal
 
 -- those before are equal

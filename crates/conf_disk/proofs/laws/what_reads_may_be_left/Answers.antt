@@ -1,5 +1,4 @@
-use Rattle.conf_disk.specs.Image.{image_now}
-use Rattle.conf_disk.proofs.Stops.{reading-image}
+use Rattle.conf_disk.{specs.Image.image_now, proofs.Stops.reading-image}
 use Rattle.conf_disk.proofs.laws.what_reads_may_be_left.Goals as goal
 
 pub returns : goal.returns

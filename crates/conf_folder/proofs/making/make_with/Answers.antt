@@ -1,6 +1,5 @@
 use Rattle.std.proofs.Common.{◌≡◌, Ok}
-use Rattle.conf_folder.specs.declared.calls.FolderMaking.TheVariants.{Made, Exists}
-use Rattle.conf_folder.proofs.NewFolders.{makes-none, makes-there}
+use Rattle.conf_folder.{specs.declared.calls.FolderMaking.TheVariants.{Made, Exists}, proofs.NewFolders.{makes-none, makes-there}}
 use Rattle.conf_folder.proofs.making.make_with.Goals as goal
 
 pub returns-in-Err-sync_parent : goal.returns-in-Err-sync_parent

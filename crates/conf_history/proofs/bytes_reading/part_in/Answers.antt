@@ -1,9 +1,7 @@
 -- The bytes up to the first closing line are the base, and the others are its records.
-use Rattle.std.proofs.Common.{rules, ◌∙◌, ℕ, List, sym, subst}
-use Rattle.std.specs.Prelude.{IfSome, IfNone}
-use Rattle.conf_history.specs.Prelude.{is_several}
-use Rattle.conf_history.proofs.Prelude.{ClosesOnce, IsNextClosing, NoClosingAfter, StartsLine, IsBase, IsNoBase, RecoversTo, RefusesBytes}
-use Rattle.conf_history.proofs.Prelude.{cut-apart, first-closes, first-no-base, no-closing-no-base}
+use Rattle.std.{proofs.Common.{rules, ◌∙◌, ℕ, List, sym, subst}, specs.Prelude.{IfSome, IfNone}}
+use Rattle.conf_history.{specs.Prelude.is_several, proofs.Prelude.{ClosesOnce, IsNextClosing, NoClosingAfter, StartsLine, IsBase, IsNoBase}}
+use Rattle.conf_history.proofs.Prelude.{RecoversTo, RefusesBytes, cut-apart, first-closes, first-no-base, no-closing-no-base}
 use Rattle.conf_history.proofs.bytes_reading.part_in.Goals as goal
 
 pub returns-in_default-clause-refused : goal.returns-in_default-clause-refused

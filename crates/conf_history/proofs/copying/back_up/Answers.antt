@@ -1,9 +1,7 @@
 -- A file was made of the copy that was read, or none was.
 use Rattle.std.proofs.Common.{Some, subst}
-use Rattle.conf_history.specs.Prelude.{is_several}
-use Rattle.conf_history.proofs.Prelude.{LeavesStoreOr}
-use Rattle.conf_history.specs.Copies.{CreatesFile, RefusesFile}
-use Rattle.conf_history.proofs.CopyLemmas.{backs-up, copy-leaves, refuses-copy}
+use Rattle.conf_history.{specs.{Prelude.is_several, Copies.{CreatesFile, RefusesFile}}, proofs.{Prelude.LeavesStoreOr, CopyLemmas.backs-up}}
+use Rattle.conf_history.proofs.CopyLemmas.{copy-leaves, refuses-copy}
 use Rattle.conf_history.proofs.copying.back_up.Goals as goal
 
 pub returns-in-Ok-create_file-clause-made : goal.returns-in-Ok-create_file-clause-made

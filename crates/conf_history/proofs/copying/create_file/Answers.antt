@@ -1,8 +1,7 @@
 -- The file is made where there was none, and a crash leaves an old store or all of it.
 use Rattle.std.proofs.Common.{ap}
-use Rattle.conf_store.proofs.CreateLemmas.{creation-leaves, creation-reads}
-use Rattle.conf_store.proofs.Prelude.{LeavesOnly-now}
-use Rattle.conf_history.specs.Prelude.{Image, IsImage}
+use Rattle.{conf_store.proofs.{CreateLemmas.{creation-leaves, creation-reads}, Prelude.LeavesOnly-now}, conf_history.specs.Prelude.Image}
+use Rattle.conf_history.specs.Prelude.{IsImage}
 use Rattle.conf_history.proofs.copying.create_file.Goals as goal
 
 pub returns-in-Ok-replace_store-clause-made : goal.returns-in-Ok-replace_store-clause-made

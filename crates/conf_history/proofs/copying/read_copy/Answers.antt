@@ -1,11 +1,8 @@
 -- Each turn performs one piece, and copies it.
-use Rattle.std.proofs.Common.{sym, ◌∙◌, ap, [], ◌∷◌, ◌++◌}
-use Rattle.std.specs.Prelude.{None, Ok}
-use Rattle.conf_history.specs.Prelude.{is_several}
-use Rattle.conf_history.proofs.Prelude.{concat, append-nil, err_from_is_err_and, piece_or_rest}
-use Rattle.conf_history.specs.Walks.{with_state}
-use Rattle.conf_history.proofs.{CopyLemmas.reads-copy, ReadingLemmas.goes-further, ReadingLemmas.fails-reading}
-use Rattle.conf_history.proofs.{ReadingLemmas.refuses-start, WalkLemmas.any-bytes, WalkLemmas.concat-last}
+use Rattle.std.{proofs.Common.{sym, ◌∙◌, ap, [], ◌∷◌, ◌++◌}, specs.Prelude.{None, Ok}}
+use Rattle.conf_history.{specs.{Prelude.is_several, Walks.with_state}, proofs.Prelude.{concat, append-nil, err_from_is_err_and}}
+use Rattle.conf_history.proofs.{Prelude.piece_or_rest, CopyLemmas.reads-copy, ReadingLemmas.{goes-further, fails-reading, refuses-start}}
+use Rattle.conf_history.proofs.WalkLemmas.{any-bytes, concat-last}
 use Rattle.conf_history.proofs.copying.read_copy.Goals as goal
 
 pub returns-in_err-part-clause-refused : goal.returns-in_err-part-clause-refused

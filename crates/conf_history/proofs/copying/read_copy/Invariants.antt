@@ -1,8 +1,6 @@
 -- What was read is pieces that were performed, from the base on, and these are the copy.
-use Rattle.std.proofs.Common.{◌≡◌, ◌-◌, ℕ, List}
-use Rattle.std.specs.Prelude.{None}
-use Rattle.conf_history.proofs.Prelude.{concat, store_limit, Command, Contents}
-use Rattle.conf_history.specs.Walks.{IsOn, with_state}
+use Rattle.std.{proofs.Common.{◌≡◌, ◌-◌, ℕ, List}, specs.Prelude.None}
+use Rattle.conf_history.{proofs.Prelude.{concat, store_limit, Command, Contents}, specs.Walks.{IsOn, with_state}}
 use Rattle.conf_history.proofs.copying.read_copy.Given as goal
 
 abbrev pub invariant-records : goal.invariant-records

@@ -1,10 +1,8 @@
 -- Each turn goes past one piece.
-use Rattle.std.proofs.Common.{rules, ◌+◌, inl, inr, ⊎_elim, ap, arith, subst}
-use Rattle.std.specs.Prelude.{Ok}
-use Rattle.conf_history.specs.Prelude.{is_several}
-use Rattle.conf_history.proofs.Prelude.{Advances, AdvancesToPiece, IsAnyRecord, IsNoRecord, piece_or_rest, store_limit}
-use Rattle.conf_history.proofs.SurveyLemmas.{counts-none, counts-more, counts-few, counts-smaller, known-none, known-counted}
-use Rattle.conf_history.proofs.WalkLemmas.{own-limits}
+use Rattle.std.{proofs.Common.{rules, ◌+◌, inl, inr, ⊎_elim, ap, arith, subst}, specs.Prelude.Ok}
+use Rattle.conf_history.{specs.Prelude.is_several, proofs.Prelude.{Advances, AdvancesToPiece, IsAnyRecord, IsNoRecord, piece_or_rest}}
+use Rattle.conf_history.proofs.{Prelude.store_limit, SurveyLemmas.{counts-none, counts-more, counts-few, counts-smaller, known-none}}
+use Rattle.conf_history.proofs.{SurveyLemmas.known-counted, WalkLemmas.own-limits}
 use Rattle.conf_history.proofs.following.look_behind.Goals as goal
 
 pub pieces-init : goal.pieces-init

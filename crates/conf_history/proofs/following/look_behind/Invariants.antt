@@ -1,7 +1,6 @@
 -- What was read since is pieces, and bytes that are in no piece yet.
 use Rattle.std.proofs.Common.{◌≤◌, ◌-◌, ◌+◌, length}
-use Rattle.conf_history.specs.Prelude.{is_several}
-use Rattle.conf_history.proofs.Prelude.{ahead, bytes_read, piece_or_rest, store_limit}
+use Rattle.conf_history.{specs.Prelude.is_several, proofs.Prelude.{ahead, bytes_read, piece_or_rest, store_limit}}
 use Rattle.conf_history.proofs.SurveyLemmas.{CountsSoFar, IsKnown}
 use Rattle.conf_history.proofs.following.look_behind.Given as goal
 

@@ -1,6 +1,5 @@
 use Rattle.std.proofs.Common.{◌++◌, encode_utf8_all, ap, ◌∙◌}
-use Rattle.conf_history.proofs.Prelude.{command_of}
-use Rattle.conf_history.specs.Logs.{command_line}
+use Rattle.conf_history.{proofs.Prelude.command_of, specs.Logs.command_line}
 use Rattle.conf_history.proofs.line.record_line.Goals as goal
 
 pub returns : goal.returns

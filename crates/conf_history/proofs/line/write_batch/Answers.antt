@@ -1,8 +1,6 @@
 use Rattle.std.proofs.Common.{[], codes, map, refl, sym, subst, arith}
-use Rattle.conf_history.proofs.Prelude.{drop_all, edit_of, ascii}
+use Rattle.conf_history.{proofs.{Prelude.{drop_all, edit_of, ascii}, LineLemmas.ascii-text}, specs.Logs.edits_words}
 use Rattle.yaml_data.proofs.ListLemmas.{drop_item}
-use Rattle.conf_history.specs.Logs.{edits_words}
-use Rattle.conf_history.proofs.LineLemmas.{ascii-text}
 use Rattle.conf_history.proofs.line.write_batch.Goals as goal
 
 pub loop-edit-init : goal.loop-edit-init

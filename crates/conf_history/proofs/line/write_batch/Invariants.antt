@@ -1,7 +1,6 @@
 -- what takes the edits from here on has taken them all from the start; the mark is of ASCII
 use Rattle.std.proofs.Common.{◌≡◌, [], drop, map}
-use Rattle.conf_history.proofs.Prelude.{chars, IsUtf8, edit_of}
-use Rattle.conf_history.specs.Logs.{edits_words}
+use Rattle.conf_history.{proofs.Prelude.{chars, IsUtf8, edit_of}, specs.Logs.edits_words}
 use Rattle.conf_history.proofs.line.write_batch.Given as goal
 
 abbrev pub invariant-loop-edit : goal.invariant-loop-edit

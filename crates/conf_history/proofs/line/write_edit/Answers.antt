@@ -1,6 +1,6 @@
 use Rattle.std.proofs.Common.{◌++◌, codes, subst, sym, []}
-use Rattle.conf_history.proofs.Prelude.{chars, on_ok_weaker, in_double_quotes, tree_of, edit_of, text_of}
-use Rattle.conf_history.specs.Logs.{edit_words, value_words}
+use Rattle.conf_history.{proofs.Prelude.{chars, on_ok_weaker, in_double_quotes, tree_of, edit_of, text_of}, specs.Logs.edit_words}
+use Rattle.conf_history.specs.Logs.{value_words}
 use Rattle.conf_history.proofs.line.write_edit.Goals as goal
 
 pub returns-in-Import : goal.returns-in-Import

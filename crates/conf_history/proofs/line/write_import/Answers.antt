@@ -1,6 +1,5 @@
 use Rattle.std.proofs.Common.{codes, [], refl, subst}
-use Rattle.conf_history.proofs.Prelude.{on_ok_weaker, ascii, tree_of}
-use Rattle.conf_history.specs.Logs.{value_words}
+use Rattle.conf_history.{proofs.Prelude.{on_ok_weaker, ascii, tree_of}, specs.Logs.value_words}
 use Rattle.conf_history.proofs.line.write_import.Goals as goal
 
 pub returns : goal.returns

@@ -1,11 +1,7 @@
 use Rattle.std.proofs.Common.{◌≤◌, ◌++◌, codes, subst, sym}
-use Rattle.conf_history.proofs.Prelude.{chars, on_ok_weaker, tree_of}
-use Rattle.yaml_grammar.specs.Trees.{depth}
-use Rattle.yaml_data.specs.OwnLimits.{own_limits}
-use Rattle.yaml_forms.specs.Json.{json_text}
-use Rattle.json_pointer.specs.Pointers.{path_of}
+use Rattle.{conf_history.{proofs.Prelude.{chars, on_ok_weaker, tree_of}, specs.Logs.value_words}, yaml_grammar.specs.Trees.depth}
+use Rattle.{yaml_data.specs.OwnLimits.own_limits, yaml_forms.specs.Json.json_text, json_pointer.specs.Pointers.path_of}
 use Rattle.tree_hidden.specs.{Hidden.shown_at, Tokens.paths_of}
-use Rattle.conf_history.specs.Logs.{value_words}
 use Rattle.conf_history.proofs.line.write_value.Goals as goal
 
 pub write_json-requires : goal.write_json-requires

@@ -1,12 +1,8 @@
 -- Each turn performs one piece, and writes what is told of its command.
-use Rattle.std.proofs.Common.{◌≡◌, ◌∙◌, inl, sym, ap, subst, ℕ, ◌+◌, ◌<◌, List, [], ◌∷◌, ◌++◌, length, take}
-use Rattle.std.specs.Prelude.{Ok}
-use Rattle.conf_history.specs.Prelude.{is_several}
-use Rattle.conf_history.proofs.Prelude.{Appends, Appends-nil, err_from_is_err_and, piece_or_rest}
-use Rattle.conf_history.specs.{Logs.TellsEntry, Logs.entry_bytes, Walks.with_state}
-use Rattle.conf_history.proofs.ReadingLemmas.{goes-further}
-use Rattle.conf_history.proofs.{LogLemmas.begins-empty, LogLemmas.cuts-log, LogLemmas.logged-more, LogLemmas.logs-all}
-use Rattle.conf_history.proofs.{LogLemmas.start-fails, LogLemmas.stops-log, WalkLemmas.some-map}
+use Rattle.std.{proofs.Common.{◌≡◌, ◌∙◌, inl, sym, ap, subst, ℕ, ◌+◌, ◌<◌, List, [], ◌∷◌, ◌++◌, length, take}, specs.Prelude.Ok}
+use Rattle.conf_history.{specs.{Prelude.is_several, Logs.{TellsEntry, entry_bytes}, Walks.with_state}, proofs.Prelude.Appends}
+use Rattle.conf_history.proofs.{Prelude.{Appends-nil, err_from_is_err_and, piece_or_rest}, ReadingLemmas.goes-further}
+use Rattle.conf_history.proofs.{LogLemmas.{begins-empty, cuts-log, logged-more, logs-all, start-fails, stops-log}, WalkLemmas.some-map}
 use Rattle.conf_history.proofs.log.log_each.Goals as goal
 
 pub returns-in_err-walk-clause-refused : goal.returns-in_err-walk-clause-refused

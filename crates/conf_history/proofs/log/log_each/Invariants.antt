@@ -1,7 +1,6 @@
 -- What was read is pieces that were performed, and their records were written.
 use Rattle.std.proofs.Common.{◌≡◌, ◌-◌, ℕ, List}
-use Rattle.conf_history.proofs.Prelude.{Appends, store_limit, Command, Contents}
-use Rattle.conf_history.specs.{Logs.log_of_pieces, Walks.IsOn, Walks.with_state}
+use Rattle.conf_history.{proofs.Prelude.{Appends, store_limit, Command, Contents}, specs.{Logs.log_of_pieces, Walks.{IsOn, with_state}}}
 use Rattle.conf_history.proofs.log.log_each.Given as goal
 
 abbrev pub invariant-records : goal.invariant-records

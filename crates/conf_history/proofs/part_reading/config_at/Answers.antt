@@ -1,5 +1,4 @@
-use Rattle.conf_history.proofs.Prelude.{err_from_is_err_and}
-use Rattle.conf_history.proofs.WalkLemmas.{any-bytes}
+use Rattle.conf_history.proofs.{Prelude.err_from_is_err_and, WalkLemmas.any-bytes}
 use Rattle.conf_history.proofs.part_reading.config_at.Goals as goal
 
 pub returns-in_err-copy_of-clause-refused : goal.returns-in_err-copy_of-clause-refused

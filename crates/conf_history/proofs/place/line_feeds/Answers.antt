@@ -1,7 +1,6 @@
 -- The places of line feeds are as many as the line feeds.
 use Rattle.std.proofs.Common.{◌∙◌, ap, length}
-use Rattle.memchr.specs.Find.{is_byte}
-use Rattle.memchr.proofs.lemmas.CallerLemmas.{length-places}
+use Rattle.memchr.{specs.Find.is_byte, proofs.lemmas.CallerLemmas.length-places}
 use Rattle.conf_history.proofs.place.line_feeds.Goals as goal
 
 pub returns : goal.returns

@@ -1,9 +1,6 @@
 -- Each turn performs one piece.
-use Rattle.std.proofs.Common.{ap, [], ◌∷◌, ◌++◌}
-use Rattle.std.specs.Prelude.{Ok}
-use Rattle.conf_history.specs.Prelude.{is_several}
-use Rattle.conf_history.proofs.Prelude.{err_from_is_err_and, piece_or_rest}
-use Rattle.conf_history.specs.Walks.{with_state}
+use Rattle.std.{proofs.Common.{ap, [], ◌∷◌, ◌++◌}, specs.Prelude.Ok}
+use Rattle.conf_history.{specs.{Prelude.is_several, Walks.with_state}, proofs.Prelude.{err_from_is_err_and, piece_or_rest}}
 use Rattle.conf_history.proofs.ReadingLemmas.{goes-further, reads-state, fails-reading, refuses-start}
 use Rattle.conf_history.proofs.reading.read_up_to.Goals as goal
 

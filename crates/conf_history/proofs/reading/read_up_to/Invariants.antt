@@ -1,7 +1,6 @@
 -- What was read is pieces that were performed, up to the number at most.
 use Rattle.std.proofs.Common.{◌-◌, ℕ, List}
-use Rattle.conf_history.proofs.Prelude.{store_limit, Command, Contents}
-use Rattle.conf_history.specs.Walks.{IsOn, with_state}
+use Rattle.conf_history.{proofs.Prelude.{store_limit, Command, Contents}, specs.Walks.{IsOn, with_state}}
 use Rattle.conf_history.proofs.reading.read_up_to.Given as goal
 
 abbrev pub invariant-records : goal.invariant-records

@@ -1,6 +1,5 @@
 -- Bytes that come back are those that were given.
-use Rattle.std.proofs.Common.{ap, subst, ◌∙◌}
-use Rattle.std.specs.Prelude.{IfNone, IfOk}
+use Rattle.std.{proofs.Common.{ap, subst, ◌∙◌}, specs.Prelude.{IfNone, IfOk}}
 use Rattle.conf_history.proofs.Prelude.{IsNoBase}
 use Rattle.conf_history.proofs.replayed.part_of_base.Goals as goal
 

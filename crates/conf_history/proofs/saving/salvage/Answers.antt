@@ -1,6 +1,5 @@
 -- A crash leaves what it leaves while the store is made.
-use Rattle.conf_history.specs.Prelude.{is_several}
-use Rattle.conf_history.proofs.SalvageLemmas.{made-leaves}
+use Rattle.conf_history.{specs.Prelude.is_several, proofs.SalvageLemmas.made-leaves}
 use Rattle.conf_history.proofs.saving.salvage.Goals as goal
 
 pub returns-in-Ok-create_store-clause-leaves : goal.returns-in-Ok-create_store-clause-leaves

@@ -1,12 +1,9 @@
 -- Each turn performs one piece, up to the first bad one.
-use Rattle.std.proofs.Common.{◌≡◌, rules, ◌≤◌, refl, sym, ap, subst, [], ◌∷◌, ◌++◌}
-use Rattle.std.specs.Prelude.{Ok, None}
-use Rattle.conf_history.specs.Prelude.{is_several}
-use Rattle.conf_history.proofs.Prelude.{err_from_is_err_and, piece_or_rest}
-use Rattle.conf_history.specs.{declared.fault.HistoryFault.TheVariants.Damaged, declared.place.BadPiece.BadPiece}
-use Rattle.conf_history.specs.Walks.{IsBadHere, Stops, with_state}
-use Rattle.conf_history.proofs.{ReadingLemmas.ended-whole, ReadingLemmas.goes-further, SurveyLemmas.counted-from, SurveyLemmas.not-bad}
-use Rattle.conf_history.proofs.{SurveyLemmas.not-started, SurveyLemmas.surveyed-whole, WalkLemmas.has-room}
+use Rattle.std.{proofs.Common.{◌≡◌, rules, ◌≤◌, refl, sym, ap, subst, [], ◌∷◌, ◌++◌}, specs.Prelude.{Ok, None}}
+use Rattle.conf_history.specs.{Prelude.is_several, declared.{fault.HistoryFault.TheVariants.Damaged, place.BadPiece.BadPiece}}
+use Rattle.conf_history.{specs.Walks.{IsBadHere, Stops, with_state}, proofs.Prelude.{err_from_is_err_and, piece_or_rest}}
+use Rattle.conf_history.proofs.{ReadingLemmas.{ended-whole, goes-further}, SurveyLemmas.{counted-from, not-bad, not-started}}
+use Rattle.conf_history.proofs.{SurveyLemmas.surveyed-whole, WalkLemmas.has-room}
 use Rattle.conf_history.proofs.survey.survey_pieces.Goals as goal
 
 pub returns-in_err-held-clause-refused : goal.returns-in_err-held-clause-refused

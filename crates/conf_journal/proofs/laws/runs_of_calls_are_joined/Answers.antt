@@ -1,5 +1,4 @@
-use Rattle.conf_journal.proofs.Prelude.{IsImage, LeavesOnly-joined}
-use Rattle.conf_journal.proofs.Joins.{old-joined, other-joined}
+use Rattle.conf_journal.proofs.{Prelude.{IsImage, LeavesOnly-joined}, Joins.{old-joined, other-joined}}
 use Rattle.conf_journal.proofs.laws.runs_of_calls_are_joined.Goals as goal
 
 pub returns-clause-images : goal.returns-clause-images

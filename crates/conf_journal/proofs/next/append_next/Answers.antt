@@ -1,7 +1,6 @@
 use Rattle.std.proofs.Common.{[], ◌∷◌}
-use Rattle.conf_journal.proofs.Prelude.{Append, Next}
-use Rattle.conf_journal.proofs.{Runs.run-call, Runs.run-grown, Stores.staging-run}
-use Rattle.conf_journal.proofs.Reading.{append_next-leaves_store, appended_next-reads, performed-reads}
+use Rattle.conf_journal.proofs.{Prelude.{Append, Next}, Runs.{run-call, run-grown}, Stores.staging-run, Reading.append_next-leaves_store}
+use Rattle.conf_journal.proofs.Reading.{appended_next-reads, performed-reads}
 use Rattle.conf_journal.proofs.next.append_next.Goals as goal
 
 pub returns-clause-any_moment : goal.returns-clause-any_moment

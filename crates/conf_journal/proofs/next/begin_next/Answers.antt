@@ -1,6 +1,5 @@
 use Rattle.std.proofs.Common.{[], ◌∷◌}
-use Rattle.conf_journal.proofs.Prelude.{CreateNext, RemoveNext}
-use Rattle.conf_journal.proofs.{Runs.run-call, Runs.run-then, Runs.run-grown, Stores.staging-run}
+use Rattle.conf_journal.proofs.{Prelude.{CreateNext, RemoveNext}, Runs.{run-call, run-then, run-grown}, Stores.staging-run}
 use Rattle.conf_journal.proofs.next.begin_next.Goals as goal
 
 pub returns-in_err-remove_next-clause-any_moment : goal.returns-in_err-remove_next-clause-any_moment

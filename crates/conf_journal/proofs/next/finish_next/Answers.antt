@@ -1,8 +1,7 @@
 use Rattle.std.proofs.Common.{◌≡◌, ◌⊎◌, inl, inr, ⊎_elim, ℕ, List, [], ◌∷◌, Some, None, OnOk, false, subst, rules}
 use Rattle.conf_journal.proofs.Prelude.{Folder, Sync, RenameNext, SyncFolder, after, Image, IsImage, synced_file, Next, LeavesOnly-weaker}
-use Rattle.conf_journal.specs.{Held.HoldsStore, Store.ReadsAs}
-use Rattle.conf_journal.proofs.{Fails.fails-passed, Fails.fails-then, Stores.finished-leaves}
-use Rattle.conf_journal.proofs.Runs.{LeftDuring, left-grown, run-known, run-then}
+use Rattle.conf_journal.proofs.{Fails.{fails-passed, fails-then}, Stores.finished-leaves, Runs.{LeftDuring, left-grown, run-known}}
+use Rattle.conf_journal.{proofs.Runs.run-then, specs.{Held.HoldsStore, Store.ReadsAs}}
 use Rattle.conf_journal.proofs.next.finish_next.Goals as goal
 
 -- what is left before the first sync, or after it

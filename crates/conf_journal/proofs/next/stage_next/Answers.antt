@@ -1,8 +1,6 @@
 use Rattle.std.proofs.Common.{[], ◌∷◌, ◌∙◌, ap}
-use Rattle.conf_journal.proofs.Prelude.{CreateNext, Append, Sync, RemoveNext, Image, Next}
-use Rattle.conf_journal.specs.Store.{file_with_bytes}
-use Rattle.conf_journal.proofs.{Reading.OnOk-always, Fails.fails-then, Stores.staging-run, Stores.file_there}
-use Rattle.conf_journal.proofs.Runs.{run-known, run-then, run-grown}
+use Rattle.conf_journal.proofs.{Prelude.{CreateNext, Append, Sync, RemoveNext, Image, Next}, Reading.OnOk-always, Fails.fails-then}
+use Rattle.conf_journal.{proofs.{Stores.{staging-run, file_there}, Runs.{run-known, run-then, run-grown}}, specs.Store.file_with_bytes}
 use Rattle.conf_journal.proofs.next.stage_next.Goals as goal
 
 pub returns-in_err-begin_next-clause-any_moment : goal.returns-in_err-begin_next-clause-any_moment

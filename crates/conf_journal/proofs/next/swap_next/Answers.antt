@@ -1,6 +1,5 @@
 use Rattle.std.proofs.Common.{[], ◌∷◌}
-use Rattle.conf_journal.proofs.Prelude.{SyncFolder, LeavesOnly-weaker}
-use Rattle.conf_journal.proofs.{Runs.run-call, Runs.run-then, Runs.run-grown, Stores.after_rename-leaves}
+use Rattle.conf_journal.proofs.{Prelude.{SyncFolder, LeavesOnly-weaker}, Runs.{run-call, run-then, run-grown}, Stores.after_rename-leaves}
 use Rattle.conf_journal.proofs.next.swap_next.Goals as goal
 
 pub returns-in_err-rename_next-clause-any_moment : goal.returns-in_err-rename_next-clause-any_moment

@@ -1,6 +1,6 @@
 use Rattle.std.proofs.Common.{[], ◌∷◌}
-use Rattle.conf_journal.proofs.Prelude.{Sync, Next}
-use Rattle.conf_journal.proofs.{Reading.sync-reads_same, Runs.run-call, Runs.run-grown, Stores.performed-synced, Stores.staging-run}
+use Rattle.conf_journal.proofs.{Prelude.{Sync, Next}, Reading.sync-reads_same, Runs.{run-call, run-grown}, Stores.performed-synced}
+use Rattle.conf_journal.proofs.Stores.{staging-run}
 use Rattle.conf_journal.proofs.next.sync_next.Goals as goal
 
 pub returns-clause-any_moment : goal.returns-clause-any_moment

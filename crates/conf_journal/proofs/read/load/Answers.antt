@@ -1,7 +1,6 @@
 use Rattle.std.proofs.Common.{[], ◌∙◌, ap, rules}
-use Rattle.conf_journal.proofs.Prelude.{image_now, Store}
-use Rattle.conf_journal.proofs.{Fails.counts-passed, Fails.counts-then, Reading.sync-reads_same, Reading.sync_folder-reads_same}
-use Rattle.conf_journal.proofs.Runs.{run-call, run-read, run-then, run-grown}
+use Rattle.conf_journal.proofs.{Prelude.{image_now, Store}, Fails.{counts-passed, counts-then}, Reading.sync-reads_same}
+use Rattle.conf_journal.proofs.{Reading.sync_folder-reads_same, Runs.{run-call, run-read, run-then, run-grown}}
 use Rattle.conf_journal.proofs.read.load.Goals as goal
 
 pub returns-in_err-sync_folder-clause-any_moment : goal.returns-in_err-sync_folder-clause-any_moment

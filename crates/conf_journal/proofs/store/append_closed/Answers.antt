@@ -1,6 +1,6 @@
 use Rattle.std.proofs.Common.{[], ◌∷◌}
-use Rattle.conf_journal.proofs.Prelude.{Append, Sync, Store, LeavesOnly-weaker}
-use Rattle.conf_journal.proofs.{Appends.leaves-with_pending, Runs.LeftDuring, Runs.left_synced, Runs.run-known, Runs.run-then}
+use Rattle.conf_journal.proofs.{Prelude.{Append, Sync, Store, LeavesOnly-weaker}, Appends.leaves-with_pending, Runs.LeftDuring}
+use Rattle.conf_journal.proofs.Runs.{left_synced, run-known, run-then}
 use Rattle.conf_journal.proofs.store.append_closed.Goals as goal
 
 pub returns-clause-leaves : goal.returns-clause-leaves

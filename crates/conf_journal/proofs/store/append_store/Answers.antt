@@ -1,6 +1,6 @@
 use Rattle.std.proofs.Common.{[]}
-use Rattle.conf_journal.proofs.Prelude.{Append, Store}
-use Rattle.conf_journal.proofs.{Appends.leaves-with_pending, Reading.appended_store-reads, Reading.performed-reads, Runs.run-call}
+use Rattle.conf_journal.proofs.{Prelude.{Append, Store}, Appends.leaves-with_pending, Reading.{appended_store-reads, performed-reads}}
+use Rattle.conf_journal.proofs.Runs.{run-call}
 use Rattle.conf_journal.proofs.store.append_store.Goals as goal
 
 pub returns-clause-leaves : goal.returns-clause-leaves

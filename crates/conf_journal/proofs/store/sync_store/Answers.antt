@@ -1,6 +1,5 @@
 use Rattle.std.proofs.Common.{[]}
-use Rattle.conf_journal.proofs.Prelude.{Store}
-use Rattle.conf_journal.proofs.{Reading.sync-reads_same, Runs.run-call, Runs.run-grown}
+use Rattle.conf_journal.proofs.{Prelude.Store, Reading.sync-reads_same, Runs.{run-call, run-grown}}
 use Rattle.conf_journal.proofs.store.sync_store.Goals as goal
 
 pub returns-clause-any_moment : goal.returns-clause-any_moment

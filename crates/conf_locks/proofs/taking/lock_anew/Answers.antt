@@ -1,14 +1,8 @@
-use Rattle.std.specs.Prelude.{is_some}
-use Rattle.std.proofs.Common.{refl, ap}
-use Rattle.conf_locks.specs.declared.taking.LockPlace.TheVariants.{File, Folder}
-use Rattle.conf_locks.specs.Locks.{LockFile, LockFolder}
-use Rattle.conf_locks.specs.Models.{Asks}
-use Rattle.conf_locks.specs.Taking.{HasOpened}
-use Rattle.conf_locks.proofs.Going.{follows-none, follows-then, follows-goes, goes-weaker}
-use Rattle.conf_locks.proofs.Told.{blamed-ok, taken-ok, told-failed, told-asked}
-use Rattle.conf_locks.proofs.Holding.{folder-locked, opened-then, may-lock-alone, not-kept-out, both-locked, may-mark, both-marked}
-use Rattle.conf_locks.proofs.Holding.{both-taken, may-remove-both}
-use Rattle.conf_locks.proofs.Steps.{err-takes}
+use Rattle.std.{specs.Prelude.is_some, proofs.Common.{refl, ap}}
+use Rattle.conf_locks.specs.{declared.taking.LockPlace.TheVariants.{File, Folder}, Locks.{LockFile, LockFolder}, Models.Asks}
+use Rattle.conf_locks.{specs.Taking.HasOpened, proofs.{Going.{follows-none, follows-then, follows-goes, goes-weaker}, Told.blamed-ok}}
+use Rattle.conf_locks.proofs.{Told.{taken-ok, told-failed, told-asked}, Holding.{folder-locked, opened-then, may-lock-alone, not-kept-out}}
+use Rattle.conf_locks.proofs.{Holding.{both-locked, may-mark, both-marked, both-taken, may-remove-both}, Steps.err-takes}
 use Rattle.conf_locks.proofs.taking.lock_anew.Goals as goal
 
 pub try_lock_folder-requires : goal.try_lock_folder-requires

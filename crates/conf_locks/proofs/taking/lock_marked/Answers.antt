@@ -1,12 +1,7 @@
-use Rattle.std.specs.Prelude.{is_some}
-use Rattle.std.proofs.Common.{◌≡◌, refl, ap}
-use Rattle.conf_locks.specs.declared.taking.LockPlace.TheVariants.{File}
-use Rattle.conf_locks.specs.Locks.{LockFile}
-use Rattle.conf_locks.specs.Models.{Asks}
-use Rattle.conf_locks.proofs.Going.{follows-none, follows-then, follows-goes, goes-weaker}
-use Rattle.conf_locks.proofs.Told.{blamed-ok, taken-ok, told-failed, told-asked}
-use Rattle.conf_locks.proofs.Holding.{may-lock-marked, locked-marked, alone-locked, shared-lock, found-lock}
-use Rattle.conf_locks.proofs.Steps.{err-takes}
+use Rattle.std.{specs.Prelude.is_some, proofs.Common.{◌≡◌, refl, ap}}
+use Rattle.conf_locks.{specs.{declared.taking.LockPlace.TheVariants.File, Locks.LockFile, Models.Asks}, proofs.Going.follows-none}
+use Rattle.conf_locks.proofs.{Going.{follows-then, follows-goes, goes-weaker}, Told.{blamed-ok, taken-ok, told-failed, told-asked}}
+use Rattle.conf_locks.proofs.{Holding.{may-lock-marked, locked-marked, alone-locked, shared-lock, found-lock}, Steps.err-takes}
 use Rattle.conf_locks.proofs.taking.lock_marked.Goals as goal
 
 pub try_lock_file-requires-clause-opened : goal.try_lock_file-requires-clause-opened

@@ -1,7 +1,6 @@
 use Rattle.std.proofs.Common.{◌≡◌, ℕ, Some, Bool}
-use Rattle.conf_locks.proofs.Going.{follows-goes, goes-weaker, none-after}
-use Rattle.conf_locks.proofs.Told.{blamed-ok, told-failed}
-use Rattle.conf_locks.proofs.Steps.{err-takes, takes-then, marked-open}
+use Rattle.conf_locks.proofs.{Going.{follows-goes, goes-weaker, none-after}, Told.{blamed-ok, told-failed}, Steps.{err-takes, takes-then}}
+use Rattle.conf_locks.proofs.Steps.{marked-open}
 use Rattle.conf_locks.proofs.taking.lock_opened.Goals as goal
 
 pub returns-in_err-blame : goal.returns-in_err-blame

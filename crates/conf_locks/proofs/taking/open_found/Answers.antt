@@ -1,10 +1,6 @@
-use Rattle.conf_locks.proofs.Going.{follows-goes, goes-weaker, steady-is}
+use Rattle.conf_locks.proofs.{Going.{follows-goes, goes-weaker, steady-is}, Holding.{folder-kept, opened-found}, Steps.{opens-then, if-err}}
+use Rattle.conf_locks.specs.{declared.system.Opening.{Opening, TheVariants.Opened}, Models.IsOpened}
 use Rattle.std.proofs.Common.{◌≡◌, subst}
-use Rattle.conf_locks.specs.declared.system.Opening.{Opening}
-use Rattle.conf_locks.specs.declared.system.Opening.TheVariants.{Opened}
-use Rattle.conf_locks.specs.Models.{IsOpened}
-use Rattle.conf_locks.proofs.Holding.{folder-kept, opened-found}
-use Rattle.conf_locks.proofs.Steps.{opens-then, if-err}
 use Rattle.conf_locks.proofs.taking.open_found.Goals as goal
 
 pub open-requires : goal.open-requires

@@ -1,6 +1,5 @@
-use Rattle.conf_locks.proofs.Going.{follows-goes, steady-is}
-use Rattle.conf_locks.proofs.Holding.{folder-kept, may-make}
-use Rattle.conf_locks.proofs.Steps.{opens-then, if-err, made-new, exists-same, exists-count}
+use Rattle.conf_locks.proofs.{Going.{follows-goes, steady-is}, Holding.{folder-kept, may-make}, Steps.{opens-then, if-err, made-new}}
+use Rattle.conf_locks.proofs.Steps.{exists-same, exists-count}
 use Rattle.conf_locks.proofs.taking.open_or_make.Goals as goal
 
 pub make-requires-clause-none : goal.make-requires-clause-none

@@ -1,6 +1,5 @@
-use Rattle.conf_locks.proofs.Going.{follows-then, follows-goes, steady-is, steady-remove}
-use Rattle.conf_locks.proofs.Holding.{folder-kept, may-make, may-remove-unmarked}
-use Rattle.conf_locks.proofs.Steps.{if-err, made-new, unmarked-there}
+use Rattle.conf_locks.proofs.{Going.{follows-then, follows-goes, steady-is, steady-remove}, Holding.{folder-kept, may-make}}
+use Rattle.conf_locks.proofs.{Holding.may-remove-unmarked, Steps.{if-err, made-new, unmarked-there}}
 use Rattle.conf_locks.proofs.taking.replace.Goals as goal
 
 pub remove-requires : goal.remove-requires

@@ -1,7 +1,5 @@
 use Rattle.std.proofs.Common.{◌≡◌, ℕ, sym, subst}
-use Rattle.conf_locks.specs.declared.taking.Origin.TheVariants.{Made}
-use Rattle.conf_locks.specs.Locks.{HoldsNone}
-use Rattle.conf_locks.proofs.Going.{follows-then, follows-goes}
+use Rattle.conf_locks.{specs.{declared.taking.Origin.TheVariants.Made, Locks.HoldsNone}, proofs.Going.{follows-then, follows-goes}}
 use Rattle.conf_locks.proofs.Steps.{told-later}
 use Rattle.conf_locks.proofs.taking.take_locks.Goals as goal
 

@@ -1,9 +1,6 @@
 use Rattle.std.proofs.Common.{subst}
-use Rattle.conf_locks.specs.declared.system.Opening.{Opening}
-use Rattle.conf_locks.specs.Models.{IsOpened}
-use Rattle.conf_locks.proofs.Going.{follows-goes, none-after}
-use Rattle.conf_locks.proofs.Told.{blamed-ok, told-failed}
-use Rattle.conf_locks.proofs.Steps.{err-takes, takes-then}
+use Rattle.conf_locks.{specs.{declared.system.Opening.Opening, Models.IsOpened}, proofs.{Going.{follows-goes, none-after}, Told.blamed-ok}}
+use Rattle.conf_locks.proofs.{Told.told-failed, Steps.{err-takes, takes-then}}
 use Rattle.conf_locks.proofs.taking.try_taking.Goals as goal
 
 pub open-requires : goal.open-requires

@@ -1,7 +1,6 @@
 use Rattle.std.proofs.Common.{◌≡◌, ◌+◌, ◌≤◌, ℕ, [], length, take, drop, Some, false, sym, ◌∙◌, ap, arith, length-drop}
 use Rattle.std.proofs.Math.Seq.{take-length}
-use Rattle.conf_system.specs.declared.system.FileName.TheVariants.{Store}
-use Rattle.conf_system.specs.Machine.{Machine, bytes_under}
+use Rattle.conf_system.specs.{declared.system.FileName.TheVariants.Store, Machine.{Machine, bytes_under}}
 use Rattle.conf_protocol.proofs.Copied.{Copies-stays, Copies-joined, Copies-wrote, copied-more}
 use Rattle.conf_protocol.proofs.copying.fill_copy.Goals as goal
 

@@ -1,7 +1,5 @@
 use Rattle.std.proofs.Common.{◌≡◌, ◌-◌, ◌≤◌, ℕ, List, [], length, take, Some, false}
-use Rattle.conf_system.specs.declared.system.FileName.TheVariants.{Store}
-use Rattle.conf_system.specs.Machine.{bytes_under}
-use Rattle.conf_protocol.specs.Moments.{Copies}
+use Rattle.{conf_system.specs.{declared.system.FileName.TheVariants.Store, Machine.bytes_under}, conf_protocol.specs.Moments.Copies}
 use Rattle.conf_protocol.proofs.copying.fill_copy.Given as goal
 
 -- so many bytes are copied

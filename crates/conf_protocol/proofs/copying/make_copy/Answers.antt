@@ -1,8 +1,5 @@
-use Rattle.std.specs.Prelude.{is_some}
-use Rattle.std.proofs.Common.{ap, sym, subst}
-use Rattle.std.specs.Prelude.{IsSome}
-use Rattle.conf_system.specs.declared.system.FileName.TheVariants.{Store, Copy}
-use Rattle.conf_system.specs.Machine.{Machine, CreateCopy, Sync, under}
+use Rattle.std.{specs.Prelude.{is_some, IsSome}, proofs.Common.{ap, sym, subst}}
+use Rattle.conf_system.specs.{declared.system.FileName.TheVariants.{Store, Copy}, Machine.{Machine, CreateCopy, Sync, under}}
 use Rattle.conf_protocol.proofs.Copied.{Copies-joined, Copies-goes, creates, syncs, store-bytes}
 use Rattle.conf_protocol.proofs.copying.make_copy.Goals as goal
 

@@ -1,15 +1,9 @@
 use Rattle.std.proofs.Common.{◌≡◌, ℕ, ◌∙◌, sym, ap, subst}
-use Rattle.conf_system.specs.declared.system.Note.{Note}
-use Rattle.conf_system.specs.Machine.{PlaceCopy, SyncFolder, after, failing}
-use Rattle.conf_system.specs.Folders.{folder_of, IsTold}
-use Rattle.conf_protocol.specs.Copying.{IsKept, IsPlaced}
-use Rattle.conf_protocol.proofs.Known.{safe-off}
-use Rattle.conf_protocol.proofs.Moving.{Changes-call, Changes-quiet, Changes-then, Quiet-joined}
-use Rattle.conf_protocol.proofs.Copied.{IsReady, IsPlacing, ready-copied, may-place, placing-done, placing-part}
-use Rattle.conf_protocol.proofs.Copied.{Copies-quiet, Quiet-placing}
-use Rattle.conf_protocol.proofs.Copied.{placed-done, placed-copied, kept-copied, kept-joined, settled-kept, kept-none}
-use Rattle.conf_protocol.proofs.Told.{told-settled}
-use Rattle.conf_protocol.proofs.Shown.{call-either, blamed-ok, results, on-ok, on-err, err-always}
+use Rattle.conf_system.specs.{declared.system.Note.Note, Machine.{PlaceCopy, SyncFolder, after, failing}, Folders.{folder_of, IsTold}}
+use Rattle.conf_protocol.{specs.Copying.{IsKept, IsPlaced}, proofs.{Known.safe-off, Moving.{Changes-call, Changes-quiet, Changes-then}}}
+use Rattle.conf_protocol.proofs.{Moving.Quiet-joined, Copied.{IsReady, IsPlacing, ready-copied, may-place, placing-done, placing-part}}
+use Rattle.conf_protocol.proofs.Copied.{Copies-quiet, Quiet-placing, placed-done, placed-copied, kept-copied, kept-joined, settled-kept}
+use Rattle.conf_protocol.proofs.{Copied.kept-none, Told.told-settled, Shown.{call-either, blamed-ok, results, on-ok, on-err, err-always}}
 use Rattle.conf_protocol.proofs.copying.put_copy.Goals as goal
 
 pub place_copy-requires : goal.place_copy-requires

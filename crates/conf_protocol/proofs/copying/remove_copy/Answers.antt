@@ -1,5 +1,4 @@
-use Rattle.conf_system.specs.Machine.{UnlinkCopy}
-use Rattle.conf_protocol.proofs.Copied.{Copies-none, Copies-goes, unlinks}
+use Rattle.{conf_system.specs.Machine.UnlinkCopy, conf_protocol.proofs.Copied.{Copies-none, Copies-goes, unlinks}}
 use Rattle.conf_protocol.proofs.copying.remove_copy.Goals as goal
 
 pub returns-in_err-blame-clause-copies : goal.returns-in_err-blame-clause-copies

@@ -1,8 +1,5 @@
 use Rattle.std.proofs.Common.{◌≡◌, ◌∙◌, sym, ap}
-use Rattle.conf_system.specs.declared.system.Note.{Note}
-use Rattle.conf_system.specs.Machine.{after_reading}
-use Rattle.conf_protocol.proofs.Shown.{blamed-ok}
-use Rattle.conf_protocol.proofs.Noted.{knows-sure}
+use Rattle.{conf_system.specs.{declared.system.Note.Note, Machine.after_reading}, conf_protocol.proofs.{Shown.blamed-ok, Noted.knows-sure}}
 use Rattle.conf_protocol.proofs.Opened.{Opens-joined, Opens-read, by-read}
 use Rattle.conf_protocol.proofs.opening.begin.Goals as goal
 

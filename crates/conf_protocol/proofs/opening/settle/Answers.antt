@@ -1,12 +1,7 @@
 use Rattle.std.proofs.Common.{◌≡◌, ℕ, ◌∙◌, ap}
-use Rattle.conf_system.specs.Machine.{Machine, SyncFolder, after, failing}
-use Rattle.conf_protocol.specs.declared.run.Bytes.TheVariants.{Unsure}
-use Rattle.conf_protocol.specs.declared.run.Names.TheVariants.{Settled}
-use Rattle.conf_protocol.specs.Keeps.{Knows}
-use Rattle.conf_protocol.specs.Opened.{GoesBy}
-use Rattle.conf_protocol.proofs.Shown.{results, on-ok}
-use Rattle.conf_protocol.proofs.Noted.{knows-opened, noted-same}
-use Rattle.conf_protocol.proofs.Opened.{Opens-joined, Opens-call, as-same, as-settled, by-noted}
+use Rattle.{conf_system.specs.Machine.{Machine, SyncFolder, after, failing}, conf_protocol.specs.declared.run.Bytes.TheVariants.Unsure}
+use Rattle.conf_protocol.{specs.{declared.run.Names.TheVariants.Settled, Keeps.Knows, Opened.GoesBy}, proofs.Shown.{results, on-ok}}
+use Rattle.conf_protocol.proofs.{Noted.{knows-opened, noted-same}, Opened.{Opens-joined, Opens-call, as-same, as-settled, by-noted}}
 use Rattle.conf_protocol.proofs.opening.settle.Goals as goal
 
 pub unlink_linked-requires : goal.unlink_linked-requires

@@ -1,5 +1,4 @@
-use Rattle.conf_system.specs.Machine.{SyncNote}
-use Rattle.conf_protocol.proofs.Opened.{Opens-call, as-note_synced, as-sync_part}
+use Rattle.{conf_system.specs.Machine.SyncNote, conf_protocol.proofs.Opened.{Opens-call, as-note_synced, as-sync_part}}
 use Rattle.conf_protocol.proofs.opening.sync_told.Goals as goal
 
 pub returns-clause-opens : goal.returns-clause-opens

@@ -1,7 +1,6 @@
 use Rattle.std.proofs.Common.{◌≡◌, Bool, true, sym, ◌∙◌}
-use Rattle.conf_system.specs.Machine.{UnlinkNext, are_linked}
-use Rattle.conf_protocol.proofs.Shown.{blamed-ok}
-use Rattle.conf_protocol.proofs.Opened.{Opens-call, as-unlinked, as-unlink_part}
+use Rattle.{conf_system.specs.Machine.{UnlinkNext, are_linked}, conf_protocol.proofs.{Shown.blamed-ok, Opened.{Opens-call, as-unlinked}}}
+use Rattle.conf_protocol.proofs.Opened.{as-unlink_part}
 use Rattle.conf_protocol.proofs.opening.unlink_linked.Goals as goal
 
 pub returns-in_err-blame-2-clause-opens : goal.returns-in_err-blame-2-clause-opens

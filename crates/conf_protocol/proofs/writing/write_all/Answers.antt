@@ -1,9 +1,6 @@
-use Rattle.std.specs.Prelude.{IsSome}
-use Rattle.std.proofs.Common.{◌≡◌, ◌+◌, ◌-◌, ◌≤◌, ℕ, List, length, length-drop, arith, rules, take, drop, subst, sym}
-use Rattle.std.proofs.lemmas.List.{take_all}
-use Rattle.conf_system.specs.Machine.{Machine, WriteRest, under}
-use Rattle.conf_system.specs.Models.{Wrote}
-use Rattle.conf_protocol.proofs.Writes.{wrote-more, some-written}
+use Rattle.std.{specs.Prelude.IsSome, proofs.Common.{◌≡◌, ◌+◌, ◌-◌, ◌≤◌, ℕ, List, length, length-drop, arith, rules, take, drop, subst}}
+use Rattle.std.proofs.{Common.sym, lemmas.List.take_all}
+use Rattle.{conf_system.specs.{Machine.{Machine, WriteRest, under}, Models.Wrote}, conf_protocol.proofs.Writes.{wrote-more, some-written}}
 use Rattle.conf_protocol.proofs.writing.write_all.Goals as goal
 
 -- the slice from a place to the end

@@ -1,7 +1,5 @@
-use Rattle.std.specs.Prelude.{IsSome}
-use Rattle.std.proofs.Common.{◌-◌, ◌≤◌, length}
-use Rattle.conf_system.specs.Machine.{Write, under}
-use Rattle.conf_system.specs.Models.{Wrote}
+use Rattle.std.{specs.Prelude.IsSome, proofs.Common.{◌-◌, ◌≤◌, length}}
+use Rattle.conf_system.specs.{Machine.{Write, under}, Models.Wrote}
 use Rattle.conf_protocol.proofs.writing.write_all.Given as goal
 
 -- so many are written

@@ -1,8 +1,6 @@
 use Rattle.std.proofs.Common.{◌≡◌, false, true, sym, ap, subst, ◌∙◌, refl}
-use Rattle.conf_record.proofs.Prelude.{IsKept, tree_of, members_of, tree_of-Text, tree_of-Seq, tree_of-Map}
-use Rattle.conf_record.specs.RecordsRead.{base_of, keys_are, base_keys}
-use Rattle.conf_record.proofs.PieceLemmas.{parts_kept}
-use Rattle.conf_record.proofs.TreeLemmas.{base_keyed, base_other, asked, texts_ascii}
+use Rattle.conf_record.proofs.{Prelude.{IsKept, tree_of, members_of, tree_of-Text, tree_of-Seq, tree_of-Map}, PieceLemmas.parts_kept}
+use Rattle.conf_record.{proofs.TreeLemmas.{base_keyed, base_other, asked, texts_ascii}, specs.RecordsRead.{base_of, keys_are, base_keys}}
 use Rattle.conf_record.proofs.base_reader.base_from.Goals as goal
 
 pub returns-in-Text-clause-read : goal.returns-in-Text-clause-read

@@ -1,10 +1,7 @@
-use Rattle.std.proofs.Common.{◌≡◌, ◌++◌, ◌∷◌, [], None, string_bytes, length, refl, sym, ◌∙◌, rules}
-use Rattle.conf_record.proofs.Prelude.{IsUtf8-string_bytes, lookup, text_of, is_name}
-use Rattle.std.specs.String.{string_eq}
-use Rattle.indexmap.proofs.CallerLemmas.{insert_entry-new}
-use Rattle.indexmap.specs.IndexMap.{get}
-use Rattle.conf_state.proofs.PlaceLemmas.{is_none}
-use Rattle.conf_record.proofs.BaseSpanLemmas.{Named, found_more, lookup_named, lookup_none}
+use Rattle.std.{proofs.Common.{◌≡◌, ◌++◌, ◌∷◌, [], None, string_bytes, length, refl, sym, ◌∙◌, rules}, specs.String.string_eq}
+use Rattle.conf_record.proofs.{Prelude.{IsUtf8-string_bytes, lookup, text_of, is_name}, BaseSpanLemmas.{Named, found_more, lookup_named}}
+use Rattle.{conf_record.proofs.BaseSpanLemmas.lookup_none, conf_state.proofs.PlaceLemmas.is_none}
+use Rattle.indexmap.{proofs.CallerLemmas.insert_entry-new, specs.IndexMap.get}
 use Rattle.conf_record.proofs.base_spans.find_spans.Goals as goal
 
 pub entries-preserved : goal.entries-preserved

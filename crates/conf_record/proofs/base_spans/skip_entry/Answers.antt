@@ -1,7 +1,5 @@
 use Rattle.std.proofs.Common.{◌≡◌, ◌++◌, ◌≤◌, codes, true, sym, ap, subst, ◌∙◌, rules, arith}
-use Rattle.conf_record.proofs.Prelude.{chars, Tree, text_bytes, good_name}
-use Rattle.conf_record.specs.BaseSpans.{IsGoodEntry}
-use Rattle.conf_record.proofs.BaseSpanLemmas.{good_entry}
+use Rattle.conf_record.{proofs.{Prelude.{chars, Tree, text_bytes, good_name}, BaseSpanLemmas.good_entry}, specs.BaseSpans.IsGoodEntry}
 use Rattle.conf_record.proofs.base_spans.skip_entry.Goals as goal
 
 pub returns : goal.returns

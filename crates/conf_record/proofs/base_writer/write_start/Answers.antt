@@ -1,6 +1,5 @@
 use Rattle.std.proofs.Common.{◌≡◌, [], ◌∷◌, List, ℕ, codes, refl, sym, subst, ◌∙◌}
-use Rattle.conf_record.proofs.Prelude.{on_ok_weaker, Entry, names_of, ascii}
-use Rattle.conf_record.specs.BaseStart.{base_head, configs_start}
+use Rattle.conf_record.{proofs.Prelude.{on_ok_weaker, Entry, names_of, ascii}, specs.BaseStart.{base_head, configs_start}}
 use Rattle.conf_record.proofs.base_writer.write_start.Goals as goal
 
 some_start : (es : List Entry) (name : List ℕ) (rest : List (List ℕ)) → names_of es ≡ name ∷ rest → codes "\n" ≡ configs_start es

@@ -1,7 +1,5 @@
 use Rattle.std.proofs.Common.{subst}
-use Rattle.conf_record.proofs.Prelude.{elements_of}
-use Rattle.conf_record.specs.Reading.{AreKept}
-use Rattle.conf_record.proofs.PieceLemmas.{items_kept}
+use Rattle.conf_record.{proofs.{Prelude.elements_of, PieceLemmas.items_kept}, specs.Reading.AreKept}
 use Rattle.conf_record.proofs.command_reader.batch_from.Goals as goal
 
 pub edits_from-requires : goal.edits_from-requires

@@ -1,7 +1,6 @@
 use Rattle.std.proofs.Common.{false, true, Some, option_map, sym, ap, ◌∙◌, refl}
-use Rattle.conf_record.proofs.Prelude.{IfOk-weaker, members_of, edit_of, single}
-use Rattle.conf_record.specs.RecordsRead.{batch_keys}
-use Rattle.conf_record.proofs.TreeLemmas.{command_batch, command_single, asked, texts_ascii}
+use Rattle.conf_record.proofs.{Prelude.{IfOk-weaker, members_of, edit_of, single}, TreeLemmas.{command_batch, command_single, asked}}
+use Rattle.conf_record.{proofs.TreeLemmas.texts_ascii, specs.RecordsRead.batch_keys}
 use Rattle.conf_record.proofs.command_reader.command_from.Goals as goal
 
 pub returns-then-keys_are : goal.returns-then-keys_are

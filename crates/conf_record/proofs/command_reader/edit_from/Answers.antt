@@ -1,6 +1,5 @@
 use Rattle.std.proofs.Common.{codes, refl, ap, ◌∙◌}
-use Rattle.conf_record.proofs.Prelude.{IfOk-weaker, members_of, ascii}
-use Rattle.conf_record.specs.RecordsRead.{if_good, edit_under}
+use Rattle.conf_record.{proofs.Prelude.{IfOk-weaker, members_of, ascii}, specs.RecordsRead.{if_good, edit_under}}
 use Rattle.conf_record.proofs.command_reader.edit_from.Goals as goal
 
 pub returns-in-Some : goal.returns-in-Some

@@ -1,6 +1,5 @@
 use Rattle.std.proofs.Common.{ap, subst, ◌∙◌}
-use Rattle.conf_record.proofs.Prelude.{IsKept, tree_of, members_of, tree_of-Map}
-use Rattle.conf_record.proofs.PieceLemmas.{parts_kept}
+use Rattle.conf_record.proofs.{Prelude.{IsKept, tree_of, members_of, tree_of-Map}, PieceLemmas.parts_kept}
 use Rattle.conf_record.proofs.command_reader.edit_in.Goals as goal
 
 pub edit_from-requires : goal.edit_from-requires

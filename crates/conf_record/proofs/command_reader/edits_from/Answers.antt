@@ -1,6 +1,5 @@
 use Rattle.std.proofs.Common.{option_map, length, ap, sym, ◌∙◌, arith}
-use Rattle.conf_record.proofs.Prelude.{into_iter_items, edit_of}
-use Rattle.conf_record.proofs.PieceLemmas.{one_read}
+use Rattle.conf_record.proofs.{Prelude.{into_iter_items, edit_of}, PieceLemmas.one_read}
 use Rattle.conf_record.proofs.command_reader.edits_from.Goals as goal
 
 pub loop-item-preserved : goal.loop-item-preserved

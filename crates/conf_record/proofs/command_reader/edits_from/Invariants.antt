@@ -1,6 +1,5 @@
 use Rattle.std.proofs.Common.{◌≡◌, length}
-use Rattle.conf_record.proofs.Prelude.{into_iter_items, into_iter_len}
-use Rattle.conf_record.proofs.PieceLemmas.{ReadSoFar}
+use Rattle.conf_record.proofs.{Prelude.{into_iter_items, into_iter_len}, PieceLemmas.ReadSoFar}
 use Rattle.conf_record.proofs.command_reader.edits_from.Given as goal
 
 abbrev pub invariant-loop-item : goal.invariant-loop-item

@@ -1,7 +1,6 @@
 use Rattle.std.proofs.Common.{sym, ap, subst, ◌∙◌}
-use Rattle.conf_record.proofs.Prelude.{IsKept, tree_of, members_of, tree_of-Text, tree_of-Seq, tree_of-Map}
-use Rattle.conf_record.specs.{RecordsRead.values, RecordsRead.record_of, Reading.AreKept}
-use Rattle.conf_record.proofs.PieceLemmas.{parts_kept}
+use Rattle.conf_record.proofs.{Prelude.{IsKept, tree_of, members_of, tree_of-Text, tree_of-Seq, tree_of-Map}, PieceLemmas.parts_kept}
+use Rattle.conf_record.specs.{RecordsRead.{values, record_of}, Reading.AreKept}
 use Rattle.conf_record.proofs.command_reader.record_from.Goals as goal
 
 pub returns-in-Text : goal.returns-in-Text

@@ -1,7 +1,7 @@
 use Rattle.std.proofs.Common.{codes, refl, sym, ap, ◌∙◌}
 use Rattle.conf_record.proofs.Prelude.{chars, same_text, mapping, member, tree_of, members_of, text_bytes, ascii}
-use Rattle.conf_record.specs.RecordsRead.{number_from_digits, record_of}
 use Rattle.conf_record.proofs.TreeLemmas.{record_numbered, record_other, record_textless, record_numberless}
+use Rattle.conf_record.specs.RecordsRead.{number_from_digits, record_of}
 use Rattle.conf_record.proofs.command_reader.split_number.Goals as goal
 
 pub returns-in_err-key-clause-read : goal.returns-in_err-key-clause-read

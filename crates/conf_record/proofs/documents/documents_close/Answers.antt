@@ -1,7 +1,6 @@
 use Rattle.std.proofs.Common.{subst}
-use Rattle.conf_record.proofs.Prelude.{ClosesOnce, base_tree}
+use Rattle.conf_record.proofs.{Prelude.{ClosesOnce, base_tree}, DocumentLemmas.{record_framed, base_framed, records_tear}}
 use Rattle.conf_record.specs.Records.{record_tree}
-use Rattle.conf_record.proofs.DocumentLemmas.{record_framed, base_framed, records_tear}
 use Rattle.conf_record.proofs.documents.documents_close.Goals as goal
 
 pub returns-clause-bases : goal.returns-clause-bases

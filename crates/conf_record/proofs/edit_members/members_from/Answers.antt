@@ -1,7 +1,6 @@
 use Rattle.std.proofs.Common.{false, true, sym, ◌∙◌, refl}
-use Rattle.conf_record.proofs.Prelude.{chars, members_of}
-use Rattle.conf_record.specs.RecordsRead.{set_keys, delete_keys}
-use Rattle.conf_record.proofs.TreeLemmas.{under_import, under_set, under_delete, under_none, import_texts, asked, texts_ascii}
+use Rattle.conf_record.proofs.{Prelude.{chars, members_of}, TreeLemmas.{under_import, under_set, under_delete, under_none, import_texts}}
+use Rattle.conf_record.{proofs.TreeLemmas.{asked, texts_ascii}, specs.RecordsRead.{set_keys, delete_keys}}
 use Rattle.conf_record.proofs.edit_members.members_from.Goals as goal
 
 pub returns-then-keys_are-clause-read : goal.returns-then-keys_are-clause-read

@@ -1,6 +1,5 @@
 use Rattle.std.proofs.Common.{ap, arith}
-use Rattle.conf_record.proofs.Prelude.{tree_of}
-use Rattle.conf_record.proofs.SizeLemmas.{element_least}
+use Rattle.conf_record.proofs.{Prelude.tree_of, SizeLemmas.element_least}
 use Rattle.conf_record.proofs.entries.config_of.Goals as goal
 
 pub with_size-requires-clause-kept : goal.with_size-requires-clause-kept

@@ -1,7 +1,6 @@
 use Rattle.std.proofs.Common.{ap, refl, sym, subst, rules}
-use Rattle.conf_record.proofs.Prelude.{chars, tree_of, text_bytes, entries_of}
+use Rattle.conf_record.proofs.{Prelude.{chars, tree_of, text_bytes, entries_of}, EntryLemmas.{Part, entries_and, entries_pushed}}
 use Rattle.conf_record.specs.Entries.{AreEntries}
-use Rattle.conf_record.proofs.EntryLemmas.{Part, entries_and, entries_pushed}
 use Rattle.conf_record.proofs.entries.read_entries.Goals as goal
 
 pub entries-init : goal.entries-init

@@ -1,6 +1,5 @@
 use Rattle.std.proofs.Common.{◌≡◌, ◌++◌, codes, rules}
-use Rattle.conf_record.proofs.Prelude.{chars, text_bytes}
-use Rattle.conf_record.proofs.EntryLemmas.{entry_of}
+use Rattle.conf_record.proofs.{Prelude.{chars, text_bytes}, EntryLemmas.entry_of}
 use Rattle.conf_record.proofs.entries.read_entry.Goals as goal
 
 pub returns : goal.returns

@@ -1,6 +1,5 @@
 use Rattle.std.proofs.Common.{get_or, sym, ◌∙◌, ap, arith}
-use Rattle.conf_record.proofs.Prelude.{chars, same_text}
-use Rattle.conf_record.proofs.FieldLemmas.{Key, blank, keys_are-lengths, keys_are-more, keys_are-other}
+use Rattle.conf_record.proofs.{Prelude.{chars, same_text}, FieldLemmas.{Key, blank, keys_are-lengths, keys_are-more, keys_are-other}}
 use Rattle.conf_record.proofs.fields.keys_are.Goals as goal
 
 pub returns-then-keys-pairs : goal.returns-then-keys-pairs

@@ -1,6 +1,5 @@
 use Rattle.std.proofs.Common.{◌≡◌, drop, map}
-use Rattle.conf_record.proofs.Prelude.{members_of}
-use Rattle.conf_record.specs.{RecordsRead.keys_are, Reading.texts}
+use Rattle.conf_record.{proofs.Prelude.members_of, specs.{RecordsRead.keys_are, Reading.texts}}
 use Rattle.conf_record.proofs.fields.keys_are.Given as goal
 
 -- what is left decides, and there are as many on both sides

@@ -1,8 +1,5 @@
-use Rattle.std.proofs.Common.{decimal, true≢false, sym, ◌∙◌, ap, arith}
-use Rattle.std.proofs.lemmas.Option.{none-some, same_Some}
-use Rattle.conf_record.proofs.Prelude.{parse-decimal}
-use Rattle.std.specs.Result.{result_ok}
-use Rattle.conf_record.proofs.FieldLemmas.{number_from_digits-is, number_from_digits-none, bytes_same, same_self}
+use Rattle.std.{proofs.{Common.{decimal, true≢false, sym, ◌∙◌, ap, arith}, lemmas.Option.{none-some, same_Some}}, specs.Result.result_ok}
+use Rattle.conf_record.proofs.{Prelude.parse-decimal, FieldLemmas.{number_from_digits-is, number_from_digits-none, bytes_same, same_self}}
 use Rattle.conf_record.proofs.WrittenLemmas.{number_spelled}
 use Rattle.conf_record.proofs.fields.number_from.Goals as goal
 

@@ -1,5 +1,4 @@
-use Rattle.std.proofs.Common.{◌≡◌, List, [], ◌∷◌, length, get_or, vec_len, refl, sym, ap, ◌∙◌, arith}
-use Rattle.std.proofs.lemmas.List.{nil_from_length}
+use Rattle.std.proofs.{Common.{◌≡◌, List, [], ◌∷◌, length, get_or, vec_len, refl, sym, ap, ◌∙◌, arith}, lemmas.List.nil_from_length}
 use Rattle.conf_record.proofs.Prelude.{eqb-true, eqb-false, remove, Pair}
 use Rattle.conf_record.proofs.fields.split_first.Goals as goal
 

@@ -1,8 +1,6 @@
-use Rattle.std.proofs.Common.{◌≡◌, ◌≤◌, length, sym, ap, subst, ◌∙◌, arith}
-use Rattle.conf_record.proofs.Prelude.{eqb-true, chars, same_text-true, tree_of, text_bytes}
-use Rattle.conf_record.specs.BaseSpans.{bytes_at, IsBuilt}
-use Rattle.std.proofs.lemmas.List.{nil_from_length}
-use Rattle.conf_record.proofs.{BaseCopyLemmas.built_from, SizeLemmas.element_least}
+use Rattle.std.proofs.{Common.{◌≡◌, ◌≤◌, length, sym, ap, subst, ◌∙◌, arith}, lemmas.List.nil_from_length}
+use Rattle.conf_record.proofs.{Prelude.{eqb-true, chars, same_text-true, tree_of, text_bytes}, BaseCopyLemmas.built_from}
+use Rattle.conf_record.{proofs.SizeLemmas.element_least, specs.BaseSpans.{bytes_at, IsBuilt}}
 use Rattle.conf_record.proofs.held_base.build.Goals as goal
 
 pub with_size-requires-clause-kept : goal.with_size-requires-clause-kept

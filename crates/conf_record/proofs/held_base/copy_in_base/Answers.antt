@@ -1,6 +1,5 @@
 use Rattle.std.proofs.Common.{subst}
-use Rattle.conf_record.proofs.Prelude.{IfNone}
-use Rattle.conf_record.specs.Documents.{IsNoBase}
+use Rattle.conf_record.{proofs.Prelude.IfNone, specs.Documents.IsNoBase}
 use Rattle.conf_record.proofs.held_base.copy_in_base.Goals as goal
 
 pub unreachable-requires : goal.unreachable-requires

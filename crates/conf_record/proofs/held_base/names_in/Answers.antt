@@ -1,7 +1,5 @@
 use Rattle.std.proofs.Common.{◌≡◌, ◌++◌, map, ap, subst, ◌∙◌}
-use Rattle.conf_record.proofs.Prelude.{chars, text_of}
-use Rattle.conf_record.specs.BaseSpans.{names_under}
-use Rattle.conf_record.proofs.BaseSpanLemmas.{names_pushed}
+use Rattle.conf_record.{proofs.{Prelude.{chars, text_of}, BaseSpanLemmas.names_pushed}, specs.BaseSpans.names_under}
 use Rattle.conf_record.proofs.held_base.names_in.Goals as goal
 
 pub loop-name-preserved : goal.loop-name-preserved

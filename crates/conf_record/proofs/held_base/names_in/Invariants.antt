@@ -1,6 +1,5 @@
 use Rattle.std.proofs.Common.{◌≡◌, ◌++◌, map}
-use Rattle.conf_record.proofs.Prelude.{text_of}
-use Rattle.conf_record.specs.BaseSpans.{names_under}
+use Rattle.conf_record.{proofs.Prelude.text_of, specs.BaseSpans.names_under}
 use Rattle.conf_record.proofs.held_base.names_in.Given as goal
 
 -- the names that were taken, and then those that are left, are all

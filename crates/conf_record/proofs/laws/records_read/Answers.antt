@@ -1,11 +1,9 @@
-use Rattle.std.proofs.Common.{◌≤◌, ℕ, ap, sym, subst, ◌∙◌}
+use Rattle.std.proofs.{Common.{◌≤◌, ℕ, ap, sym, subst, ◌∙◌}, lemmas.Option.same_Some}
 use Rattle.conf_record.proofs.Prelude.{Gives, Tree, own_limits, base_tree, base_text, closed_document, Command, count_limit}
-use Rattle.std.proofs.lemmas.Option.{same_Some}
+use Rattle.conf_record.proofs.{AcceptedLemmas.accepted, RecordLemmas.{FramedGood, framed_document, record_good, record_tells, base_good}}
+use Rattle.conf_record.{proofs.RecordLemmas.base_tells, specs.Records.{record_tree, record_text, FitsRecord}}
+use Rattle.conf_record.specs.{SmallCommands.IsSmallCommand, RecordsRead.{record_of, base_of, IsCommand, ReadsRecord}}
 use Rattle.yaml_recognizers.specs.StyleLaws.{FramedReads}
-use Rattle.conf_record.specs.{Records.record_tree, Records.record_text, Records.FitsRecord, SmallCommands.IsSmallCommand}
-use Rattle.conf_record.specs.RecordsRead.{record_of, base_of, IsCommand, ReadsRecord}
-use Rattle.conf_record.proofs.AcceptedLemmas.{accepted}
-use Rattle.conf_record.proofs.RecordLemmas.{FramedGood, framed_document, record_good, record_tells, base_good, base_tells}
 use Rattle.conf_record.proofs.laws.records_read.Goals as goal
 
 -- a closed document gives its tree

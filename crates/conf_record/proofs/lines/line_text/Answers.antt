@@ -1,6 +1,5 @@
 use Rattle.std.proofs.Common.{Some, IfSome, subst, sym, lit<}
-use Rattle.conf_record.proofs.Prelude.{strip_prefix_char, chars}
-use Rattle.conf_record.specs.Written.{IsLineOf}
+use Rattle.conf_record.{proofs.Prelude.{strip_prefix_char, chars}, specs.Written.IsLineOf}
 use Rattle.conf_record.proofs.lines.line_text.Goals as goal
 
 pub returns-in-Some : goal.returns-in-Some

@@ -1,6 +1,5 @@
 use Rattle.std.proofs.Common.{ap, ◌∙◌}
-use Rattle.conf_record.proofs.Prelude.{chars, tree_of, tree_of-Text, text}
-use Rattle.conf_record.proofs.WrittenLemmas.{text_config, value_size}
+use Rattle.conf_record.proofs.{Prelude.{chars, tree_of, tree_of-Text, text}, WrittenLemmas.{text_config, value_size}}
 use Rattle.conf_record.proofs.lines.made_value.Goals as goal
 
 pub with_size-requires-clause-kept : goal.with_size-requires-clause-kept

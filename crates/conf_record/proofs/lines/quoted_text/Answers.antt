@@ -1,6 +1,5 @@
 use Rattle.std.proofs.Common.{Some, sym, ap, ◌∙◌, lit<}
-use Rattle.conf_record.proofs.Prelude.{strip_suffix_char, list_all, stands_alone}
-use Rattle.conf_record.proofs.WrittenLemmas.{quoted_line}
+use Rattle.conf_record.proofs.{Prelude.{strip_suffix_char, list_all, stands_alone}, WrittenLemmas.quoted_line}
 use Rattle.conf_record.proofs.lines.quoted_text.Goals as goal
 
 pub returns-in-Double : goal.returns-in-Double

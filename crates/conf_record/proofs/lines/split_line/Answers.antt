@@ -1,6 +1,5 @@
 use Rattle.std.proofs.Common.{◌++◌, ◌∷◌, sym, ap₂, ◌∙◌, arith}
-use Rattle.conf_record.proofs.Prelude.{IsCharBoundary-after_ascii, line_feed}
-use Rattle.yaml_writer.proofs.LineLemmas.{first_feed, cut_at_feed}
+use Rattle.{conf_record.proofs.Prelude.{IsCharBoundary-after_ascii, line_feed}, yaml_writer.proofs.LineLemmas.{first_feed, cut_at_feed}}
 use Rattle.conf_record.proofs.lines.split_line.Goals as goal
 
 pub range_from-requires : goal.range_from-requires

@@ -1,7 +1,5 @@
 use Rattle.std.proofs.Common.{◌+◌, sym, subst}
-use Rattle.conf_record.proofs.Prelude.{command_of}
-use Rattle.conf_record.specs.Written.{IsWritten}
-use Rattle.conf_record.proofs.WrittenLemmas.{follows_is}
+use Rattle.conf_record.{proofs.{Prelude.command_of, WrittenLemmas.follows_is}, specs.Written.IsWritten}
 use Rattle.conf_record.proofs.next_record.read_next.Goals as goal
 
 pub returns-in_ok-made_command-in-Some-cut_single-clause-ok : goal.returns-in_ok-made_command-in-Some-cut_single-clause-ok

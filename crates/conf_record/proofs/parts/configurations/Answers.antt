@@ -1,6 +1,5 @@
 use Rattle.std.proofs.Common.{rules, length, ap, ◌∙◌, arith}
-use Rattle.conf_record.proofs.Prelude.{into_iter_items}
-use Rattle.conf_record.proofs.PieceLemmas.{none_moved, one_moved, all_moved}
+use Rattle.conf_record.proofs.{Prelude.into_iter_items, PieceLemmas.{none_moved, one_moved, all_moved}}
 use Rattle.conf_record.proofs.parts.configurations.Goals as goal
 
 pub loop-name-init : goal.loop-name-init

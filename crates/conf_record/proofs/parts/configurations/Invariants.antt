@@ -1,6 +1,5 @@
 use Rattle.std.proofs.Common.{◌≡◌, length}
-use Rattle.conf_record.proofs.Prelude.{into_iter_items, into_iter_len}
-use Rattle.conf_record.proofs.PieceLemmas.{MovedSoFar}
+use Rattle.conf_record.proofs.{Prelude.{into_iter_items, into_iter_len}, PieceLemmas.MovedSoFar}
 use Rattle.conf_record.proofs.parts.configurations.Given as goal
 
 abbrev pub invariant-loop-name : goal.invariant-loop-name

@@ -1,5 +1,4 @@
-use Rattle.conf_record.proofs.Prelude.{IfOk-weaker, tree_of}
-use Rattle.conf_record.proofs.TreeLemmas.{no_record, one_record}
+use Rattle.conf_record.proofs.{Prelude.{IfOk-weaker, tree_of}, TreeLemmas.{no_record, one_record}}
 use Rattle.conf_record.proofs.read.read_record.Goals as goal
 
 pub record_from-requires : goal.record_from-requires

@@ -1,7 +1,6 @@
 use Rattle.std.proofs.Common.{sym, ap, ◌∙◌}
-use Rattle.conf_record.proofs.Prelude.{IfOk-weaker, tree_of}
+use Rattle.conf_record.proofs.{Prelude.{IfOk-weaker, tree_of}, PieceLemmas.own_parts, TreeLemmas.{no_parts, one_base, no_base}}
 use Rattle.conf_record.specs.Reading.{state_of_parts}
-use Rattle.conf_record.proofs.{PieceLemmas.own_parts, TreeLemmas.no_parts, TreeLemmas.one_base, TreeLemmas.no_base}
 use Rattle.conf_record.proofs.read.spelled_base.Goals as goal
 
 pub returns-in-None-clause-none : goal.returns-in-None-clause-none

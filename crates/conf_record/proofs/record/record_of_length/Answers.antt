@@ -1,6 +1,5 @@
 use Rattle.std.proofs.Common.{◌++◌, string_bytes, encode_utf8_all, ap, sym, ◌∙◌}
-use Rattle.conf_record.proofs.Prelude.{chars_from_encodes, IsUtf8-string_bytes, command_of}
-use Rattle.conf_record.specs.Records.{record_text, record_bytes}
+use Rattle.conf_record.{proofs.Prelude.{chars_from_encodes, IsUtf8-string_bytes, command_of}, specs.Records.{record_text, record_bytes}}
 use Rattle.conf_record.proofs.record.record_of_length.Goals as goal
 
 pub returns-clause-text : goal.returns-clause-text

@@ -1,9 +1,6 @@
-use Rattle.std.proofs.Common.{◌≡◌, List, [], ◌∷◌, length, map, codes, refl, sym, ap, subst, ◌∙◌, arith}
-use Rattle.conf_record.proofs.Prelude.{eqb-true, eqb-false, drop_all, on_ok_weaker, edit_of, ascii}
-use Rattle.std.proofs.lemmas.List.{nil_from_length}
-use Rattle.yaml_data.proofs.ListLemmas.{drop_item}
-use Rattle.conf_record.specs.{RecordsRead.AreEdits}
-use Rattle.conf_record.proofs.EditLines.{no_edit_lines, edit_lines}
+use Rattle.std.proofs.{Common.{◌≡◌, List, [], ◌∷◌, length, map, codes, refl, sym, ap, subst, ◌∙◌, arith}, lemmas.List.nil_from_length}
+use Rattle.conf_record.proofs.{Prelude.{eqb-true, eqb-false, drop_all, on_ok_weaker, edit_of, ascii}, EditLines.{no_edit_lines, edit_lines}}
+use Rattle.{conf_record.specs.RecordsRead.AreEdits, yaml_data.proofs.ListLemmas.drop_item}
 use Rattle.conf_state.specs.declared.command.Edit as code
 use Rattle.conf_record.proofs.record.write_batch.Goals as goal
 

@@ -1,6 +1,5 @@
 use Rattle.std.proofs.Common.{drop, map}
-use Rattle.conf_record.proofs.Prelude.{elements_after, edit_of}
-use Rattle.conf_record.specs.{Records.edit_elements, RecordsRead.AreEdits}
+use Rattle.conf_record.{proofs.Prelude.{elements_after, edit_of}, specs.{Records.edit_elements, RecordsRead.AreEdits}}
 use Rattle.conf_record.proofs.record.write_batch.Given as goal
 
 -- what ends the edits from here ends them all from the start

@@ -1,6 +1,5 @@
 use Rattle.std.proofs.Common.{◌+◌, ◌++◌, codes, refl, subst}
-use Rattle.conf_record.proofs.Prelude.{on_ok_weaker, chars, scalar_lines, chars-IsText, ascii}
-use Rattle.conf_record.proofs.EditLines.{delete_lines_at}
+use Rattle.conf_record.proofs.{Prelude.{on_ok_weaker, chars, scalar_lines, chars-IsText, ascii}, EditLines.delete_lines_at}
 use Rattle.conf_record.proofs.record.write_delete.Goals as goal
 
 pub returns-clause-takes : goal.returns-clause-takes

@@ -1,6 +1,5 @@
 use Rattle.std.proofs.Common.{◌+◌, ◌++◌, codes, refl, subst}
-use Rattle.conf_record.proofs.Prelude.{on_ok_weaker, chars, scalar_lines, value_at, spaces, tree_of, ascii}
-use Rattle.conf_record.proofs.EditLines.{import_at}
+use Rattle.conf_record.proofs.{Prelude.{on_ok_weaker, chars, scalar_lines, value_at, spaces, tree_of, ascii}, EditLines.import_at}
 use Rattle.conf_record.proofs.record.write_import.Goals as goal
 
 pub returns-clause-takes : goal.returns-clause-takes

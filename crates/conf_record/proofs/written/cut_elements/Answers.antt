@@ -1,8 +1,5 @@
-use Rattle.std.proofs.Common.{rules, [], ◌∷◌, codes, map, ap, sym, subst, ◌∙◌}
-use Rattle.conf_record.proofs.Prelude.{edit_of}
-use Rattle.conf_record.specs.{EditLines.lines_of, Written.ElementsWritten}
-use Rattle.std.proofs.lemmas.List.{map-append}
-use Rattle.conf_record.proofs.WrittenLemmas.{one_written}
+use Rattle.std.proofs.{Common.{rules, [], ◌∷◌, codes, map, ap, sym, subst, ◌∙◌}, lemmas.List.map-append}
+use Rattle.conf_record.{proofs.{Prelude.edit_of, WrittenLemmas.one_written}, specs.{EditLines.lines_of, Written.ElementsWritten}}
 use Rattle.conf_record.proofs.written.cut_elements.Goals as goal
 
 pub loop-left-preserved : goal.loop-left-preserved

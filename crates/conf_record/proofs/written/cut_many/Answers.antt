@@ -1,7 +1,5 @@
 use Rattle.std.proofs.Common.{[], ◌∷◌, ◌++◌, ◌≡◌, List, codes, length, map, rules, sym, subst, refl, arith}
-use Rattle.conf_record.proofs.Prelude.{eqb-false, vec_len, edit_of, batch}
-use Rattle.conf_record.specs.Written.{IsWritten}
-use Rattle.conf_record.proofs.WrittenLemmas.{batch_written}
+use Rattle.conf_record.{proofs.{Prelude.{eqb-false, vec_len, edit_of, batch}, WrittenLemmas.batch_written}, specs.Written.IsWritten}
 use Rattle.conf_state.specs.declared.command.Edit as code
 use Rattle.conf_record.proofs.written.cut_many.Goals as goal
 

@@ -1,7 +1,5 @@
-use Rattle.std.proofs.Common.{codes}
-use Rattle.std.proofs.lemmas.Option.{IfSome_then}
-use Rattle.conf_record.specs.{EditLines.lines_of, LineValues.edit_cut}
-use Rattle.conf_record.proofs.WrittenLemmas.{alone_written}
+use Rattle.std.proofs.{Common.codes, lemmas.Option.IfSome_then}
+use Rattle.conf_record.{specs.{EditLines.lines_of, LineValues.edit_cut}, proofs.WrittenLemmas.alone_written}
 use Rattle.conf_record.proofs.written.cut_single.Goals as goal
 
 pub returns-clause-written : goal.returns-clause-written

@@ -1,6 +1,5 @@
 use Rattle.std.proofs.Common.{ap, sym, subst, ◌∙◌}
-use Rattle.conf_record.proofs.Prelude.{chars, import_as, set_at, delete_at}
-use Rattle.conf_record.specs.LineValues.{HasValueLine, edit_cut}
+use Rattle.conf_record.{proofs.Prelude.{chars, import_as, set_at, delete_at}, specs.LineValues.{HasValueLine, edit_cut}}
 use Rattle.conf_record.proofs.written.edit_with.Goals as goal
 
 pub made_value-requires : goal.made_value-requires

@@ -1,7 +1,6 @@
 use Rattle.std.proofs.Common.{◌≡◌, ◌≤◌, sym, subst, ap, ◌∙◌, arith}
-use Rattle.conf_record.proofs.Prelude.{eqb-false, IfSome, vec_len, entries_of, base_bytes, IsState, Contents}
-use Rattle.conf_record.specs.Documents.{IsBase}
-use Rattle.conf_record.proofs.EntryLemmas.{whole_base, some_entries}
+use Rattle.conf_record.proofs.{Prelude.{eqb-false, IfSome, vec_len, entries_of, base_bytes, IsState, Contents}, EntryLemmas.whole_base}
+use Rattle.conf_record.{proofs.EntryLemmas.some_entries, specs.Documents.IsBase}
 use Rattle.conf_record.proofs.written_base.written_base.Goals as goal
 
 pub returns-in-Some-2 : goal.returns-in-Some-2

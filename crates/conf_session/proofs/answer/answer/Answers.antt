@@ -1,6 +1,5 @@
 use Rattle.std.proofs.Common.{◌++◌, ap, ◌∙◌}
-use Rattle.conf_session.proofs.Prelude.{chars, framed_text_bytes, tree_of}
-use Rattle.conf_session.specs.Answers.{one}
+use Rattle.conf_session.{proofs.Prelude.{chars, framed_text_bytes, tree_of}, specs.Answers.one}
 use Rattle.conf_session.proofs.answer.answer.Goals as goal
 
 pub returns : goal.returns

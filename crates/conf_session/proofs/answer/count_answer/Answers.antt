@@ -1,6 +1,5 @@
 use Rattle.std.proofs.Common.{◌++◌, codes, decimal, ap, ◌∙◌}
-use Rattle.conf_session.proofs.Prelude.{text, framed_text_bytes}
-use Rattle.conf_session.specs.Answers.{one}
+use Rattle.conf_session.{proofs.Prelude.{text, framed_text_bytes}, specs.Answers.one}
 use Rattle.conf_session.proofs.answer.count_answer.Goals as goal
 
 pub returns : goal.returns

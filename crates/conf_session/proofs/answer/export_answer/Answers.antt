@@ -1,9 +1,7 @@
-use Rattle.std.proofs.Common.{◌≡◌, ⊎_elim, refl, ap, sym, subst, ◌∙◌}
-use Rattle.std.specs.Prelude.{IfOk, codes}
+use Rattle.std.{proofs.Common.{◌≡◌, ⊎_elim, refl, ap, sym, subst, ◌∙◌}, specs.Prelude.{IfOk, codes}}
 use Rattle.conf_session.proofs.Prelude.{chars, style_text, text, framed_text_bytes, tree_of, Text, tree_of-Text, ascii}
-use Rattle.conf_session.specs.{Requests.exporting, Answers.one, Answers.answered, Replies.Replies, Replies.refused_as, Runs.stored_of}
-use Rattle.conf_session.proofs.RefusalLemmas.{OnlyMemory, named-memory, refused-memory}
-use Rattle.conf_session.proofs.ReplyLemmas.{export-text, export-refused}
+use Rattle.conf_session.proofs.{RefusalLemmas.{OnlyMemory, named-memory, refused-memory}, ReplyLemmas.{export-text, export-refused}}
+use Rattle.conf_session.specs.{Requests.exporting, Answers.{one, answered}, Replies.{Replies, refused_as}, Runs.stored_of}
 use Rattle.conf_session.proofs.answer.export_answer.Goals as goal
 
 pub returns-in_ok-answer-in-Ok-clause-ok : goal.returns-in_ok-answer-in-Ok-clause-ok

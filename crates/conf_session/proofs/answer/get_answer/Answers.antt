@@ -1,13 +1,10 @@
 -- The name is looked at first, then the path's text, then the places on the path.
-use Rattle.std.proofs.Common.{◌≡◌, ⊎_elim, ap, sym, subst, ◌∙◌, refl}
-use Rattle.std.specs.Prelude.{Ok, IfOk, codes}
-use Rattle.conf_session.proofs.Prelude.{chars, framed_text_bytes, tree_of, path_of, ascii}
-use Rattle.json_pointer.specs.declared.fault.PathFault.TheVariants.{OutOfMemory}
-use Rattle.conf_session.specs.{Requests.getting, Replies.Replies, Replies.refused_as, Runs.stored_of}
-use Rattle.conf_session.specs.Answers.{one, answered, path_answered}
-use Rattle.conf_session.proofs.AnswerLemmas.{value-shallow}
+use Rattle.std.{proofs.Common.{◌≡◌, ⊎_elim, ap, sym, subst, ◌∙◌, refl}, specs.Prelude.{Ok, IfOk, codes}}
+use Rattle.conf_session.proofs.{Prelude.{chars, framed_text_bytes, tree_of, path_of, ascii}, AnswerLemmas.value-shallow}
 use Rattle.conf_session.proofs.RefusalLemmas.{OnlyMemory, named-memory, path-memory, placed-memory, refused-memory}
-use Rattle.conf_session.proofs.ReplyLemmas.{get-no_config, get-no_path, get-refused, get-value}
+use Rattle.conf_session.{proofs.ReplyLemmas.{get-no_config, get-no_path, get-refused, get-value}, specs.{Requests.getting, Replies.Replies}}
+use Rattle.conf_session.specs.{Replies.refused_as, Runs.stored_of, Answers.{one, answered, path_answered}}
+use Rattle.json_pointer.specs.declared.fault.PathFault.TheVariants.{OutOfMemory}
 use Rattle.conf_session.proofs.answer.get_answer.Goals as goal
 
 pub returns-in-Err-clause-ok : goal.returns-in-Err-clause-ok

@@ -1,7 +1,6 @@
 -- Each turn moves one name from those that are left into the list.
 use Rattle.std.proofs.Common.{◌∙◌}
-use Rattle.conf_session.proofs.Prelude.{names_of}
-use Rattle.conf_session.proofs.AnswerLemmas.{names-more, names-all}
+use Rattle.conf_session.proofs.{Prelude.names_of, AnswerLemmas.{names-more, names-all}}
 use Rattle.conf_session.proofs.answer.name_texts.Goals as goal
 
 pub loop-name-preserved : goal.loop-name-preserved

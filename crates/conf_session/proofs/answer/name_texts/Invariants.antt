@@ -1,7 +1,6 @@
 -- The names so far and those that are left are all names.
 use Rattle.std.proofs.Common.{◌≡◌}
-use Rattle.conf_session.proofs.Prelude.{names_of, elements_of, join_elements}
-use Rattle.conf_session.specs.Answers.{text_elements}
+use Rattle.conf_session.{proofs.Prelude.{names_of, elements_of, join_elements}, specs.Answers.text_elements}
 use Rattle.conf_session.proofs.answer.name_texts.Given as goal
 
 abbrev pub invariant-loop-name : goal.invariant-loop-name

@@ -1,8 +1,7 @@
-use Rattle.std.proofs.Common.{◌≡◌, refl, ap, ◌∙◌}
-use Rattle.std.specs.Prelude.{codes}
+use Rattle.std.{proofs.Common.{◌≡◌, refl, ap, ◌∙◌}, specs.Prelude.codes}
 use Rattle.conf_session.proofs.Prelude.{framed_text_bytes, sequence, tree_of, Seq, tree_of-Seq, names_of, ascii}
-use Rattle.conf_session.specs.{Answers.one, Answers.text_elements, Runs.stored_of}
-use Rattle.conf_session.proofs.{AnswerLemmas.names-shallow, ReplyLemmas.names-listed}
+use Rattle.conf_session.{proofs.{AnswerLemmas.names-shallow, ReplyLemmas.names-listed}, specs.Answers.{one, text_elements}}
+use Rattle.conf_session.specs.Runs.{stored_of}
 use Rattle.conf_session.proofs.answer.names_answer.Goals as goal
 
 pub answer-requires : goal.answer-requires

@@ -1,6 +1,5 @@
 use Rattle.std.proofs.Common.{codes, refl, subst}
-use Rattle.conf_session.proofs.Prelude.{on_ok_weaker, chars, tree_of, ascii}
-use Rattle.conf_session.proofs.WordLemmas.{framed-one}
+use Rattle.conf_session.proofs.{Prelude.{on_ok_weaker, chars, tree_of, ascii}, WordLemmas.framed-one}
 use Rattle.conf_session.proofs.answer.write_answer.Goals as goal
 
 pub returns : goal.returns

@@ -1,6 +1,5 @@
 use Rattle.std.proofs.Common.{codes, decimal, subst, ◌∙◌, refl, arith}
-use Rattle.conf_session.proofs.Prelude.{decimal_is_IsNumeral, on_ok_weaker, chars-IsAscii, ascii}
-use Rattle.conf_session.proofs.AnswerLemmas.{framed-count}
+use Rattle.conf_session.proofs.{Prelude.{decimal_is_IsNumeral, on_ok_weaker, chars-IsAscii, ascii}, AnswerLemmas.framed-count}
 use Rattle.conf_session.proofs.answer.write_count.Goals as goal
 
 pub returns : goal.returns

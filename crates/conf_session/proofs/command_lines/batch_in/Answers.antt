@@ -1,8 +1,5 @@
-use Rattle.std.proofs.Common.{IfSome, [], ◌∷◌, ◌≡◌, List, length, codes, sym, subst, refl, arith}
-use Rattle.conf_session.proofs.Prelude.{eqb-false}
-use Rattle.std.specs.Vec.{vec_len}
-use Rattle.conf_session.specs.{Said.parts_seen, CommandLines.ArePartLines}
-use Rattle.conf_session.proofs.CommandLineLemmas.{batch_lines}
+use Rattle.std.{proofs.Common.{IfSome, [], ◌∷◌, ◌≡◌, List, length, codes, sym, subst, refl, arith}, specs.Vec.vec_len}
+use Rattle.conf_session.{proofs.{Prelude.eqb-false, CommandLineLemmas.batch_lines}, specs.{Said.parts_seen, CommandLines.ArePartLines}}
 use Rattle.conf_session.specs.declared.parts.Part as code
 use Rattle.conf_session.proofs.command_lines.batch_in.Goals as goal
 

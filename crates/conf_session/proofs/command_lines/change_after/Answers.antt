@@ -1,7 +1,5 @@
-use Rattle.std.proofs.Common.{◌≡◌, IfSome, [], ◌∷◌, List, length, sym, subst, refl, arith}
-use Rattle.std.specs.Vec.{vec_len}
-use Rattle.conf_session.proofs.Prelude.{eqb-false, conditions_of}
-use Rattle.conf_session.specs.{Said.said_of, CommandLines.IsChangeLines}
+use Rattle.std.{proofs.Common.{◌≡◌, IfSome, [], ◌∷◌, List, length, sym, subst, refl, arith}, specs.Vec.vec_len}
+use Rattle.conf_session.{proofs.Prelude.{eqb-false, conditions_of}, specs.{Said.said_of, CommandLines.IsChangeLines}}
 use Rattle.conf_conditions.specs.declared.condition.Condition as code
 use Rattle.conf_session.proofs.command_lines.change_after.Goals as goal
 

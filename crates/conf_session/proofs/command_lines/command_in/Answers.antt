@@ -1,6 +1,5 @@
 use Rattle.std.proofs.Common.{◌≡◌, ◌++◌, codes, rules, subst}
-use Rattle.conf_session.proofs.Prelude.{IfSome_then, IfOk-weaker}
-use Rattle.conf_session.specs.{Said.said_of, CommandLines.IsCommandLines}
+use Rattle.conf_session.{proofs.Prelude.{IfSome_then, IfOk-weaker}, specs.{Said.said_of, CommandLines.IsCommandLines}}
 use Rattle.conf_session.proofs.command_lines.command_in.Goals as goal
 
 pub returns-in-Some : goal.returns-in-Some

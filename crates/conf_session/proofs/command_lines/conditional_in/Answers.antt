@@ -1,10 +1,8 @@
 use Rattle.std.proofs.Common.{◌≡◌, rules, IfSome, [], ◌∷◌, ap, sym, subst, ◌∙◌}
 use Rattle.conf_session.proofs.Prelude.{map-append, condition_of, conditions_of, IfSome_then, IfOk-weaker}
-use Rattle.conf_session.specs.CommandLines.{AreConditionLines, IsConditionLines}
-use Rattle.conf_session.specs.SaidConditions.{condition_in}
-use Rattle.conf_session.specs.ConditionLines.{condition_cut}
-use Rattle.conf_session.specs.Said.{said_of}
 use Rattle.conf_session.proofs.CommandLineLemmas.{no_element_lines, element_lines_joined, element_taken, conditional_lines}
+use Rattle.conf_session.specs.{CommandLines.{AreConditionLines, IsConditionLines}, SaidConditions.condition_in}
+use Rattle.conf_session.specs.{ConditionLines.condition_cut, Said.said_of}
 use Rattle.conf_session.proofs.command_lines.conditional_in.Goals as goal
 
 pub loop-left-init : goal.loop-left-init

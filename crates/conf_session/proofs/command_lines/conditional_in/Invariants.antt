@@ -1,8 +1,7 @@
 use Rattle.std.proofs.Common.{length}
 use denote.Shadow.{shadow}
 use denote.Text.{Utf8}
-use Rattle.conf_session.proofs.Prelude.{conditions_of}
-use Rattle.conf_session.specs.CommandLines.{AreConditionLines}
+use Rattle.conf_session.{proofs.Prelude.conditions_of, specs.CommandLines.AreConditionLines}
 use Rattle.conf_session.proofs.command_lines.conditional_in.Given as goal
 
 abbrev pub invariant-loop-left : goal.invariant-loop-left

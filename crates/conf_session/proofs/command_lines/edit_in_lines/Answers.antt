@@ -1,7 +1,6 @@
 use Rattle.std.proofs.Common.{◌≡◌, IfSome, sym, ◌∙◌, ap, subst}
-use Rattle.conf_session.proofs.Prelude.{command_of, edit_of}
-use Rattle.conf_session.specs.{PartLines.part_cut, Said.part_seen, Said.plain}
-use Rattle.conf_session.proofs.RequestLemmas.{edit_asked}
+use Rattle.conf_session.{proofs.{Prelude.{command_of, edit_of}, RequestLemmas.edit_asked}, specs.{PartLines.part_cut, Said.part_seen}}
+use Rattle.conf_session.specs.Said.{plain}
 use Rattle.conf_session.proofs.command_lines.edit_in_lines.Goals as goal
 
 pub returns-in-Some-Plain : goal.returns-in-Some-Plain

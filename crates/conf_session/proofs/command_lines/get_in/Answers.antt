@@ -1,7 +1,6 @@
 use Rattle.std.proofs.Common.{◌≡◌, codes, subst, sym, ap, ◌∙◌}
-use Rattle.conf_session.proofs.Prelude.{chars, text_bytes}
-use Rattle.conf_session.specs.{Said.get_at, CommandLines.IsCommandLines, CommandLines.IsField}
-use Rattle.conf_session.proofs.CommandLineLemmas.{get_lines, spelled_chars}
+use Rattle.conf_session.{proofs.{Prelude.{chars, text_bytes}, CommandLineLemmas.{get_lines, spelled_chars}}, specs.Said.get_at}
+use Rattle.conf_session.specs.CommandLines.{IsCommandLines, IsField}
 use Rattle.conf_session.proofs.command_lines.get_in.Goals as goal
 
 pub returns : goal.returns

@@ -1,7 +1,6 @@
 use Rattle.std.proofs.Common.{rules, IfSome, [], ◌∷◌, codes, ap, sym, subst, ◌∙◌}
-use Rattle.conf_session.proofs.Prelude.{map-append, lines_of}
-use Rattle.conf_session.specs.{Said.part_of, Said.part_seen, Said.parts_seen, CommandLines.ArePartLines, CommandLines.SpellsPart}
-use Rattle.conf_session.proofs.CommandLineLemmas.{no_element_lines, one_part_line}
+use Rattle.conf_session.{proofs.{Prelude.{map-append, lines_of}, CommandLineLemmas.{no_element_lines, one_part_line}}, specs.Said.part_of}
+use Rattle.conf_session.specs.{Said.{part_seen, parts_seen}, CommandLines.{ArePartLines, SpellsPart}}
 use Rattle.conf_session.proofs.command_lines.parts_in.Goals as goal
 
 pub loop-left-init : goal.loop-left-init

@@ -1,7 +1,5 @@
 use Rattle.std.proofs.Common.{codes}
-use Rattle.conf_session.proofs.Prelude.{IfSome_then, lines_of}
-use Rattle.conf_session.specs.PartLines.{part_cut}
-use Rattle.conf_session.proofs.CommandLineLemmas.{single_lines}
+use Rattle.conf_session.{proofs.{Prelude.{IfSome_then, lines_of}, CommandLineLemmas.single_lines}, specs.PartLines.part_cut}
 use Rattle.conf_session.proofs.command_lines.texts_alone.Goals as goal
 
 pub returns : goal.returns

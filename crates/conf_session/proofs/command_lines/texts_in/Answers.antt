@@ -1,7 +1,5 @@
 use Rattle.std.proofs.Common.{◌≡◌, ◌++◌, codes, true, false, rules, sym, ◌∙◌, arith}
-use Rattle.conf_session.proofs.Prelude.{IfSome_then}
-use Rattle.conf_session.specs.{PartLines.part_cut, Said.single_part}
-use Rattle.conf_session.proofs.CommandLineLemmas.{lines_say}
+use Rattle.conf_session.{proofs.{Prelude.IfSome_then, CommandLineLemmas.lines_say}, specs.{PartLines.part_cut, Said.single_part}}
 use Rattle.conf_session.proofs.command_lines.texts_in.Goals as goal
 
 pub returns-in-Some : goal.returns-in-Some

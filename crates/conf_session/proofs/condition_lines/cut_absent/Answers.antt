@@ -1,7 +1,6 @@
 use Rattle.std.proofs.Common.{subst, sym}
-use Rattle.conf_session.proofs.Prelude.{chars, chars-nil, absent_at}
+use Rattle.conf_session.proofs.{Prelude.{chars, chars-nil, absent_at}, CommandLineLemmas.{absent_lines, missing_line}}
 use Rattle.conf_session.specs.CommandLines.{IsConditionLines}
-use Rattle.conf_session.proofs.CommandLineLemmas.{absent_lines, missing_line}
 use Rattle.conf_session.proofs.condition_lines.cut_absent.Goals as goal
 
 pub returns-in-Some : goal.returns-in-Some

@@ -1,7 +1,6 @@
 use Rattle.std.proofs.Common.{option_map, length, ap, sym, subst, ◌∙◌, arith}
-use Rattle.conf_session.proofs.Prelude.{into_iter_items, elements_of, AreKeptElements, condition_of}
-use Rattle.conf_session.specs.SaidConditions.{condition_in}
-use Rattle.conf_session.proofs.PartLemmas.{FoundSoFar, one-found, all-found}
+use Rattle.conf_session.proofs.{Prelude.{into_iter_items, elements_of, AreKeptElements, condition_of}, PartLemmas.{FoundSoFar, one-found}}
+use Rattle.conf_session.{proofs.PartLemmas.all-found, specs.SaidConditions.condition_in}
 use Rattle.conf_session.proofs.conditions.all_conditions_in.Goals as goal
 
 pub condition_in-requires : goal.condition_in-requires

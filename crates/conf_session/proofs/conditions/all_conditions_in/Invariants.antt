@@ -1,6 +1,5 @@
 use Rattle.std.proofs.Common.{◌≡◌, length}
-use Rattle.conf_session.proofs.Prelude.{into_iter_items, into_iter_len, condition_of}
-use Rattle.conf_session.proofs.PartLemmas.{FoundSoFar}
+use Rattle.conf_session.proofs.{Prelude.{into_iter_items, into_iter_len, condition_of}, PartLemmas.FoundSoFar}
 use Rattle.conf_session.specs.SaidConditions.{condition_in}
 use Rattle.conf_session.proofs.conditions.all_conditions_in.Given as goal
 

@@ -1,8 +1,8 @@
 -- The keys are asked for in the order of the definition.
 use Rattle.std.proofs.Common.{◌≡◌, false, true, refl, sym, ◌∙◌}
-use Rattle.conf_session.proofs.Prelude.{members_of, keys_are, asked}
-use Rattle.conf_session.specs.SaidConditions.{test_keys, absent_keys, missing_keys, count_keys}
-use Rattle.conf_session.proofs.SaidConditionLemmas.{condition-mapping, test_texts, absent_texts, missing_texts, count_texts}
+use Rattle.conf_session.proofs.{Prelude.{members_of, keys_are, asked}, SaidConditionLemmas.{condition-mapping, test_texts, absent_texts}}
+use Rattle.conf_session.{proofs.SaidConditionLemmas.{missing_texts, count_texts}, specs.SaidConditions.{test_keys, absent_keys}}
+use Rattle.conf_session.specs.SaidConditions.{missing_keys, count_keys}
 use Rattle.conf_session.proofs.conditions.members_from.Goals as goal
 
 pub returns-then-keys_are-clause-read : goal.returns-then-keys_are-clause-read

@@ -1,6 +1,5 @@
 use Rattle.std.proofs.Common.{◌≡◌, vec_len, sym, ◌∙◌, arith}
-use Rattle.conf_session.proofs.Prelude.{eqb-false, IfOk-weaker}
-use Rattle.conf_session.proofs.SaidConditionLemmas.{some-in}
+use Rattle.conf_session.proofs.{Prelude.{eqb-false, IfOk-weaker}, SaidConditionLemmas.some-in}
 use Rattle.conf_session.proofs.conditions.some_conditions.Goals as goal
 
 pub returns : goal.returns

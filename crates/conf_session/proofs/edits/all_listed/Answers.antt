@@ -1,7 +1,6 @@
 use Rattle.std.proofs.Common.{option_map, length, ap, sym, subst, ◌∙◌, arith}
-use Rattle.conf_session.proofs.Prelude.{into_iter_items, elements_of, AreKeptElements}
+use Rattle.conf_session.proofs.{Prelude.{into_iter_items, elements_of, AreKeptElements}, PartLemmas.{FoundSoFar, one-found, all-found}}
 use Rattle.conf_session.specs.{Edits.listed_in, Said.part_seen}
-use Rattle.conf_session.proofs.PartLemmas.{FoundSoFar, one-found, all-found}
 use Rattle.conf_session.proofs.edits.all_listed.Goals as goal
 
 pub listed_in-requires : goal.listed_in-requires

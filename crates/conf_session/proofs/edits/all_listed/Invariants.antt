@@ -1,7 +1,5 @@
 use Rattle.std.proofs.Common.{◌≡◌, length}
-use Rattle.conf_session.proofs.Prelude.{into_iter_items, into_iter_len}
-use Rattle.conf_session.specs.{Edits.listed_in, Said.part_seen}
-use Rattle.conf_session.proofs.PartLemmas.{FoundSoFar}
+use Rattle.conf_session.{proofs.{Prelude.{into_iter_items, into_iter_len}, PartLemmas.FoundSoFar}, specs.{Edits.listed_in, Said.part_seen}}
 use Rattle.conf_session.proofs.edits.all_listed.Given as goal
 
 abbrev pub invariant-loop-element : goal.invariant-loop-element

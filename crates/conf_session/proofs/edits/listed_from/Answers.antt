@@ -1,8 +1,7 @@
 -- An import with its tree, or a part of a batch.
 use Rattle.std.proofs.Common.{◌≡◌, false, true, sym, ◌∙◌}
-use Rattle.conf_session.proofs.Prelude.{IfOk-weaker, members_of, keys_are, asked}
+use Rattle.conf_session.proofs.{Prelude.{IfOk-weaker, members_of, keys_are, asked}, EditLemmas.{listed-tree, listed-part, tree_texts}}
 use Rattle.conf_session.specs.Edits.{tree_keys}
-use Rattle.conf_session.proofs.EditLemmas.{listed-tree, listed-part, tree_texts}
 use Rattle.conf_session.proofs.edits.listed_from.Goals as goal
 
 pub returns-then-keys_are : goal.returns-then-keys_are

@@ -1,7 +1,6 @@
 -- The edit of the mapping.
 use Rattle.std.proofs.Common.{codes, refl, ap, Some, None, ◌∙◌}
-use Rattle.conf_session.proofs.Prelude.{IfOk-weaker, members_of, ascii, edit_under, edit_seen}
-use Rattle.conf_session.proofs.EditLemmas.{import_read}
+use Rattle.conf_session.proofs.{Prelude.{IfOk-weaker, members_of, ascii, edit_under, edit_seen}, EditLemmas.import_read}
 use Rattle.conf_session.proofs.edits.tree_import.Goals as goal
 
 pub members_from-requires : goal.members_from-requires

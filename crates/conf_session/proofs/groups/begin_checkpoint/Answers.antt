@@ -1,9 +1,7 @@
 -- A checkpoint is begun, or there is no memory for it and nothing is done.
-use Rattle.std.proofs.Common.{◌≡◌, ◌⊎◌, inr, ⊎_elim, [], ◌∷◌, refl, sym, ◌∙◌, ap, subst}
-use Rattle.std.specs.Prelude.{Err}
-use Rattle.conf_session.proofs.Prelude.{false≢true, StoreFault, Reopen, Device, OutOfMemory, StoreView}
-use Rattle.conf_session.specs.{Groups.begun, Gathering.PerformsTurns}
-use Rattle.conf_session.proofs.{GatherLemmas.stops-short, TendLemmas.begins, TendLemmas.stays}
+use Rattle.std.{proofs.Common.{◌≡◌, ◌⊎◌, inr, ⊎_elim, [], ◌∷◌, refl, sym, ◌∙◌, ap, subst}, specs.Prelude.Err}
+use Rattle.conf_session.proofs.{Prelude.{false≢true, StoreFault, Reopen, Device, OutOfMemory, StoreView}, GatherLemmas.stops-short}
+use Rattle.conf_session.{proofs.TendLemmas.{begins, stays}, specs.{Groups.begun, Gathering.PerformsTurns}}
 use Rattle.conf_session.proofs.groups.begin_checkpoint.Goals as goal
 
 -- the fault is that of the device

@@ -1,6 +1,5 @@
 -- What the flush says, where it succeeds and where the device fails.
-use Rattle.std.proofs.Common.{refl, ap}
-use Rattle.std.specs.Prelude.{Err}
+use Rattle.std.{proofs.Common.{refl, ap}, specs.Prelude.Err}
 use Rattle.conf_session.proofs.GatherLemmas.{flush-done, stops-short}
 use Rattle.conf_session.proofs.groups.flush_all.Goals as goal
 

@@ -1,11 +1,8 @@
 -- The group is flushed, whether or not there was memory for all of it, and then its answers are handed out.
-use Rattle.std.proofs.Common.{inl, inr, sym, ◌∙◌, arith, ◌++◌, length}
-use Rattle.std.specs.Prelude.{Err}
-use Rattle.conf_session.proofs.Prelude.{err_from_is_err_and, on_ok_weaker}
-use Rattle.conf_session.specs.Input.{ahead, bytes_read, piece_or_rest}
-use Rattle.conf_session.proofs.GatherLemmas.{ends-answered, ends-cut, ends-unanswered, ends-unflushed, gathered, group-acknowledged}
-use Rattle.conf_session.proofs.GatherLemmas.{room-written}
-use Rattle.conf_session.proofs.RequestLemmas.{failures-after, failures-later, failures-none}
+use Rattle.std.{proofs.Common.{inl, inr, sym, ◌∙◌, arith, ◌++◌, length}, specs.Prelude.Err}
+use Rattle.conf_session.proofs.{Prelude.{err_from_is_err_and, on_ok_weaker}, GatherLemmas.{ends-answered, ends-cut, ends-unanswered}}
+use Rattle.conf_session.proofs.{GatherLemmas.{ends-unflushed, gathered, group-acknowledged, room-written}, RequestLemmas.failures-after}
+use Rattle.conf_session.{proofs.RequestLemmas.{failures-later, failures-none}, specs.Input.{ahead, bytes_read, piece_or_rest}}
 use Rattle.conf_session.proofs.groups.perform_group.Goals as goal
 
 pub returns-then-needs_reopen-clause-performs : goal.returns-then-needs_reopen-clause-performs

@@ -1,15 +1,10 @@
 -- Each turn performs and answers one group, and then makes a part of a checkpoint.
-use Rattle.std.proofs.Common.{[], refl, sym, ◌∙◌, ap, subst, arith, length}
-use Rattle.std.specs.Prelude.{Ok, Err}
-use Rattle.conf_session.proofs.Prelude.{false≢true, err_from_is_err_and}
-use Rattle.conf_session.specs.{declared.groups.Checkpoints.Checkpoints, Gathering.Tends, Groups.answers_limit, Input.ahead}
-use Rattle.conf_session.specs.Input.{bytes_read}
-use Rattle.conf_session.proofs.ReadLemmas.{longer-piece, none-unwritten, room-none, room-read, at-piece, at-end}
-use Rattle.conf_session.proofs.GroupLemmas.{reopens, groups-none, groups-more, groups-tended, ends-well, ends-in_input}
-use Rattle.conf_session.proofs.GroupLemmas.{ends-failing, ends-tending, means-prefixes, sent-so-far, started}
-use Rattle.conf_session.proofs.PerformedLemmas.{performed-sound}
-use Rattle.conf_session.proofs.GroupLemmas.{starts-failing, starts-without-memory}
-use Rattle.conf_session.proofs.SessionLemmas.{runs-by}
+use Rattle.std.{proofs.Common.{[], refl, sym, ◌∙◌, ap, subst, arith, length}, specs.Prelude.{Ok, Err}}
+use Rattle.conf_session.proofs.{Prelude.{false≢true, err_from_is_err_and}, ReadLemmas.{longer-piece, none-unwritten, room-none, room-read}}
+use Rattle.conf_session.proofs.{ReadLemmas.{at-piece, at-end}, GroupLemmas.{reopens, groups-none, groups-more, groups-tended, ends-well}}
+use Rattle.conf_session.proofs.GroupLemmas.{ends-in_input, ends-failing, ends-tending, means-prefixes, sent-so-far, started, starts-failing}
+use Rattle.conf_session.proofs.{GroupLemmas.starts-without-memory, PerformedLemmas.performed-sound, SessionLemmas.runs-by}
+use Rattle.conf_session.specs.{declared.groups.Checkpoints.Checkpoints, Gathering.Tends, Groups.answers_limit, Input.{ahead, bytes_read}}
 use Rattle.conf_session.proofs.groups.run_groups.Goals as goal
 
 pub returns-then-needs_reopen-clause-runs : goal.returns-then-needs_reopen-clause-runs

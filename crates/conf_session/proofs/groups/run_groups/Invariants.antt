@@ -1,9 +1,7 @@
 -- What was read so far is pieces that were performed, flushed and answered, and bytes that are not looked at yet.
-use Rattle.std.proofs.Common.{◌≡◌, ◌≤◌, ◌+◌, ◌-◌, [], false, length}
-use Rattle.std.specs.Prelude.{None}
-use Rattle.conf_session.specs.Input.{IsSound, ahead, bytes_read, session_limit}
-use Rattle.conf_session.specs.{Gathering.HasRoomFor, Gathering.unwritten_bytes, Groups.answers_limit}
-use Rattle.conf_session.proofs.GroupLemmas.{GroupsSoFar}
+use Rattle.std.{proofs.Common.{◌≡◌, ◌≤◌, ◌+◌, ◌-◌, [], false, length}, specs.Prelude.None}
+use Rattle.conf_session.specs.{Input.{IsSound, ahead, bytes_read, session_limit}, Gathering.{HasRoomFor, unwritten_bytes}}
+use Rattle.conf_session.{specs.Groups.answers_limit, proofs.GroupLemmas.GroupsSoFar}
 use Rattle.conf_session.proofs.groups.run_groups.Given as goal
 
 abbrev pub invariant-groups : goal.invariant-groups

@@ -1,6 +1,5 @@
 -- Nothing is done, or all that waits is flushed.
-use Rattle.std.proofs.Common.{refl, sym, subst}
-use Rattle.std.specs.Prelude.{Ok}
+use Rattle.std.{proofs.Common.{refl, sym, subst}, specs.Prelude.Ok}
 use Rattle.conf_session.specs.{Gathering.Starts, declared.groups.Grouping.Grouping}
 use Rattle.conf_session.proofs.groups.start.Goals as goal
 

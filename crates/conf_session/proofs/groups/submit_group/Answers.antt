@@ -1,13 +1,8 @@
 -- Each turn performs one piece. What was read closes the next one, or the group ends.
-use Rattle.std.proofs.Common.{◌++◌, List, ℕ, length, refl, sym, ◌∙◌, subst, arith}
-use Rattle.std.specs.Prelude.{Err}
-use Rattle.conf_session.proofs.Prelude.{err_from_is_err_and}
-use Rattle.conf_session.specs.Input.{piece_or_rest as piece_of}
-use Rattle.conf_session.specs.{Gathering.HasRoomFor, Gathering.GathersPieces}
-use Rattle.conf_session.specs.Input.{AdvancesWithin, ahead, bytes_read}
-use Rattle.conf_session.proofs.GatherLemmas.{submits-none, submits-more, submits-failing, submits-starved, some-more, has-room}
-use Rattle.conf_session.proofs.GatherLemmas.{not-full, shorter-piece}
-use Rattle.conf_session.proofs.RequestLemmas.{failures-after, failures-none}
+use Rattle.std.{proofs.Common.{◌++◌, List, ℕ, length, refl, sym, ◌∙◌, subst, arith}, specs.Prelude.Err}
+use Rattle.conf_session.proofs.{Prelude.err_from_is_err_and, GatherLemmas.{submits-none, submits-more, submits-failing, submits-starved}}
+use Rattle.conf_session.proofs.{GatherLemmas.{some-more, has-room, not-full, shorter-piece}, RequestLemmas.{failures-after, failures-none}}
+use Rattle.conf_session.specs.{Input.{piece_or_rest as piece_of, AdvancesWithin, ahead, bytes_read}, Gathering.{HasRoomFor, GathersPieces}}
 use Rattle.conf_session.proofs.groups.submit_group.Goals as goal
 
 pub pieces-init : goal.pieces-init

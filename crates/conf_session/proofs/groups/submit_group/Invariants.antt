@@ -1,9 +1,6 @@
 -- The pieces so far are performed, and their answers are kept; a further piece is in hand.
-use Rattle.std.proofs.Common.{◌≡◌, ◌≤◌, ◌++◌, false, length}
-use Rattle.std.specs.Prelude.{None}
-use Rattle.conf_session.specs.Input.{piece_or_rest as piece_of}
-use Rattle.conf_session.specs.{Input.ahead, Input.bytes_read}
-use Rattle.conf_session.specs.Gathering.{HasRoomFor, IsAtPiece, GathersPieces}
+use Rattle.std.{proofs.Common.{◌≡◌, ◌≤◌, ◌++◌, false, length}, specs.Prelude.None}
+use Rattle.conf_session.specs.{Input.{piece_or_rest as piece_of, ahead, bytes_read}, Gathering.{HasRoomFor, IsAtPiece, GathersPieces}}
 use Rattle.conf_session.proofs.groups.submit_group.Given as goal
 
 abbrev pub invariant-pieces : goal.invariant-pieces

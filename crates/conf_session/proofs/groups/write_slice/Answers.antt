@@ -1,6 +1,5 @@
 -- A slice finishes the checkpoint, or leaves some of it.
-use Rattle.std.proofs.Common.{refl, ap}
-use Rattle.std.specs.Prelude.{Err}
+use Rattle.std.{proofs.Common.{refl, ap}, specs.Prelude.Err}
 use Rattle.conf_session.proofs.{GatherLemmas.stops-short, TendLemmas.slices}
 use Rattle.conf_session.proofs.groups.write_slice.Goals as goal
 

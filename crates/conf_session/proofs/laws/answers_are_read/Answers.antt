@@ -1,5 +1,4 @@
-use Rattle.yaml_config.specs.Kept.{own_limits}
-use Rattle.conf_session.proofs.GoodAnswers.{answers-read}
+use Rattle.{yaml_config.specs.Kept.own_limits, conf_session.proofs.GoodAnswers.answers-read}
 use Rattle.conf_session.proofs.laws.answers_are_read.Goals as goal
 
 pub returns : goal.returns

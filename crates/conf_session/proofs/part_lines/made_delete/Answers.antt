@@ -1,6 +1,5 @@
 use Rattle.std.proofs.Common.{◌≡◌, ap}
-use Rattle.conf_session.proofs.Prelude.{chars, delete_at, text_of}
-use Rattle.conf_session.specs.Said.{plain}
+use Rattle.conf_session.{proofs.Prelude.{chars, delete_at, text_of}, specs.Said.plain}
 use Rattle.conf_session.proofs.part_lines.made_delete.Goals as goal
 
 pub returns : goal.returns

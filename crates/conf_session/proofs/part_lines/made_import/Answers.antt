@@ -1,6 +1,5 @@
 use Rattle.std.proofs.Common.{◌≡◌, ap}
-use Rattle.conf_session.proofs.Prelude.{chars, text_bytes}
-use Rattle.conf_session.specs.Said.{import_text}
+use Rattle.conf_session.{proofs.Prelude.{chars, text_bytes}, specs.Said.import_text}
 use Rattle.conf_session.proofs.part_lines.made_import.Goals as goal
 
 pub returns : goal.returns

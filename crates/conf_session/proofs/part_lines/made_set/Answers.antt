@@ -1,6 +1,5 @@
 use Rattle.std.proofs.Common.{◌≡◌, IfSome, subst, ap}
-use Rattle.conf_session.proofs.Prelude.{chars, text, tree_of, set_at, text_of}
-use Rattle.conf_session.specs.Said.{plain}
+use Rattle.conf_session.{proofs.Prelude.{chars, text, tree_of, set_at, text_of}, specs.Said.plain}
 use Rattle.conf_session.proofs.part_lines.made_set.Goals as goal
 
 pub returns : goal.returns

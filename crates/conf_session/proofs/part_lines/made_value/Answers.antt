@@ -1,6 +1,5 @@
 use Rattle.std.proofs.Common.{subst, sym, ap, ◌∙◌, arith}
-use Rattle.conf_session.proofs.Prelude.{chars, text, IsKept, tree_of, tree_of-Text}
-use Rattle.conf_session.proofs.CommandLineLemmas.{short_kept}
+use Rattle.conf_session.proofs.{Prelude.{chars, text, IsKept, tree_of, tree_of-Text}, CommandLineLemmas.short_kept}
 use Rattle.conf_session.proofs.part_lines.made_value.Goals as goal
 
 pub part-requires : goal.part-requires

@@ -1,6 +1,5 @@
 use Rattle.std.proofs.Common.{codes, sym, subst}
-use Rattle.conf_session.proofs.Prelude.{IfSome_then, IfOk-weaker, lines_of}
-use Rattle.conf_session.specs.CommandLines.{SpellsPart}
+use Rattle.conf_session.{proofs.Prelude.{IfSome_then, IfOk-weaker, lines_of}, specs.CommandLines.SpellsPart}
 use Rattle.conf_session.proofs.part_lines.part_on_lines.Goals as goal
 
 pub returns-in-Some : goal.returns-in-Some

@@ -1,7 +1,6 @@
 use Rattle.std.proofs.Common.{codes, sym, subst}
-use Rattle.conf_session.proofs.Prelude.{chars, text, set_at, delete_at, lines_of}
-use Rattle.conf_session.specs.{Said.import_text, Said.plain, CommandLines.SpellsPart}
-use Rattle.conf_session.proofs.CommandLineLemmas.{import_spelled, set_spelled, delete_spelled}
+use Rattle.conf_session.proofs.{Prelude.{chars, text, set_at, delete_at, lines_of}, CommandLineLemmas.{import_spelled, set_spelled}}
+use Rattle.conf_session.{proofs.CommandLineLemmas.delete_spelled, specs.{Said.{import_text, plain}, CommandLines.SpellsPart}}
 use Rattle.conf_session.proofs.part_lines.texts_on_lines.Goals as goal
 
 pub returns-in_ok-value-in-Import : goal.returns-in_ok-value-in-Import

@@ -1,6 +1,5 @@
 use Rattle.std.proofs.Common.{sym, ap, ◌∙◌}
-use Rattle.conf_session.proofs.Prelude.{chars, tree_of, text_bytes, tree_of-Text, tree_of-Seq, tree_of-Map, import_as}
-use Rattle.conf_session.specs.Said.{as_part}
+use Rattle.conf_session.{proofs.Prelude.{chars, tree_of, text_bytes, tree_of-Text, tree_of-Seq, tree_of-Map, import_as}, specs.Said.as_part}
 use Rattle.conf_session.proofs.parts.import_with.Goals as goal
 
 pub returns-in-Text : goal.returns-in-Text

@@ -1,6 +1,5 @@
 use Rattle.std.proofs.Common.{codes, refl, ap, Some, None, ◌∙◌}
-use Rattle.conf_session.proofs.Prelude.{IfOk-weaker, members_of, ascii, edit_under, edit_seen}
-use Rattle.conf_session.proofs.SaidLemmas.{part_read}
+use Rattle.conf_session.proofs.{Prelude.{IfOk-weaker, members_of, ascii, edit_under, edit_seen}, SaidLemmas.part_read}
 use Rattle.conf_session.proofs.parts.part_from.Goals as goal
 
 pub members_from-requires : goal.members_from-requires

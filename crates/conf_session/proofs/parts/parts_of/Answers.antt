@@ -1,7 +1,6 @@
 use Rattle.std.proofs.Common.{option_map, length, ap, sym, subst, ◌∙◌, arith}
-use Rattle.conf_session.proofs.Prelude.{into_iter_items, elements_of, AreKeptElements}
+use Rattle.conf_session.proofs.{Prelude.{into_iter_items, elements_of, AreKeptElements}, PartLemmas.{FoundSoFar, one-found, all-found}}
 use Rattle.conf_session.specs.Said.{part_of, part_seen}
-use Rattle.conf_session.proofs.PartLemmas.{FoundSoFar, one-found, all-found}
 use Rattle.conf_session.proofs.parts.parts_of.Goals as goal
 
 pub part_of-requires : goal.part_of-requires

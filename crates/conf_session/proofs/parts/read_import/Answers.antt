@@ -1,7 +1,6 @@
 -- The text is given a tree, or refused.
 use Rattle.std.proofs.Common.{ap, sym, subst, ◌∙◌}
-use Rattle.conf_session.proofs.Prelude.{encodes-chars, chars, Gives, tree_of, config_limits, import_as}
-use Rattle.yaml_tree.specs.Reading.{Refuses}
+use Rattle.{conf_session.proofs.Prelude.{encodes-chars, chars, Gives, tree_of, config_limits, import_as}, yaml_tree.specs.Reading.Refuses}
 use Rattle.conf_session.proofs.parts.read_import.Goals as goal
 
 pub returns-in_ok-name-in-Ok-clause-ok : goal.returns-in_ok-name-in-Ok-clause-ok

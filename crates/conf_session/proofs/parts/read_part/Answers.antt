@@ -1,7 +1,6 @@
 use Rattle.std.proofs.Common.{◌≡◌, ◌≢◌, IfOk, IfErr, ap, sym, subst, ◌∙◌}
-use Rattle.conf_session.proofs.Prelude.{chars, text_bytes, edit_of}
-use Rattle.yaml_events.specs.declared.read_fault.ReadFault.TheVariants.{OutOfMemory}
-use Rattle.conf_session.specs.{Said.import_text, Said.part_seen, Requests.IsReadAs, Requests.RefusesPart}
+use Rattle.conf_session.{proofs.Prelude.{chars, text_bytes, edit_of}, specs.{Said.{import_text, part_seen}, Requests.IsReadAs}}
+use Rattle.{conf_session.specs.Requests.RefusesPart, yaml_events.specs.declared.read_fault.ReadFault.TheVariants.OutOfMemory}
 use Rattle.conf_session.proofs.parts.read_part.Goals as goal
 
 pub returns-in-Import-clause-ok : goal.returns-in-Import-clause-ok

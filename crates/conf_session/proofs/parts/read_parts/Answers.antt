@@ -1,6 +1,5 @@
 use Rattle.std.proofs.Common.{length, ap, subst, ◌∙◌, arith}
-use Rattle.conf_session.proofs.Prelude.{into_iter_items}
-use Rattle.conf_session.proofs.PartLemmas.{ReadSoFar, one-read, text-not-read, all-read}
+use Rattle.conf_session.proofs.{Prelude.into_iter_items, PartLemmas.{ReadSoFar, one-read, text-not-read, all-read}}
 use Rattle.conf_session.proofs.parts.read_parts.Goals as goal
 
 pub loop-part-preserved : goal.loop-part-preserved

@@ -1,6 +1,5 @@
 use Rattle.std.proofs.Common.{◌≡◌, length}
-use Rattle.conf_session.proofs.Prelude.{into_iter_items, into_iter_len}
-use Rattle.conf_session.proofs.PartLemmas.{ReadSoFar}
+use Rattle.conf_session.proofs.{Prelude.{into_iter_items, into_iter_len}, PartLemmas.ReadSoFar}
 use Rattle.conf_session.proofs.parts.read_parts.Given as goal
 
 abbrev pub invariant-loop-part : goal.invariant-loop-part

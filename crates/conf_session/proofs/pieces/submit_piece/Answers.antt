@@ -1,12 +1,8 @@
 -- A piece is performed, and its answer is kept.
-use Rattle.std.proofs.Common.{List, ℕ, length, sym, ◌∙◌, ◌++◌, subst}
-use Rattle.std.specs.Prelude.{Ok, Err}
-use Rattle.conf_session.proofs.Prelude.{false≢true, err_from_is_err_and}
-use Rattle.conf_session.specs.Input.{piece_or_rest as piece_of}
-use Rattle.conf_session.specs.{Input.ahead, Input.bytes_read, Requests.Asks, Replies.DidAsked, Gathering.GathersPiece}
-use Rattle.conf_session.specs.{Gathering.LeavesPiece}
-use Rattle.conf_session.proofs.RequestLemmas.{failures-none, failures-told}
-use Rattle.conf_session.proofs.GatherLemmas.{gathers, room-more, room-small}
+use Rattle.std.{proofs.Common.{List, ℕ, length, sym, ◌∙◌, ◌++◌, subst}, specs.Prelude.{Ok, Err}}
+use Rattle.conf_session.proofs.{Prelude.{false≢true, err_from_is_err_and}, RequestLemmas.{failures-none, failures-told}}
+use Rattle.conf_session.{proofs.GatherLemmas.{gathers, room-more, room-small}, specs.Input.{piece_or_rest as piece_of, ahead, bytes_read}}
+use Rattle.conf_session.specs.{Requests.Asks, Replies.DidAsked, Gathering.{GathersPiece, LeavesPiece}}
 use Rattle.conf_session.proofs.pieces.submit_piece.Goals as goal
 
 pub returns-then-needs_reopen-clause-fails : goal.returns-then-needs_reopen-clause-fails

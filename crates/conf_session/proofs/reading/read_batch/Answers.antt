@@ -1,6 +1,5 @@
 use Rattle.std.proofs.Common.{inl, inr, map}
-use Rattle.conf_session.proofs.Prelude.{edit_of}
-use Rattle.conf_session.proofs.{ConditionalLemmas.answered-read, RefusalLemmas.read-memory}
+use Rattle.conf_session.proofs.{Prelude.edit_of, ConditionalLemmas.answered-read, RefusalLemmas.read-memory}
 use Rattle.conf_session.proofs.reading.read_batch.Goals as goal
 
 pub returns-in-Ok : goal.returns-in-Ok

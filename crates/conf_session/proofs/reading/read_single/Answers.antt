@@ -1,9 +1,6 @@
-use Rattle.std.proofs.Common.{◌≡◌, sym, ap, ◌∙◌, subst}
-use Rattle.std.specs.Prelude.{IfErr, IfOk}
-use Rattle.conf_session.proofs.Prelude.{chars, text_bytes, command_of, IsImportOf, RefusesText}
-use Rattle.conf_session.specs.{Requests.MeansRequest, Requests.changing, ReadChanges.ReadsAsked}
-use Rattle.conf_session.specs.Said.{import_text, single_part, part_seen}
-use Rattle.conf_session.proofs.ConditionalLemmas.{reads-import}
+use Rattle.std.{proofs.Common.{◌≡◌, sym, ap, ◌∙◌, subst}, specs.Prelude.{IfErr, IfOk}}
+use Rattle.conf_session.proofs.{Prelude.{chars, text_bytes, command_of, IsImportOf, RefusesText}, ConditionalLemmas.reads-import}
+use Rattle.conf_session.specs.{Requests.{MeansRequest, changing}, ReadChanges.ReadsAsked, Said.{import_text, single_part, part_seen}}
 use Rattle.conf_session.proofs.reading.read_single.Goals as goal
 
 pub returns-in-Import : goal.returns-in-Import

@@ -1,6 +1,5 @@
-use Rattle.conf_session.proofs.Prelude.{err_from_is_err_and}
-use Rattle.conf_session.specs.{Requests.Asks, Requests.MeansRequest, Said.said_of}
-use Rattle.conf_session.proofs.RequestLemmas.{handles-none, handles-retold}
+use Rattle.conf_session.{proofs.{Prelude.err_from_is_err_and, RequestLemmas.{handles-none, handles-retold}}, specs.Requests.Asks}
+use Rattle.conf_session.specs.{Requests.MeansRequest, Said.said_of}
 use Rattle.conf_session.proofs.reply.answer_any.Goals as goal
 
 pub returns-in_err-said : goal.returns-in_err-said

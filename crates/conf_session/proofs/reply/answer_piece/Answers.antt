@@ -1,7 +1,6 @@
 use Rattle.std.proofs.Common.{◌≡◌, IfSome, subst, sym}
-use Rattle.conf_session.proofs.Prelude.{err_from_is_err_and, command_of}
+use Rattle.conf_session.proofs.{Prelude.{err_from_is_err_and, command_of}, RequestLemmas.{handles-none, handles-retold}}
 use Rattle.conf_session.specs.Requests.{Asks, changing}
-use Rattle.conf_session.proofs.RequestLemmas.{handles-none, handles-retold}
 use Rattle.conf_session.proofs.reply.answer_piece.Goals as goal
 
 pub returns-in_err-command : goal.returns-in_err-command

@@ -1,12 +1,10 @@
 -- Each document is the request that it says.
-use Rattle.std.proofs.Common.{◌≡◌, refl, sym, ap, ◌∙◌, subst}
-use Rattle.std.specs.Prelude.{Ok}
-use Rattle.conf_session.proofs.Prelude.{chars, err_from_is_err_and, text_bytes, conditions_of}
-use Rattle.conf_session.specs.{Said.get_at, Said.export_of, Said.said_of, ReadChanges.IfMet, ReadChanges.IsRequest}
-use Rattle.conf_session.specs.{declared.reply.Reply.TheVariants.Refused, declared.words.Refusal.TheVariants.BadCommand}
-use Rattle.conf_session.specs.Requests.{MeansRequest, if_met, checkpointing, getting, exporting, naming, bad}
-use Rattle.conf_session.proofs.WordLemmas.{refusal-short}
-use Rattle.conf_session.proofs.RequestLemmas.{handles-none, handles-reading, handles-retold}
+use Rattle.std.{proofs.Common.{◌≡◌, refl, sym, ap, ◌∙◌, subst}, specs.Prelude.Ok}
+use Rattle.conf_session.proofs.{Prelude.{chars, err_from_is_err_and, text_bytes, conditions_of}, WordLemmas.refusal-short}
+use Rattle.conf_session.{proofs.RequestLemmas.{handles-none, handles-reading, handles-retold}, specs.Said.{get_at, export_of, said_of}}
+use Rattle.conf_session.specs.{ReadChanges.{IfMet, IsRequest}, declared.reply.Reply.TheVariants.Refused}
+use Rattle.conf_session.specs.{declared.words.Refusal.TheVariants.BadCommand, Requests.{MeansRequest, if_met, checkpointing, getting}}
+use Rattle.conf_session.specs.Requests.{exporting, naming, bad}
 use Rattle.conf_session.proofs.reply.answer_said.Goals as goal
 
 pub returns-in-Single : goal.returns-in-Single

@@ -1,12 +1,10 @@
 -- What the store did with the command.
-use Rattle.std.proofs.Common.{◌≡◌, refl, ap, sym, ◌∙◌, subst, true, ◌+◌}
-use Rattle.std.specs.Prelude.{min, Ok, Err}
+use Rattle.std.{proofs.Common.{◌≡◌, refl, ap, sym, ◌∙◌, subst, true, ◌+◌}, specs.Prelude.{min, Ok, Err}}
 use Rattle.conf_session.proofs.Prelude.{false≢true, err_from_is_err_and, command_of, count_limit, RefusesCommand, outcome, room_for}
-use Rattle.conf_session.proofs.Prelude.{journal_length, StoreView}
-use Rattle.conf_session.specs.{Requests.changing, Answers.longest, Replies.Did, Replies.Performs, Runs.stored_of}
-use Rattle.conf_session.proofs.RequestLemmas.{longest-of, count-after, accepted-reply, refused-reply, refused-outcome, did-refused}
-use Rattle.conf_session.proofs.RequestLemmas.{command-performed, command-refused, did-asked, handles-none}
-use Rattle.conf_session.proofs.RefusalLemmas.{ended-by-device}
+use Rattle.conf_session.proofs.{Prelude.{journal_length, StoreView}, RequestLemmas.{longest-of, count-after, accepted-reply, refused-reply}}
+use Rattle.conf_session.proofs.RequestLemmas.{refused-outcome, did-refused, command-performed, command-refused, did-asked, handles-none}
+use Rattle.conf_session.{proofs.RefusalLemmas.ended-by-device, specs.{Requests.changing, Answers.longest, Replies.{Did, Performs}}}
+use Rattle.conf_session.specs.Runs.{stored_of}
 use Rattle.conf_session.proofs.reply.change.Goals as goal
 
 pub returns-in_err-answer : goal.returns-in_err-answer

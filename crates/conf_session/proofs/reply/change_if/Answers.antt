@@ -1,7 +1,6 @@
 use Rattle.std.proofs.Common.{sym, subst}
-use Rattle.conf_session.proofs.Prelude.{conditions_of}
-use Rattle.conf_session.specs.{ReadChanges.IfMet, ReadChanges.IsRequest, Replies.Handles}
-use Rattle.conf_session.proofs.ConditionalLemmas.{handles-met, handles-unmet-read}
+use Rattle.conf_session.{proofs.{Prelude.conditions_of, ConditionalLemmas.{handles-met, handles-unmet-read}}, specs.ReadChanges.IfMet}
+use Rattle.conf_session.specs.{ReadChanges.IsRequest, Replies.Handles}
 use Rattle.conf_session.proofs.reply.change_if.Goals as goal
 
 pub returns-in-Ok : goal.returns-in-Ok

@@ -1,7 +1,5 @@
-use Rattle.std.proofs.Common.{refl, sym, ap, subst}
-use Rattle.std.specs.Prelude.{Err, is_ok}
-use Rattle.conf_session.specs.{ReadChanges.EndsByMemory, ReadChanges.IsRequest, Replies.Handles}
-use Rattle.conf_session.proofs.RequestLemmas.{handles-unread}
+use Rattle.std.{proofs.Common.{refl, sym, ap, subst}, specs.Prelude.{Err, is_ok}}
+use Rattle.conf_session.{specs.{ReadChanges.{EndsByMemory, IsRequest}, Replies.Handles}, proofs.RequestLemmas.handles-unread}
 use Rattle.conf_session.proofs.reply.change_read.Goals as goal
 
 pub returns-in-Ok : goal.returns-in-Ok

@@ -1,9 +1,7 @@
 -- What the store did at the checkpoint.
-use Rattle.std.proofs.Common.{rules, ◌≡◌, sym, ap, ◌∙◌, refl}
-use Rattle.std.specs.Prelude.{decimal, codes, Err}
-use Rattle.conf_session.proofs.Prelude.{false≢true, err_from_is_err_and, text, framed_text_bytes}
-use Rattle.conf_session.specs.{Answers.one, Requests.checkpointing, Runs.stored_of}
-use Rattle.conf_session.proofs.{LengthLemmas.answer-short, RequestLemmas.checkpointed, RequestLemmas.handles-none}
+use Rattle.std.{proofs.Common.{rules, ◌≡◌, sym, ap, ◌∙◌, refl}, specs.Prelude.{decimal, codes, Err}}
+use Rattle.conf_session.proofs.{Prelude.{false≢true, err_from_is_err_and, text, framed_text_bytes}, LengthLemmas.answer-short}
+use Rattle.conf_session.{proofs.RequestLemmas.{checkpointed, handles-none}, specs.{Answers.one, Requests.checkpointing, Runs.stored_of}}
 use Rattle.conf_session.proofs.reply.checkpoint.Goals as goal
 
 pub returns-in_err-answer : goal.returns-in_err-answer

@@ -1,7 +1,6 @@
 -- The first closing line is at the end, or the bytes are not closed once.
 use Rattle.std.proofs.Common.{length}
-use Rattle.conf_session.proofs.Prelude.{eqb-true, eq-eqb, false≢true}
-use Rattle.conf_session.proofs.RoundLemmas.{once-at, once-nowhere}
+use Rattle.conf_session.proofs.{Prelude.{eqb-true, eq-eqb, false≢true}, RoundLemmas.{once-at, once-nowhere}}
 use Rattle.conf_session.proofs.rounds.closes_once.Goals as goal
 
 pub returns-in-Some : goal.returns-in-Some

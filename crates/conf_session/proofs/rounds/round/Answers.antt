@@ -1,11 +1,9 @@
 -- Each turn performs and answers one piece. The flush comes last.
-use Rattle.std.proofs.Common.{◌≡◌, ◌≤◌, ◌+◌, false, refl, sym, ◌∙◌, ap, subst, arith, length}
-use Rattle.std.specs.Prelude.{ℕ, List, [], ◌∷◌, ◌++◌, take}
-use Rattle.conf_session.proofs.Prelude.{err_from_is_err_and}
-use Rattle.conf_session.specs.Answers.{answer_bytes as answer_to}
-use Rattle.conf_session.specs.{Runs.stored_of, Rounds.answer_bytes, Rounds.piece_bytes}
-use Rattle.conf_session.proofs.RoundLemmas.{RoundSoFar, round-none, round-more, next-piece, all-pieces, one-more, ends-failing}
-use Rattle.conf_session.proofs.RoundLemmas.{ends-flushed, ends-unflushed}
+use Rattle.std.{proofs.Common.{◌≡◌, ◌≤◌, ◌+◌, false, refl, sym, ◌∙◌, ap, subst, arith, length}, specs.Prelude.{ℕ, List, [], ◌∷◌, ◌++◌}}
+use Rattle.std.specs.Prelude.{take}
+use Rattle.conf_session.proofs.{Prelude.err_from_is_err_and, RoundLemmas.{RoundSoFar, round-none, round-more, next-piece, all-pieces}}
+use Rattle.conf_session.{proofs.RoundLemmas.{one-more, ends-failing, ends-flushed, ends-unflushed}, specs.Answers.answer_bytes as answer_to}
+use Rattle.conf_session.specs.{Runs.stored_of, Rounds.{answer_bytes, piece_bytes}}
 use Rattle.conf_session.proofs.rounds.round.Goals as goal
 
 pub turns-init : goal.turns-init

@@ -1,7 +1,6 @@
 -- The pieces so far are performed and answered.
 use Rattle.std.proofs.Common.{◌≡◌, ◌≤◌, false, length, take}
-use Rattle.conf_session.specs.Rounds.{answer_bytes, piece_bytes}
-use Rattle.conf_session.proofs.RoundLemmas.{RoundSoFar}
+use Rattle.conf_session.{specs.Rounds.{answer_bytes, piece_bytes}, proofs.RoundLemmas.RoundSoFar}
 use Rattle.conf_session.proofs.rounds.round.Given as goal
 
 abbrev pub invariant-turns : goal.invariant-turns

@@ -1,10 +1,8 @@
 -- Bytes that are closed once are performed as a piece of a session, and others are no command.
-use Rattle.std.proofs.Common.{inl, inr, refl, sym, ◌∙◌, subst}
-use Rattle.std.specs.Prelude.{Ok}
-use Rattle.conf_session.proofs.Prelude.{false≢true, ClosesOnce}
-use Rattle.conf_session.specs.{Requests.Asks, Requests.bad, Replies.Handles, Rounds.RoundAsks, declared.reply.Reply.TheVariants.Refused}
-use Rattle.conf_session.specs.{declared.words.Refusal.TheVariants.BadCommand}
-use Rattle.conf_session.proofs.{WordLemmas.refusal-short, RequestLemmas.handles-reading, RequestLemmas.handles-retold}
+use Rattle.std.{proofs.Common.{inl, inr, refl, sym, ◌∙◌, subst}, specs.Prelude.Ok}
+use Rattle.conf_session.proofs.{Prelude.{false≢true, ClosesOnce}, WordLemmas.refusal-short, RequestLemmas.{handles-reading, handles-retold}}
+use Rattle.conf_session.specs.{Requests.{Asks, bad}, Replies.Handles, Rounds.RoundAsks, declared.reply.Reply.TheVariants.Refused}
+use Rattle.conf_session.specs.declared.words.Refusal.TheVariants.{BadCommand}
 use Rattle.conf_session.proofs.rounds.submit_piece.Goals as goal
 
 pub returns-then-not-closes_once : goal.returns-then-not-closes_once

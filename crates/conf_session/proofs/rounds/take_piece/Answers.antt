@@ -1,6 +1,5 @@
 -- A piece is performed, and its answer is the last one.
-use Rattle.conf_session.specs.Rounds.{answer_bytes}
-use Rattle.conf_session.proofs.RoundLemmas.{answered}
+use Rattle.conf_session.{specs.Rounds.answer_bytes, proofs.RoundLemmas.answered}
 use Rattle.conf_session.proofs.rounds.take_piece.Goals as goal
 
 pub returns-in-Ok-push_answer-clause-ok : goal.returns-in-Ok-push_answer-clause-ok

@@ -1,6 +1,5 @@
 use Rattle.std.proofs.Common.{subst, sym, ap, ◌∙◌}
-use Rattle.conf_session.proofs.Prelude.{IfOk-weaker, elements_of, AreKept, items_kept}
-use Rattle.conf_session.specs.Said.{batch_said}
+use Rattle.conf_session.{proofs.Prelude.{IfOk-weaker, elements_of, AreKept, items_kept}, specs.Said.batch_said}
 use Rattle.conf_session.proofs.said.batch_said.Goals as goal
 
 pub elements_said-requires : goal.elements_said-requires

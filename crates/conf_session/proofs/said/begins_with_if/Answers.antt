@@ -1,6 +1,5 @@
 use Rattle.std.proofs.Common.{◌≡◌, codes, get_or, length, refl, sym, ap, ◌∙◌}
-use Rattle.conf_session.proofs.Prelude.{eqb-false, chars, same_text, text_bytes, ascii}
-use Rattle.conf_session.proofs.SaidLemmas.{first-if}
+use Rattle.conf_session.proofs.{Prelude.{eqb-false, chars, same_text, text_bytes, ascii}, SaidLemmas.first-if}
 use Rattle.conf_session.proofs.said.begins_with_if.Goals as goal
 
 pub returns : goal.returns

@@ -1,7 +1,6 @@
 use Rattle.std.proofs.Common.{◌≡◌, false, true, sym, ◌∙◌}
-use Rattle.conf_session.proofs.Prelude.{IfOk-weaker, members_of, keys_are, asked}
+use Rattle.conf_session.proofs.{Prelude.{IfOk-weaker, members_of, keys_are, asked}, SaidLemmas.{batch_texts, change-batch, change-part}}
 use Rattle.conf_session.specs.Said.{batch_keys}
-use Rattle.conf_session.proofs.SaidLemmas.{batch_texts, change-batch, change-part}
 use Rattle.conf_session.proofs.said.change_said.Goals as goal
 
 pub returns-then-keys_are : goal.returns-then-keys_are

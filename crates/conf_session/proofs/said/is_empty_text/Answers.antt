@@ -1,6 +1,5 @@
 use Rattle.std.proofs.Common.{rules, ◌≡◌, [], ◌∷◌, ap, sym, ◌∙◌}
-use Rattle.conf_session.proofs.Prelude.{chars-nil, chars, same_text, text, members_of, text_bytes, values}
-use Rattle.conf_session.specs.Said.{is_empty_text}
+use Rattle.conf_session.{proofs.Prelude.{chars-nil, chars, same_text, text, members_of, text_bytes, values}, specs.Said.is_empty_text}
 use Rattle.conf_session.proofs.said.is_empty_text.Goals as goal
 
 pub returns-in-Some : goal.returns-in-Some

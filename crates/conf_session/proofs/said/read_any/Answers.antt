@@ -1,6 +1,5 @@
 use Rattle.std.proofs.Common.{inl, ap, ◌∙◌}
-use Rattle.conf_session.proofs.Prelude.{IfOk-weaker, tree_of}
-use Rattle.conf_session.specs.Said.{said_by}
+use Rattle.conf_session.{proofs.Prelude.{IfOk-weaker, tree_of}, specs.Said.said_by}
 use Rattle.conf_session.proofs.said.read_any.Goals as goal
 
 pub returns-in-Ok : goal.returns-in-Ok

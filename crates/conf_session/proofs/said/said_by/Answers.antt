@@ -1,10 +1,9 @@
 -- The keys are asked for in the order of the definition.
 use Rattle.std.proofs.Common.{◌≡◌, false, true, refl, sym, ap, subst, ◌∙◌}
 use Rattle.conf_session.proofs.Prelude.{IfOk-weaker, IsKept, tree_of, members_of, tree_of-Text, tree_of-Seq, tree_of-Map, keys_are}
-use Rattle.conf_session.proofs.Prelude.{parts_kept, asked}
-use Rattle.conf_session.specs.Said.{said_by, begins_with_if, batch_keys, get_keys, export_keys, names_keys, checkpoint_keys}
-use Rattle.conf_session.proofs.SaidLemmas.{said-text, said-sequence, said-mapping, batch_texts, get_texts, export_texts, names_texts}
-use Rattle.conf_session.proofs.SaidLemmas.{checkpoint_texts}
+use Rattle.conf_session.proofs.{Prelude.{parts_kept, asked}, SaidLemmas.{said-text, said-sequence, said-mapping, batch_texts, get_texts}}
+use Rattle.conf_session.{proofs.SaidLemmas.{export_texts, names_texts, checkpoint_texts}, specs.Said.{said_by, begins_with_if, batch_keys}}
+use Rattle.conf_session.specs.Said.{get_keys, export_keys, names_keys, checkpoint_keys}
 use Rattle.conf_session.proofs.said.said_by.Goals as goal
 
 pub returns-in-Text : goal.returns-in-Text

@@ -1,7 +1,6 @@
 -- The bytes are put in two parts, if there are two.
 use Rattle.std.proofs.Common.{ℕ, List, ◌++◌, arith, length, length-append, subst, sym, take}
-use Rattle.conf_session.proofs.Prelude.{Appends, Appends-trans}
-use Rattle.conf_session.proofs.{HandedLemmas.hands-both, PassedLemmas.take-beyond}
+use Rattle.conf_session.proofs.{Prelude.{Appends, Appends-trans}, HandedLemmas.hands-both, PassedLemmas.take-beyond}
 use Rattle.conf_session.proofs.SinkLemmas.{first-acknowledged, last-acknowledged}
 use Rattle.conf_session.proofs.unwritten.put_both.Goals as goal
 

@@ -1,7 +1,6 @@
 use Rattle.std.proofs.Common.{ap, sym, ◌∙◌}
-use Rattle.conf_state.proofs.Prelude.{option_copied_mut, set_value}
+use Rattle.conf_state.proofs.{Prelude.{option_copied_mut, set_value}, PlaceLemmas.{in_place, lookup-present, present-cut, cut-absent}}
 use Rattle.conf_state.specs.{Configs.is_name, Places.present}
-use Rattle.conf_state.proofs.PlaceLemmas.{in_place, lookup-present, present-cut, cut-absent}
 use Rattle.conf_state.proofs.configs.empty_place.Goals as goal
 
 pub returns-in-Some-clause-present : goal.returns-in-Some-clause-present

@@ -1,6 +1,5 @@
 use Rattle.std.proofs.Common.{◌≡◌, ◌≤◌}
-use Rattle.conf_state.proofs.Prelude.{string_eq, IsUnique, spare}
-use Rattle.conf_state.specs.{Configs.cut_each, Places.present}
+use Rattle.conf_state.{proofs.Prelude.{string_eq, IsUnique, spare}, specs.{Configs.cut_each, Places.present}}
 use Rattle.conf_state.proofs.configs.empty_places.Given as goal
 
 -- what is left makes of the places what all made of them at first

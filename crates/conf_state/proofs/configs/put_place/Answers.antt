@@ -1,8 +1,7 @@
 use Rattle.std.proofs.Common.{◌≡◌, true, false, Some, None, string_bytes, ap, sym, subst, ◌∙◌}
-use Rattle.conf_state.proofs.Prelude.{lookup}
-use Rattle.conf_state.specs.{Configs.is_name, Configs.put_under, Places.present}
-use Rattle.conf_state.proofs.PlaceLemmas.{present-put, present-closed, closed-filled, on_err}
-use Rattle.conf_state.proofs.configs.put_place.Goals.{then-has_empty_place, else-has_empty_place}
+use Rattle.conf_state.proofs.{Prelude.lookup, PlaceLemmas.{present-put, present-closed, closed-filled, on_err}}
+use Rattle.conf_state.{proofs.configs.put_place.Goals.{then-has_empty_place, else-has_empty_place}, specs.Configs.{is_name, put_under}}
+use Rattle.conf_state.specs.Places.{present}
 use Rattle.conf_state.proofs.configs.put_place.Goals as goal
 
 no_truth : false ≡ true → ⊥

@@ -1,6 +1,5 @@
 use Rattle.std.proofs.Common.{◌≡◌, ◌≤◌, length}
-use Rattle.conf_state.proofs.Prelude.{string_eq, IsUnique, spare}
-use Rattle.conf_state.specs.{Configs.put_each, Places.present}
+use Rattle.conf_state.{proofs.Prelude.{string_eq, IsUnique, spare}, specs.{Configs.put_each, Places.present}}
 use Rattle.conf_state.proofs.configs.put_places.Given as goal
 
 -- what is left makes of the places what all made of them at first, and there is room for it

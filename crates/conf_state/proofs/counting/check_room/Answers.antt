@@ -1,6 +1,6 @@
 use Rattle.std.proofs.Common.{◌≡◌, ◌+◌, min, ap₂, sym, ◌∙◌, arith}
-use Rattle.conf_state.specs.BaseTexts.{framed_length}
-use Rattle.conf_state.proofs.CountLemmas.{next_state-full, next_state-record, next_state-long, next_state-last, next_state-new}
+use Rattle.conf_state.{specs.BaseTexts.framed_length, proofs.CountLemmas.{next_state-full, next_state-record, next_state-long}}
+use Rattle.conf_state.proofs.CountLemmas.{next_state-last, next_state-new}
 use Rattle.conf_state.proofs.counting.check_room.Goals as goal
 
 pub returns-then-base_length-gt-BASE_LIMIT-clause-refused :

@@ -1,6 +1,5 @@
 use Rattle.std.proofs.Common.{ap, arith}
-use Rattle.conf_state.specs.BaseTexts.{entries_length}
-use Rattle.conf_state.proofs.EditLemmas.{edit-length}
+use Rattle.conf_state.{specs.BaseTexts.entries_length, proofs.EditLemmas.edit-length}
 use Rattle.conf_state.proofs.draft_length.length_changed.Goals as goal
 
 pub length_after-after-requires-clause-there : goal.length_after-after-requires-clause-there

@@ -1,6 +1,5 @@
 use Rattle.std.proofs.Common.{◌≡◌, map}
-use Rattle.conf_state.proofs.Prelude.{into_iter_items}
-use Rattle.conf_state.specs.{Commands.edit_of, Drafts.drafted, Drafts.IsDraftOf, Steps.all_edited}
+use Rattle.conf_state.{proofs.Prelude.into_iter_items, specs.{Commands.edit_of, Drafts.{drafted, IsDraftOf}, Steps.all_edited}}
 use Rattle.conf_state.proofs.drafting.draft_edits.Given as goal
 
 -- the edits that are left make of the draft what all make of the one at first

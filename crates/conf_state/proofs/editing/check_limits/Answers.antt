@@ -1,6 +1,5 @@
 use Rattle.std.proofs.Common.{arith}
-use Rattle.conf_state.proofs.Prelude.{tree_of}
-use Rattle.conf_state.proofs.StepLemmas.{checked_tree-deep, checked_tree-large, checked_tree-within}
+use Rattle.conf_state.proofs.{Prelude.tree_of, StepLemmas.{checked_tree-deep, checked_tree-large, checked_tree-within}}
 use Rattle.conf_state.proofs.editing.check_limits.Goals as goal
 
 pub returns-then-depth-clause-refused : goal.returns-then-depth-clause-refused

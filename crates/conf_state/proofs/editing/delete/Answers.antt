@@ -1,9 +1,7 @@
 use Rattle.std.proofs.Common.{◌≡◌, ◌<◌, if◌then◌else◌, Err, true, false, is_some, length, ap, sym, subst, ◌∙◌}
-use Rattle.conf_state.proofs.Prelude.{chars}
-use Rattle.conf_state.specs.{Edits.absence, Names.good_name, States.config_named, declared.fault.StoreFault.TheVariants.BadName}
-use Rattle.conf_state.specs.Commands.{text_of, delete_at}
-use Rattle.conf_state.proofs.EditLemmas.{empty-pointer, delete-edits}
-use Rattle.conf_state.proofs.StepLemmas.{edited-named, some_bytes, no_bytes, delete-nothing, delete-whole}
+use Rattle.conf_state.proofs.{Prelude.chars, EditLemmas.{empty-pointer, delete-edits}, StepLemmas.{edited-named, some_bytes, no_bytes}}
+use Rattle.conf_state.{proofs.StepLemmas.{delete-nothing, delete-whole}, specs.{Edits.absence, Names.good_name, States.config_named}}
+use Rattle.conf_state.specs.{declared.fault.StoreFault.TheVariants.BadName, Commands.{text_of, delete_at}}
 use Rattle.conf_state.proofs.editing.delete.Goals as goal
 
 pub returns-then-not-is_empty : goal.returns-then-not-is_empty

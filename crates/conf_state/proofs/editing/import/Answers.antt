@@ -1,7 +1,6 @@
 use Rattle.std.proofs.Common.{Err, ap, sym, subst, ◌∙◌}
-use Rattle.conf_state.proofs.Prelude.{chars, tree_of}
-use Rattle.conf_state.specs.{Commands.text_of, Commands.import_as, Names.good_name, declared.fault.StoreFault.TheVariants.BadName}
-use Rattle.conf_state.proofs.StepLemmas.{edited-named, edited-unnamed}
+use Rattle.conf_state.{proofs.{Prelude.{chars, tree_of}, StepLemmas.{edited-named, edited-unnamed}}, specs.Commands.{text_of, import_as}}
+use Rattle.conf_state.specs.{Names.good_name, declared.fault.StoreFault.TheVariants.BadName}
 use Rattle.conf_state.proofs.editing.import.Goals as goal
 
 pub returns-then-not-good_name : goal.returns-then-not-good_name

@@ -1,6 +1,5 @@
 use Rattle.std.proofs.Common.{ap, sym, subst, ◌∙◌}
-use Rattle.conf_state.proofs.Prelude.{chars, tree_of}
-use Rattle.conf_state.specs.{Commands.edit_of, Commands.text_of, Commands.set_at, Commands.delete_at, Steps.edited}
+use Rattle.conf_state.{proofs.Prelude.{chars, tree_of}, specs.{Commands.{edit_of, text_of, set_at, delete_at}, Steps.edited}}
 use Rattle.conf_state.proofs.editing.make_edit.Goals as goal
 
 pub returns-in-Import : goal.returns-in-Import

@@ -1,7 +1,5 @@
 use Rattle.std.proofs.Common.{Err, sym, subst}
-use Rattle.conf_state.proofs.Prelude.{err_from_is_err_and, tree_of}
-use Rattle.conf_state.specs.Commands.{text_of}
-use Rattle.conf_state.proofs.StepLemmas.{import-checked, import-refused}
+use Rattle.conf_state.{proofs.{Prelude.{err_from_is_err_and, tree_of}, StepLemmas.{import-checked, import-refused}}, specs.Commands.text_of}
 use Rattle.conf_state.proofs.editing.put_within.Goals as goal
 
 pub returns-in_err-check_limits : goal.returns-in_err-check_limits

@@ -1,8 +1,6 @@
 use Rattle.std.proofs.Common.{◌≡◌, Err, true, false, is_some, length, ap, sym, subst, ◌∙◌}
-use Rattle.conf_state.proofs.Prelude.{chars, tree_of}
-use Rattle.conf_state.specs.{Commands.text_of, Commands.set_at, Edits.absence, Names.good_name, States.config_named}
-use Rattle.conf_state.proofs.EditLemmas.{empty-pointer}
-use Rattle.conf_state.proofs.StepLemmas.{edited-named, no_bytes, set-nothing, set-whole}
+use Rattle.conf_state.proofs.{Prelude.{chars, tree_of}, EditLemmas.empty-pointer, StepLemmas.{edited-named, no_bytes, set-nothing}}
+use Rattle.conf_state.{proofs.StepLemmas.set-whole, specs.{Commands.{text_of, set_at}, Edits.absence, Names.good_name, States.config_named}}
 use Rattle.conf_state.proofs.editing.set.Goals as goal
 
 pub returns-then-not-has : goal.returns-then-not-has

@@ -1,10 +1,7 @@
-use Rattle.std.proofs.Common.{◌∙◌, rules, sym}
+use Rattle.std.proofs.{Common.{◌∙◌, rules, sym}, lemmas.Iterator.{Adapters.YieldsList-from_bytes, Search.all_from_yields_List}}
 use Rattle.conf_state.proofs.Prelude.{chars, every-IsAscii, every-bytes, chars-same}
-use Rattle.std.proofs.lemmas.Iterator.Adapters.{YieldsList-from_bytes}
-use Rattle.std.proofs.lemmas.Iterator.Search.{all_from_yields_List}
 use borrow.Author.Tests.{tests}
-use Rattle.conf_state.specs.Names.{name_char}
-use Rattle.conf_state.proofs.NameLemmas.{name_char-below}
+use Rattle.conf_state.{specs.Names.name_char, proofs.NameLemmas.name_char-below}
 use Rattle.conf_state.proofs.name.has_name_bytes.Goals as goal
 
 pub returns-clause-named : goal.returns-clause-named

@@ -1,6 +1,5 @@
 use Rattle.std.proofs.Common.{arith}
-use Rattle.conf_state.specs.Commands.{command_of}
-use Rattle.conf_state.proofs.PartStates.{checked-part, checked-ok, checked-refused}
+use Rattle.conf_state.{specs.Commands.command_of, proofs.PartStates.{checked-part, checked-ok, checked-refused}}
 use Rattle.conf_state.proofs.part.draft_next.Goals as goal
 
 pub returns-clause-part : goal.returns-clause-part

@@ -1,6 +1,5 @@
 use Rattle.std.proofs.Common.{Ok, ap, subst, ◌∙◌}
-use Rattle.conf_state.proofs.Prelude.{chars, tree_of, Changes, tree_after_edit}
-use Rattle.conf_state.proofs.{EditLemmas.same_edit, PlanningLemmas.plan-made}
+use Rattle.conf_state.proofs.{Prelude.{chars, tree_of, Changes, tree_after_edit}, EditLemmas.same_edit, PlanningLemmas.plan-made}
 use Rattle.conf_state.proofs.planning.edit_config.Goals as goal
 
 -- the edit makes the tree that was planned

@@ -1,8 +1,7 @@
 use Rattle.std.proofs.Common.{◌≡◌, inr, [], map, ap, sym, ◌∙◌}
-use Rattle.conf_state.proofs.Prelude.{on_ok_weaker, IfErr-weaker, err_from_is_err_and}
-use Rattle.conf_state.specs.{Commands.edit_of, Commands.batch, Drafts.drafted, declared.room.Room.TheVariants.Enough}
-use Rattle.conf_state.specs.Steps.{and_then, performed, next_state, step}
-use Rattle.conf_state.proofs.{PlanningLemmas.or_so, replaying.replay_batch.Goals.In_ok-draft_batch}
+use Rattle.conf_state.proofs.{Prelude.{on_ok_weaker, IfErr-weaker, err_from_is_err_and}, PlanningLemmas.or_so}
+use Rattle.conf_state.{proofs.replaying.replay_batch.Goals.In_ok-draft_batch, specs.{Commands.{edit_of, batch}, Drafts.drafted}}
+use Rattle.conf_state.specs.{declared.room.Room.TheVariants.Enough, Steps.{and_then, performed, next_state, step}}
 use Rattle.conf_state.proofs.replaying.replay_batch.Goals as goal
 
 -- the state is what the draft makes of the one that is left

@@ -1,7 +1,6 @@
-use Rattle.std.proofs.Common.{◌≡◌, List, [], ◌∷◌, ◌+◌, drop, sym, ap, subst, ◌∙◌, arith}
-use Rattle.std.proofs.lemmas.List.{at_drop_more, at_drop_all}
-use Rattle.conf_state.specs.declared.command.Edit as code_edit
+use Rattle.std.proofs.{Common.{◌≡◌, List, [], ◌∷◌, ◌+◌, drop, sym, ap, subst, ◌∙◌, arith}, lemmas.List.{at_drop_more, at_drop_all}}
 use Rattle.conf_state.specs.Trails.{AreSets}
+use Rattle.conf_state.specs.declared.command.Edit as code_edit
 use Rattle.conf_state.proofs.sets.are_sets.Goals as goal
 
 pub loop-edit-preserved : goal.loop-edit-preserved

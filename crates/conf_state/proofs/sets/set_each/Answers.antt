@@ -1,7 +1,6 @@
 use Rattle.std.proofs.Common.{sym, ◌∙◌}
-use Rattle.conf_state.proofs.Prelude.{err_from_is_err_and, into_iter_items}
+use Rattle.conf_state.proofs.{Prelude.{err_from_is_err_and, into_iter_items}, PlanningLemmas.or_so, SetLemmas.first-refused}
 use Rattle.conf_state.specs.Kept.{entries_of}
-use Rattle.conf_state.proofs.{PlanningLemmas.or_so, SetLemmas.first-refused}
 use Rattle.conf_state.proofs.sets.set_each.Goals as goal
 
 pub returns-in_err-set_one-clause-refused : goal.returns-in_err-set_one-clause-refused

@@ -1,6 +1,5 @@
 use Rattle.std.proofs.Common.{◌≡◌, List, map}
-use Rattle.conf_state.proofs.Prelude.{into_iter_items}
-use Rattle.conf_state.specs.{Commands.edit_of, Kept.entries_of, States.Entry, Steps.all_edited}
+use Rattle.conf_state.{proofs.Prelude.into_iter_items, specs.{Commands.edit_of, Kept.entries_of, States.Entry, Steps.all_edited}}
 use Rattle.conf_state.specs.Trails.{AreSets, IsHeld, Trail}
 use Rattle.conf_state.proofs.sets.set_each.Given as goal
 

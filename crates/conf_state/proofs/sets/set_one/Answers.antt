@@ -1,9 +1,8 @@
 use Rattle.std.proofs.Common.{inr, Err, [], ◌∷◌, ◌++◌, sym, ap, subst, ◌∙◌}
-use Rattle.conf_state.proofs.Prelude.{err_from_is_err_and, chars, tree_of}
-use Rattle.yaml_config.specs.declared.edit.Edit.TheVariants.{Set}
-use Rattle.conf_state.specs.{Commands.text_of, Edits.absence, Kept.entries_of, Trails.Trail}
-use Rattle.conf_state.proofs.{EditLemmas.edited-nothing, EditLemmas.named-good, PlanningLemmas.edit-refused, PlanningLemmas.or_so}
-use Rattle.conf_state.proofs.SetLemmas.{trail-push, there-named, none-named, is-put, put-same, put-made, put-changes, put-held, put-back}
+use Rattle.conf_state.proofs.{Prelude.{err_from_is_err_and, chars, tree_of}, EditLemmas.{edited-nothing, named-good}}
+use Rattle.conf_state.proofs.{PlanningLemmas.{edit-refused, or_so}, SetLemmas.{trail-push, there-named, none-named, is-put, put-same}}
+use Rattle.conf_state.{proofs.SetLemmas.{put-made, put-changes, put-held, put-back}, specs.{Commands.text_of, Edits.absence}}
+use Rattle.{conf_state.specs.{Kept.entries_of, Trails.Trail}, yaml_config.specs.declared.edit.Edit.TheVariants.Set}
 use Rattle.conf_state.proofs.sets.set_one.Goals as goal
 
 -- ---- no configuration has the name

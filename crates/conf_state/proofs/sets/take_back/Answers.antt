@@ -1,6 +1,5 @@
 use Rattle.std.proofs.Common.{sym, subst}
-use Rattle.conf_state.specs.{Kept.entries_of, Trails.Trail}
-use Rattle.conf_state.proofs.SetLemmas.{trail-pop}
+use Rattle.conf_state.{specs.{Kept.entries_of, Trails.Trail}, proofs.SetLemmas.trail-pop}
 use Rattle.conf_state.proofs.sets.take_back.Goals as goal
 
 pub take_one_back-requires-clause-made : goal.take_one_back-requires-clause-made

@@ -1,5 +1,5 @@
 use Rattle.std.proofs.Common.{◌≡◌, ℕ, List, vec_len}
-use Rattle.conf_state.specs.{Kept.entries_of, Kept.ArePlain, States.Entry, Trails.Trail}
+use Rattle.conf_state.specs.{Kept.{entries_of, ArePlain}, States.Entry, Trails.Trail}
 use Rattle.conf_state.proofs.sets.take_back.Given as goal
 
 abbrev pub invariant-loop-last : goal.invariant-loop-last

@@ -1,7 +1,6 @@
 use Rattle.std.proofs.Common.{Some, sym, ap, ◌∙◌}
-use Rattle.conf_state.proofs.Prelude.{tree_of}
+use Rattle.conf_state.proofs.{Prelude.tree_of, SetLemmas.{there-named, none-named, is-put, made-there, made-missing}}
 use Rattle.conf_state.specs.{Commands.text_of, Kept.entries_of, States.put_config}
-use Rattle.conf_state.proofs.SetLemmas.{there-named, none-named, is-put, made-there, made-missing}
 use Rattle.conf_state.proofs.sets.take_one_back.Goals as goal
 
 pub undo-requires : goal.undo-requires

@@ -1,7 +1,7 @@
 use Rattle.std.proofs.Common.{string_bytes, ap, sym, subst, ◌∙◌, min}
-use Rattle.conf_state.proofs.Prelude.{chars, IsUtf8-string_bytes, tree_of}
-use Rattle.conf_state.specs.{BaseTexts.entry_length, Commands.text_of, Kept.ArePlain, Kept.entries_of, Kept.IsFit, Kept.IsUnfit}
-use Rattle.conf_state.proofs.{EntryLemmas.put_under-named, EntryLemmas.plain_put_under, NameLemmas.good_name-ascii}
+use Rattle.conf_state.proofs.{Prelude.{chars, IsUtf8-string_bytes, tree_of}, EntryLemmas.{put_under-named, plain_put_under}}
+use Rattle.conf_state.{proofs.NameLemmas.good_name-ascii, specs.{BaseTexts.entry_length, Commands.text_of, Kept.{ArePlain, entries_of}}}
+use Rattle.conf_state.specs.Kept.{IsFit, IsUnfit}
 use Rattle.conf_state.proofs.state.append.Goals as goal
 
 pub returns : goal.returns

@@ -1,7 +1,5 @@
 use Rattle.std.proofs.Common.{◌≡◌, Bor, Option, Some, None, is_some, option_map, option_copied, refl, ap, ◌∙◌}
-use Rattle.conf_state.proofs.Prelude.{tree_of}
-use Rattle.yaml_data.specs.declared.tree.Tree.{Tree}
-use Rattle.conf_state.proofs.EntryLemmas.{lookup-named}
+use Rattle.{conf_state.proofs.{Prelude.tree_of, EntryLemmas.lookup-named}, yaml_data.specs.declared.tree.Tree.Tree}
 use Rattle.conf_state.proofs.state.has.Goals as goal
 
 mapped : (found : Option (Bor Tree)) → is_some found ≡ is_some (option_map tree_of (option_copied found))

@@ -1,7 +1,6 @@
 use Rattle.std.proofs.Common.{inl, inr, ◌≡◌, Bool, true, false, not, refl, sym, ◌∙◌}
-use Rattle.conf_state.proofs.Prelude.{chars, tree_of}
-use Rattle.conf_state.specs.{Kept.entries_of, States.config_named}
-use Rattle.conf_state.proofs.PartLemmas.{is_none, on_ok_from, refused_over}
+use Rattle.conf_state.{proofs.{Prelude.{chars, tree_of}, PartLemmas.{is_none, on_ok_from, refused_over}}, specs.Kept.entries_of}
+use Rattle.conf_state.specs.States.{config_named}
 use Rattle.conf_state.proofs.state.is_fit.Goals as goal
 
 not_true : (b : Bool) → not b ≡ true → b ≡ false

@@ -1,9 +1,8 @@
 use Rattle.std.proofs.Common.{◌≡◌, ◌⊎◌, ◌<◌, ◌∷◌, [], map, length, Ok, Err, OnOk, IfErr, ap, sym, subst, ◌∙◌, arith}
-use Rattle.conf_state.proofs.Prelude.{err_from_is_err_and}
 use Rattle.std.proofs.lemmas.List.{length-map}
-use Rattle.conf_state.specs.{Commands.edit_of, Commands.batch, declared.fault.StoreFault.TheVariants.OutOfMemory}
-use Rattle.conf_state.specs.Steps.{and_then, all_edited, next_state, step}
-use Rattle.conf_state.proofs.{PlanningLemmas.or_so, StepLemmas.batch-all, StepLemmas.batch-one, StepLemmas.one_item}
+use Rattle.conf_state.proofs.{Prelude.err_from_is_err_and, PlanningLemmas.or_so, StepLemmas.{batch-all, batch-one, one_item}}
+use Rattle.conf_state.specs.{Commands.{edit_of, batch}, declared.fault.StoreFault.TheVariants.OutOfMemory, Steps.{and_then, all_edited}}
+use Rattle.conf_state.specs.Steps.{next_state, step}
 use Rattle.conf_state.proofs.steps.step_batch.Goals as goal
 
 pub returns-in-1-clause-refused : goal.returns-in-1-clause-refused

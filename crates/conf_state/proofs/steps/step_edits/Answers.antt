@@ -1,8 +1,6 @@
 use Rattle.std.proofs.Common.{◌≡◌, ◌⊎◌, map, Ok, Err, OnOk, IfErr, ap, sym, subst, ◌∙◌}
-use Rattle.conf_state.proofs.Prelude.{err_from_is_err_and}
-use Rattle.conf_state.specs.{Commands.edit_of, declared.fault.StoreFault.TheVariants.OutOfMemory}
-use Rattle.conf_state.specs.Steps.{and_then, all_edited, next_state}
-use Rattle.conf_state.proofs.PlanningLemmas.{or_so}
+use Rattle.conf_state.{proofs.{Prelude.err_from_is_err_and, PlanningLemmas.or_so}, specs.Commands.edit_of}
+use Rattle.conf_state.specs.{declared.fault.StoreFault.TheVariants.OutOfMemory, Steps.{and_then, all_edited, next_state}}
 use Rattle.conf_state.proofs.steps.step_edits.Goals as goal
 
 pub returns-in_err-draft_edits-clause-refused : goal.returns-in_err-draft_edits-clause-refused

@@ -1,8 +1,6 @@
-use Rattle.std.proofs.Common.{rules, ◌≡◌, inl, inr, ⊎_elim, ◌+◌, min, max, ◌∙◌, ap}
-use Rattle.std.specs.Prelude.{string_bytes}
-use Rattle.conf_store.proofs.Prelude.{command_of, count_limit, record_bytes}
-use Rattle.conf_store.specs.{Stagings.staged_of, Calls.next_number, Staged.staged_length}
-use Rattle.conf_store.proofs.{RefusalLemmas.of-state, StoreLemmas.accepted, StoreLemmas.refused-outcome, StoreLemmas.room-next}
+use Rattle.std.{proofs.Common.{rules, ◌≡◌, inl, inr, ⊎_elim, ◌+◌, min, max, ◌∙◌, ap}, specs.Prelude.string_bytes}
+use Rattle.conf_store.proofs.{Prelude.{command_of, count_limit, record_bytes}, RefusalLemmas.of-state, StoreLemmas.accepted}
+use Rattle.conf_store.{proofs.StoreLemmas.{refused-outcome, room-next}, specs.{Stagings.staged_of, Calls.next_number, Staged.staged_length}}
 use Rattle.conf_store.proofs.accepting.accept.Goals as goal
 
 pub returns-in-Ok-clause-ok : goal.returns-in-Ok-clause-ok

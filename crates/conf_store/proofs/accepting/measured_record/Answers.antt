@@ -1,6 +1,5 @@
 use Rattle.std.proofs.Common.{◌≡◌, Bool, true, false}
-use Rattle.conf_store.proofs.Prelude.{command_of}
-use Rattle.conf_store.proofs.StoreLemmas.{room-measured}
+use Rattle.conf_store.proofs.{Prelude.command_of, StoreLemmas.room-measured}
 use Rattle.conf_store.proofs.accepting.measured_record.Goals as goal
 
 both_ways : (b : Bool) → b ≡ false → b ≡ true → ⊥

@@ -1,6 +1,5 @@
 use Rattle.std.proofs.Common.{◌≡◌, IfSome, length, string_bytes, rules, subst}
-use Rattle.conf_store.proofs.Prelude.{command_of, record_bytes, IsCommand}
-use Rattle.conf_store.proofs.StoreLemmas.{made-measured}
+use Rattle.conf_store.proofs.{Prelude.{command_of, record_bytes, IsCommand}, StoreLemmas.made-measured}
 use Rattle.conf_store.proofs.accepting.record_within.Goals as goal
 
 pub returns-in-Some : goal.returns-in-Some

@@ -1,6 +1,5 @@
 use Rattle.std.proofs.Common.{◌∙◌, sym, Some}
-use Rattle.conf_store.proofs.Prelude.{IsImage, LeavesOnly-now, base_bytes, image_now}
-use Rattle.conf_store.proofs.StoreLemmas.{durable-means}
+use Rattle.conf_store.proofs.{Prelude.{IsImage, LeavesOnly-now, base_bytes, image_now}, StoreLemmas.durable-means}
 use Rattle.conf_store.proofs.CreateLemmas.{creation-leaves, creation-reads}
 use Rattle.conf_store.proofs.creating.create_store.Goals as goal
 

@@ -1,6 +1,5 @@
 -- The search finds a 0 exactly where there is one.
-use Rattle.std.proofs.Common.{◌∙◌, sym, ap}
-use Rattle.std.specs.Prelude.{not}
+use Rattle.std.{proofs.Common.{◌∙◌, sym, ap}, specs.Prelude.not}
 use Rattle.conf_store.proofs.KeptLemmas.{any-zero}
 use Rattle.conf_store.proofs.holes.has_zero.Goals as goal
 

@@ -1,6 +1,5 @@
 -- Each turn goes past a piece that is no record.
-use Rattle.std.proofs.Common.{rules, ap}
-use Rattle.std.specs.Prelude.{Ok}
+use Rattle.std.{proofs.Common.{rules, ap}, specs.Prelude.Ok}
 use Rattle.conf_store.proofs.KeptLemmas.{more-lacks, all-lacks, found-keeps, nothing-lacks}
 use Rattle.conf_store.proofs.holes.holds_record.Goals as goal
 

@@ -1,7 +1,6 @@
 -- No piece so far is a record.
 use Rattle.std.proofs.Common.{◌-◌, length}
-use Rattle.conf_store.proofs.Prelude.{StartsLine}
-use Rattle.conf_store.proofs.KeptLemmas.{LacksSoFar}
+use Rattle.conf_store.proofs.{Prelude.StartsLine, KeptLemmas.LacksSoFar}
 use Rattle.conf_store.proofs.holes.holds_record.Given as goal
 
 abbrev pub invariant-pieces : goal.invariant-pieces

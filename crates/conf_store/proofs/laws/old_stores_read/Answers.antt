@@ -1,10 +1,8 @@
 use Rattle.std.proofs.Common.{inr, ℕ, ◌+◌, List, [], ◌∷◌, arith}
-use Rattle.conf_store.proofs.Prelude.{All-nil, IsNoRecord, chars, single, Contents, IsRecord, IsBase}
+use Rattle.conf_store.proofs.{Prelude.{All-nil, IsNoRecord, chars, single, Contents, IsRecord, IsBase}, FirstStepLemmas.gives-wider}
+use Rattle.conf_store.proofs.{FirstStepLemmas.{as_edit, as_commands, after-accepted, state-wider}, MeaningLemmas.no-others}
+use Rattle.conf_store.{proofs.FirstReadLemmas.{record-more, base-more}, specs.Meaning.{AreRecords, PiecesMean}}
 use Rattle.yaml_data.specs.OwnLimits.{own_limits}
-use Rattle.conf_store.specs.Meaning.{AreRecords, PiecesMean}
-use Rattle.conf_store.proofs.FirstStepLemmas.{gives-wider, as_edit, as_commands, after-accepted, state-wider}
-use Rattle.conf_store.proofs.MeaningLemmas.{no-others}
-use Rattle.conf_store.proofs.FirstReadLemmas.{record-more, base-more}
 use Rattle.conf_store.specs.First as first
 use Rattle.conf_store.proofs.laws.old_stores_read.Goals as goal
 

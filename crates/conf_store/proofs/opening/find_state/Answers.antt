@@ -1,8 +1,6 @@
 -- What is found in the file is what the read tells of it.
 use Rattle.std.proofs.Common.{subst}
-use Rattle.conf_store.proofs.Prelude.{Tells, store_limit}
-use Rattle.conf_store.specs.Holes.{is_several}
-use Rattle.conf_store.proofs.{GrownLemmas.missing-base, OpenLemmas.too-long}
+use Rattle.conf_store.{proofs.{Prelude.{Tells, store_limit}, GrownLemmas.missing-base, OpenLemmas.too-long}, specs.Holes.is_several}
 use Rattle.conf_store.proofs.opening.find_state.Goals as goal
 
 pub returns-in-TooLong-clause-refused : goal.returns-in-TooLong-clause-refused

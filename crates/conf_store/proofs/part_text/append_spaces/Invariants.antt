@@ -1,7 +1,6 @@
 -- The spaces so far are appended.
 use Rattle.std.proofs.Common.{◌≤◌, ◌-◌}
-use Rattle.conf_store.proofs.Prelude.{spaces}
-use Rattle.conf_store.specs.Room.{AppendsWithin}
+use Rattle.conf_store.{proofs.Prelude.spaces, specs.Room.AppendsWithin}
 use Rattle.conf_store.proofs.part_text.append_spaces.Given as goal
 
 abbrev pub invariant-loop-left : goal.invariant-loop-left

@@ -1,6 +1,5 @@
 use Rattle.std.proofs.Common.{length, sym, ◌∙◌, subst, arith}
-use Rattle.conf_store.specs.{Parts.AreWithin, Parts.joined, Parts.texts, Staged.slice_limit}
-use Rattle.conf_store.proofs.PendingLemmas.{loop-same, none-left}
+use Rattle.conf_store.{specs.{Parts.{AreWithin, joined, texts}, Staged.slice_limit}, proofs.PendingLemmas.{loop-same, none-left}}
 use Rattle.conf_store.proofs.pending.cut_parts.Goals as goal
 
 pub parts-preserved : goal.parts-preserved

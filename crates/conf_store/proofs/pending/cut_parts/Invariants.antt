@@ -1,6 +1,6 @@
 -- What is in the slice, and what is left, stay the same; and a slice that is not full has all of the part at hand.
 use Rattle.std.proofs.Common.{◌≡◌, ◌≤◌, ◌⊎◌, ◌++◌, [], length}
-use Rattle.conf_store.specs.{Parts.AreWithin, Parts.joined, Parts.texts, Staged.slice_limit}
+use Rattle.conf_store.specs.{Parts.{AreWithin, joined, texts}, Staged.slice_limit}
 use Rattle.conf_store.proofs.pending.cut_parts.Given as goal
 
 abbrev pub invariant-parts : goal.invariant-parts

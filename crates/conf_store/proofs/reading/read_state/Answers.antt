@@ -1,8 +1,8 @@
 -- What is found in the file is what the read tells of it, and a read changes nothing.
 use Rattle.std.proofs.Common.{subst}
-use Rattle.conf_store.proofs.Prelude.{bytes_under, several_waited, Store}
-use Rattle.conf_store.specs.{Holes.is_several, Meaning.FileMeans, Opens.FileRecoversTo, Opens.RefusesOpening}
-use Rattle.conf_store.proofs.{FileLemmas.read-stays, OpenLemmas.found-means, OpenLemmas.refused-nothing}
+use Rattle.conf_store.proofs.{Prelude.{bytes_under, several_waited, Store}, FileLemmas.read-stays, OpenLemmas.found-means}
+use Rattle.conf_store.{proofs.OpenLemmas.refused-nothing, specs.{Holes.is_several, Meaning.FileMeans, Opens.FileRecoversTo}}
+use Rattle.conf_store.specs.Opens.{RefusesOpening}
 use Rattle.conf_store.proofs.reading.read_state.Goals as goal
 
 pub returns-in-Err-Device-clause-stays : goal.returns-in-Err-Device-clause-stays

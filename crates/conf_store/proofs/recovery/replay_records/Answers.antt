@@ -1,11 +1,9 @@
 -- Each turn performs one more record.
-use Rattle.std.proofs.Common.{rules, ◌++◌, ◌+◌, ◌-◌, ◌∙◌, ⊎_elim, ap, length, arith, length-drop, subst, sym}
-use Rattle.std.specs.Prelude.{ℕ, List, drop, slice_range, Result, Ok, Err, IfOk, OnOk}
-use Rattle.conf_store.proofs.Prelude.{Contents, IsState, IfOk-weaker, IfErr-weaker}
-use Rattle.conf_store.specs.Holes.{MayBeLeft, WasKept, is_several}
-use Rattle.conf_store.specs.{Opens.RecoversTo, Opens.RefusesBytes}
-use Rattle.conf_store.proofs.{HoleLemmas.zero-no-record, KeptLemmas.slice-rest}
-use Rattle.conf_store.proofs.RecoveryLemmas.{all-replayed, left-replayed, next-replayed, none-replayed, unread}
+use Rattle.std.{proofs.Common.{rules, ◌++◌, ◌+◌, ◌-◌, ◌∙◌, ⊎_elim, ap, length, arith, length-drop, subst, sym}, specs.Prelude.{ℕ, List}}
+use Rattle.std.specs.Prelude.{drop, slice_range, Result, Ok, Err, IfOk, OnOk}
+use Rattle.conf_store.proofs.{Prelude.{Contents, IsState, IfOk-weaker, IfErr-weaker}, HoleLemmas.zero-no-record, KeptLemmas.slice-rest}
+use Rattle.conf_store.{proofs.RecoveryLemmas.{all-replayed, left-replayed, next-replayed, none-replayed, unread}, specs.Holes.MayBeLeft}
+use Rattle.conf_store.specs.{Holes.{WasKept, is_several}, Opens.{RecoversTo, RefusesBytes}}
 use Rattle.conf_store.proofs.recovery.replay_records.Goals as goal
 
 on-ok : {T E : Type 0} (r : Result T E) (P : T → Type 0) (Q : Type 0) → ((x : T) → P x → Q) → IfOk r P → OnOk r Q

@@ -1,7 +1,6 @@
 -- What was performed so far.
 use Rattle.std.proofs.Common.{◌≤◌, ◌-◌, length}
-use Rattle.conf_store.proofs.Prelude.{IsState, StartsLine}
-use Rattle.conf_store.proofs.RecoveryLemmas.{Replayed}
+use Rattle.conf_store.proofs.{Prelude.{IsState, StartsLine}, RecoveryLemmas.Replayed}
 use Rattle.conf_store.proofs.recovery.replay_records.Given as goal
 
 abbrev pub invariant-records : goal.invariant-records

@@ -1,6 +1,5 @@
 use Rattle.std.proofs.Common.{sym, ◌∙◌}
-use Rattle.conf_store.specs.Stagings.{staged_of}
-use Rattle.conf_store.proofs.SliceLemmas.{not-due}
+use Rattle.conf_store.{specs.Stagings.staged_of, proofs.SliceLemmas.not-due}
 use Rattle.conf_store.proofs.slicing.sync_if_due.Goals as goal
 
 pub returns-clause-synced : goal.returns-clause-synced

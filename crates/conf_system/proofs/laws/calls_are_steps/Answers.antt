@@ -1,6 +1,5 @@
 use Rattle.conf_system.proofs.Steps.{store_write-appends, next_write-appends, sync-steps, create-steps, rename-steps, remove-steps}
-use Rattle.conf_system.proofs.Steps.{next_sync-steps, link-steps, unlink-none, failed_rename-steps, failed_link-steps}
-use Rattle.conf_system.proofs.Steps.{folder_sync-steps}
+use Rattle.conf_system.proofs.Steps.{next_sync-steps, link-steps, unlink-none, failed_rename-steps, failed_link-steps, folder_sync-steps}
 use Rattle.conf_system.proofs.laws.calls_are_steps.Goals as goal
 
 pub returns-clause-store_writes : goal.returns-clause-store_writes

@@ -1,8 +1,7 @@
 use Rattle.std.proofs.Common.{◌≡◌, [], ◌∷◌, ◌++◌, option_to_list, string_bytes, ap, subst, sym, ◌∙◌}
 use Rattle.json_pointer.proofs.Prelude.{cow_str_bytes, IsUtf8, Owned, IsUtf8-string_bytes}
 use lib.Utf8.{encode}
-use Rattle.json_pointer.specs.{Pointers.pointer_text, Pointers.char_text, Tokens.texts}
-use Rattle.json_pointer.proofs.Pointers.{pointer_text-lengthened}
+use Rattle.json_pointer.{specs.{Pointers.{pointer_text, char_text}, Tokens.texts}, proofs.Pointers.pointer_text-lengthened}
 use Rattle.json_pointer.proofs.path.lengthen.Goals as goal
 
 pub returns-clause-ok : goal.returns-clause-ok

@@ -1,7 +1,5 @@
 use Rattle.std.proofs.Common.{arith, ap, sym, ◌∙◌, get_or}
-use Rattle.json_pointer.proofs.Prelude.{run_is, IsCharBoundary-start}
-use Rattle.json_pointer.specs.Pointers.{unescaped}
-use Rattle.json_pointer.proofs.Pointers.{blind-unescaped}
+use Rattle.json_pointer.{proofs.{Prelude.{run_is, IsCharBoundary-start}, Pointers.blind-unescaped}, specs.Pointers.unescaped}
 use Rattle.json_pointer.proofs.path.unescaped_end.Goals as goal
 
 pub returns-else-is_unescaped : goal.returns-else-is_unescaped

@@ -1,6 +1,5 @@
 use Rattle.std.proofs.Common.{◌∙◌, sym}
-use Rattle.json_pointer.proofs.Prelude.{chars_rest}
-use Rattle.json_pointer.proofs.Escapes.{itself-passed, escape-read-on, stray-found, end-passed}
+use Rattle.json_pointer.proofs.{Prelude.chars_rest, Escapes.{itself-passed, escape-read-on, stray-found, end-passed}}
 use Rattle.json_pointer.proofs.pointer.has_whole_escapes.Goals as goal
 
 pub loop-c-preserved-then-c-ne126 : goal.loop-c-preserved-then-c-ne126

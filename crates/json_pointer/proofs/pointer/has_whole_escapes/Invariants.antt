@@ -1,7 +1,5 @@
-use Rattle.std.proofs.Common.{◌≡◌, length}
-use Rattle.std.specs.Prelude.{is_none}
-use Rattle.json_pointer.proofs.Prelude.{chars, IsUtf8, chars_rest}
-use Rattle.json_pointer.specs.Pointers.{first_stray}
+use Rattle.std.{proofs.Common.{◌≡◌, length}, specs.Prelude.is_none}
+use Rattle.json_pointer.{proofs.Prelude.{chars, IsUtf8, chars_rest}, specs.Pointers.first_stray}
 use Rattle.json_pointer.proofs.pointer.has_whole_escapes.Given as goal
 
 abbrev pub invariant-loop-c : goal.invariant-loop-c

@@ -1,8 +1,5 @@
-use Rattle.std.proofs.Common.{◌≡◌, rules, ◌<◌, length, get_or, ap}
-use Rattle.std.proofs.Math.Seq.{map-set_same}
-use Rattle.conf_disk.specs.Folder.{with_pending}
-use Rattle.test_disks.specs.declared.folder.FileData.{FileData}
-use Rattle.test_disks.proofs.Files.{map-set-change}
+use Rattle.std.proofs.{Common.{◌≡◌, rules, ◌<◌, length, get_or, ap}, Math.Seq.map-set_same}
+use Rattle.{conf_disk.specs.Folder.with_pending, test_disks.{specs.declared.folder.FileData.FileData, proofs.Files.map-set-change}}
 use Rattle.test_disks.proofs.folder.append_to.Goals as goal
 
 pub returns-clause-files : goal.returns-clause-files

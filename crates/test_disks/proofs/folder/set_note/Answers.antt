@@ -1,8 +1,5 @@
-use Rattle.std.proofs.Common.{◌≡◌, rules, get_or, ap}
-use Rattle.std.proofs.lemmas.List.{map-set}
-use Rattle.std.proofs.Math.Seq.{map-set_same}
-use Rattle.test_disks.specs.Replay.{file_of}
-use Rattle.test_disks.specs.declared.folder.FileData.{FileData}
+use Rattle.std.proofs.{Common.{◌≡◌, rules, get_or, ap}, lemmas.List.map-set, Math.Seq.map-set_same}
+use Rattle.test_disks.specs.{Replay.file_of, declared.folder.FileData.FileData}
 use Rattle.test_disks.proofs.folder.set_note.Goals as goal
 
 pub returns-clause-files : goal.returns-clause-files

@@ -1,8 +1,5 @@
-use Rattle.std.proofs.Common.{◌≡◌, ◌++◌, List, ℕ, rules, ◌<◌, ◌∙◌, ap, length, get_or}
-use Rattle.std.proofs.Math.Seq.{map-set_same}
-use Rattle.conf_disk.specs.Folder.{synced_whole}
-use Rattle.test_disks.specs.declared.folder.FileData.{FileData}
-use Rattle.test_disks.proofs.Files.{map-set-change}
+use Rattle.std.proofs.{Common.{◌≡◌, ◌++◌, List, ℕ, rules, ◌<◌, ◌∙◌, ap, length, get_or}, Math.Seq.map-set_same}
+use Rattle.{conf_disk.specs.Folder.synced_whole, test_disks.{specs.declared.folder.FileData.FileData, proofs.Files.map-set-change}}
 use Rattle.test_disks.proofs.folder.sync_whole.Goals as goal
 
 pub returns-clause-files : goal.returns-clause-files

@@ -1,7 +1,5 @@
-use Rattle.std.proofs.Common.{◌≡◌, ◌<◌, rules, ℕ, List, length, get_or, set, take, sym, ◌∙◌, ap, arith}
-use Rattle.std.proofs.lemmas.List.{take_more}
-use Rattle.conf_disk.specs.Image.{with_zeros}
-use Rattle.test_disks.proofs.Holes.{with_zeros-push}
+use Rattle.std.proofs.{Common.{◌≡◌, ◌<◌, rules, ℕ, List, length, get_or, set, take, sym, ◌∙◌, ap, arith}, lemmas.List.take_more}
+use Rattle.{conf_disk.specs.Image.with_zeros, test_disks.proofs.Holes.with_zeros-push}
 use Rattle.test_disks.proofs.folder.worn_bytes.Goals as goal
 
 pub loop-place-preserved : goal.loop-place-preserved

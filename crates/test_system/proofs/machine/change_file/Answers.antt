@@ -1,7 +1,5 @@
 use Rattle.std.proofs.Common.{◌≡◌, rules, ◌<◌, length, get_or}
-use Rattle.conf_system.specs.Machine.{with_now}
-use Rattle.test_system.specs.Replay.{changed_by}
-use Rattle.test_system.proofs.Files.{map-set-change}
+use Rattle.{conf_system.specs.Machine.with_now, test_system.{specs.Replay.changed_by, proofs.Files.map-set-change}}
 use Rattle.test_system.proofs.machine.change_file.Goals as goal
 
 pub returns : goal.returns

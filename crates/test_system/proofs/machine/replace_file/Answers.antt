@@ -1,7 +1,5 @@
 use Rattle.std.proofs.Common.{◌≡◌, rules, ◌<◌, length, get_or, Some}
-use Rattle.conf_system.specs.Machine.{replaced}
-use Rattle.test_system.specs.Replay.{version_of}
-use Rattle.test_system.proofs.Files.{map-set-change}
+use Rattle.{conf_system.specs.Machine.replaced, test_system.{specs.Replay.version_of, proofs.Files.map-set-change}}
 use Rattle.test_system.proofs.machine.replace_file.Goals as goal
 
 pub returns : goal.returns

@@ -1,8 +1,6 @@
 use Rattle.std.proofs.Common.{◌≡◌, ◌≤◌, ◌<◌, ◌++◌, rules, List, length, get_or, map, drop, ap, ◌∙◌, arith, append-nil}
 use Rattle.std.proofs.lemmas.List.{length-map, take_all, drop_all}
-use Rattle.conf_system.specs.Machine.{Held, settled}
-use Rattle.test_system.specs.Replay.{held_of, files_of}
-use Rattle.test_system.proofs.Files.{settled-more}
+use Rattle.{conf_system.specs.Machine.{Held, settled}, test_system.{specs.Replay.{held_of, files_of}, proofs.Files.settled-more}}
 use Rattle.test_system.proofs.machine.settle.Goals as goal
 
 pub loop-id-preserved : goal.loop-id-preserved

@@ -1,6 +1,5 @@
 use Rattle.std.proofs.Common.{◌≡◌, ◌++◌, map, take, drop, vec_len}
-use Rattle.conf_system.specs.Machine.{settled}
-use Rattle.test_system.specs.Replay.{files_of}
+use Rattle.{conf_system.specs.Machine.settled, test_system.specs.Replay.files_of}
 use Rattle.test_system.proofs.machine.settle.Given as goal
 
 abbrev pub invariant-loop-id : goal.invariant-loop-id

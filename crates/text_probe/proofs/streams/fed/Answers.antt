@@ -1,6 +1,5 @@
 use Rattle.std.proofs.Common.{sym, subst}
-use Rattle.yaml_docs.specs.Cutting.{Held, Unclosed}
-use Rattle.text_probe.proofs.CutLemmas.{unclosed_after}
+use Rattle.{yaml_docs.specs.Cutting.{Held, Unclosed}, text_probe.proofs.CutLemmas.unclosed_after}
 use Rattle.text_probe.proofs.streams.fed.Goals as goal
 
 -- a cutter that takes nothing holds what it held

@@ -1,7 +1,5 @@
 use Rattle.std.proofs.Common.{◌≡◌, ℕ, length, drop, Option, option_map}
-use Rattle.tree_path.proofs.Prelude.{chars}
-use Rattle.tree_path.specs.Steps.{number_of, as_usize}
-use Rattle.tree_path.proofs.Numbers.{read_on}
+use Rattle.tree_path.{proofs.{Prelude.chars, Numbers.read_on}, specs.Steps.{number_of, as_usize}}
 use Rattle.tree_edits.proofs.index.number.Given as goal
 
 abbrev pub invariant-loop-c : goal.invariant-loop-c

@@ -1,6 +1,5 @@
 use Rattle.std.proofs.Common.{sym, ◌∙◌}
-use Rattle.tree_edits.proofs.Prelude.{bytes_eq-dash, chars}
-use Rattle.tree_edits.proofs.Elements.{place-dash, place-none}
+use Rattle.tree_edits.proofs.{Prelude.{bytes_eq-dash, chars}, Elements.{place-dash, place-none}}
 use Rattle.tree_edits.proofs.index.place_in.Goals as goal
 
 pub returns-then-eq : goal.returns-then-eq

@@ -1,6 +1,5 @@
 use Rattle.std.proofs.Common.{arith, ap, ◌∙◌}
-use Rattle.tree_edits.proofs.Prelude.{elements_of, elements_of-step}
-use Rattle.tree_edits.proofs.Elements.{element-depth}
+use Rattle.tree_edits.proofs.{Prelude.{elements_of, elements_of-step}, Elements.element-depth}
 use Rattle.tree_edits.proofs.insertion.copies.Goals as goal
 
 pub try_copy-requires : goal.try_copy-requires

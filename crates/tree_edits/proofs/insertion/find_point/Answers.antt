@@ -1,7 +1,6 @@
 use Rattle.std.proofs.Common.{sym, ap, ◌∙◌}
-use Rattle.tree_edits.proofs.Prelude.{chars, tree_of}
+use Rattle.tree_edits.proofs.{Prelude.{chars, tree_of}, Points.{found-Ok, kept-part, leads-there, point-kept, read-met, spelled-read}}
 use Rattle.tree_edits.specs.Insertions.{list_with}
-use Rattle.tree_edits.proofs.Points.{found-Ok, kept-part, leads-there, point-kept, read-met, spelled-read}
 use Rattle.tree_edits.proofs.insertion.find_point.Goals as goal
 
 pub returns-in-Some-value_at : goal.returns-in-Some-value_at

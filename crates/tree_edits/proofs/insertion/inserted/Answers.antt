@@ -1,7 +1,6 @@
 use Rattle.std.proofs.Common.{None, Some, sym, ◌∙◌}
-use Rattle.tree_edits.proofs.Prelude.{tree_of}
-use Rattle.tree_edits.specs.{Changes.text_of, Insertions.IsPoint}
-use Rattle.tree_edits.proofs.Points.{list-there, list_refused, list_set, plain_set}
+use Rattle.tree_edits.{proofs.{Prelude.tree_of, Points.{list-there, list_refused, list_set, plain_set}}, specs.Changes.text_of}
+use Rattle.tree_edits.specs.Insertions.{IsPoint}
 use Rattle.tree_edits.proofs.insertion.inserted.Goals as goal
 
 pub returns-in-Ok-clause-ok : goal.returns-in-Ok-clause-ok

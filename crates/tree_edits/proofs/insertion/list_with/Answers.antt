@@ -1,9 +1,7 @@
-use Rattle.std.proofs.Common.{◌≡◌, Some, refl, sym, ap, subst, ◌∙◌, arith}
-use Rattle.std.proofs.lemmas.Result.{IfErr-weaker, IfOk-weaker}
+use Rattle.std.proofs.{Common.{◌≡◌, Some, refl, sym, ap, subst, ◌∙◌, arith}, lemmas.Result.{IfErr-weaker, IfOk-weaker}}
 use Rattle.tree_edits.proofs.Prelude.{depth, distinct, elements_of, option_map-Some, sequence, tree_of, tree_of-Seq}
-use Rattle.tree_edits.specs.{Changes.IsRefused, Insertions.insert_element}
 use Rattle.tree_edits.proofs.Elements.{insert_element-depth, insert_element-distinct, inserted-list, inserted-sequence, same-length}
-use Rattle.yaml_config.proofs.Measured.{vec_counted}
+use Rattle.{tree_edits.specs.{Changes.IsRefused, Insertions.insert_element}, yaml_config.proofs.Measured.vec_counted}
 use Rattle.yaml_data.specs.declared.tree.Tree.TheVariants.{Seq}
 use Rattle.tree_edits.proofs.insertion.list_with.Goals as goal
 

@@ -1,8 +1,6 @@
 use Rattle.std.proofs.Common.{ap, ◌∙◌, option_map}
-use Rattle.tree_edits.proofs.Prelude.{chars, elements_of, sequence, tree_of, tree_of-Seq}
-use Rattle.tree_edits.specs.Insertions.{insert_element, list_with_point}
-use Rattle.yaml_config.proofs.Measured.{vec_counted}
-use Rattle.tree_edits.proofs.Points.{point-none, point-some}
+use Rattle.tree_edits.proofs.{Prelude.{chars, elements_of, sequence, tree_of, tree_of-Seq}, Points.{point-none, point-some}}
+use Rattle.{tree_edits.specs.Insertions.{insert_element, list_with_point}, yaml_config.proofs.Measured.vec_counted}
 use Rattle.tree_edits.proofs.insertion.point_in.Goals as goal
 
 pub returns-in_err-place-clause-leads : goal.returns-in_err-place-clause-leads

@@ -1,6 +1,5 @@
 use Rattle.std.proofs.Common.{sym, ap, ◌∙◌}
-use Rattle.tree_edits.proofs.Prelude.{at_from-missed, at_from-turn, chars, child, tree_of}
-use Rattle.tree_edits.specs.Changes.{found}
+use Rattle.tree_edits.{proofs.Prelude.{at_from-missed, at_from-turn, chars, child, tree_of}, specs.Changes.found}
 use Rattle.tree_edits.proofs.insertion.value_at.Goals as goal
 
 pub returns-in-Err : goal.returns-in-Err

@@ -1,6 +1,5 @@
 use Rattle.std.proofs.Common.{subst, sym}
-use Rattle.tree_edits.proofs.Prelude.{IsKept, tree_of}
-use Rattle.tree_edits.proofs.Points.{kept-part}
+use Rattle.tree_edits.proofs.{Prelude.{IsKept, tree_of}, Points.kept-part}
 use Rattle.tree_edits.proofs.moving.copy_at.Goals as goal
 
 pub try_copy-requires : goal.try_copy-requires

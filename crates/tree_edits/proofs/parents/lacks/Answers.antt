@@ -1,7 +1,5 @@
 use Rattle.std.proofs.Common.{sym, ap, ◌∙◌}
-use Rattle.tree_edits.proofs.Prelude.{chars, key_in, tree_of, tree_of-Map}
-use Rattle.tree_edits.proofs.Behind.{lacks-Map}
-use Rattle.tree_edits.specs.Parents.{lacks}
+use Rattle.tree_edits.{proofs.{Prelude.{chars, key_in, tree_of, tree_of-Map}, Behind.lacks-Map}, specs.Parents.lacks}
 use Rattle.tree_edits.proofs.parents.lacks.Goals as goal
 
 pub returns-in-Map : goal.returns-in-Map

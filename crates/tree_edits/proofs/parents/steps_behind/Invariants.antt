@@ -1,5 +1,5 @@
 use Rattle.std.proofs.Common.{◌≡◌, drop}
-use Rattle.tree_edits.specs.{Prelude.tree_of, Prelude.texts, Parents.steps_behind}
+use Rattle.tree_edits.specs.{Prelude.{tree_of, texts}, Parents.steps_behind}
 use Rattle.tree_edits.proofs.parents.steps_behind.Given as goal
 
 abbrev pub invariant-loop-passed : goal.invariant-loop-passed

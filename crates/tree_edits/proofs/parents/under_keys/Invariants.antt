@@ -1,5 +1,5 @@
 use Rattle.std.proofs.Common.{◌≡◌, ◌≤◌, drop, length}
-use Rattle.tree_edits.specs.{Prelude.tree_of, Prelude.texts, Parents.under_keys}
+use Rattle.tree_edits.specs.{Prelude.{tree_of, texts}, Parents.under_keys}
 use Rattle.tree_edits.proofs.parents.under_keys.Given as goal
 
 abbrev pub invariant-loop-left : goal.invariant-loop-left

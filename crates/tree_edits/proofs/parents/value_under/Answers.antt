@@ -1,7 +1,6 @@
-use Rattle.std.proofs.Common.{◌≡◌, length, ap, ◌∙◌, arith}
-use Rattle.tree_edits.proofs.Prelude.{CowStr, chars, cow_str_bytes, depth, distinct, length-map, texts, tree_of}
-use Rattle.std.specs.declared.alloc.Global.{Global}
-use Rattle.tree_edits.proofs.Behind.{under_keys-depth, under_keys-distinct}
+use Rattle.std.{proofs.Common.{◌≡◌, length, ap, ◌∙◌, arith}, specs.declared.alloc.Global.Global}
+use Rattle.tree_edits.proofs.{Prelude.{CowStr, chars, cow_str_bytes, depth, distinct, length-map, texts, tree_of}, Behind.under_keys-depth}
+use Rattle.tree_edits.proofs.Behind.{under_keys-distinct}
 use Rattle.tree_edits.proofs.parents.value_under.Goals as goal
 
 pub returns-then-saturating_add-clause-refused : goal.returns-then-saturating_add-clause-refused

@@ -1,7 +1,6 @@
 use Rattle.std.proofs.Common.{ap, ap₂, subst, ◌∙◌, length}
-use Rattle.tree_edits.proofs.Prelude.{chars, tree_of}
-use Rattle.tree_edits.specs.{Changes.IsSpelled, Changes.text_of, Parents.keys_behind, Parents.under_keys}
-use Rattle.tree_edits.proofs.Behind.{whole_set}
+use Rattle.tree_edits.{proofs.{Prelude.{chars, tree_of}, Behind.whole_set}, specs.{Changes.{IsSpelled, text_of}, Parents.keys_behind}}
+use Rattle.tree_edits.specs.Parents.{under_keys}
 use Rattle.tree_edits.proofs.parents.with_parents.Goals as goal
 
 pub returns-in-Ok-clause-ok : goal.returns-in-Ok-clause-ok

@@ -1,6 +1,5 @@
 use Rattle.std.proofs.Common.{ap, ◌∙◌, string_bytes, take}
-use Rattle.tree_edits.proofs.Prelude.{chars, IsUtf8-string_bytes}
-use Rattle.tree_edits.proofs.Cuts.{FindsLast, cut_pointer}
+use Rattle.tree_edits.proofs.{Prelude.{chars, IsUtf8-string_bytes}, Cuts.{FindsLast, cut_pointer}}
 use Rattle.tree_edits.proofs.pointer.cut_step.Goals as goal
 
 pub returns : goal.returns

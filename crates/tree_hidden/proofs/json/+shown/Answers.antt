@@ -1,9 +1,7 @@
 use Rattle.std.proofs.Common.{◌++◌, [], codes, subst, refl, sym, ap, ◌∙◌, arith}
-use Rattle.tree_hidden.proofs.Prelude.{chars, chars-IsAscii, chars-literal, drop_all, drop_item, on_ok_weaker, json_member}
-use Rattle.tree_hidden.proofs.Prelude.{tree_of, elements_of, members_of, tree_of-Map}
-use Rattle.tree_hidden.proofs.ShownLemmas.{ascii-text, shown-mapping}
-use Rattle.tree_hidden.specs.Hidden.{below, shown_elements, shown_json, shown_members}
-use Rattle.tree_hidden.specs.Tokens.{paths_of}
+use Rattle.tree_hidden.proofs.Prelude.{chars, chars-IsAscii, chars-literal, drop_all, drop_item, on_ok_weaker, json_member, tree_of}
+use Rattle.tree_hidden.proofs.{Prelude.{elements_of, members_of, tree_of-Map}, ShownLemmas.{ascii-text, shown-mapping}}
+use Rattle.tree_hidden.specs.{Hidden.{below, shown_elements, shown_json, shown_members}, Tokens.paths_of}
 use Rattle.tree_hidden.proofs.json.+shown.Goals as goal
 
 -- ---- sequences

@@ -1,6 +1,6 @@
 use Rattle.std.proofs.Common.{◌≡◌, [], drop}
-use Rattle.tree_hidden.proofs.Prelude.{chars, IsUtf8, elements_of, members_of}
-use Rattle.tree_hidden.specs.{Hidden.shown_elements, Hidden.shown_members, Tokens.paths_of}
+use Rattle.tree_hidden.{proofs.Prelude.{chars, IsUtf8, elements_of, members_of}, specs.Hidden.{shown_elements, shown_members}}
+use Rattle.tree_hidden.specs.Tokens.{paths_of}
 use Rattle.tree_hidden.proofs.json.+shown.Given as goal
 
 -- what takes the elements from here on has taken them all from the start, after the bracket; what leads is of ASCII

@@ -1,7 +1,5 @@
 use Rattle.std.proofs.Common.{◌+◌, ◌++◌, drop, ap, sym, ◌∙◌, arith}
-use Rattle.tree_hidden.proofs.Prelude.{chars, drop_item}
-use Rattle.tree_hidden.proofs.PathLemmas.{below-kept, below-left}
-use Rattle.tree_hidden.specs.{Hidden.below, Tokens.paths_of}
+use Rattle.tree_hidden.{proofs.{Prelude.{chars, drop_item}, PathLemmas.{below-kept, below-left}}, specs.{Hidden.below, Tokens.paths_of}}
 use Rattle.tree_hidden.proofs.paths.below.Goals as goal
 
 pub loop-path-preserved-in_default : goal.loop-path-preserved-in_default

@@ -1,7 +1,6 @@
 -- what is found so far, and what is left to look at, is what is found at the end
 use Rattle.std.proofs.Common.{◌≡◌, ◌++◌, drop}
-use Rattle.tree_hidden.proofs.Prelude.{chars}
-use Rattle.tree_hidden.specs.{Hidden.below, Tokens.paths_of}
+use Rattle.tree_hidden.{proofs.Prelude.chars, specs.{Hidden.below, Tokens.paths_of}}
 use Rattle.tree_hidden.proofs.paths.below.Given as goal
 
 abbrev pub invariant-loop-path : goal.invariant-loop-path

@@ -1,5 +1,5 @@
 use Rattle.std.proofs.Common.{◌≡◌, drop}
-use Rattle.tree_hidden.specs.{Hidden.below_all, Tokens.paths_of, Tokens.tokens_of}
+use Rattle.tree_hidden.specs.{Hidden.below_all, Tokens.{paths_of, tokens_of}}
 use Rattle.tree_hidden.proofs.paths.below_all.Given as goal
 
 abbrev pub invariant-loop-token : goal.invariant-loop-token

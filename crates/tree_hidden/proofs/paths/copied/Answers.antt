@@ -1,7 +1,5 @@
 use Rattle.std.proofs.Common.{◌+◌, ◌++◌, drop, ap, sym, ◌∙◌, arith}
-use Rattle.tree_hidden.proofs.Prelude.{drop_item, texts}
-use Rattle.tree_hidden.proofs.PathLemmas.{copied-one}
-use Rattle.tree_hidden.specs.Tokens.{tokens_of}
+use Rattle.tree_hidden.{proofs.{Prelude.{drop_item, texts}, PathLemmas.copied-one}, specs.Tokens.tokens_of}
 use Rattle.tree_hidden.proofs.paths.copied.Goals as goal
 
 pub loop-token-preserved : goal.loop-token-preserved

@@ -1,6 +1,5 @@
 use Rattle.std.proofs.Common.{◌≡◌, ◌++◌, drop}
-use Rattle.tree_hidden.proofs.Prelude.{texts}
-use Rattle.tree_hidden.specs.Tokens.{tokens_of}
+use Rattle.tree_hidden.{proofs.Prelude.texts, specs.Tokens.tokens_of}
 use Rattle.tree_hidden.proofs.paths.copied.Given as goal
 
 abbrev pub invariant-loop-token : goal.invariant-loop-token

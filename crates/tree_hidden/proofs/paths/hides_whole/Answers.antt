@@ -1,6 +1,5 @@
 use Rattle.std.proofs.Common.{◌||◌, drop, ◌+◌, ap, sym, ◌∙◌, arith}
-use Rattle.tree_hidden.proofs.Prelude.{drop_all, drop_item}
-use Rattle.tree_hidden.specs.{Hidden.hides_whole, Tokens.paths_of}
+use Rattle.tree_hidden.{proofs.Prelude.{drop_all, drop_item}, specs.{Hidden.hides_whole, Tokens.paths_of}}
 use Rattle.tree_hidden.proofs.paths.hides_whole.Goals as goal
 
 pub returns-then-is_whole : goal.returns-then-is_whole

@@ -1,7 +1,6 @@
-use Rattle.std.proofs.Common.{◌+◌, drop, map, ap, ◌∙◌}
-use Rattle.std.proofs.lemmas.List.{drop_more}
-use Rattle.tree_hidden.proofs.PointerLemmas.{after_paths, next-read, owned-push}
-use Rattle.tree_hidden.specs.{Pointers.owned_paths, Pointers.paths_or, Tokens.tokens_of}
+use Rattle.std.proofs.{Common.{◌+◌, drop, map, ap, ◌∙◌}, lemmas.List.drop_more}
+use Rattle.tree_hidden.{proofs.PointerLemmas.{after_paths, next-read, owned-push}, specs.Pointers.{owned_paths, paths_or}}
+use Rattle.tree_hidden.specs.Tokens.{tokens_of}
 use Rattle.tree_hidden.proofs.pointers.paths_of_pointers.Goals as goal
 
 pub loop-place-preserved : goal.loop-place-preserved

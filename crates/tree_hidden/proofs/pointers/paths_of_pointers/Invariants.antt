@@ -1,7 +1,6 @@
 -- what is read so far, and what is left, is what all give
 use Rattle.std.proofs.Common.{◌≡◌, drop, map}
-use Rattle.tree_hidden.proofs.PointerLemmas.{after_paths}
-use Rattle.tree_hidden.specs.Pointers.{owned_paths, paths_or}
+use Rattle.tree_hidden.{proofs.PointerLemmas.after_paths, specs.Pointers.{owned_paths, paths_or}}
 use Rattle.tree_hidden.proofs.pointers.paths_of_pointers.Given as goal
 
 abbrev pub invariant-loop-place : goal.invariant-loop-place

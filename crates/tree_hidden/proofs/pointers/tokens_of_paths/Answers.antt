@@ -1,7 +1,5 @@
 use Rattle.std.proofs.Common.{◌+◌, ◌++◌, drop, [], ◌∷◌, ap, sym, ◌∙◌, append_assoc, arith}
-use Rattle.tree_hidden.proofs.Prelude.{drop_item}
-use Rattle.tree_hidden.proofs.PathLemmas.{paths-push}
-use Rattle.tree_hidden.specs.{Pointers.owned_paths, Tokens.paths_of, Tokens.tokens_of}
+use Rattle.tree_hidden.{proofs.{Prelude.drop_item, PathLemmas.paths-push}, specs.{Pointers.owned_paths, Tokens.{paths_of, tokens_of}}}
 use Rattle.tree_hidden.proofs.pointers.tokens_of_paths.Goals as goal
 
 pub loop-path-preserved : goal.loop-path-preserved

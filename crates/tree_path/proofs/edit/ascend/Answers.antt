@@ -1,8 +1,7 @@
 use Rattle.std.proofs.Common.{◌≡◌, ◌-◌, length, take, sym, ap, ap₂, subst, ◌∙◌, refl, arith}
-use Rattle.tree_path.proofs.Prelude.{cow_str_bytes, IsOk, chars, tree_of, texts, take_all}
-use Rattle.tree_path.specs.{Paths.child, Paths.put, Steps.step_place, Steps.KnowsStep, Steps.Lowered, Steps.Rebuilt}
-use Rattle.tree_path.proofs.Descents.{texts-back, at_from-Lowered, Lowered-pop, Lowered-there, Rebuilt-step}
-use Rattle.tree_path.proofs.Ways.{knows-step, knows-above, place-there}
+use Rattle.tree_path.proofs.{Prelude.{cow_str_bytes, IsOk, chars, tree_of, texts, take_all}, Descents.{texts-back, at_from-Lowered}}
+use Rattle.tree_path.proofs.{Descents.{Lowered-pop, Lowered-there, Rebuilt-step}, Ways.{knows-step, knows-above, place-there}}
+use Rattle.tree_path.specs.{Paths.{child, put}, Steps.{step_place, KnowsStep, Lowered, Rebuilt}}
 use Rattle.tree_path.proofs.edit.ascend.Goals as goal
 
 pub loop-left-init : goal.loop-left-init

@@ -1,6 +1,5 @@
 use Rattle.std.proofs.Common.{◌≤◌, length, take}
-use Rattle.tree_path.proofs.Prelude.{Tree, tree_of, texts}
-use Rattle.tree_path.specs.Steps.{Lowered, Rebuilt}
+use Rattle.tree_path.{proofs.Prelude.{Tree, tree_of, texts}, specs.Steps.{Lowered, Rebuilt}}
 use Rattle.tree_path.proofs.edit.ascend.Given as goal
 
 abbrev pub invariant-loop-left : goal.invariant-loop-left

@@ -1,7 +1,6 @@
 use Rattle.std.proofs.Common.{Ok, rules, ap, ◌∙◌, sym}
 use Rattle.tree_path.proofs.Prelude.{IfOk-weaker, on_ok_weaker, chars, mapping, tree_of, members_of, the_lemmas, tree_of-Text, tree_of-Map}
-use Rattle.tree_path.specs.Paths.{child, cut, key_in}
-use Rattle.tree_path.proofs.{Places.place_of-pairs, Steps.cut-Text}
+use Rattle.tree_path.{proofs.{Places.place_of-pairs, Steps.cut-Text}, specs.Paths.{child, cut, key_in}}
 use Rattle.tree_path.proofs.edit.cut.Goals as goal
 
 pub returns-in-Text-clause-missed : goal.returns-in-Text-clause-missed

@@ -1,6 +1,6 @@
 use Rattle.std.proofs.Common.{Ok, ap, ◌∙◌, sym}
-use Rattle.tree_path.proofs.Prelude.{err_from_is_err_and, chars, sequence, tree_of, elements_of}
-use Rattle.tree_path.proofs.Steps.{child-Seq, cut-Seq, cut-Seq-missed, index-counted}
+use Rattle.tree_path.proofs.{Prelude.{err_from_is_err_and, chars, sequence, tree_of, elements_of}, Steps.{child-Seq, cut-Seq}}
+use Rattle.tree_path.proofs.Steps.{cut-Seq-missed, index-counted}
 use Rattle.tree_path.proofs.edit.cut_element.Goals as goal
 
 pub returns-in_err-index-clause-missed : goal.returns-in_err-index-clause-missed

@@ -1,6 +1,6 @@
 use Rattle.std.proofs.Common.{Ok, Err, refl, ap, ◌∙◌, sym, rules}
-use Rattle.tree_path.proofs.Prelude.{err_from_is_err_and, chars, mapping, tree_of, members_of}
-use Rattle.tree_path.proofs.Steps.{child-Map, cut-Map, cut-Map-missed, place-within, place-found, place-missed}
+use Rattle.tree_path.proofs.{Prelude.{err_from_is_err_and, chars, mapping, tree_of, members_of}, Steps.{child-Map, cut-Map, cut-Map-missed}}
+use Rattle.tree_path.proofs.Steps.{place-within, place-found, place-missed}
 use Rattle.tree_path.proofs.edit.cut_pair.Goals as goal
 
 pub returns-in_err-place-clause-missed : goal.returns-in_err-place-clause-missed

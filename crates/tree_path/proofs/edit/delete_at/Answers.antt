@@ -1,8 +1,7 @@
 use Rattle.std.proofs.Common.{◌≡◌, Err, [], ◌∷◌, ◌+◌, length, Global, sym, ap, subst, ◌∙◌, arith}
-use Rattle.tree_path.proofs.Prelude.{cow_str_bytes, CowStr, chars, length-map, err_from_is_err_and, tree_of, texts}
-use Rattle.tree_path.specs.{Paths.child, Paths.cut, Paths.key_in, Steps.KnowsLast, Steps.Rebuilt}
-use Rattle.tree_path.proofs.{Descents.texts-append, Descents.Rebuilt-same, Descents.at_from-Lowered, Ways.knows-way, Ways.knows-last}
-use Rattle.tree_path.proofs.Edits.{delete-Rebuilt, delete-missed, delete-refused, at-last}
+use Rattle.tree_path.proofs.{Prelude.{cow_str_bytes, CowStr, chars, length-map, err_from_is_err_and, tree_of, texts}, Descents.texts-append}
+use Rattle.tree_path.proofs.{Descents.{Rebuilt-same, at_from-Lowered}, Ways.{knows-way, knows-last}, Edits.{delete-Rebuilt, delete-missed}}
+use Rattle.tree_path.{proofs.Edits.{delete-refused, at-last}, specs.{Paths.{child, cut, key_in}, Steps.{KnowsLast, Rebuilt}}}
 use Rattle.tree_path.proofs.edit.delete_at.Goals as goal
 
 pub returns-in_err-descend-clause-refused : goal.returns-in_err-descend-clause-refused

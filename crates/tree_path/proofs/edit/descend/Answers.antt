@@ -1,8 +1,7 @@
 use Rattle.std.proofs.Common.{Err, [], ◌∷◌, ◌++◌, take, drop, ◌+◌, sym, ap, subst, ◌∙◌}
-use Rattle.tree_path.proofs.Prelude.{cow_str_bytes, chars, tree_of, texts}
+use Rattle.tree_path.proofs.{Prelude.{cow_str_bytes, chars, tree_of, texts}, Descents.{texts-split, texts-turn, at_from-missed}}
+use Rattle.tree_path.proofs.{Descents.{at_from-Lowered, Lowered-push, Rebuilt-same}, Ways.{knows-prefix, knows-step, place-missed}}
 use Rattle.tree_path.specs.Steps.{step_place, KnowsStep, KnowsWay, Lowered}
-use Rattle.tree_path.proofs.Descents.{texts-split, texts-turn, at_from-missed, at_from-Lowered, Lowered-push, Rebuilt-same}
-use Rattle.tree_path.proofs.Ways.{knows-prefix, knows-step, place-missed}
 use Rattle.tree_path.proofs.edit.descend.Goals as goal
 
 pub step_place-requires : goal.step_place-requires

@@ -1,6 +1,5 @@
 use Rattle.std.proofs.Common.{take}
-use Rattle.tree_path.proofs.Prelude.{tree_of, texts}
-use Rattle.tree_path.specs.Steps.{Lowered}
+use Rattle.tree_path.{proofs.Prelude.{tree_of, texts}, specs.Steps.Lowered}
 use Rattle.tree_path.proofs.edit.descend.Given as goal
 
 abbrev pub invariant-loop-passed : goal.invariant-loop-passed

@@ -1,7 +1,6 @@
 use Rattle.std.proofs.Common.{Ok, sym, ap, subst, ◌∙◌, inr, rules}
 use Rattle.tree_path.proofs.Prelude.{chars, mapping, tree_of, members_of, tree_of-Text, tree_of-Map, the_lemmas, IfOk-weaker}
-use Rattle.tree_path.specs.{Paths.put, Paths.key_in, Paths.at_step, Undoing.PutsBack}
-use Rattle.tree_path.proofs.{Places.place_of-pairs, Steps.put-Text}
+use Rattle.tree_path.{proofs.{Places.place_of-pairs, Steps.put-Text}, specs.{Paths.{put, key_in, at_step}, Undoing.PutsBack}}
 use Rattle.tree_path.proofs.edit.put.Goals as goal
 
 pub returns-in-Text-clause-refused : goal.returns-in-Text-clause-refused

@@ -1,9 +1,7 @@
 use Rattle.std.proofs.Common.{Ok, Err, [], ◌∷◌, ◌++◌, length, set, ap, ◌∙◌, sym, inr}
-use Rattle.tree_path.proofs.Prelude.{chars, sequence, tree_of, elements_of}
-use Rattle.tree_path.specs.Paths.{at_step}
-use Rattle.tree_path.specs.declared.place.Miss.TheVariants.{Absent}
-use Rattle.tree_path.proofs.Steps.{put-Seq-last, put-Seq-missed, bytes_eq-dash, put-Seq, index-counted, child-Seq, child-Seq-missed}
-use Rattle.tree_path.proofs.{Steps.index_below-dash, Ways.step_place-Seq, UndoLemmas.puts-back}
+use Rattle.tree_path.proofs.{Prelude.{chars, sequence, tree_of, elements_of}, Steps.{put-Seq-last, put-Seq-missed, bytes_eq-dash, put-Seq}}
+use Rattle.tree_path.proofs.{Steps.{index-counted, child-Seq, child-Seq-missed, index_below-dash}, Ways.step_place-Seq}
+use Rattle.tree_path.{proofs.UndoLemmas.puts-back, specs.{Paths.at_step, declared.place.Miss.TheVariants.Absent}}
 use Rattle.tree_path.proofs.edit.put_element.Goals as goal
 
 pub returns-then-eq-clause-ok : goal.returns-then-eq-clause-ok

@@ -1,8 +1,6 @@
 use Rattle.std.proofs.Common.{Ok, [], ◌∷◌, ◌++◌, set, ap, ap₂, ◌∙◌, sym, rules}
-use Rattle.tree_path.proofs.Prelude.{chars, mapping, members_of, tree_of}
-use Rattle.tree_path.specs.Paths.{present}
-use Rattle.tree_path.proofs.{Steps.put-Map-last, Steps.put-Map, Steps.place-within, Steps.child-Map, Steps.child-Map-missed}
-use Rattle.tree_path.proofs.{StepLaws.none-other, Ways.step_place-Map, UndoLemmas.puts-back}
+use Rattle.tree_path.proofs.{Prelude.{chars, mapping, members_of, tree_of}, Steps.{put-Map-last, put-Map, place-within, child-Map}}
+use Rattle.tree_path.{proofs.{Steps.child-Map-missed, StepLaws.none-other, Ways.step_place-Map, UndoLemmas.puts-back}, specs.Paths.present}
 use Rattle.tree_path.proofs.edit.put_pair.Goals as goal
 
 pub index_mut-requires : goal.index_mut-requires

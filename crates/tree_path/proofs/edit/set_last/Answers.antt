@@ -1,10 +1,8 @@
 use Rattle.std.proofs.Common.{◌≡◌, Ok, [], ◌∷◌, ◌+◌, length, Global, inl, inr, sym, ap, subst, ◌∙◌, arith}
 use Rattle.tree_path.proofs.Prelude.{cow_str_bytes, CowStr, chars, length-map, on_ok_weaker, on_err_weaker, IfErr-weaker, IfOk-weaker}
-use Rattle.tree_path.proofs.Prelude.{tree_of, texts}
-use Rattle.tree_path.specs.{Paths.put, Paths.at, Paths.at_step, Paths.key_in, Steps.KnowsLast, Steps.Rebuilt}
-use Rattle.tree_path.proofs.{Descents.texts-append, Descents.Rebuilt-same, Descents.at_from-Lowered, Ways.knows-way, Ways.knows-last}
-use Rattle.tree_path.proofs.Ways.{parents-split}
-use Rattle.tree_path.proofs.Edits.{IfOk-default, set-Rebuilt, set-missed, set-refused}
+use Rattle.tree_path.proofs.{Prelude.{tree_of, texts}, Descents.{texts-append, Rebuilt-same, at_from-Lowered}, Ways.{knows-way, knows-last}}
+use Rattle.tree_path.{proofs.{Ways.parents-split, Edits.{IfOk-default, set-Rebuilt, set-missed, set-refused}}, specs.Paths.{put, at}}
+use Rattle.tree_path.specs.{Paths.{at_step, key_in}, Steps.{KnowsLast, Rebuilt}}
 use Rattle.tree_path.proofs.edit.set_last.Goals as goal
 
 pub returns-in-Err-clause-refused : goal.returns-in-Err-clause-refused

@@ -1,7 +1,5 @@
 use Rattle.std.proofs.Common.{Err, sym, ap, ◌∙◌}
-use Rattle.tree_path.proofs.Prelude.{chars, tree_of}
-use Rattle.tree_path.specs.Paths.{child}
-use Rattle.tree_path.proofs.Descents.{at_from-turn, at_from-missed}
+use Rattle.tree_path.{proofs.{Prelude.{chars, tree_of}, Descents.{at_from-turn, at_from-missed}}, specs.Paths.child}
 use Rattle.tree_path.proofs.edit.value_at.Goals as goal
 
 pub returns-in-Err-clause-refused : goal.returns-in-Err-clause-refused

@@ -1,6 +1,5 @@
 use Rattle.std.proofs.Common.{◌≡◌, Ok, take}
-use Rattle.tree_path.proofs.Prelude.{tree_of, texts}
-use Rattle.tree_path.specs.Paths.{at}
+use Rattle.tree_path.{proofs.Prelude.{tree_of, texts}, specs.Paths.at}
 use Rattle.tree_path.proofs.edit.value_at.Given as goal
 
 abbrev pub invariant-loop-passed : goal.invariant-loop-passed

@@ -1,7 +1,6 @@
 use Rattle.std.proofs.Common.{Err, take, sym, ap, ◌∙◌}
-use Rattle.tree_path.proofs.Prelude.{cow_str_bytes, chars, tree_of, texts}
-use Rattle.tree_path.specs.Paths.{child}
-use Rattle.tree_path.proofs.{Descents.at_from-turn, Descents.at_from-missed, EditLaws.child-distinct, IndexLemmas.table-known}
+use Rattle.tree_path.proofs.{Prelude.{cow_str_bytes, chars, tree_of, texts}, Descents.{at_from-turn, at_from-missed}}
+use Rattle.tree_path.{proofs.{EditLaws.child-distinct, IndexLemmas.table-known}, specs.Paths.child}
 use Rattle.tree_path.proofs.edit.value_by.Goals as goal
 
 pub returns-in-Err-clause-refused : goal.returns-in-Err-clause-refused

@@ -1,6 +1,5 @@
 use Rattle.std.proofs.Common.{◌≡◌, true, Ok, take}
-use Rattle.tree_path.proofs.Prelude.{distinct, tree_of, texts}
-use Rattle.tree_path.specs.Paths.{at}
+use Rattle.tree_path.{proofs.Prelude.{distinct, tree_of, texts}, specs.Paths.at}
 use Rattle.tree_path.proofs.edit.value_by.Given as goal
 
 abbrev pub invariant-loop-passed : goal.invariant-loop-passed

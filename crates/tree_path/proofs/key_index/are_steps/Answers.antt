@@ -1,6 +1,5 @@
 use Rattle.std.proofs.Common.{[], ◌∷◌, ◌++◌, ◌<◌, length, sym, ap₂, ◌∙◌, arith}
-use Rattle.tree_path.proofs.Prelude.{cow_str_bytes, chars, text_bytes}
-use Rattle.tree_path.proofs.{Descents.texts-turn, IndexLemmas.same_key, IndexLemmas.steps-take}
+use Rattle.tree_path.proofs.{Prelude.{cow_str_bytes, chars, text_bytes}, Descents.texts-turn, IndexLemmas.{same_key, steps-take}}
 use Rattle.tree_path.proofs.key_index.are_steps.Goals as goal
 
 pub loop-place-preserved : goal.loop-place-preserved

@@ -1,6 +1,5 @@
 use Rattle.std.proofs.Common.{◌≡◌, take}
-use Rattle.tree_path.proofs.Prelude.{texts}
-use Rattle.tree_path.specs.Tables.{steps_of}
+use Rattle.tree_path.{proofs.Prelude.texts, specs.Tables.steps_of}
 use Rattle.tree_path.proofs.key_index.are_steps.Given as goal
 
 abbrev pub invariant-loop-place : goal.invariant-loop-place

@@ -1,6 +1,5 @@
 use Rattle.std.proofs.Common.{ap, subst, ◌∙◌}
-use Rattle.tree_path.proofs.Prelude.{cow_str_bytes, IsUtf8, bytes_eq, text_bytes, IsUtf8-text_bytes}
-use Rattle.tree_path.proofs.Places.{bytes_eq-chars}
+use Rattle.tree_path.proofs.{Prelude.{cow_str_bytes, IsUtf8, bytes_eq, text_bytes, IsUtf8-text_bytes}, Places.bytes_eq-chars}
 use Rattle.tree_path.proofs.key_index.is_same.Goals as goal
 
 pub returns : goal.returns

@@ -1,6 +1,5 @@
 use Rattle.std.proofs.Common.{[], ◌∷◌, sym, ap, ◌∙◌}
-use Rattle.tree_path.proofs.Prelude.{cow_str_bytes, chars, texts}
-use Rattle.tree_path.proofs.{Descents.texts-append, IndexLemmas.last-same}
+use Rattle.tree_path.proofs.{Prelude.{cow_str_bytes, chars, texts}, Descents.texts-append, IndexLemmas.last-same}
 use Rattle.tree_path.proofs.key_index.last_of.Goals as goal
 
 pub returns : goal.returns

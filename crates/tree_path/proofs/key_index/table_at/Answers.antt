@@ -1,5 +1,4 @@
-use Rattle.tree_path.proofs.Prelude.{texts}
-use Rattle.tree_path.proofs.IndexLemmas.{table-told}
+use Rattle.tree_path.proofs.{Prelude.texts, IndexLemmas.table-told}
 use Rattle.tree_path.proofs.key_index.table_at.Goals as goal
 
 pub returns-in-Some : goal.returns-in-Some

@@ -1,7 +1,5 @@
 use Rattle.std.proofs.Common.{[], ◌∷◌, ◌++◌, sym, ap, ap₂, ◌∙◌}
-use Rattle.tree_path.proofs.Prelude.{chars}
-use Rattle.tree_path.specs.Tables.{steps_of}
-use Rattle.tree_path.proofs.{Descents.texts-turn, IndexLemmas.steps-append}
+use Rattle.tree_path.{proofs.{Prelude.chars, Descents.texts-turn, IndexLemmas.steps-append}, specs.Tables.steps_of}
 use Rattle.tree_path.proofs.key_index.texts_of.Goals as goal
 
 pub loop-place-preserved : goal.loop-place-preserved

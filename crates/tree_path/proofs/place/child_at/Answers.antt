@@ -1,10 +1,8 @@
 use Rattle.std.proofs.Common.{◌≡◌, ℕ, List, Option, Vec, Global, refl, Ok, Err, ap, ◌∙◌, sym, rules}
 use Rattle.tree_path.proofs.Prelude.{err_from_is_err_and, chars, Pair, tree_of, tree_of-Text, tree_of-Seq, tree_of-Map}
-use Rattle.yaml_data.specs.declared.tree.Tree.{Tree}
-use Rattle.yaml_data.specs.declared.tree.Tree.TheVariants.{Map}
-use Rattle.tree_path.specs.{Paths.child, Paths.key_in, Steps.key_place}
-use Rattle.tree_path.proofs.{Places.place_of-pairs, Steps.child-Text, Steps.child-Seq, Steps.child-Seq-missed, Steps.child-Map}
-use Rattle.tree_path.proofs.{Steps.child-Map-missed, Steps.index-counted, Steps.place-within, Steps.place-found, Steps.place-missed}
+use Rattle.tree_path.proofs.{Places.place_of-pairs, Steps.{child-Text, child-Seq, child-Seq-missed, child-Map, child-Map-missed}}
+use Rattle.tree_path.{proofs.Steps.{index-counted, place-within, place-found, place-missed}, specs.{Paths.{child, key_in}, Steps.key_place}}
+use Rattle.yaml_data.specs.declared.tree.Tree.{Tree, TheVariants.Map}
 use Rattle.tree_path.proofs.place.child_at.Goals as goal
 
 -- the known place, among the pairs of a mapping

@@ -1,7 +1,6 @@
 use Rattle.std.proofs.Common.{Ok, sym, ap, ◌∙◌, rules}
-use Rattle.tree_path.proofs.Prelude.{tree_of, tree_of-Text, tree_of-Seq, tree_of-Map}
-use Rattle.tree_path.specs.{Paths.child, Steps.step_place}
-use Rattle.tree_path.proofs.{Steps.child-Seq, Steps.child-Map, Steps.place-within, Ways.no-place, Ways.index-placed, Ways.key-placed}
+use Rattle.tree_path.proofs.{Prelude.{tree_of, tree_of-Text, tree_of-Seq, tree_of-Map}, Steps.{child-Seq, child-Map, place-within}}
+use Rattle.tree_path.{proofs.Ways.{no-place, index-placed, key-placed}, specs.{Paths.child, Steps.step_place}}
 use Rattle.tree_path.proofs.place.child_in.Goals as goal
 
 pub unreachable-requires : goal.unreachable-requires

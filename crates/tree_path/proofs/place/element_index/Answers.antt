@@ -1,7 +1,6 @@
 use Rattle.std.proofs.Common.{sym, ◌∙◌}
-use Rattle.tree_path.proofs.Prelude.{chars}
+use Rattle.tree_path.proofs.{Prelude.chars, Steps.{bytes_eq-dash, index_below-dash, index_below-other}, StepLaws.option_map-None}
 use Rattle.tree_path.specs.Steps.{number_of, as_usize}
-use Rattle.tree_path.proofs.{Steps.bytes_eq-dash, Steps.index_below-dash, Steps.index_below-other, StepLaws.option_map-None}
 use Rattle.tree_path.proofs.place.element_index.Goals as goal
 
 pub returns-then-eq : goal.returns-then-eq

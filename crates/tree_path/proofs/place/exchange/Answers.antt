@@ -1,8 +1,6 @@
 use Rattle.std.proofs.Common.{rules, ◌≡◌, Ok, sym, ap, ◌∙◌}
 use Rattle.tree_path.proofs.Prelude.{sequence, mapping, tree_of, elements_of, members_of, the_lemmas, tree_of-Text, tree_of-Seq}
-use Rattle.tree_path.proofs.Prelude.{tree_of-Map}
-use Rattle.tree_path.specs.{Paths.child, Paths.put, Steps.step_place}
-use Rattle.tree_path.proofs.Ways.{no-place}
+use Rattle.tree_path.{proofs.{Prelude.tree_of-Map, Ways.no-place}, specs.{Paths.{child, put}, Steps.step_place}}
 use Rattle.tree_path.proofs.place.exchange.Goals as goal
 
 pub unreachable-requires : goal.unreachable-requires

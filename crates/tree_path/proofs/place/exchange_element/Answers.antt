@@ -1,6 +1,5 @@
 use Rattle.std.proofs.Common.{Ok, set, ap, ◌∙◌, sym, rules}
-use Rattle.tree_path.proofs.Prelude.{sequence, tree_of, elements_of}
-use Rattle.tree_path.proofs.{Steps.child-Seq, Steps.put-Seq, Ways.index-placed}
+use Rattle.tree_path.proofs.{Prelude.{sequence, tree_of, elements_of}, Steps.{child-Seq, put-Seq}, Ways.index-placed}
 use Rattle.tree_path.proofs.place.exchange_element.Goals as goal
 
 pub index_mut-requires : goal.index_mut-requires

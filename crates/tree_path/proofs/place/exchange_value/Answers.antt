@@ -1,6 +1,5 @@
 use Rattle.std.proofs.Common.{Ok, set, ap, ap₂, ◌∙◌, sym, rules}
-use Rattle.tree_path.proofs.Prelude.{mapping, tree_of, members_of}
-use Rattle.tree_path.proofs.{Steps.child-Map, Steps.put-Map, Steps.place-within, Ways.key-placed}
+use Rattle.tree_path.proofs.{Prelude.{mapping, tree_of, members_of}, Steps.{child-Map, put-Map, place-within}, Ways.key-placed}
 use Rattle.tree_path.proofs.place.exchange_value.Goals as goal
 
 pub index_mut-requires : goal.index_mut-requires

@@ -1,7 +1,5 @@
 use Rattle.std.proofs.Common.{ap, sym, ◌∙◌}
-use Rattle.tree_path.proofs.Prelude.{chars, tree_of, tree_of-Map}
-use Rattle.tree_path.specs.{Paths.key_in, Steps.key_place}
-use Rattle.tree_path.proofs.Places.{place_of-pairs}
+use Rattle.tree_path.{proofs.{Prelude.{chars, tree_of, tree_of-Map}, Places.place_of-pairs}, specs.{Paths.key_in, Steps.key_place}}
 use Rattle.tree_path.proofs.place.key_in.Goals as goal
 
 pub returns-in-Map : goal.returns-in-Map

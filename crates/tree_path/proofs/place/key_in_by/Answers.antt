@@ -1,7 +1,6 @@
 use Rattle.std.proofs.Common.{◌≡◌, true, IfSome, sym, ap, subst, ◌∙◌}
-use Rattle.tree_path.proofs.Prelude.{chars, distinct, members_distinct, tree_of, members_of, tree_of-Map}
-use Rattle.tree_path.specs.{Paths.key_in, Steps.key_place, Tables.Lists, Tables.ListsIn, Tables.keys_of}
-use Rattle.tree_path.proofs.Places.{place_of-pairs}
+use Rattle.tree_path.proofs.{Prelude.{chars, distinct, members_distinct, tree_of, members_of, tree_of-Map}, Places.place_of-pairs}
+use Rattle.tree_path.specs.{Paths.key_in, Steps.key_place, Tables.{Lists, ListsIn, keys_of}}
 use Rattle.tree_path.proofs.place.key_in_by.Goals as goal
 
 pub returns-in-Map : goal.returns-in-Map

@@ -1,7 +1,6 @@
 use Rattle.std.proofs.Common.{◌≡◌, suc, ◌+◌, Some, cond, option_map, drop, sym, ap, ◌∙◌, arith}
-use Rattle.tree_path.proofs.Prelude.{chars, bytes_eq, same_text, text_bytes, IsUtf8-text_bytes}
-use Rattle.tree_path.specs.Steps.{key_place}
-use Rattle.tree_path.proofs.Places.{bytes_eq-chars, key_place-start, key_place-turn, key_place-next, key_place-end}
+use Rattle.tree_path.proofs.{Prelude.{chars, bytes_eq, same_text, text_bytes, IsUtf8-text_bytes}, Places.{bytes_eq-chars, key_place-start}}
+use Rattle.tree_path.{proofs.Places.{key_place-turn, key_place-next, key_place-end}, specs.Steps.key_place}
 use Rattle.tree_path.proofs.place.key_place.Goals as goal
 
 pub loop-place-init : goal.loop-place-init

@@ -1,6 +1,5 @@
 use Rattle.std.proofs.Common.{◌≡◌, ◌+◌, drop, option_map}
-use Rattle.tree_path.proofs.Prelude.{chars}
-use Rattle.tree_path.specs.Steps.{key_place}
+use Rattle.tree_path.{proofs.Prelude.chars, specs.Steps.key_place}
 use Rattle.tree_path.proofs.place.key_place.Given as goal
 
 abbrev pub invariant-loop-place : goal.invariant-loop-place

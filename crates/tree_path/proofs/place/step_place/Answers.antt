@@ -1,7 +1,6 @@
 use Rattle.std.proofs.Common.{sym, ap, ◌∙◌}
-use Rattle.tree_path.proofs.Prelude.{chars, tree_of, tree_of-Text, tree_of-Seq, tree_of-Map}
-use Rattle.tree_path.specs.{Paths.present, Steps.key_place, Steps.step_place}
-use Rattle.tree_path.proofs.{Steps.index-counted, Ways.ok_or-present, Ways.step_place-Text, Ways.step_place-Seq, Ways.step_place-Map}
+use Rattle.tree_path.proofs.{Prelude.{chars, tree_of, tree_of-Text, tree_of-Seq, tree_of-Map}, Steps.index-counted, Ways.ok_or-present}
+use Rattle.tree_path.{proofs.Ways.{step_place-Text, step_place-Seq, step_place-Map}, specs.{Paths.present, Steps.{key_place, step_place}}}
 use Rattle.tree_path.proofs.place.step_place.Goals as goal
 
 pub returns-in-Text : goal.returns-in-Text

@@ -1,7 +1,5 @@
 use Rattle.std.proofs.Common.{[], ◌∷◌, ◌++◌, take, get_or, sym, subst, arith}
-use Rattle.tree_path.proofs.Prelude.{tree_of, take_more, take_all}
-use Rattle.tree_path.specs.Steps.{Lowered}
-use Rattle.tree_path.proofs.{Descents.Lowered-push, UndoLemmas.lead-step}
+use Rattle.tree_path.{proofs.{Prelude.{tree_of, take_more, take_all}, Descents.Lowered-push, UndoLemmas.lead-step}, specs.Steps.Lowered}
 use Rattle.tree_path.proofs.undo.lower.Goals as goal
 
 pub exchange-requires : goal.exchange-requires

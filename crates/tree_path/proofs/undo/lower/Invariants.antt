@@ -1,6 +1,5 @@
 use Rattle.std.proofs.Common.{◌≡◌, ℕ, List, length, take}
-use Rattle.tree_path.proofs.Prelude.{tree_of}
-use Rattle.tree_path.specs.Steps.{Leads, Lowered}
+use Rattle.tree_path.{proofs.Prelude.tree_of, specs.Steps.{Leads, Lowered}}
 use Rattle.tree_path.proofs.undo.lower.Given as goal
 
 abbrev pub invariant-loop-passed : goal.invariant-loop-passed

@@ -1,6 +1,5 @@
 use Rattle.std.proofs.Common.{subst}
-use Rattle.tree_path.proofs.Prelude.{tree_of}
-use Rattle.tree_path.specs.Undoing.{PutsBack}
+use Rattle.tree_path.{proofs.Prelude.tree_of, specs.Undoing.PutsBack}
 use Rattle.tree_path.proofs.undo.put_back.Goals as goal
 
 pub returns-in-Nothing : goal.returns-in-Nothing

@@ -1,7 +1,6 @@
 use Rattle.std.proofs.Common.{◌≡◌, ◌-◌, [], length, take, get_or, refl, sym, ap, subst, ◌∙◌, arith}
-use Rattle.tree_path.proofs.Prelude.{tree_of, take_all}
-use Rattle.tree_path.specs.{Paths.child, Paths.put, Steps.step_place, Steps.Lowered, Steps.Rebuilt}
-use Rattle.tree_path.proofs.{Descents.Rebuilt-step, UndoLemmas.above-place, UndoLemmas.split-back}
+use Rattle.tree_path.{proofs.{Prelude.{tree_of, take_all}, Descents.Rebuilt-step, UndoLemmas.{above-place, split-back}}, specs.Paths.child}
+use Rattle.tree_path.specs.{Paths.put, Steps.{step_place, Lowered, Rebuilt}}
 use Rattle.tree_path.proofs.undo.raise.Goals as goal
 
 pub loop-left-init : goal.loop-left-init

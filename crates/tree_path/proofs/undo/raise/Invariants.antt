@@ -1,6 +1,5 @@
 use Rattle.std.proofs.Common.{◌≡◌, ◌≤◌, ℕ, List, length, take}
-use Rattle.tree_path.proofs.Prelude.{Tree, tree_of}
-use Rattle.tree_path.specs.Steps.{Leads, Lowered, Rebuilt}
+use Rattle.tree_path.{proofs.Prelude.{Tree, tree_of}, specs.Steps.{Leads, Lowered, Rebuilt}}
 use Rattle.tree_path.proofs.undo.raise.Given as goal
 
 abbrev pub invariant-loop-left : goal.invariant-loop-left

@@ -1,7 +1,6 @@
 use Rattle.std.proofs.Common.{◌≡◌, ◌-◌, length, take, Global, sym, ap, subst, ◌∙◌, arith}
-use Rattle.tree_path.proofs.Prelude.{cow_str_bytes, CowStr, chars, length-map, length-take-le, tree_of}
-use Rattle.tree_path.specs.{Steps.Leads, Steps.parents_of, Undoing.IsBack}
-use Rattle.tree_path.proofs.UndoLemmas.{leads-made, leads-long, leads-take}
+use Rattle.tree_path.proofs.{Prelude.{cow_str_bytes, CowStr, chars, length-map, length-take-le, tree_of}, UndoLemmas.leads-made}
+use Rattle.tree_path.{proofs.UndoLemmas.{leads-long, leads-take}, specs.{Steps.{Leads, parents_of}, Undoing.IsBack}}
 use Rattle.tree_path.proofs.undo.set_undoable.Goals as goal
 
 pub returns-clause-undo : goal.returns-clause-undo

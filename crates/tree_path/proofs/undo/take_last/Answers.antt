@@ -1,7 +1,6 @@
 use Rattle.std.proofs.Common.{Ok, ap, ◌∙◌, sym, rules}
-use Rattle.tree_path.proofs.Prelude.{sequence, mapping, tree_of, elements_of, members_of, the_lemmas}
-use Rattle.tree_path.proofs.Prelude.{tree_of-Text, tree_of-Seq, tree_of-Map}
-use Rattle.tree_path.proofs.UndoLemmas.{no-text-put, take-last-Seq, take-last-Map}
+use Rattle.tree_path.proofs.Prelude.{sequence, mapping, tree_of, elements_of, members_of, the_lemmas, tree_of-Text, tree_of-Seq}
+use Rattle.tree_path.proofs.{Prelude.tree_of-Map, UndoLemmas.{no-text-put, take-last-Seq, take-last-Map}}
 use Rattle.tree_path.proofs.undo.take_last.Goals as goal
 
 pub returns-in-Text : goal.returns-in-Text

@@ -1,8 +1,6 @@
 use Rattle.std.proofs.Common.{length, sym, ap, subst, ◌∙◌}
-use Rattle.tree_path.proofs.Prelude.{tree_of}
-use Rattle.tree_path.specs.{Steps.Leads, Steps.Rebuilt, Undoing.PutsBack}
-use Rattle.tree_path.proofs.{Descents.Ok-same, Descents.at_from-Lowered, UndoLemmas.at-made, UndoLemmas.undo-same}
-use Rattle.tree_path.specs.Paths.{at}
+use Rattle.tree_path.{proofs.{Prelude.tree_of, Descents.{Ok-same, at_from-Lowered}, UndoLemmas.{at-made, undo-same}}, specs.Steps.Leads}
+use Rattle.tree_path.specs.{Steps.Rebuilt, Undoing.PutsBack, Paths.at}
 use Rattle.tree_path.proofs.undo.undo_set.Goals as goal
 
 pub lower-requires : goal.lower-requires

@@ -1,6 +1,5 @@
 use Rattle.std.proofs.Common.{arith, sym, ◌+◌, ◌∙◌}
-use Rattle.yaml_block.proofs.Prelude.{IsSign, sign_there, some_so}
-use Rattle.yaml_block.proofs.LineValueSteps.{lead_to, past_space, spaced_colon}
+use Rattle.yaml_block.proofs.{Prelude.{IsSign, sign_there, some_so}, LineValueSteps.{lead_to, past_space, spaced_colon}}
 use Rattle.yaml_block.proofs.line_value.line_value.Goals as goal
 
 pub stands_at-requires-2-clause-at : goal.stands_at-requires-2-clause-at

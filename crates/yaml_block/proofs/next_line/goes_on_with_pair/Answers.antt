@@ -1,7 +1,6 @@
-use Rattle.std.proofs.Common.{sym, ◌∙◌, arith, ◌<◌, length, ap}
-use Rattle.std.specs.Prelude.{not, false}
-use Rattle.yaml_block.proofs.Prelude.{rest, block_node_stops}
-use Rattle.yaml_block.proofs.PairTests.{not_as_deep, no_pair_at_line_end, no_pair_at_end, pair_by_marker, filled_there}
+use Rattle.std.{proofs.Common.{sym, ◌∙◌, arith, ◌<◌, length, ap}, specs.Prelude.{not, false}}
+use Rattle.yaml_block.proofs.{Prelude.{rest, block_node_stops}, PairTests.{not_as_deep, no_pair_at_line_end, no_pair_at_end}}
+use Rattle.yaml_block.proofs.PairTests.{pair_by_marker, filled_there}
 use Rattle.yaml_block.proofs.next_line.goes_on_with_pair.Goals as goal
 
 pub returns-then-line-indent : goal.returns-then-line-indent

@@ -1,5 +1,4 @@
-use Rattle.std.proofs.Common.{◌<◌, Some, ap, arith, length, sym, ◌∙◌}
-use Rattle.std.specs.Prelude.{max}
+use Rattle.std.{proofs.Common.{◌<◌, Some, ap, arith, length, sym, ◌∙◌}, specs.Prelude.max}
 use Rattle.yaml_block_scalars.proofs.Indents.{indent_at_end, indent_marked, indent_narrow, indent_no_text, indent_set, indent_too_wide}
 use Rattle.yaml_block_scalars.proofs.Indents.{nb_there}
 use Rattle.yaml_block_scalars.proofs.indent.detected.Goals as goal

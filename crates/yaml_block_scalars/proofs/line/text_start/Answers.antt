@@ -1,6 +1,5 @@
 use Rattle.std.proofs.Common.{arith, sym, ◌∙◌}
-use Rattle.yaml_block_scalars.proofs.Indents.{nb_there}
-use Rattle.yaml_block_scalars.proofs.TextLines.{line_marked, line_narrow, line_no_text, start_there, start_wide}
+use Rattle.yaml_block_scalars.proofs.{Indents.nb_there, TextLines.{line_marked, line_narrow, line_no_text, start_there, start_wide}}
 use Rattle.yaml_block_scalars.proofs.line.text_start.Goals.{then-width-indent-2+in-Some+else-is_marker, else-width-indent-2}
 use Rattle.yaml_block_scalars.proofs.line.text_start.Goals as goal
 

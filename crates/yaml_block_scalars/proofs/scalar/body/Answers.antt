@@ -1,13 +1,9 @@
-use Rattle.std.proofs.Common.{◌≡◌, ◌∙◌, None, ap, subst, w64}
+use Rattle.std.proofs.{Common.{◌≡◌, ◌∙◌, None, ap, subst, w64}, lemmas.{Int.to_z-of_z, Result.{IfOk-weaker, err_from_is_err_and}}}
 use Rattle.std.specs.Prelude.{IfErr, IfOk}
 use Rattle.yaml_block_scalars.proofs.Prelude.{cow_str_bytes, IsBorrowedStr, rest, Refuses, NoBody, find_indent, empties_at, lines_at}
-use Rattle.yaml_block_scalars.proofs.Prelude.{IsLineStart, fault_passed, faults_so}
-use Rattle.std.proofs.lemmas.Int.{to_z-of_z}
-use Rattle.std.proofs.lemmas.Result.{IfOk-weaker, err_from_is_err_and}
-use Rattle.yaml_block_scalars.specs.Found.{AreLines, ArePiece, IsBodyAt, IsPieceAt}
+use Rattle.yaml_block_scalars.proofs.{Prelude.{IsLineStart, fault_passed, faults_so}, Bodies.{body_there, no_body_indent, no_body_lines}}
+use Rattle.yaml_block_scalars.{proofs.{Bodies.piece_there, LineStarts.body_ends}, specs.Found.{AreLines, ArePiece, IsBodyAt, IsPieceAt}}
 use Rattle.yaml_block_scalars.specs.Meant.{chomping_of, is_folded, least_indent}
-use Rattle.yaml_block_scalars.proofs.Bodies.{body_there, no_body_indent, no_body_lines, piece_there}
-use Rattle.yaml_block_scalars.proofs.LineStarts.{body_ends}
 use Rattle.yaml_block_scalars.proofs.scalar.body.Goals as goal
 
 least : (c : goal.After-lines) → c.least_indent.result ≡ least_indent c.args.n

@@ -1,8 +1,7 @@
 use Rattle.std.proofs.Common.{◌≡◌, None, refl}
 use Rattle.yaml_block_scalars.proofs.Prelude.{cow_str_bytes, IsBorrowedStr, line_feeds, rest, empties_at, lines_at, faults_so, ok_so}
-use Rattle.yaml_block_scalars.specs.{Found.AreLines, Found.ArePiece, Lines.ArePushed, Meant.chomping_of}
-use Rattle.yaml_block_scalars.proofs.Bodies.{lines_missing, lines_none, lines_piece, lines_pushed, piece_more}
-use Rattle.yaml_block_scalars.proofs.EmptyLines.{empties_past}
+use Rattle.yaml_block_scalars.proofs.{Bodies.{lines_missing, lines_none, lines_piece, lines_pushed, piece_more}, EmptyLines.empties_past}
+use Rattle.yaml_block_scalars.specs.{Found.{AreLines, ArePiece}, Lines.ArePushed, Meant.chomping_of}
 use Rattle.yaml_block_scalars.proofs.scalar.lines.Goals as goal
 
 pub text_line-requires-clause-past : goal.text_line-requires-clause-past

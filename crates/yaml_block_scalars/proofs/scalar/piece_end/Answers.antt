@@ -1,6 +1,4 @@
-use Rattle.yaml_block_scalars.proofs.Prelude.{rest}
-use Rattle.yaml_block_scalars.specs.{Lines.IsTextStart, Meant.chomping_of}
-use Rattle.yaml_block_scalars.proofs.Bodies.{piece_ended, piece_unfed}
+use Rattle.yaml_block_scalars.{proofs.{Prelude.rest, Bodies.{piece_ended, piece_unfed}}, specs.{Lines.IsTextStart, Meant.chomping_of}}
 use Rattle.yaml_block_scalars.proofs.scalar.piece_end.Goals as goal
 
 pub returns-in_default-clause-none : goal.returns-in_default-clause-none

@@ -1,7 +1,6 @@
 use Rattle.std.proofs.Common.{◌++◌, ap, ◌∙◌}
-use Rattle.yaml_block_scalars.proofs.Prelude.{string_bytes, IsUtf8-string_bytes}
+use Rattle.yaml_block_scalars.proofs.{Prelude.{string_bytes, IsUtf8-string_bytes}, Values.{pushed_all, pushed_more}}
 use Rattle.yaml_block_scalars.specs.Meant.{chomping_of}
-use Rattle.yaml_block_scalars.proofs.Values.{pushed_all, pushed_more}
 use Rattle.yaml_block_scalars.proofs.scalar.push_lines.Goals as goal
 
 pub returns-in_default-clause-found : goal.returns-in_default-clause-found

@@ -1,7 +1,5 @@
 use Rattle.std.proofs.Common.{◌-◌, length}
-use Rattle.yaml_block_scalars.proofs.Prelude.{string_bytes}
-use Rattle.yaml_block_scalars.specs.Meant.{chomping_of}
-use Rattle.yaml_block_scalars.proofs.Values.{ArePushedSoFar}
+use Rattle.yaml_block_scalars.{proofs.{Prelude.string_bytes, Values.ArePushedSoFar}, specs.Meant.chomping_of}
 use Rattle.yaml_block_scalars.proofs.scalar.push_lines.Given as goal
 
 abbrev pub invariant-lines : goal.invariant-lines

@@ -1,11 +1,8 @@
 -- One more event, and the end of the text.
-use Rattle.std.proofs.Common.{◌∷◌, ◌∙◌, ap, arith}
-use Rattle.std.specs.Str.{chars}
-use Rattle.yaml_events.specs.Meant.{event_ref_of, events_of, style_of}
-use Rattle.yaml_events.specs.declared.event.EventRef.{EventRef}
-use Rattle.yaml_comments.specs.Found.{places_of}
-use Rattle.yaml_comments.proofs.Searching.{other_searched, scalar_ordered, scalar_within}
-use Rattle.yaml_comments.proofs.Searching.{scalar_searched, all_searched, text_within}
+use Rattle.std.{proofs.Common.{◌∷◌, ◌∙◌, ap, arith}, specs.Str.chars}
+use Rattle.yaml_events.specs.{Meant.{event_ref_of, events_of, style_of}, declared.event.EventRef.EventRef}
+use Rattle.yaml_comments.{specs.Found.places_of, proofs.Searching.{other_searched, scalar_ordered, scalar_within, scalar_searched}}
+use Rattle.yaml_comments.proofs.Searching.{all_searched, text_within}
 use Rattle.yaml_comments.proofs.find.comments_of.Goals as goal
 
 pub loop-event-preserved-in_default : goal.loop-event-preserved-in_default

@@ -1,7 +1,6 @@
 -- One byte more, and the end of the gap.
 use Rattle.std.proofs.Common.{subst, sym, ◌∙◌, ap}
-use Rattle.yaml_comments.specs.Found.{places_of}
-use Rattle.yaml_comments.proofs.Gaps.{Led, places_joined, led_byte, led_mark, led_end}
+use Rattle.yaml_comments.{specs.Found.places_of, proofs.Gaps.{Led, places_joined, led_byte, led_mark, led_end}}
 use Rattle.yaml_comments.proofs.find.push_gap.Goals as goal
 
 pub loop-at-preserved : goal.loop-at-preserved

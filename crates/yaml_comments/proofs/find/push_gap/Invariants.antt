@@ -1,7 +1,6 @@
 -- What was found up to this place.
 use Rattle.std.proofs.Common.{◌-◌}
-use Rattle.yaml_comments.specs.Found.{places_of}
-use Rattle.yaml_comments.proofs.Gaps.{Led}
+use Rattle.yaml_comments.{specs.Found.places_of, proofs.Gaps.Led}
 use Rattle.yaml_comments.proofs.find.push_gap.Given as goal
 
 abbrev pub invariant-loop-at : goal.invariant-loop-at

@@ -1,8 +1,7 @@
 use Rattle.std.proofs.Common.{ap, ◌∙◌, arith}
 use Rattle.yaml_config.proofs.Prelude.{err_from_is_err_and, chars, tree_of, tree_of-Text, tree_of-Seq, tree_of-Map, cut, cut-Text}
-use Rattle.yaml_config.specs.Changes.{row_of_element, row_of_member}
-use Rattle.yaml_config.proofs.{ChangeLaws.cut-missed, Located.child-within}
-use Rattle.yaml_config.proofs.Measured.{some_elements, some_members, taken_element, taken_member, vec_counted}
+use Rattle.yaml_config.proofs.{ChangeLaws.cut-missed, Located.child-within, Measured.{some_elements, some_members, taken_element}}
+use Rattle.yaml_config.{proofs.Measured.{taken_member, vec_counted}, specs.Changes.{row_of_element, row_of_member}}
 use Rattle.yaml_config.proofs.measure.cut_change.Goals as goal
 
 pub returns-in_err-old-clause-missed : goal.returns-in_err-old-clause-missed

@@ -1,9 +1,8 @@
 use Rattle.std.proofs.Common.{◌≡◌, ◌<◌, Ok, Err, length, sym, ap, subst, ◌∙◌, arith}
 use Rattle.yaml_config.proofs.Prelude.{cow_str_bytes, chars, err_from_is_err_and, Tree, tree_of, cut, key_in, KnowsLast, texts}
-use Rattle.yaml_config.proofs.Prelude.{delete-refused, knows-way, knows-last}
-use Rattle.yaml_config.specs.{Changes.ChangesSmall, declared.change.Slot.TheVariants.Value}
-use Rattle.yaml_config.proofs.{Located.at_from-Located, Measured.delete_changes, Measured.delete_misses}
-use Rattle.yaml_config.proofs.Planned.{split, node-small, changes-shifted}
+use Rattle.yaml_config.proofs.{Prelude.{delete-refused, knows-way, knows-last}, Located.at_from-Located, Measured.delete_changes}
+use Rattle.yaml_config.{proofs.{Measured.delete_misses, Planned.{split, node-small, changes-shifted}}, specs.Changes.ChangesSmall}
+use Rattle.yaml_config.specs.declared.change.Slot.TheVariants.{Value}
 use Rattle.yaml_config.proofs.measure.delete_change.Goals as goal
 
 pub returns-in_err-parent-clause-refused : goal.returns-in_err-parent-clause-refused

@@ -1,8 +1,7 @@
 use Rattle.std.proofs.Common.{◌+◌, Err, take, sym, ap, subst, ◌∙◌}
 use Rattle.yaml_config.proofs.Prelude.{cow_str_bytes, chars, tree_of, step_place, KnowsStep, texts, at_from-missed, texts-turn, knows-step}
-use Rattle.yaml_config.proofs.Prelude.{place-missed}
-use Rattle.yaml_config.specs.{Changes.Located, Changes.slot_in, declared.change.Slot.TheVariants.Value}
-use Rattle.yaml_config.proofs.Located.{Located-push, at_from-Located}
+use Rattle.yaml_config.{proofs.{Prelude.place-missed, Located.{Located-push, at_from-Located}}, specs.Changes.{Located, slot_in}}
+use Rattle.yaml_config.specs.declared.change.Slot.TheVariants.{Value}
 use Rattle.yaml_config.proofs.measure.parent_at.Goals as goal
 
 pub step_place-requires : goal.step_place-requires

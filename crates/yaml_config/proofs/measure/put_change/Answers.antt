@@ -1,9 +1,8 @@
 use Rattle.std.proofs.Common.{◌≡◌, sym, ap, subst, ◌∙◌, Err, arith}
 use Rattle.yaml_config.proofs.Prelude.{chars, tree_of, tree_of-Text, tree_of-Seq, tree_of-Map, child, put, bytes_eq-dash, not_last}
+use Rattle.yaml_config.proofs.{ChangeLaws.{put_sequence-missed, put_text-missed}, Located.child-within, Measured.{replaced, pushed, added}}
+use Rattle.yaml_config.proofs.{Measured.{vec_counted, dash_index}, SizeLemmas.{element-fits, value-fits, child-fits}}
 use Rattle.yaml_config.specs.Changes.{child_size, row_of_element, row_of_member}
-use Rattle.yaml_config.proofs.{ChangeLaws.put_sequence-missed, ChangeLaws.put_text-missed, Located.child-within}
-use Rattle.yaml_config.proofs.Measured.{replaced, pushed, added, vec_counted, dash_index}
-use Rattle.yaml_config.proofs.SizeLemmas.{element-fits, value-fits, child-fits}
 use Rattle.yaml_config.proofs.measure.put_change.Goals as goal
 
 pub size_of-requires-clause-deep : goal.size_of-requires-clause-deep

@@ -1,9 +1,7 @@
 use Rattle.std.proofs.Common.{◌≡◌, ◌<◌, Ok, Err, length, sym, ap, subst, ◌∙◌, arith}
 use Rattle.yaml_config.proofs.Prelude.{cow_str_bytes, chars, err_from_is_err_and, Tree, tree_of, key_in, put, KnowsLast, texts, set-refused}
-use Rattle.yaml_config.proofs.Prelude.{knows-way, knows-last}
-use Rattle.yaml_config.specs.{Changes.ChangesSmall, declared.change.Slot.TheVariants.Value}
-use Rattle.yaml_config.proofs.{Located.at_from-Located, Measured.set_changes, Measured.set_misses}
-use Rattle.yaml_config.proofs.Planned.{split, node-small, changes-shifted}
+use Rattle.yaml_config.proofs.{Prelude.{knows-way, knows-last}, Located.at_from-Located, Measured.{set_changes, set_misses}, Planned.split}
+use Rattle.yaml_config.{proofs.Planned.{node-small, changes-shifted}, specs.{Changes.ChangesSmall, declared.change.Slot.TheVariants.Value}}
 use Rattle.yaml_config.proofs.measure.set_change.Goals as goal
 
 pub returns-in_err-parent-clause-refused : goal.returns-in_err-parent-clause-refused

@@ -1,6 +1,6 @@
 use Rattle.std.proofs.Common.{◌&&◌, ◌<◌, sym, ap, ◌∙◌, arith}
-use Rattle.yaml_data.specs.{Keys.levels_distinct, Keys.steps_left, Seen.tree_of}
-use Rattle.yaml_data.proofs.LevelLemmas.{levels_distinct-append, steps_left-append, own_refused}
+use Rattle.yaml_data.{specs.{Keys.{levels_distinct, steps_left}, Seen.tree_of}, proofs.LevelLemmas.levels_distinct-append}
+use Rattle.yaml_data.proofs.LevelLemmas.{steps_left-append, own_refused}
 use Rattle.yaml_data.proofs.keys.has_distinct_keys.Goals as goal
 
 pub returns-then-not-branch : goal.returns-then-not-branch

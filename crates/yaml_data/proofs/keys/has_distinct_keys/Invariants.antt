@@ -1,6 +1,5 @@
 use Rattle.std.proofs.Common.{◌≡◌}
-use Rattle.yaml_data.proofs.Prelude.{distinct}
-use Rattle.yaml_data.specs.{Keys.levels_distinct, Keys.steps_left, Seen.tree_of}
+use Rattle.yaml_data.{proofs.Prelude.distinct, specs.{Keys.{levels_distinct, steps_left}, Seen.tree_of}}
 use Rattle.yaml_data.proofs.keys.has_distinct_keys.Given as goal
 
 -- the keys differ where they do in all that is left

@@ -1,7 +1,6 @@
 use Rattle.std.proofs.Common.{◌≡◌, ℕ, ◌+◌, ◌<◌, ◌||◌, Bool, true, false, List, length, get_or, drop, IsUtf8, sym, ap, ◌∙◌, arith}
-use Rattle.yaml_data.proofs.Prelude.{chars, bytes_eq, has_key}
+use Rattle.yaml_data.proofs.{Prelude.{chars, bytes_eq, has_key}, KeyLemmas.same_key, ListLemmas.drop_item, TextLemmas.IsUtf8-text_bytes}
 use Rattle.yaml_data.specs.{Keys.key_members, TextBytes.text_bytes, declared.text.Text.Text}
-use Rattle.yaml_data.proofs.{KeyLemmas.same_key, ListLemmas.drop_item, TextLemmas.IsUtf8-text_bytes}
 use Rattle.yaml_data.proofs.keys.has_key.Goals as goal
 
 -- the key is among the pairs that are left where the first of them has it, or one after it

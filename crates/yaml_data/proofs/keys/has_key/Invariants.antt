@@ -1,6 +1,5 @@
 use Rattle.std.proofs.Common.{◌≡◌, drop}
-use Rattle.yaml_data.proofs.Prelude.{chars, has_key}
-use Rattle.yaml_data.specs.Keys.{key_members}
+use Rattle.yaml_data.{proofs.Prelude.{chars, has_key}, specs.Keys.key_members}
 use Rattle.yaml_data.proofs.keys.has_key.Given as goal
 
 -- the key is among the pairs where it is among those that are left

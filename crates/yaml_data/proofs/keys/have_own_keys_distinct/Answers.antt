@@ -1,7 +1,6 @@
-use Rattle.std.proofs.Common.{ap, sym, ◌∙◌}
-use Rattle.std.proofs.lemmas.Result.{IfOk-weaker}
-use Rattle.yaml_data.specs.{Keys.key_members, Keys.own_keys_differ, Keys.keys_differ, Seen.tree_of}
-use Rattle.yaml_data.proofs.{KeyLemmas.keys_differ-pairs, SeenLemmas.tree_of-Map}
+use Rattle.std.proofs.{Common.{ap, sym, ◌∙◌}, lemmas.Result.IfOk-weaker}
+use Rattle.yaml_data.{specs.{Keys.{key_members, own_keys_differ, keys_differ}, Seen.tree_of}, proofs.KeyLemmas.keys_differ-pairs}
+use Rattle.yaml_data.proofs.SeenLemmas.{tree_of-Map}
 use Rattle.yaml_data.proofs.keys.have_own_keys_distinct.Goals as goal
 
 pub returns-in-Map : goal.returns-in-Map

@@ -1,8 +1,6 @@
-use Rattle.std.proofs.Common.{◌+◌, ◌&&◌, drop, sym, ap, ◌∙◌, arith}
-use Rattle.std.proofs.lemmas.Bool.{not-false, not-true}
-use Rattle.yaml_data.specs.Keys.{key_members, keys_differ}
-use Rattle.yaml_data.proofs.KeyLemmas.{none_seen, contains-is_seen, clear_seen, clear_new, none_seen-nil}
-use Rattle.yaml_data.proofs.ListLemmas.{drop_item}
+use Rattle.std.proofs.{Common.{◌+◌, ◌&&◌, drop, sym, ap, ◌∙◌, arith}, lemmas.Bool.{not-false, not-true}}
+use Rattle.yaml_data.{specs.Keys.{key_members, keys_differ}, proofs.KeyLemmas.{none_seen, contains-is_seen, clear_seen, clear_new}}
+use Rattle.yaml_data.proofs.{KeyLemmas.none_seen-nil, ListLemmas.drop_item}
 use Rattle.yaml_data.proofs.keys.many_keys_differ.Goals as goal
 
 pub loop-key-init : goal.loop-key-init

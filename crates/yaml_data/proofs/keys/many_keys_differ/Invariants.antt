@@ -1,6 +1,5 @@
 use Rattle.std.proofs.Common.{◌≡◌, ◌&&◌, drop}
-use Rattle.yaml_data.specs.Keys.{key_members, keys_differ}
-use Rattle.yaml_data.proofs.KeyLemmas.{none_seen}
+use Rattle.yaml_data.{specs.Keys.{key_members, keys_differ}, proofs.KeyLemmas.none_seen}
 use Rattle.yaml_data.proofs.keys.many_keys_differ.Given as goal
 
 -- the keys differ where those that are left differ, and none of them was seen

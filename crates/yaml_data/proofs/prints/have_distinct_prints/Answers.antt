@@ -1,6 +1,5 @@
 use Rattle.std.proofs.Common.{IsPermutation, sym, subst}
-use Rattle.yaml_data.specs.Prints.{key_prints}
-use Rattle.yaml_data.proofs.PrintLemmas.{IsAscending, distinct-from_ascending, ascending-from_distinct}
+use Rattle.yaml_data.{specs.Prints.key_prints, proofs.PrintLemmas.{IsAscending, distinct-from_ascending, ascending-from_distinct}}
 use Rattle.yaml_data.proofs.prints.have_distinct_prints.Goals as goal
 
 pub returns : goal.returns

@@ -1,7 +1,6 @@
 use Rattle.std.proofs.Common.{sym, ap, ◌∙◌, arith}
-use Rattle.yaml_data.proofs.Prelude.{mapping, sequence}
+use Rattle.yaml_data.proofs.{Prelude.{mapping, sequence}, SeenLemmas.{tree_of-Map, tree_of-Seq, elements_of-step, members_of-step}}
 use Rattle.yaml_data.specs.Seen.{Pair, tree_of, elements_of, members_of}
-use Rattle.yaml_data.proofs.SeenLemmas.{tree_of-Map, tree_of-Seq, elements_of-step, members_of-step}
 use Rattle.yaml_data.proofs.tree.+copy.Goals as goal
 
 pub copied-returns-in_ok-copied_pairs-in-Map :

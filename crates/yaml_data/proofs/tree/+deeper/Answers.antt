@@ -1,7 +1,6 @@
 use Rattle.std.proofs.Common.{◌-◌, ◌<◌, nat_lt, ap, sym, ◌∙◌, arith}
-use Rattle.yaml_data.proofs.Prelude.{depth, elements_depth, members_depth}
+use Rattle.yaml_data.proofs.{Prelude.{depth, elements_depth, members_depth}, DepthTests.level_down, SeenLemmas.{tree_of-Map, tree_of-Seq}}
 use Rattle.yaml_data.specs.Seen.{tree_of, elements_of, members_of}
-use Rattle.yaml_data.proofs.{DepthTests.level_down, SeenLemmas.tree_of-Map, SeenLemmas.tree_of-Seq}
 use Rattle.yaml_data.proofs.tree.+deeper.Goals as goal
 
 pub Tree::is_deeper_than-returns-in-Map : goal.Tree::is_deeper_than-returns-in-Map

@@ -1,6 +1,5 @@
 use Rattle.std.proofs.Common.{◌≡◌, nat_lt, drop}
-use Rattle.yaml_data.proofs.Prelude.{elements_depth, members_depth}
-use Rattle.yaml_data.specs.Seen.{elements_of, members_of}
+use Rattle.yaml_data.{proofs.Prelude.{elements_depth, members_depth}, specs.Seen.{elements_of, members_of}}
 use Rattle.yaml_data.proofs.tree.+deeper.Given as goal
 
 -- those before are not deeper

@@ -1,7 +1,6 @@
 use Rattle.std.proofs.Common.{ap, ◌∙◌, arith}
-use Rattle.yaml_data.proofs.Prelude.{depth, elements_depth, members_depth}
-use Rattle.yaml_data.specs.Seen.{tree_of, elements_of, members_of}
-use Rattle.yaml_data.proofs.SeenLemmas.{tree_of-Map, tree_of-Seq}
+use Rattle.yaml_data.{proofs.{Prelude.{depth, elements_depth, members_depth}, SeenLemmas.{tree_of-Map, tree_of-Seq}}, specs.Seen.tree_of}
+use Rattle.yaml_data.specs.Seen.{elements_of, members_of}
 use Rattle.yaml_data.proofs.tree.+depth.Goals as goal
 
 pub depth_of-returns-in-Map : goal.depth_of-returns-in-Map

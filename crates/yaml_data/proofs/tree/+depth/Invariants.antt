@@ -1,6 +1,5 @@
 use Rattle.std.proofs.Common.{◌≡◌, max, min, drop}
-use Rattle.yaml_data.proofs.Prelude.{elements_depth, members_depth}
-use Rattle.yaml_data.specs.Seen.{elements_of, members_of}
+use Rattle.yaml_data.{proofs.Prelude.{elements_depth, members_depth}, specs.Seen.{elements_of, members_of}}
 use Rattle.yaml_data.proofs.tree.+depth.Given as goal
 
 -- the deepest part is left, or its depth is already known

@@ -1,6 +1,5 @@
 use Rattle.std.proofs.Common.{◌≡◌, inl, inr, arith, subst, sym, ◌∙◌}
-use Rattle.yaml_docs.proofs.Prelude.{cases_lt, false≢true}
-use Rattle.yaml_docs.specs.LineBegun.{Completes}
+use Rattle.yaml_docs.{proofs.Prelude.{cases_lt, false≢true}, specs.LineBegun.Completes}
 use Rattle.yaml_docs.proofs.cutter.completed_line.Goals as goal
 
 pub loop-dots-init : goal.loop-dots-init

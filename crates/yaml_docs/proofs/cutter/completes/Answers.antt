@@ -1,6 +1,5 @@
 use Rattle.std.proofs.Common.{ℕ, ◌-◌, sym, ◌∙◌, ap, List, ◌++◌, take, drop, length, ◌≡◌}
-use Rattle.yaml_docs.proofs.Prelude.{starts_is, Decides-eqb, take_rest}
-use Rattle.yaml_docs.proofs.ClosingLines.{closing_line}
+use Rattle.yaml_docs.proofs.{Prelude.{starts_is, Decides-eqb, take_rest}, ClosingLines.closing_line}
 use Rattle.yaml_docs.proofs.cutter.completes.Goals as goal
 
 pub returns-then-is_begun-clause-completes : goal.returns-then-is_begun-clause-completes

@@ -1,6 +1,5 @@
 use Rattle.std.proofs.Common.{sym, ◌∙◌, Some, None, take}
-use Rattle.yaml_docs.proofs.Prelude.{strip_suffix_is, Decides-eqb}
-use Rattle.yaml_docs.proofs.ClosingLines.{closing_line}
+use Rattle.yaml_docs.proofs.{Prelude.{strip_suffix_is, Decides-eqb}, ClosingLines.closing_line}
 use Rattle.yaml_docs.proofs.cutter.is_begun.Goals as goal
 
 pub returns-in-Some-clause-begun : goal.returns-in-Some-clause-begun

@@ -1,8 +1,6 @@
-use Rattle.std.proofs.Common.{List, drop, subst, ℕ, ◌≡◌}
-use Rattle.yaml_docs.proofs.Prelude.{starts_with, Decides-eqb, starts_is, IsUtf8-drop}
-use Rattle.std.proofs.Math.Dec.{eqb}
+use Rattle.std.proofs.{Common.{List, drop, subst, ℕ, ◌≡◌}, Math.Dec.eqb}
+use Rattle.yaml_docs.proofs.{Prelude.{starts_with, Decides-eqb, starts_is, IsUtf8-drop}, Words.word_begins}
 use Rattle.yaml_chars.proofs.Breaks.{bytes_from}
-use Rattle.yaml_docs.proofs.Words.{word_begins}
 use Rattle.yaml_docs.proofs.directive.begins_at.Goals as goal
 
 pub returns : goal.returns

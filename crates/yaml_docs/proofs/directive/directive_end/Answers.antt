@@ -1,7 +1,6 @@
 use Rattle.std.specs.Prelude.{false, true, ◌≡◌}
-use Rattle.yaml_docs.proofs.Prelude.{rest, all_comments, closes_line, none_so, IsLineStart, IsSolidLine}
-use Rattle.yaml_docs.specs.Directives.{IsDirective, NoDirective}
-use Rattle.yaml_docs.proofs.DirectiveSteps.{directive_there, none_open, some_by_three}
+use Rattle.yaml_docs.proofs.{Prelude.{rest, all_comments, closes_line, none_so, IsLineStart, IsSolidLine}, DirectiveSteps.directive_there}
+use Rattle.yaml_docs.{proofs.DirectiveSteps.{none_open, some_by_three}, specs.Directives.{IsDirective, NoDirective}}
 use Rattle.yaml_docs.proofs.directive.directive_end.Goals as goal
 
 pub returns-clause-found : goal.returns-clause-found

@@ -1,7 +1,6 @@
 use Rattle.std.specs.Prelude.{None, ◌≡◌}
-use Rattle.yaml_docs.proofs.Prelude.{err_from_is_err_and, rest, line_starts, document_node_at, fault_passed}
-use Rattle.yaml_docs.specs.{Sections.read_as, declared.documents.Section.TheVariants.Bare}
-use Rattle.yaml_docs.proofs.DocumentSteps.{bare_found, bare_missing}
+use Rattle.yaml_docs.proofs.{Prelude.{err_from_is_err_and, rest, line_starts, document_node_at, fault_passed}, DocumentSteps.bare_found}
+use Rattle.yaml_docs.{proofs.DocumentSteps.bare_missing, specs.{Sections.read_as, declared.documents.Section.TheVariants.Bare}}
 use Rattle.yaml_docs.proofs.documents.bare_end.Goals as goal
 
 pub returns-in_err-end-clause-none : goal.returns-in_err-end-clause-none

@@ -1,8 +1,6 @@
-use Rattle.std.specs.Prelude.{None, ◌≡◌}
-use Rattle.std.proofs.Common.{sym, ◌∙◌}
-use Rattle.yaml_docs.proofs.Prelude.{rest, document_node_at, read_directed, read_explicit, faults_so, ok_so}
-use Rattle.yaml_docs.specs.Documents.{DocumentRead, ExplicitRead}
-use Rattle.yaml_docs.proofs.DocumentSteps.{document_found, document_missing, no_explicit}
+use Rattle.std.{specs.Prelude.{None, ◌≡◌}, proofs.Common.{sym, ◌∙◌}}
+use Rattle.yaml_docs.proofs.{Prelude.{rest, document_node_at, read_directed, read_explicit, faults_so, ok_so}, DocumentSteps.document_found}
+use Rattle.yaml_docs.{proofs.DocumentSteps.{document_missing, no_explicit}, specs.Documents.{DocumentRead, ExplicitRead}}
 use Rattle.yaml_docs.proofs.documents.directed_end.Goals as goal
 
 pub returns-in_default-clause-none : goal.returns-in_default-clause-none

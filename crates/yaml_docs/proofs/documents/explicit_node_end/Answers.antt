@@ -1,7 +1,6 @@
 use Rattle.std.specs.Prelude.{None, false, ◌≡◌}
 use Rattle.yaml_docs.proofs.Prelude.{rest, line_starts, all_comments, document_node_at, explicit_with, faults_so, ok_so, BlockNodeRead}
-use Rattle.yaml_docs.specs.Documents.{ExplicitNodeRead}
-use Rattle.yaml_docs.proofs.DocumentSteps.{content_missing, content_read, nothing_read}
+use Rattle.yaml_docs.{proofs.DocumentSteps.{content_missing, content_read, nothing_read}, specs.Documents.ExplicitNodeRead}
 use Rattle.yaml_docs.proofs.documents.explicit_node_end.Goals as goal
 
 pub returns-in_default-clause-reads : goal.returns-in_default-clause-reads

@@ -1,8 +1,5 @@
-use Rattle.std.proofs.Common.{ap, arith, length, ◌+◌, ◌<◌, ◌∙◌, ◌≡◌}
-use Rattle.std.specs.Prelude.{ℕ, ◌∷◌}
-use Rattle.yaml_docs.proofs.Prelude.{false≢true, IsCharBoundary-start, rest, rest-end}
-use Rattle.std.specs.Char.{len_utf8}
-use Rattle.yaml_docs.proofs.MarkEnds.{empty_text, mark_there, other_prefix}
+use Rattle.std.{proofs.Common.{ap, arith, length, ◌+◌, ◌<◌, ◌∙◌, ◌≡◌}, specs.{Prelude.{ℕ, ◌∷◌}, Char.len_utf8}}
+use Rattle.yaml_docs.proofs.{Prelude.{false≢true, IsCharBoundary-start, rest, rest-end}, MarkEnds.{empty_text, mark_there, other_prefix}}
 use Rattle.yaml_docs.proofs.documents.mark_end.Goals as goal
 
 pub next_char-requires : goal.next_char-requires

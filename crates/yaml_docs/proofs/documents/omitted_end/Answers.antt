@@ -1,6 +1,5 @@
 use Rattle.std.proofs.Common.{arith, false, length, sym, ◌∙◌, ◌<◌}
-use Rattle.yaml_docs.proofs.Prelude.{rest, rest-end, all_comments}
-use Rattle.yaml_docs.proofs.DocumentSteps.{no_omission, omits_at_end, some_left}
+use Rattle.yaml_docs.proofs.{Prelude.{rest, rest-end, all_comments}, DocumentSteps.{no_omission, omits_at_end, some_left}}
 use Rattle.yaml_docs.proofs.documents.omitted_end.Goals as goal
 
 pub returns-then-line-text-clause-found : goal.returns-then-line-text-clause-found

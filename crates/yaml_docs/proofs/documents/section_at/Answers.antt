@@ -1,6 +1,5 @@
 use Rattle.std.proofs.Common.{sym, ◌∙◌}
-use Rattle.yaml_docs.proofs.Prelude.{rest}
-use Rattle.yaml_docs.proofs.SectionCases.{at_bare, at_directed, at_explicit, at_suffix, not_opened}
+use Rattle.yaml_docs.proofs.{Prelude.rest, SectionCases.{at_bare, at_directed, at_explicit, at_suffix, not_opened}}
 use Rattle.yaml_docs.proofs.documents.section_at.Goals as goal
 
 pub returns-then-is_marker_of-clause-found : goal.returns-then-is_marker_of-clause-found

@@ -1,9 +1,8 @@
-use Rattle.std.proofs.Common.{sym, subst}
-use Rattle.std.specs.Prelude.{None, drop, false, ◌≡◌}
+use Rattle.std.{proofs.Common.{sym, subst}, specs.Prelude.{None, drop, false, ◌≡◌}}
 use Rattle.yaml_docs.proofs.Prelude.{rest, all_comments, document_node_at, read_directed, read_explicit, suffix_with, faults_so, ok_so}
-use Rattle.yaml_docs.specs.{Sections.SectionRead, Sections.read_as, declared.documents.Section.Section}
-use Rattle.yaml_docs.specs.Documents.{DocumentRead, ExplicitRead, SuffixRead}
 use Rattle.yaml_docs.proofs.DocumentSteps.{directed_section, explicit_none, directed_none, explicit_section, suffix_section}
+use Rattle.yaml_docs.specs.{Sections.{SectionRead, read_as}, declared.documents.Section.Section, Documents.{DocumentRead, ExplicitRead}}
+use Rattle.yaml_docs.specs.Documents.{SuffixRead}
 use Rattle.yaml_docs.proofs.documents.section_end.Goals as goal
 
 pub returns-in-Suffix-clause-reads : goal.returns-in-Suffix-clause-reads

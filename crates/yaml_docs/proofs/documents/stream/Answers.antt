@@ -1,9 +1,7 @@
-use Rattle.std.proofs.Common.{arith, length, subst, sym, ◌<◌, ◌∙◌, ◌≡◌}
-use Rattle.std.specs.Prelude.{Bool, None, true}
-use Rattle.yaml_docs.proofs.Prelude.{chars, err_from_is_err_and, rest, section_at, fault_passed}
-use Rattle.yaml_docs.specs.Sections.{ReadUpTo, read_as, stream_meaning}
-use Rattle.yaml_docs.proofs.DocumentSteps.{some_left}
+use Rattle.std.{proofs.Common.{arith, length, subst, sym, ◌<◌, ◌∙◌, ◌≡◌}, specs.Prelude.{Bool, None, true}}
+use Rattle.yaml_docs.proofs.{Prelude.{chars, err_from_is_err_and, rest, section_at, fault_passed}, DocumentSteps.some_left}
 use Rattle.yaml_docs.proofs.StreamSteps.{SectionPassed, lines_passed, no_meaning, section_passed, starts_here, text_ends}
+use Rattle.yaml_docs.specs.Sections.{ReadUpTo, read_as, stream_meaning}
 use Rattle.yaml_docs.proofs.documents.stream.Goals as goal
 
 pub returns-then-line-text-clause-found : goal.returns-then-line-text-clause-found

@@ -1,5 +1,4 @@
-use Rattle.yaml_docs.proofs.Prelude.{rest}
-use Rattle.yaml_docs.proofs.DocumentSteps.{dots_there, no_suffix, suffix_is}
+use Rattle.yaml_docs.proofs.{Prelude.rest, DocumentSteps.{dots_there, no_suffix, suffix_is}}
 use Rattle.yaml_docs.proofs.documents.suffix_end.Goals as goal
 
 pub line_after-requires : goal.line_after-requires

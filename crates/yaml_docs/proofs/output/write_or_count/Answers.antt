@@ -1,6 +1,5 @@
 use Rattle.std.proofs.Common.{◌≡◌, ◌-◌, ◌≤◌, length, take, drop, subst, arith, length-drop}
-use Rattle.yaml_docs.proofs.Prelude.{Appends, take_all}
-use Rattle.yaml_docs.proofs.OutputLemmas.{appends-more}
+use Rattle.yaml_docs.proofs.{Prelude.{Appends, take_all}, OutputLemmas.appends-more}
 use Rattle.yaml_docs.proofs.output.write_or_count.Goals as goal
 
 pub parts-preserved : goal.parts-preserved

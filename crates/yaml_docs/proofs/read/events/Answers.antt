@@ -1,9 +1,6 @@
-use Rattle.std.proofs.Common.{refl, subst, ◌≡◌}
-use Rattle.std.specs.Prelude.{List, None, Some, ℕ}
-use Rattle.yaml_docs.proofs.Prelude.{IsUtf8, chars, events_of, Refuses}
-use Rattle.yaml_events.specs.declared.fault.ScanFault.{ScanFault}
-use Rattle.yaml_docs.specs.Sections.{stream_meaning}
-use Rattle.yaml_docs.proofs.Readings.{bytes_read, ranges_read, syntax_refused}
+use Rattle.std.{proofs.Common.{refl, subst, ◌≡◌}, specs.Prelude.{List, None, Some, ℕ}}
+use Rattle.yaml_docs.proofs.{Prelude.{IsUtf8, chars, events_of, Refuses}, Readings.{bytes_read, ranges_read, syntax_refused}}
+use Rattle.{yaml_docs.specs.Sections.stream_meaning, yaml_events.specs.declared.fault.ScanFault.ScanFault}
 use Rattle.yaml_docs.proofs.read.events.Goals as goal
 
 pub returns-in-Ok-stream-clause-reads : goal.returns-in-Ok-stream-clause-reads

@@ -1,7 +1,5 @@
-use Rattle.std.proofs.Common.{◌++◌, string_bytes, encode_utf8_all, ap, sym, ◌∙◌}
-use Rattle.std.proofs.lemmas.Str.{chars_from_encodes, IsUtf8-string_bytes}
-use Rattle.yaml_grammar.specs.Style.{style_text}
-use Rattle.yaml_data.specs.Seen.{tree_of}
+use Rattle.std.proofs.{Common.{◌++◌, string_bytes, encode_utf8_all, ap, sym, ◌∙◌}, lemmas.Str.{chars_from_encodes, IsUtf8-string_bytes}}
+use Rattle.{yaml_grammar.specs.Style.style_text, yaml_data.specs.Seen.tree_of}
 use Rattle.yaml_emit.proofs.text.style_text.Goals as goal
 
 pub returns : goal.returns

@@ -1,5 +1,4 @@
-use Rattle.std.proofs.Common.{◌≡◌, ◌≤◌, take}
-use Rattle.std.specs.List.{sum_by}
+use Rattle.std.{proofs.Common.{◌≡◌, ◌≤◌, take}, specs.List.sum_by}
 use Rattle.yaml_events.specs.Parts.{borrows, omits, has_other}
 use Rattle.yaml_events.proofs.parts.value_counts.Given as goal
 

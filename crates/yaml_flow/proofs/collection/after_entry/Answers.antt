@@ -1,9 +1,7 @@
-use Rattle.std.proofs.Common.{◌≡◌, true, sym, ap, ◌∙◌, arith, length, ◌-◌, ◌*◌, ◌<◌, refl}
-use Rattle.std.specs.Prelude.{◌==◌}
-use Rattle.yaml_flow.proofs.Prelude.{rest, context_of, first, closer, refuses, faults_so, ok_so, sign_there}
-use Rattle.yaml_flow.specs.Frames.{Onward, bracket_end, in_sequence, place_of, steps_left}
-use Rattle.yaml_flow.proofs.{Appends.appended_one, FlowSteps.closes_entry, FlowSteps.comma_passed, FlowSteps.no_closing}
-use Rattle.yaml_flow.proofs.{SameLines.closer_line, SameLines.sign_then, Signs.closer_starts, Signs.closer_there, Signs.not_starting}
+use Rattle.std.{proofs.Common.{◌≡◌, true, sym, ap, ◌∙◌, arith, length, ◌-◌, ◌*◌, ◌<◌, refl}, specs.Prelude.◌==◌}
+use Rattle.yaml_flow.proofs.{Prelude.{rest, context_of, first, closer, refuses, faults_so, ok_so, sign_there}, Appends.appended_one}
+use Rattle.yaml_flow.proofs.{FlowSteps.{closes_entry, comma_passed, no_closing}, SameLines.{closer_line, sign_then}, Signs.closer_starts}
+use Rattle.yaml_flow.{proofs.Signs.{closer_there, not_starting}, specs.Frames.{Onward, bracket_end, in_sequence, place_of, steps_left}}
 use Rattle.yaml_flow.proofs.collection.after_entry.Goals as goal
 
 pub pass-requires-clause-at : goal.pass-requires-clause-at

@@ -1,7 +1,6 @@
 use Rattle.std.proofs.Common.{arith, ◌<◌, refl}
-use Rattle.yaml_flow.proofs.Prelude.{err_from_is_err_and, rest, context_of, NoGap, fault_passed, refuses}
-use Rattle.yaml_flow.specs.{declared.collection.Part.TheVariants.Asked, Frames.in_sequence}
-use Rattle.yaml_flow.proofs.FlowSteps.{asks, asks_dead, asks_nothing}
+use Rattle.yaml_flow.proofs.{Prelude.{err_from_is_err_and, rest, context_of, NoGap, fault_passed, refuses}, FlowSteps.{asks, asks_dead}}
+use Rattle.yaml_flow.{proofs.FlowSteps.asks_nothing, specs.{declared.collection.Part.TheVariants.Asked, Frames.in_sequence}}
 use Rattle.yaml_flow.proofs.collection.asked.Goals as goal
 
 pub returns-in_err-key-clause-none : goal.returns-in_err-key-clause-none

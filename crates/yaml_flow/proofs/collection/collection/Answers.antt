@@ -1,5 +1,4 @@
-use Rattle.yaml_flow.proofs.Prelude.{context_of, fault_kept}
-use Rattle.yaml_flow.specs.FlowNodes.{NoFlowNodeFound}
+use Rattle.yaml_flow.{proofs.Prelude.{context_of, fault_kept}, specs.FlowNodes.NoFlowNodeFound}
 use Rattle.yaml_flow.proofs.collection.collection.Goals as goal
 
 pub returns-clause-none : goal.returns-clause-none

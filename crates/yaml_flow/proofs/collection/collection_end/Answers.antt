@@ -1,11 +1,9 @@
-use Rattle.std.proofs.Common.{◌+◌, ◌<◌, sym, ap, ◌∙◌, subst, arith, refl}
-use Rattle.std.specs.Prelude.{[]}
-use Rattle.yaml_flow.proofs.Prelude.{err_from_is_err_and, All-nil, All-same, context_of, in_flow, fault_passed}
-use Rattle.yaml_flow.specs.declared.collection.Next.TheVariants.{Entry, Node, AfterEntry, Closed}
-use Rattle.yaml_flow.specs.Frames.{BeforeGap, Collection, LineMoves, Onward, Started, WholeRead, in_sequence, place_of, steps_left}
-use Rattle.yaml_flow.proofs.{FlowSteps.in_flow_twice, FlowSteps.opened, Signs.opener_starts}
-use Rattle.yaml_flow.proofs.Stacks.{before, closed, kept_on, kept_once, outermost, refused, stack_none, started, starts_pop, starts_push}
-use Rattle.yaml_flow.proofs.Stacks.{stepped, turned, whole_read}
+use Rattle.std.{proofs.Common.{◌+◌, ◌<◌, sym, ap, ◌∙◌, subst, arith, refl}, specs.Prelude.[]}
+use Rattle.yaml_flow.proofs.{Prelude.{err_from_is_err_and, All-nil, All-same, context_of, in_flow, fault_passed}, FlowSteps.in_flow_twice}
+use Rattle.yaml_flow.proofs.{FlowSteps.opened, Signs.opener_starts, Stacks.{before, closed, kept_on, kept_once, outermost, refused}}
+use Rattle.yaml_flow.proofs.Stacks.{stack_none, started, starts_pop, starts_push, stepped, turned, whole_read}
+use Rattle.yaml_flow.specs.{declared.collection.Next.TheVariants.{Entry, Node, AfterEntry, Closed}, Frames.{BeforeGap, Collection}}
+use Rattle.yaml_flow.specs.Frames.{LineMoves, Onward, Started, WholeRead, in_sequence, place_of, steps_left}
 use Rattle.yaml_flow.proofs.collection.collection_end.Goals as goal
 
 pub pass-requires-clause-inside_line : goal.pass-requires-clause-inside_line

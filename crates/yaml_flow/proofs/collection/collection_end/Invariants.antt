@@ -1,7 +1,5 @@
 use Rattle.std.proofs.Common.{◌≡◌}
-use Rattle.yaml_flow.proofs.Prelude.{context_of, in_flow}
-use Rattle.yaml_flow.specs.Frames.{steps_left}
-use Rattle.yaml_flow.proofs.Stacks.{Reading, outermost}
+use Rattle.yaml_flow.{proofs.{Prelude.{context_of, in_flow}, Stacks.{Reading, outermost}}, specs.Frames.steps_left}
 use Rattle.yaml_flow.proofs.collection.collection_end.Given as goal
 
 abbrev pub invariant-nodes : goal.invariant-nodes

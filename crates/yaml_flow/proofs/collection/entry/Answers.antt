@@ -1,12 +1,10 @@
-use Rattle.std.proofs.Common.{◌≡◌, true, false, sym, ap, ◌∙◌, arith, length, ◌+◌, ◌-◌, ◌*◌, ◌<◌, refl}
-use Rattle.std.specs.Prelude.{◌==◌}
-use Rattle.yaml_flow.proofs.Prelude.{rest, context_of, first, closer, is_asked, faults_so, ok_so, sign_there}
-use Rattle.yaml_flow.specs.declared.collection.Part.TheVariants.{First}
-use Rattle.yaml_flow.specs.Frames.{Onward, bracket_end, in_sequence, place_of, steps_left}
-use Rattle.yaml_flow.proofs.{Appends.appended_one, FlowSteps.begins, FlowSteps.closes, FlowSteps.question, SameLines.closer_line}
-use Rattle.yaml_flow.proofs.{SameLines.sign_then, collection.entry.Goals.then-not-stands_at-via-then-not-stands_at}
-use Rattle.yaml_flow.proofs.{collection.entry.Goals.then-not-stands_at-via-else-not-stands_at+then-safe_at}
-use Rattle.yaml_flow.proofs.Signs.{closer_starts, closer_there, no_question, not_starting, question_asks, safe_after}
+use Rattle.std.{proofs.Common.{◌≡◌, true, false, sym, ap, ◌∙◌, arith, length, ◌+◌, ◌-◌, ◌*◌, ◌<◌, refl}, specs.Prelude.◌==◌}
+use Rattle.yaml_flow.proofs.{Prelude.{rest, context_of, first, closer, is_asked, faults_so, ok_so, sign_there}, Appends.appended_one}
+use Rattle.yaml_flow.proofs.{FlowSteps.{begins, closes, question}, SameLines.{closer_line, sign_then}}
+use Rattle.yaml_flow.proofs.collection.entry.Goals.{then-not-stands_at-via-then-not-stands_at}
+use Rattle.yaml_flow.proofs.{collection.entry.Goals.then-not-stands_at-via-else-not-stands_at+then-safe_at, Signs.closer_starts}
+use Rattle.yaml_flow.proofs.Signs.{closer_there, no_question, not_starting, question_asks, safe_after}
+use Rattle.yaml_flow.specs.{declared.collection.Part.TheVariants.First, Frames.{Onward, bracket_end, in_sequence, place_of, steps_left}}
 use Rattle.yaml_flow.proofs.collection.entry.Goals as goal
 
 pub returns-then-stands_at-clause-onward : goal.returns-then-stands_at-clause-onward

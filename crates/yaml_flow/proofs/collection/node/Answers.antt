@@ -1,9 +1,7 @@
-use Rattle.std.proofs.Common.{sym, subst, arith, ◌+◌, ◌-◌, ◌*◌, ◌<◌, refl, length}
-use Rattle.std.specs.Prelude.{◌∷◌}
-use Rattle.yaml_flow.proofs.Prelude.{rest, context_of, line_starts, flow_node_at, faults_so, ok_so, refuses}
+use Rattle.std.{proofs.Common.{sym, subst, arith, ◌+◌, ◌-◌, ◌*◌, ◌<◌, refl, length}, specs.Prelude.◌∷◌}
+use Rattle.yaml_flow.proofs.{Prelude.{rest, context_of, line_starts, flow_node_at, faults_so, ok_so, refuses}, FlowSteps.opened}
+use Rattle.yaml_flow.proofs.{SameLines.opener_then, Signs.opener_starts, NodeSteps.{at_start, node_at_end, node_missing}}
 use Rattle.yaml_flow.specs.Frames.{BeforeGap, Collection, Onward, in_sequence, place_of, steps_left}
-use Rattle.yaml_flow.proofs.{FlowSteps.opened, SameLines.opener_then, Signs.opener_starts}
-use Rattle.yaml_flow.proofs.NodeSteps.{at_start, node_at_end, node_missing}
 use Rattle.yaml_flow.proofs.collection.node.Goals as goal
 
 pub returns-then-at-text-clause-none : goal.returns-then-at-text-clause-none

@@ -1,6 +1,5 @@
-use Rattle.yaml_flow.proofs.Prelude.{err_from_is_err_and, rest, context_of, NoGap, fault_passed}
+use Rattle.yaml_flow.proofs.{Prelude.{err_from_is_err_and, rest, context_of, NoGap, fault_passed}, FlowSteps.{not_passed, passed}}
 use Rattle.yaml_flow.specs.Frames.{in_sequence}
-use Rattle.yaml_flow.proofs.FlowSteps.{not_passed, passed}
 use Rattle.yaml_flow.proofs.collection.pass.Goals as goal
 
 pub returns-in_err-end-clause-none : goal.returns-in_err-end-clause-none

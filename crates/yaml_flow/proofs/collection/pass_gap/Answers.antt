@@ -1,5 +1,4 @@
-use Rattle.yaml_flow.proofs.Prelude.{context_of}
-use Rattle.yaml_flow.proofs.GapPlaces.{gap_passes, gap_line, gap_same_line}
+use Rattle.yaml_flow.proofs.{Prelude.context_of, GapPlaces.{gap_passes, gap_line, gap_same_line}}
 use Rattle.yaml_flow.proofs.collection.pass_gap.Goals as goal
 
 pub returns-then-gap-clause-found : goal.returns-then-gap-clause-found

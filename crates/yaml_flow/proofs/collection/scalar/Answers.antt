@@ -1,11 +1,9 @@
-use Rattle.std.proofs.Common.{◌≡◌, sym, subst, arith, ◌-◌, ◌*◌, ◌<◌, length}
-use Rattle.std.specs.Prelude.{not}
-use Rattle.yaml_flow.proofs.Prelude.{context_of, unbroken_between, fault_kept, faults_so, ok_so}
-use Rattle.yaml_flow.specs.{Scalars.NoFlowScalar, Frames.LineMoves, Frames.Onward, Frames.place_of, Frames.steps_left}
-use Rattle.yaml_flow.proofs.{NodeSteps.node_missing, GapPlaces.broken_by, GapPlaces.unbroken_by, ScalarSteps.scalar_missing}
-use Rattle.yaml_flow.proofs.{ScalarSteps.scalar_node, Stacks.kept_then, collection.scalar.Goals.then-is_over_lines}
-use Rattle.yaml_flow.proofs.{collection.scalar.Goals.else-is_over_lines}
-use Rattle.yaml_flow.proofs.SameLines.{line_follows, line_stays, line_then, same_line_here}
+use Rattle.std.{proofs.Common.{◌≡◌, sym, subst, arith, ◌-◌, ◌*◌, ◌<◌, length}, specs.Prelude.not}
+use Rattle.yaml_flow.proofs.{Prelude.{context_of, unbroken_between, fault_kept, faults_so, ok_so}, NodeSteps.node_missing}
+use Rattle.yaml_flow.proofs.{GapPlaces.{broken_by, unbroken_by}, ScalarSteps.{scalar_missing, scalar_node}, Stacks.kept_then}
+use Rattle.yaml_flow.proofs.{collection.scalar.Goals.{then-is_over_lines, else-is_over_lines}, SameLines.{line_follows, line_stays}}
+use Rattle.yaml_flow.{proofs.SameLines.{line_then, same_line_here}, specs.{Scalars.NoFlowScalar, Frames.{LineMoves, Onward, place_of}}}
+use Rattle.yaml_flow.specs.Frames.{steps_left}
 use Rattle.yaml_flow.proofs.collection.scalar.Goals as goal
 
 pub returns-in-Err-clause-none : goal.returns-in-Err-clause-none

@@ -1,6 +1,5 @@
-use Rattle.yaml_flow.proofs.Prelude.{err_from_is_err_and, context_of, fault_passed, ok_so}
+use Rattle.yaml_flow.proofs.{Prelude.{err_from_is_err_and, context_of, fault_passed, ok_so}, ScalarSteps.{scalar_missing, scalar_node_read}}
 use Rattle.yaml_flow.specs.{FlowNodes.FlowNodeRead, Scalars.NoFlowScalar}
-use Rattle.yaml_flow.proofs.ScalarSteps.{scalar_missing, scalar_node_read}
 use Rattle.yaml_flow.proofs.node.any_scalar.Goals as goal
 
 pub returns-in_err-found-clause-missing : goal.returns-in_err-found-clause-missing

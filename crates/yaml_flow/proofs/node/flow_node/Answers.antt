@@ -1,5 +1,4 @@
-use Rattle.yaml_flow.proofs.Prelude.{rest, context_of, line_starts, flow_events, refuses_so}
-use Rattle.yaml_flow.proofs.Appends.{appended_means}
+use Rattle.yaml_flow.proofs.{Prelude.{rest, context_of, line_starts, flow_events, refuses_so}, Appends.appended_means}
 use Rattle.yaml_flow.proofs.node.flow_node.Goals as goal
 
 pub returns-in-Ok-clause-only : goal.returns-in-Ok-clause-only

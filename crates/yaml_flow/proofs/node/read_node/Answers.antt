@@ -1,6 +1,4 @@
-use Rattle.yaml_flow.proofs.Prelude.{context_of, ok_so}
-use Rattle.yaml_flow.specs.FlowNodes.{FlowNodeRead}
-use Rattle.yaml_flow.proofs.ScalarSteps.{scalar_node_read}
+use Rattle.yaml_flow.{proofs.{Prelude.{context_of, ok_so}, ScalarSteps.scalar_node_read}, specs.FlowNodes.FlowNodeRead}
 use Rattle.yaml_flow.proofs.node.read_node.Goals as goal
 
 pub returns-in-Some-plain_line_at-clause-reads : goal.returns-in-Some-plain_line_at-clause-reads

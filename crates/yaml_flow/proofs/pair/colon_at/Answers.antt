@@ -1,7 +1,5 @@
-use Rattle.std.proofs.Common.{true, sym, ap, ◌∙◌, arith}
-use Rattle.std.specs.Prelude.{not}
-use Rattle.yaml_flow.proofs.Prelude.{rest, context_of, is_colon, sign_there}
-use Rattle.yaml_flow.specs.Frames.{ends_plain}
+use Rattle.std.{proofs.Common.{true, sym, ap, ◌∙◌, arith}, specs.Prelude.not}
+use Rattle.yaml_flow.{proofs.Prelude.{rest, context_of, is_colon, sign_there}, specs.Frames.ends_plain}
 use Rattle.yaml_flow.proofs.pair.colon_at.Goals as goal
 
 pub safe_at-requires : goal.safe_at-requires

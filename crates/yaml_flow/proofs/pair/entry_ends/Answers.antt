@@ -1,5 +1,4 @@
-use Rattle.std.proofs.Common.{◌≡◌, true, false, sym, ap, ◌∙◌, arith, refl, ℕ, ◌+◌}
-use Rattle.std.specs.Prelude.{Bool, ◌==◌, ◌||◌, List, ◌∷◌}
+use Rattle.std.{proofs.Common.{◌≡◌, true, false, sym, ap, ◌∙◌, arith, refl, ℕ, ◌+◌}, specs.Prelude.{Bool, ◌==◌, ◌||◌, List, ◌∷◌}}
 use Rattle.yaml_flow.proofs.Prelude.{len_utf8, rest, char_at, rest-end, first, ends_entry, sign_there}
 use Rattle.yaml_flow.proofs.pair.entry_ends.Goals as goal
 

@@ -1,11 +1,9 @@
 use Rattle.std.proofs.Common.{◌≡◌, true, false, sym, subst, ◌∙◌, arith, length, ◌-◌, ◌*◌, ◌≤◌}
 use Rattle.yaml_flow.proofs.Prelude.{err_from_is_err_and, rest, context_of, is_colon, NoGap, fault_passed, faults_so, ok_so}
-use Rattle.yaml_flow.specs.declared.collection.Part.TheVariants.{Value}
+use Rattle.yaml_flow.proofs.{Results.ok_two, Stacks.{in_flow_widens, kept_then}, ColonSteps.{colon_read, colon_refused, node_dead}}
+use Rattle.yaml_flow.{proofs.NodeSteps.{entry_alone, not_value, the_value, value_read}, specs.declared.collection.Part.TheVariants.Value}
 use Rattle.yaml_flow.specs.Frames.{AtColon, Collection, LineMoves, NodeRead, NoPair, Onward, SameLine, Stands, ends_plain, in_sequence}
 use Rattle.yaml_flow.specs.Frames.{place_of, steps_left}
-use Rattle.yaml_flow.proofs.{Results.ok_two, Stacks.in_flow_widens, Stacks.kept_then}
-use Rattle.yaml_flow.proofs.ColonSteps.{colon_read, colon_refused, node_dead}
-use Rattle.yaml_flow.proofs.NodeSteps.{entry_alone, not_value, the_value, value_read}
 use Rattle.yaml_flow.proofs.pair.plug.Goals as goal
 
 pub returns-in_err-after-clause-none : goal.returns-in_err-after-clause-none

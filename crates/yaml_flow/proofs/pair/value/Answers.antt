@@ -1,12 +1,10 @@
-use Rattle.std.proofs.Common.{◌≡◌, true, false, sym, subst, ap, ◌∙◌, arith, length, ℕ, ◌+◌, ◌-◌, ◌*◌, ◌<◌, ◌≤◌, refl}
-use Rattle.std.specs.Prelude.{Bool, not, ◌||◌, ◌&&◌, nat_lt, List, []}
+use Rattle.std.{proofs.Common.{◌≡◌, true, false, sym, subst, ap, ◌∙◌, arith, length, ℕ, ◌+◌, ◌-◌, ◌*◌, ◌<◌, ◌≤◌, refl}, specs.Prelude.Bool}
+use Rattle.std.specs.Prelude.{not, ◌||◌, ◌&&◌, nat_lt, List, []}
 use Rattle.yaml_flow.proofs.Prelude.{err_from_is_err_and, rest, context_of, omitted_at, omitted_style, scalar_event, FlowContext, one_line}
-use Rattle.yaml_flow.proofs.Prelude.{ends_entry, read_gap, NoGap, fault_passed, ok_so, sign_there}
-use Rattle.yaml_flow.specs.declared.collection.Part.TheVariants.{Value}
+use Rattle.yaml_flow.proofs.{Prelude.{ends_entry, read_gap, NoGap, fault_passed, ok_so, sign_there}, Results.ok_two, PairKeys.left_out}
+use Rattle.yaml_flow.proofs.{SameLines.sign_then, Stacks.kept_then, Signs.not_starting, Appends.{appended_one, appended_then}}
+use Rattle.yaml_flow.{proofs.ColonSteps.{pair_without_value, value_dead, value_waits}, specs.declared.collection.Part.TheVariants.Value}
 use Rattle.yaml_flow.specs.Frames.{LineMoves, Onward, Passes, Stands, ends_plain, in_sequence, pair_end, place_of, steps_left}
-use Rattle.yaml_flow.proofs.{Results.ok_two, PairKeys.left_out, SameLines.sign_then, Stacks.kept_then, Signs.not_starting}
-use Rattle.yaml_flow.proofs.Appends.{appended_one, appended_then}
-use Rattle.yaml_flow.proofs.ColonSteps.{pair_without_value, value_dead, value_waits}
 use Rattle.yaml_flow.proofs.pair.value.Goals as goal
 
 -- the code's test is the recognizer's

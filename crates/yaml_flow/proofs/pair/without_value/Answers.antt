@@ -1,8 +1,6 @@
-use Rattle.std.proofs.Common.{ap, sym, ◌∙◌}
-use Rattle.std.specs.Prelude.{[], ◌++◌}
-use Rattle.yaml_flow.proofs.Prelude.{omitted_at, omitted_style, scalar_event, ok_so}
+use Rattle.std.{proofs.Common.{ap, sym, ◌∙◌}, specs.Prelude.{[], ◌++◌}}
+use Rattle.yaml_flow.proofs.{Prelude.{omitted_at, omitted_style, scalar_event, ok_so}, Appends.{appended_as, appended_one, appended_then}}
 use Rattle.yaml_flow.specs.Frames.{absent_events, in_sequence, pair_end}
-use Rattle.yaml_flow.proofs.Appends.{appended_as, appended_one, appended_then}
 use Rattle.yaml_flow.proofs.pair.without_value.Goals as goal
 
 pub returns-clause-written : goal.returns-clause-written

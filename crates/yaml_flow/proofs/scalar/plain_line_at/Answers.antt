@@ -1,6 +1,5 @@
 use Rattle.std.proofs.Common.{ap, refl, subst, sym}
-use Rattle.yaml_flow.proofs.Prelude.{chars, context_of, ScalarAt, plain_style}
-use Rattle.yaml_flow.proofs.ScalarKinds.{scalar_read}
+use Rattle.yaml_flow.proofs.{Prelude.{chars, context_of, ScalarAt, plain_style}, ScalarKinds.scalar_read}
 use Rattle.yaml_flow.proofs.scalar.plain_line_at.Goals as goal
 
 pub returns : goal.returns

@@ -1,11 +1,9 @@
-use Rattle.std.proofs.Common.{◌≡◌, refl, sym, subst, arith, ◌+◌, None}
-use Rattle.std.specs.Prelude.{slice_range}
-use Rattle.yaml_flow_scalars.proofs.Prelude.{string_bytes, chars, rest, IsRun, double_style, context_of, fault_kept}
-use Rattle.yaml_flow_scalars.specs.{Standing.ScalarAt, Standing.NoScalarAt, DoubleScan.double_value, DoubleScan.raw_char}
-use Rattle.yaml_flow_scalars.proofs.DoublePlaces.{stands, stands_not, after_byte, raw_run}
-use Rattle.yaml_flow_scalars.proofs.DoubleFound.{no_quote_at, none_after, scalar_there, run_closes, not_verbatim}
-use Rattle.yaml_flow_scalars.proofs.InsideLines.{ends_inside_line}
-use Rattle.yaml_flow_scalars.proofs.Unbroken.{opened_unbroken, raw_unbroken, run_closed_unbroken}
+use Rattle.std.{proofs.Common.{◌≡◌, refl, sym, subst, arith, ◌+◌, None}, specs.Prelude.slice_range}
+use Rattle.yaml_flow_scalars.proofs.{Prelude.{string_bytes, chars, rest, IsRun, double_style, context_of, fault_kept}, DoublePlaces.stands}
+use Rattle.yaml_flow_scalars.proofs.{DoublePlaces.{stands_not, after_byte, raw_run}, DoubleFound.{no_quote_at, none_after, scalar_there}}
+use Rattle.yaml_flow_scalars.proofs.{DoubleFound.{run_closes, not_verbatim}, InsideLines.ends_inside_line, Unbroken.opened_unbroken}
+use Rattle.yaml_flow_scalars.{proofs.Unbroken.{raw_unbroken, run_closed_unbroken}, specs.Standing.{ScalarAt, NoScalarAt}}
+use Rattle.yaml_flow_scalars.specs.DoubleScan.{double_value, raw_char}
 use Rattle.yaml_flow_scalars.proofs.double_quoted.double.Goals as goal
 
 pub returns-then-not-stands_at-clause-none : goal.returns-then-not-stands_at-clause-none

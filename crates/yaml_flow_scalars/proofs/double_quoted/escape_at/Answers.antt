@@ -1,7 +1,6 @@
 use Rattle.std.proofs.Common.{◌≡◌, ap, sym, subst, arith, ℕ, ◌+◌, get_or}
-use Rattle.yaml_flow_scalars.specs.DoubleScan.{EscapeAt}
-use Rattle.yaml_flow_scalars.proofs.DoublePlaces.{after_byte, escape_cut, escape_there, no_escape, no_number, no_char, number_there}
-use Rattle.yaml_flow_scalars.proofs.DoublePlaces.{counted_none, counted_some, counted_is_ascii}
+use Rattle.yaml_flow_scalars.{specs.DoubleScan.EscapeAt, proofs.DoublePlaces.{after_byte, escape_cut, escape_there, no_escape, no_number}}
+use Rattle.yaml_flow_scalars.proofs.DoublePlaces.{no_char, number_there, counted_none, counted_some, counted_is_ascii}
 use Rattle.yaml_flow_scalars.proofs.double_quoted.escape_at.Goals as goal
 
 pub returns-then-sign-bytes-clause-none : goal.returns-then-sign-bytes-clause-none

@@ -1,8 +1,6 @@
 use Rattle.std.proofs.Common.{◌≡◌, ◌∙◌, ap, sym, subst, arith, ◌+◌, ◌-◌, get_or}
-use Rattle.yaml_flow_scalars.proofs.Prelude.{hex_digit}
-use Rattle.yaml_flow_scalars.specs.DoubleScan.{IsDigit}
-use Rattle.yaml_flow_scalars.proofs.DoublePlaces.{DigitsTo, digits_none, digits_more, digits_all, digits_end, digits_broken, number_fits}
-use Rattle.yaml_flow_scalars.proofs.DoublePlaces.{digit_fits}
+use Rattle.yaml_flow_scalars.proofs.{Prelude.hex_digit, DoublePlaces.{DigitsTo, digits_none, digits_more, digits_all, digits_end}}
+use Rattle.yaml_flow_scalars.{proofs.DoublePlaces.{digits_broken, number_fits, digit_fits}, specs.DoubleScan.IsDigit}
 use Rattle.yaml_flow_scalars.proofs.double_quoted.hex_number.Goals as goal
 
 pub loop-end-init : goal.loop-end-init

@@ -1,11 +1,8 @@
 use Rattle.std.proofs.Common.{◌∙◌, sym, arith, true, false}
-use Rattle.yaml_flow_scalars.proofs.Prelude.{context_of, refuses}
-use Rattle.yaml_flow_scalars.specs.DoubleScan.{NoJoinAt}
-use Rattle.yaml_flow_scalars.proofs.DoublePlaces.{stands, stands_not, after_byte}
-use Rattle.yaml_flow_scalars.proofs.DoubleAdds.{two_joins, no_second, unbroken_refused, key_refused, unfolded_refused, second_refused}
-use Rattle.yaml_flow_scalars.proofs.DoubleAdds.{joins}
+use Rattle.yaml_flow_scalars.proofs.{Prelude.{context_of, refuses}, DoublePlaces.{stands, stands_not, after_byte}, DoubleAdds.two_joins}
+use Rattle.yaml_flow_scalars.proofs.DoubleAdds.{no_second, unbroken_refused, key_refused, unfolded_refused, second_refused, joins}
 use Rattle.yaml_flow_scalars.proofs.double_quoted.line_after.Goals.{else-stands_at-via-then-stands_at+else-breaks_at}
-use Rattle.yaml_flow_scalars.proofs.double_quoted.line_after.Goals.{else-stands_at-via-else-stands_at}
+use Rattle.yaml_flow_scalars.{proofs.double_quoted.line_after.Goals.else-stands_at-via-else-stands_at, specs.DoubleScan.NoJoinAt}
 use Rattle.yaml_flow_scalars.proofs.double_quoted.line_after.Goals as goal
 
 pub returns-then-not-breaks_at-clause-err : goal.returns-then-not-breaks_at-clause-err

@@ -1,8 +1,7 @@
 use Rattle.std.proofs.Common.{◌≡◌, arith, ◌+◌, [], None, true}
 use Rattle.yaml_flow_scalars.proofs.Prelude.{string_bytes, err_from_is_err_and, IsUtf8-string_bytes, rest, context_of, fault_passed}
+use Rattle.yaml_flow_scalars.proofs.{DoublePlaces.after_byte, DoubleAdds.{escape_adds, begins_escaped, escaped_join_adds}}
 use Rattle.yaml_flow_scalars.specs.DoubleScan.{double_value, NoJoinAt}
-use Rattle.yaml_flow_scalars.proofs.DoublePlaces.{after_byte}
-use Rattle.yaml_flow_scalars.proofs.DoubleAdds.{escape_adds, begins_escaped, escaped_join_adds}
 use Rattle.yaml_flow_scalars.proofs.double_quoted.push_escape.Goals as goal
 
 pub returns-in-Some-clause-ok : goal.returns-in-Some-clause-ok

@@ -1,9 +1,9 @@
 use Rattle.std.proofs.Common.{◌≡◌, ◌∙◌, sym, ap, arith, ◌++◌, None, false}
 use Rattle.yaml_flow_scalars.proofs.Prelude.{string_bytes, IfOk-weaker, IfErr-weaker, err_from_is_err_and, IsUtf8-string_bytes, rest}
-use Rattle.yaml_flow_scalars.proofs.Prelude.{between, context_of, Refuses, at_break, fault_passed, refuses_so}
-use Rattle.yaml_flow_scalars.specs.{Folds.IsWhiteStart, DoubleScan.double_value, DoubleScan.Adds, DoubleScan.NoJoinAt}
-use Rattle.yaml_flow_scalars.proofs.DoublePlaces.{stands, stands_not, byte_read}
-use Rattle.yaml_flow_scalars.proofs.DoubleAdds.{adds_more, adds_none, run_adds, inked_adds, run_stray, begins_white, folded_join_adds}
+use Rattle.yaml_flow_scalars.proofs.{Prelude.{between, context_of, Refuses, at_break, fault_passed, refuses_so}, DoublePlaces.stands}
+use Rattle.yaml_flow_scalars.proofs.{DoublePlaces.{stands_not, byte_read}, DoubleAdds.{adds_more, adds_none, run_adds, inked_adds}}
+use Rattle.yaml_flow_scalars.{proofs.DoubleAdds.{run_stray, begins_white, folded_join_adds}, specs.Folds.IsWhiteStart}
+use Rattle.yaml_flow_scalars.specs.DoubleScan.{double_value, Adds, NoJoinAt}
 use Rattle.yaml_flow_scalars.proofs.double_quoted.push_run.Goals as goal
 
 pub returns-then-stands_at-clause-ok : goal.returns-then-stands_at-clause-ok

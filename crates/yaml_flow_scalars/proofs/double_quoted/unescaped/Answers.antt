@@ -1,7 +1,6 @@
 use Rattle.std.proofs.Common.{◌≡◌, ◌∙◌, ap, subst, arith, ◌++◌, ◌<◌, [], inl, inr, length, get_or}
-use Rattle.yaml_flow_scalars.proofs.Prelude.{cases_lt, string_bytes, IsUtf8-string_bytes, context_of, at_break}
-use Rattle.yaml_flow_scalars.proofs.DoublePlaces.{stands, stands_not, byte_read, after_byte, raw_run}
-use Rattle.yaml_flow_scalars.proofs.DoubleAdds.{adds_more, run_adds, closes}
+use Rattle.yaml_flow_scalars.proofs.{Prelude.{cases_lt, string_bytes, IsUtf8-string_bytes, context_of, at_break}, DoublePlaces.stands}
+use Rattle.yaml_flow_scalars.proofs.{DoublePlaces.{stands_not, byte_read, after_byte, raw_run}, DoubleAdds.{adds_more, run_adds, closes}}
 use Rattle.yaml_flow_scalars.proofs.double_quoted.unescaped.Goals as goal
 
 pub returns-clause-ok : goal.returns-clause-ok

@@ -1,6 +1,5 @@
 use Rattle.std.proofs.Common.{◌≤◌, ◌-◌, length, []}
-use Rattle.yaml_flow_scalars.proofs.Prelude.{string_bytes, IsRun, context_of}
-use Rattle.yaml_flow_scalars.specs.DoubleScan.{raw_char, Adds}
+use Rattle.yaml_flow_scalars.{proofs.Prelude.{string_bytes, IsRun, context_of}, specs.DoubleScan.{raw_char, Adds}}
 use Rattle.yaml_flow_scalars.proofs.double_quoted.unescaped.Given as goal
 
 abbrev pub invariant-runs : goal.invariant-runs

@@ -1,6 +1,5 @@
 use Rattle.std.proofs.Common.{inl, inr, sym, ◌∙◌}
-use Rattle.yaml_flow_scalars.proofs.Prelude.{not-false, not-true, rest, no_break}
-use Rattle.yaml_flow_scalars.proofs.FoldSteps.{fold_there, folding_goes_on, no_fold_there}
+use Rattle.yaml_flow_scalars.proofs.{Prelude.{not-false, not-true, rest, no_break}, FoldSteps.{fold_there, folding_goes_on, no_fold_there}}
 use Rattle.yaml_flow_scalars.proofs.fold.fold_at.Goals.{then-not-prefix-via-then-not-prefix}
 use Rattle.yaml_flow_scalars.proofs.fold.fold_at.Goals.{then-not-prefix-via-else-not-prefix+then-is_marker}
 use Rattle.yaml_flow_scalars.proofs.fold.fold_at.Goals as goal

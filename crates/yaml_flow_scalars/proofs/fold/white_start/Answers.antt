@@ -1,6 +1,5 @@
 use Rattle.std.proofs.Common.{◌-◌, ◌∙◌, ap, sym, arith, get_or}
-use Rattle.yaml_flow_scalars.proofs.Prelude.{white}
-use Rattle.yaml_flow_scalars.proofs.WhiteEnds.{white_start_is}
+use Rattle.yaml_flow_scalars.proofs.{Prelude.white, WhiteEnds.white_start_is}
 use Rattle.yaml_flow_scalars.proofs.fold.white_start.Goals as goal
 
 pub returns-else-is_white : goal.returns-else-is_white

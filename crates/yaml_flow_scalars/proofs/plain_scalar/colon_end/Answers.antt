@@ -1,6 +1,5 @@
 use Rattle.std.proofs.Common.{◌∙◌, sym}
-use Rattle.yaml_flow_scalars.proofs.Prelude.{context_of}
-use Rattle.yaml_flow_scalars.proofs.PlainWords.{colon_goes_on, colon_splits, colon_stops}
+use Rattle.yaml_flow_scalars.proofs.{Prelude.context_of, PlainWords.{colon_goes_on, colon_splits, colon_stops}}
 use Rattle.yaml_flow_scalars.proofs.plain_scalar.colon_end.Goals as goal
 
 pub safe_at-requires : goal.safe_at-requires

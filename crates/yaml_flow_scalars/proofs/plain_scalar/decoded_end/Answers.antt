@@ -1,7 +1,6 @@
 use Rattle.std.proofs.Common.{◌≡◌, ◌∙◌, ◌+◌, ◌<◌, ◌≤◌, ℕ, Bool, true, false, arith, inl, inr, length, sym}
-use Rattle.yaml_flow_scalars.proofs.Prelude.{cases_lt, false≢true, len_utf8_bounds, context_of}
-use Rattle.yaml_flow_scalars.specs.PlainPlaces.{is_content}
-use Rattle.yaml_flow_scalars.proofs.{PlainPieces.one_piece, PlainWords.none_at_end}
+use Rattle.yaml_flow_scalars.proofs.{Prelude.{cases_lt, false≢true, len_utf8_bounds, context_of}, PlainPieces.one_piece}
+use Rattle.yaml_flow_scalars.{proofs.PlainWords.none_at_end, specs.PlainPlaces.is_content}
 use Rattle.yaml_flow_scalars.proofs.plain_scalar.decoded_end.Goals as goal
 
 ended : (at end : ℕ) → (at < end → ◌≡◌ {A = Bool} false true) → end ≤ at

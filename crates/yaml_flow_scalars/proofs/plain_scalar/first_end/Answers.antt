@@ -1,7 +1,6 @@
 use Rattle.std.proofs.Common.{◌≡◌, ◌<◌, ◌≤◌, ℕ, Bool, true, false, ap, inl, inr, length, sym, ◌∙◌}
-use Rattle.yaml_flow_scalars.proofs.Prelude.{cases_lt, false≢true, context_of, line_starts, rest-end}
+use Rattle.yaml_flow_scalars.proofs.{Prelude.{cases_lt, false≢true, context_of, line_starts, rest-end}, PlainWords.letter_begins_at}
 use Rattle.yaml_flow_scalars.specs.PlainPlaces.{begins_plain}
-use Rattle.yaml_flow_scalars.proofs.PlainWords.{letter_begins_at}
 use Rattle.yaml_flow_scalars.proofs.plain_scalar.first_end.Goals as goal
 
 ended : (at end : ℕ) → (at < end → ◌≡◌ {A = Bool} false true) → end ≤ at

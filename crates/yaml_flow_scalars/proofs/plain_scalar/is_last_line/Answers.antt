@@ -1,5 +1,4 @@
-use Rattle.yaml_flow_scalars.proofs.Prelude.{context_of}
-use Rattle.yaml_flow_scalars.proofs.PlainLines.{no_fold_no_line}
+use Rattle.yaml_flow_scalars.proofs.{Prelude.context_of, PlainLines.no_fold_no_line}
 use Rattle.yaml_flow_scalars.proofs.plain_scalar.is_last_line.Goals as goal
 
 pub returns-in-None : goal.returns-in-None

@@ -1,7 +1,5 @@
 use Rattle.std.proofs.Common.{◌<◌, arith, ap, sym, ◌∙◌, get_or, length, nat_lt}
-use Rattle.yaml_flow_scalars.proofs.Prelude.{first_there, past_end}
-use Rattle.yaml_flow_scalars.specs.PlainPlaces.{letter_or_digit}
-use Rattle.yaml_flow_scalars.proofs.PlainWords.{blind-letter_or_digit}
+use Rattle.yaml_flow_scalars.{proofs.{Prelude.{first_there, past_end}, PlainWords.blind-letter_or_digit}, specs.PlainPlaces.letter_or_digit}
 use Rattle.yaml_flow_scalars.proofs.plain_scalar.letter_or_digit_at.Goals as goal
 
 pub returns-then-at-bytes : goal.returns-then-at-bytes

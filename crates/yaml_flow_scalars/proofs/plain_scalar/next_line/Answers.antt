@@ -1,6 +1,5 @@
 use Rattle.std.proofs.Common.{sym, ◌∙◌, arith}
-use Rattle.yaml_flow_scalars.proofs.Prelude.{context_of}
-use Rattle.yaml_flow_scalars.proofs.PlainLines.{no_fold_no_line, empty_no_line, next_line_is}
+use Rattle.yaml_flow_scalars.proofs.{Prelude.context_of, PlainLines.{no_fold_no_line, empty_no_line, next_line_is}}
 use Rattle.yaml_flow_scalars.proofs.plain_scalar.next_line.Goals as goal
 
 pub returns-in_default-clause-none : goal.returns-in_default-clause-none

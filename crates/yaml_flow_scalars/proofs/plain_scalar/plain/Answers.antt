@@ -1,9 +1,8 @@
 use Rattle.std.proofs.Common.{◌≡◌, ◌∙◌, ◌++◌, sym, ap, append-nil, append_assoc, arith}
 use Rattle.yaml_flow_scalars.proofs.Prelude.{chars, string_bytes, err_from_is_err_and, between, context_of, plain_style, folded_break}
-use Rattle.yaml_flow_scalars.proofs.Prelude.{fault_passed}
-use Rattle.yaml_flow_scalars.specs.{PlainPlaces.NoPlainBegins, PlainPlaces.lines_value, Standing.NoScalarAt}
-use Rattle.yaml_flow_scalars.proofs.{InsideLines.ends_inside_line, PlainLines.lines_step, PlainLines.lines_stop}
+use Rattle.yaml_flow_scalars.proofs.{Prelude.fault_passed, InsideLines.ends_inside_line, PlainLines.{lines_step, lines_stop}}
 use Rattle.yaml_flow_scalars.proofs.PlainFound.{plain_found, plain_missing, line_breaks, first_line_unbroken}
+use Rattle.yaml_flow_scalars.specs.{PlainPlaces.{NoPlainBegins, lines_value}, Standing.NoScalarAt}
 use Rattle.yaml_flow_scalars.proofs.plain_scalar.plain.Goals as goal
 
 pub returns-in_err-after-clause-none : goal.returns-in_err-after-clause-none

@@ -1,6 +1,5 @@
 use Rattle.std.proofs.Common.{◌∙◌, ◌++◌, ◌+◌, ap, append-nil, arith, sym}
-use Rattle.yaml_flow_scalars.proofs.Prelude.{between, context_of}
-use Rattle.yaml_flow_scalars.proofs.{PlainLines.lines_stop, PlainWords.letter_begins_at}
+use Rattle.yaml_flow_scalars.proofs.{Prelude.{between, context_of}, PlainLines.lines_stop, PlainWords.letter_begins_at}
 use Rattle.yaml_flow_scalars.proofs.PlainFound.{first_line_unbroken, plain_found}
 use Rattle.yaml_flow_scalars.proofs.plain_scalar.plain_first_line_end.Goals as goal
 

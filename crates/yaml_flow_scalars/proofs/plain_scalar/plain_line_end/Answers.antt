@@ -1,5 +1,4 @@
-use Rattle.yaml_flow_scalars.proofs.Prelude.{between, context_of, plain_style}
-use Rattle.yaml_flow_scalars.proofs.InsideLines.{ends_inside_line}
+use Rattle.yaml_flow_scalars.proofs.{Prelude.{between, context_of, plain_style}, InsideLines.ends_inside_line}
 use Rattle.yaml_flow_scalars.proofs.plain_scalar.plain_line_end.Goals as goal
 
 pub returns-clause-found : goal.returns-clause-found

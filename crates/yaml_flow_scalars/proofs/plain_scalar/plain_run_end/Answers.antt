@@ -1,9 +1,6 @@
-use Rattle.std.proofs.Common.{◌∙◌, ap, arith, subst, sym}
-use Rattle.std.specs.Prelude.{◌&&◌, ◌||◌, ◌==◌, nat_lt, slice_index}
-use Rattle.yaml_flow_scalars.proofs.Prelude.{IsRun, context_of, word}
-use Rattle.yaml_flow_scalars.specs.PlainPlaces.{is_content, IsPlainPiece, NoPlainPiece}
-use Rattle.yaml_flow_scalars.proofs.PlainPieces.{goes_from, piece_more, run_ends_at}
-use Rattle.yaml_flow_scalars.proofs.PlainWords.{white_after, words_more}
+use Rattle.std.{proofs.Common.{◌∙◌, ap, arith, subst, sym}, specs.Prelude.{◌&&◌, ◌||◌, ◌==◌, nat_lt, slice_index}}
+use Rattle.yaml_flow_scalars.proofs.{Prelude.{IsRun, context_of, word}, PlainPieces.{goes_from, piece_more, run_ends_at}}
+use Rattle.yaml_flow_scalars.{proofs.PlainWords.{white_after, words_more}, specs.PlainPlaces.{is_content, IsPlainPiece, NoPlainPiece}}
 use Rattle.yaml_flow_scalars.proofs.plain_scalar.plain_run_end.Goals as goal
 
 pub runs-init : goal.runs-init

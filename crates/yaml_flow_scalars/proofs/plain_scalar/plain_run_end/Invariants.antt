@@ -1,7 +1,5 @@
 use Rattle.std.proofs.Common.{◌-◌, ◌≤◌, length}
-use Rattle.yaml_flow_scalars.proofs.Prelude.{IsCharBoundary, context_of}
-use Rattle.yaml_flow_scalars.specs.PlainPlaces.{is_content}
-use Rattle.yaml_flow_scalars.proofs.PlainPieces.{GoesOn}
+use Rattle.yaml_flow_scalars.{proofs.{Prelude.{IsCharBoundary, context_of}, PlainPieces.GoesOn}, specs.PlainPlaces.is_content}
 use Rattle.yaml_flow_scalars.proofs.plain_scalar.plain_run_end.Given as goal
 
 abbrev pub invariant-runs : goal.invariant-runs

@@ -1,7 +1,6 @@
 use Rattle.std.proofs.Common.{◌≡◌, ◌∙◌, ◌++◌, arith}
 use Rattle.yaml_flow_scalars.proofs.Prelude.{chars, string_bytes, IsUtf8-string_bytes, between, context_of, folded_break}
-use Rattle.yaml_flow_scalars.specs.PlainPlaces.{lines_value}
-use Rattle.yaml_flow_scalars.proofs.PlainLines.{line_pushed, lines_step, lines_stop, line_next, line_last}
+use Rattle.yaml_flow_scalars.{proofs.PlainLines.{line_pushed, lines_step, lines_stop, line_next, line_last}, specs.PlainPlaces.lines_value}
 use Rattle.yaml_flow_scalars.proofs.plain_scalar.push_lines.Goals as goal
 
 pub lines-preserved : goal.lines-preserved

@@ -1,7 +1,6 @@
 use Rattle.std.proofs.Common.{◌<◌, ◌∙◌, ap, arith, get_or, length}
-use Rattle.yaml_flow_scalars.proofs.Prelude.{context_of, none_so, some_so}
+use Rattle.yaml_flow_scalars.proofs.{Prelude.{context_of, none_so, some_so}, PlainWords.{no_special, none_at_end}}
 use Rattle.yaml_flow_scalars.specs.PlainPlaces.{is_content, IsPlainPiece, NoPlainPiece}
-use Rattle.yaml_flow_scalars.proofs.PlainWords.{no_special, none_at_end}
 use Rattle.yaml_flow_scalars.proofs.plain_scalar.special_end.Goals as goal
 
 pub returns-then-at-bytes-clause-none : goal.returns-then-at-bytes-clause-none

@@ -1,11 +1,8 @@
-use Rattle.std.proofs.Common.{◌+◌, ◌≡◌, ◌∙◌, sym, arith, false, refl, true, None}
+use Rattle.std.{proofs.Common.{◌+◌, ◌≡◌, ◌∙◌, sym, arith, false, refl, true, None}, specs.Cow.cow_str_bytes}
 use Rattle.yaml_flow_scalars.proofs.Prelude.{chars, rest, context_of, Refuses, line_starts, single_style, first, quote, err_so, ok_so}
-use Rattle.yaml_flow_scalars.proofs.Prelude.{refuses_so}
-use Rattle.std.specs.Cow.{cow_str_bytes}
-use Rattle.yaml_flow_scalars.specs.Standing.{IsUnbroken, NoScalarAt, ScalarAt}
+use Rattle.yaml_flow_scalars.proofs.{Prelude.refuses_so, Results.ok_both, InsideLines.ends_inside_line, Unbroken.opened_unbroken}
+use Rattle.yaml_flow_scalars.{proofs.SinglePlaces.{no_single, quote_at, single_found}, specs.Standing.{IsUnbroken, NoScalarAt, ScalarAt}}
 use Rattle.yaml_flow_scalars.specs.SingleScalars.{IsInside, read_inside}
-use Rattle.yaml_flow_scalars.proofs.{Results.ok_both, InsideLines.ends_inside_line, Unbroken.opened_unbroken}
-use Rattle.yaml_flow_scalars.proofs.SinglePlaces.{no_single, quote_at, single_found}
 use Rattle.yaml_flow_scalars.proofs.single_quoted.single.Goals as goal
 
 pub unquoted-requires-clause-start : goal.unquoted-requires-clause-start

@@ -1,9 +1,8 @@
 use Rattle.std.proofs.Common.{sym, ◌≡◌, refl, ◌+◌, ◌-◌, ◌++◌, ◌∙◌, ap, subst, true, false, arith, slice_range}
 use Rattle.yaml_flow_scalars.proofs.Prelude.{AllPass, string_bytes, IsUtf8-string_bytes, IsRun, rest, first, quote, context_of, refuses}
-use Rattle.yaml_flow_scalars.specs.SingleScalars.{content, is_unchanged}
 use Rattle.yaml_flow_scalars.proofs.SinglePlaces.{quote_at, begun, changed_before, fold_changed, goes_past_fold, goes_past_pair}
 use Rattle.yaml_flow_scalars.proofs.SinglePlaces.{quote_changed, reads_at_once, reads_none, reads_to_close, running}
-use Rattle.yaml_flow_scalars.proofs.Unbroken.{content_unbroken, run_closed_unbroken}
+use Rattle.yaml_flow_scalars.{proofs.Unbroken.{content_unbroken, run_closed_unbroken}, specs.SingleScalars.{content, is_unchanged}}
 use Rattle.yaml_flow_scalars.proofs.single_quoted.unquoted.Goals as goal
 
 pub runs-init : goal.runs-init

@@ -1,7 +1,6 @@
 use Rattle.std.proofs.Common.{◌≡◌, ◌++◌, length, take, drop, subst, ap, ap₂, ◌∙◌, sym, arith}
 use Rattle.yaml_forms.proofs.Prelude.{chars, boundary_past_char, drop_char, chars_empty, run_boundary, spelled_run, spelled_one}
-use Rattle.yaml_forms.specs.Json.{json_char, json_chars}
-use Rattle.yaml_forms.proofs.StringLemmas.{json_spells}
+use Rattle.yaml_forms.{proofs.StringLemmas.json_spells, specs.Json.{json_char, json_chars}}
 use Rattle.yaml_forms.proofs.json_string.write_json_chars.Goals as goal
 
 pub range-requires-clause-end_boundary : goal.range-requires-clause-end_boundary

@@ -1,9 +1,8 @@
 use Rattle.std.proofs.Common.{◌+◌, drop, codes, subst, refl, sym, ap, ◌∙◌, arith}
 use Rattle.yaml_forms.proofs.Prelude.{eqb-true, eqb-false, drop_all, on_ok_weaker, chars, tree_of, elements_of, members_of, drop_item}
-use Rattle.yaml_forms.proofs.Prelude.{tree_of-Text, tree_of-Seq, tree_of-Map, chars-literal}
-use Rattle.yaml_forms.specs.Json.{json_text, json_member}
-use Rattle.yaml_forms.proofs.WalkLemmas.{elements_led, members_led, elements_led-same, members_led-same, sequence-empty, mapping-empty}
-use Rattle.yaml_forms.proofs.WalkLemmas.{sequence-led, mapping-led, part_taken}
+use Rattle.yaml_forms.proofs.{Prelude.{tree_of-Text, tree_of-Seq, tree_of-Map, chars-literal}, WalkLemmas.{elements_led, members_led}}
+use Rattle.yaml_forms.proofs.WalkLemmas.{elements_led-same, members_led-same, sequence-empty, mapping-empty, sequence-led, mapping-led}
+use Rattle.yaml_forms.{proofs.WalkLemmas.part_taken, specs.Json.{json_text, json_member}}
 use Rattle.yaml_grammar.specs.Trees as grammar
 use Rattle.yaml_forms.proofs.json_tree.+json.Goals as goal
 

@@ -1,6 +1,5 @@
 use Rattle.std.proofs.Common.{drop}
-use Rattle.yaml_forms.proofs.Prelude.{elements_of, members_of}
-use Rattle.yaml_forms.proofs.WalkLemmas.{elements_led, members_led}
+use Rattle.yaml_forms.proofs.{Prelude.{elements_of, members_of}, WalkLemmas.{elements_led, members_led}}
 use Rattle.yaml_forms.proofs.json_tree.+json.Given as goal
 
 -- what ends the elements that are left ends all of them from the start

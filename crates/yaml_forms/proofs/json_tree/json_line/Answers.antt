@@ -1,7 +1,5 @@
 use Rattle.std.proofs.Common.{◌++◌, codes, encode_utf8_all, string_bytes, ap, ◌∙◌}
-use Rattle.yaml_forms.proofs.Prelude.{tree_of}
-use Rattle.yaml_writer.specs.Encoded.{encoded_both}
-use Rattle.yaml_forms.specs.Json.{json_text, json_line}
+use Rattle.{yaml_forms.{proofs.Prelude.tree_of, specs.Json.{json_text, json_line}}, yaml_writer.specs.Encoded.encoded_both}
 use Rattle.yaml_forms.proofs.json_tree.json_line.Goals as goal
 
 pub returns : goal.returns

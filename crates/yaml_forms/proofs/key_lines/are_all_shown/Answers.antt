@@ -1,7 +1,5 @@
-use Rattle.std.proofs.Common.{rules}
+use Rattle.std.proofs.{Common.rules, lemmas.Iterator.{YieldsList-from_chars, Search.all_from_yields_List}}
 use Rattle.yaml_forms.proofs.Prelude.{shown}
-use Rattle.std.proofs.lemmas.Iterator.{YieldsList-from_chars}
-use Rattle.std.proofs.lemmas.Iterator.Search.{all_from_yields_List}
 use borrow.Author.Tests.{tests}
 use Rattle.yaml_forms.proofs.key_lines.are_all_shown.Goals as goal
 

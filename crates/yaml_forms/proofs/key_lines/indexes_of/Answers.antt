@@ -1,7 +1,6 @@
 use Rattle.std.proofs.Common.{◌+◌, ◌++◌, drop, encode_utf8_all, string_bytes, sym, ap, ◌∙◌, arith}
-use Rattle.yaml_forms.proofs.Prelude.{append-nil, drop_all, elements_of}
+use Rattle.yaml_forms.proofs.{Prelude.{append-nil, drop_all, elements_of}, LineLemmas.{line_pushed, index_here}}
 use Rattle.yaml_forms.specs.KeyLines.{index_lines}
-use Rattle.yaml_forms.proofs.LineLemmas.{line_pushed, index_here}
 use Rattle.yaml_forms.proofs.key_lines.indexes_of.Goals as goal
 
 pub loop-index-preserved : goal.loop-index-preserved

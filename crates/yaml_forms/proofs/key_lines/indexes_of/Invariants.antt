@@ -1,6 +1,5 @@
 use Rattle.std.proofs.Common.{◌≡◌, ◌++◌, drop, encode_utf8_all, string_bytes}
-use Rattle.yaml_forms.proofs.Prelude.{elements_of}
-use Rattle.yaml_forms.specs.KeyLines.{index_lines}
+use Rattle.yaml_forms.{proofs.Prelude.elements_of, specs.KeyLines.index_lines}
 use Rattle.yaml_forms.proofs.key_lines.indexes_of.Given as goal
 
 -- the lines so far, and then those of the elements that are left, are all of them

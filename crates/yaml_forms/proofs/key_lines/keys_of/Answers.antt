@@ -1,7 +1,6 @@
 use Rattle.std.proofs.Common.{◌+◌, ◌++◌, drop, codes, encode_utf8_all, string_bytes, sym, ap, ◌∙◌, arith}
-use Rattle.yaml_forms.proofs.Prelude.{append-nil, drop_all, chars, members_of, drop_item}
+use Rattle.yaml_forms.proofs.{Prelude.{append-nil, drop_all, chars, members_of, drop_item}, LineLemmas.line_pushed}
 use Rattle.yaml_forms.specs.KeyLines.{key_in_line, member_lines}
-use Rattle.yaml_forms.proofs.LineLemmas.{line_pushed}
 use Rattle.yaml_forms.proofs.key_lines.keys_of.Goals as goal
 
 pub loop-key-preserved : goal.loop-key-preserved

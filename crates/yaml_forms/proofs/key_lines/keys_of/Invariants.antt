@@ -1,6 +1,5 @@
 use Rattle.std.proofs.Common.{◌≡◌, ◌++◌, drop, encode_utf8_all, string_bytes}
-use Rattle.yaml_forms.proofs.Prelude.{members_of}
-use Rattle.yaml_forms.specs.KeyLines.{member_lines}
+use Rattle.yaml_forms.{proofs.Prelude.members_of, specs.KeyLines.member_lines}
 use Rattle.yaml_forms.proofs.key_lines.keys_of.Given as goal
 
 -- the lines so far, and then those of the keys that are left, are all of them

@@ -3,11 +3,10 @@ use Rattle.yaml_forms.proofs.Prelude.{eqb-true, eqb-false, drop_all, on_ok_weake
 use Rattle.yaml_forms.proofs.Prelude.{key_lines, tree_of, elements_of, members_of, drop_item, tree_of-Text, tree_of-Seq, tree_of-Map}
 use Rattle.yaml_forms.proofs.Prelude.{chars-literal}
 use denote.Param.Weighed.{at_most}
-use Rattle.yaml_writer.proofs.WalkLemmas.{line_taken, none_taken}
-use Rattle.yaml_forms.specs.PlainForm.{elements_at, lines_after_dash, members_at, value_at}
-use Rattle.yaml_forms.proofs.PlainWalk.{elements_led, members_led, elements_led-same, members_led-same, elements_led-first}
-use Rattle.yaml_forms.proofs.PlainWalk.{members_led-first, elements_at-empty, members_at-empty, sequence_value-empty, mapping_value-empty}
-use Rattle.yaml_forms.proofs.PlainWalk.{sequence_value, mapping_value}
+use Rattle.{yaml_writer.proofs.WalkLemmas.{line_taken, none_taken}, yaml_forms.specs.PlainForm.{elements_at, lines_after_dash, members_at}}
+use Rattle.yaml_forms.{specs.PlainForm.value_at, proofs.PlainWalk.{elements_led, members_led, elements_led-same, members_led-same}}
+use Rattle.yaml_forms.proofs.PlainWalk.{elements_led-first, members_led-first, elements_at-empty, members_at-empty, sequence_value-empty}
+use Rattle.yaml_forms.proofs.PlainWalk.{mapping_value-empty, sequence_value, mapping_value}
 use Rattle.yaml_grammar.specs.Trees as grammar
 use Rattle.yaml_forms.proofs.plain_form.+plain.Goals as goal
 

@@ -1,7 +1,7 @@
 use Rattle.std.proofs.Common.{ap, sym, subst, ◌∙◌, arith}
 use Rattle.yaml_forms.proofs.Prelude.{on_ok_weaker, chars, depth, elements_depth, members_depth, tree_of, elements_of, members_of}
-use Rattle.yaml_forms.proofs.Prelude.{tree_of-Text, tree_of-Seq, tree_of-Map}
-use Rattle.yaml_forms.specs.PlainForm.{elements_at, members_at, plain_text, value_lines}
+use Rattle.yaml_forms.{proofs.Prelude.{tree_of-Text, tree_of-Seq, tree_of-Map}, specs.PlainForm.{elements_at, members_at, plain_text}}
+use Rattle.yaml_forms.specs.PlainForm.{value_lines}
 use Rattle.yaml_forms.proofs.plain_form.write_plain.Goals as goal
 
 pub write_elements-requires : goal.write_elements-requires

@@ -1,6 +1,5 @@
 use Rattle.std.proofs.Common.{not, ◌&&◌, ap, ◌∙◌}
-use Rattle.yaml_forms.proofs.Prelude.{list_all}
-use Rattle.yaml_forms.specs.CoreScalars.{octal_digit}
+use Rattle.yaml_forms.{proofs.Prelude.list_all, specs.CoreScalars.octal_digit}
 use Rattle.yaml_forms.proofs.typed.are_octal_digits.Goals as goal
 
 pub returns-then-not-is_empty : goal.returns-then-not-is_empty

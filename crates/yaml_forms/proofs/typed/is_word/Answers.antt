@@ -1,6 +1,5 @@
-use Rattle.std.proofs.Common.{◌∙◌}
+use Rattle.std.proofs.{Common.◌∙◌, lemmas.Slice.Eq.bytes_eq-Decides}
 use Rattle.yaml_forms.proofs.Prelude.{same_from_decides, same_text-Decides}
-use Rattle.std.proofs.lemmas.Slice.Eq.{bytes_eq-Decides}
 use Rattle.yaml_forms.proofs.typed.is_word.Goals as goal
 
 pub returns : goal.returns

@@ -1,6 +1,5 @@
-use Rattle.yaml_recognizers.specs.{FlowScalars.read_scalar, BlockScalars.read_block}
-use Rattle.yaml_recognizers.proofs.{Block.BlockNodesWhole.node_once, Scalars.ScalarsInNodes.reads_scalars}
-use Rattle.yaml_recognizers.proofs.{BlockScalars.BlockScalarFacts.blocks_read}
+use Rattle.yaml_recognizers.{specs.{FlowScalars.read_scalar, BlockScalars.read_block}, proofs.Block.BlockNodesWhole.node_once}
+use Rattle.yaml_recognizers.proofs.{Scalars.ScalarsInNodes.reads_scalars, BlockScalars.BlockScalarFacts.blocks_read}
 use Rattle.yaml_recognizers.proofs.block_nodes.block_node_once.Goals as goal
 
 pub returns : goal.returns

@@ -1,5 +1,4 @@
-use Rattle.yaml_recognizers.proofs.OneStyle.FramedClosings.{framed_once, torn_closings}
-use Rattle.yaml_recognizers.proofs.OneStyle.PieceLists.{torn_pieces}
+use Rattle.yaml_recognizers.proofs.OneStyle.{FramedClosings.{framed_once, torn_closings}, PieceLists.torn_pieces}
 use Rattle.yaml_recognizers.proofs.closings.closed_once.Goals as goal
 
 pub returns-clause-once : goal.returns-clause-once

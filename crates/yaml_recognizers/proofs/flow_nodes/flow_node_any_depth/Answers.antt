@@ -1,5 +1,4 @@
-use Rattle.yaml_recognizers.specs.FlowScalars.{read_scalar}
-use Rattle.yaml_recognizers.proofs.{Flow.FlowNodesDepth.any_depth, Scalars.ScalarsInNodes.reads_scalars}
+use Rattle.yaml_recognizers.{specs.FlowScalars.read_scalar, proofs.{Flow.FlowNodesDepth.any_depth, Scalars.ScalarsInNodes.reads_scalars}}
 use Rattle.yaml_recognizers.proofs.flow_nodes.flow_node_any_depth.Goals as goal
 
 pub returns : goal.returns

@@ -1,5 +1,4 @@
-use Rattle.yaml_recognizers.proofs.Flow.FlowNodesWider.{flow_wider}
-use Rattle.yaml_recognizers.proofs.Flow.FlowNodesNarrower.{flow_narrower, flow_key_line}
+use Rattle.yaml_recognizers.proofs.Flow.{FlowNodesWider.flow_wider, FlowNodesNarrower.{flow_narrower, flow_key_line}}
 use Rattle.yaml_recognizers.proofs.flow_nodes.flow_node_as_key.Goals as goal
 
 pub returns-clause-wider : goal.returns-clause-wider

@@ -1,5 +1,4 @@
-use Rattle.yaml_recognizers.specs.FlowScalars.{read_scalar}
-use Rattle.yaml_recognizers.proofs.Flow.FlowNodesDepth.{flow_step, entries_step, entry_step, value_step}
+use Rattle.yaml_recognizers.{specs.FlowScalars.read_scalar, proofs.Flow.FlowNodesDepth.{flow_step, entries_step, entry_step, value_step}}
 use Rattle.yaml_recognizers.proofs.Scalars.ScalarsInNodes.{reads_scalars}
 use Rattle.yaml_recognizers.proofs.flow_nodes.flow_node_steps.Goals as goal
 

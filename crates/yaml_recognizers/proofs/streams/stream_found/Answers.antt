@@ -1,6 +1,5 @@
-use Rattle.yaml_recognizers.specs.{FlowScalars.read_scalar, BlockScalars.read_block}
-use Rattle.yaml_recognizers.proofs.{Documents.StreamsWhole.whole_stream_read, Scalars.ScalarsInNodes.reads_scalars}
-use Rattle.yaml_recognizers.proofs.{BlockScalars.BlockScalarFacts.blocks_read}
+use Rattle.yaml_recognizers.{specs.{FlowScalars.read_scalar, BlockScalars.read_block}, proofs.Documents.StreamsWhole.whole_stream_read}
+use Rattle.yaml_recognizers.proofs.{Scalars.ScalarsInNodes.reads_scalars, BlockScalars.BlockScalarFacts.blocks_read}
 use Rattle.yaml_recognizers.proofs.streams.stream_found.Goals as goal
 
 pub returns : goal.returns

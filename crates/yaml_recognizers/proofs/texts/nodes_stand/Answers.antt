@@ -1,5 +1,4 @@
-use Rattle.yaml_recognizers.proofs.{Meanings.NodePlaces.stream_stand, Meanings.NodesSpelled.stream_spelled}
-use Rattle.yaml_recognizers.proofs.{Meanings.NodesStart.stream_starts}
+use Rattle.yaml_recognizers.proofs.Meanings.{NodePlaces.stream_stand, NodesSpelled.stream_spelled, NodesStart.stream_starts}
 use Rattle.yaml_recognizers.proofs.texts.nodes_stand.Goals as goal
 
 pub returns-clause-spelled : goal.returns-clause-spelled

@@ -1,6 +1,5 @@
-use Rattle.yaml_recognizers.specs.{FlowScalars.read_scalar, BlockScalars.read_block}
-use Rattle.yaml_recognizers.proofs.{Meanings.Meaning.text_reads, Scalars.ScalarsInNodes.reads_scalars}
-use Rattle.yaml_recognizers.proofs.{BlockScalars.BlockScalarFacts.blocks_read}
+use Rattle.yaml_recognizers.{specs.{FlowScalars.read_scalar, BlockScalars.read_block}, proofs.Meanings.Meaning.text_reads}
+use Rattle.yaml_recognizers.proofs.{Scalars.ScalarsInNodes.reads_scalars, BlockScalars.BlockScalarFacts.blocks_read}
 use Rattle.yaml_recognizers.proofs.texts.text_reads.Goals as goal
 
 pub returns : goal.returns

@@ -1,10 +1,8 @@
 -- One more event, and the end of the text.
-use Rattle.std.proofs.Common.{◌∷◌, ◌∙◌, ap, arith}
-use Rattle.std.specs.Str.{chars}
-use Rattle.yaml_events.specs.Meant.{event_ref_of, events_of, style_of}
-use Rattle.yaml_events.specs.declared.event.EventRef.{EventRef}
-use Rattle.yaml_refusals.proofs.CommentLemmas.{found_before, other_passed, scalar_ordered, scalar_passed}
-use Rattle.yaml_refusals.proofs.CommentLemmas.{scalar_within, searched_all, text_within, unmarked}
+use Rattle.std.{proofs.Common.{◌∷◌, ◌∙◌, ap, arith}, specs.Str.chars}
+use Rattle.yaml_events.specs.{Meant.{event_ref_of, events_of, style_of}, declared.event.EventRef.EventRef}
+use Rattle.yaml_refusals.proofs.CommentLemmas.{found_before, other_passed, scalar_ordered, scalar_passed, scalar_within, searched_all}
+use Rattle.yaml_refusals.proofs.CommentLemmas.{text_within, unmarked}
 use Rattle.yaml_refusals.proofs.comments.comment_start.Goals as goal
 
 pub loop-event-preserved-in_default : goal.loop-event-preserved-in_default

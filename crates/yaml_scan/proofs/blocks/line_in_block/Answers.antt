@@ -1,8 +1,7 @@
 use Rattle.std.proofs.Common.{ℕ, bit_and, cond, leb, refl}
 use Rattle.yaml_scan.proofs.Prelude.{length-chunk, splat_is_map, zip2_of_maps, zip2_splat}
 use lib.Lanes.{chunk}
-use Rattle.yaml_scan.specs.Classes.{line_ascii}
-use Rattle.yaml_scan.proofs.BlockRuns.{run_of_lanes}
+use Rattle.yaml_scan.{specs.Classes.line_ascii, proofs.BlockRuns.run_of_lanes}
 use Rattle.yaml_scan.proofs.blocks.line_in_block.Goals as goal
 
 pub returns : goal.returns

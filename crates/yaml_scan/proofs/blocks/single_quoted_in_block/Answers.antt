@@ -1,8 +1,7 @@
 use Rattle.std.proofs.Common.{bit_and, bit_or, refl}
 use Rattle.yaml_scan.proofs.Prelude.{length-chunk, zip2_of_maps, zip2_splat}
 use lib.Lanes.{chunk}
-use Rattle.yaml_scan.specs.Classes.{single_quoted}
-use Rattle.yaml_scan.proofs.BlockRuns.{run_of_lanes}
+use Rattle.yaml_scan.{specs.Classes.single_quoted, proofs.BlockRuns.run_of_lanes}
 use Rattle.yaml_scan.proofs.blocks.single_quoted_in_block.Goals as goal
 
 pub returns : goal.returns

@@ -1,8 +1,7 @@
 use Rattle.std.proofs.Common.{ℕ, bit_and, bit_or, cond, leb, refl}
 use Rattle.yaml_scan.proofs.Prelude.{length-chunk, splat_is_map, zip2_of_maps, zip2_splat, outer}
 use lib.Lanes.{chunk}
-use Rattle.yaml_scan.specs.Classes.{word}
-use Rattle.yaml_scan.proofs.BlockRuns.{run_of_lanes}
+use Rattle.yaml_scan.{specs.Classes.word, proofs.BlockRuns.run_of_lanes}
 use Rattle.yaml_scan.proofs.blocks.words_in_block.Goals as goal
 
 pub returns : goal.returns

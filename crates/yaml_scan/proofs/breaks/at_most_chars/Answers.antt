@@ -1,7 +1,5 @@
-use Rattle.std.proofs.Common.{◌-◌, arith, ap, ◌∙◌, length}
-use Rattle.std.specs.Prelude.{nat_le}
-use Rattle.yaml_scan.proofs.Prelude.{chars}
-use Rattle.yaml_scan.proofs.BetweenBytes.{few_bytes, fits_bytes, many_bytes}
+use Rattle.std.{proofs.Common.{◌-◌, arith, ap, ◌∙◌, length}, specs.Prelude.nat_le}
+use Rattle.yaml_scan.proofs.{Prelude.chars, BetweenBytes.{few_bytes, fits_bytes, many_bytes}}
 use Rattle.yaml_scan.proofs.breaks.at_most_chars.Goals as goal
 
 pub returns-then-len-limit : goal.returns-then-len-limit

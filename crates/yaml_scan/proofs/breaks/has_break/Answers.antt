@@ -1,7 +1,6 @@
 use Rattle.std.proofs.Common.{◌≡◌, ◌+◌, ◌<◌, true, get_or, subst}
-use Rattle.yaml_scan.proofs.Prelude.{no_break, line_break}
+use Rattle.yaml_scan.proofs.{Prelude.{no_break, line_break}, BetweenBytes.{break_before, is_line_break}, ClassTable.passed_joined}
 use Rattle.yaml_scan.specs.Classes.{ArePassed}
-use Rattle.yaml_scan.proofs.{BetweenBytes.break_before, BetweenBytes.is_line_break, ClassTable.passed_joined}
 use Rattle.yaml_scan.proofs.breaks.has_break.Goals as goal
 
 pub returns-then-count-lt16 : goal.returns-then-count-lt16

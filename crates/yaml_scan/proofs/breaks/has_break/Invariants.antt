@@ -1,6 +1,5 @@
 use Rattle.std.proofs.Common.{◌-◌, length}
-use Rattle.yaml_scan.proofs.Prelude.{no_break}
-use Rattle.yaml_scan.specs.Classes.{ArePassed}
+use Rattle.yaml_scan.{proofs.Prelude.no_break, specs.Classes.ArePassed}
 use Rattle.yaml_scan.proofs.breaks.has_break.Given as goal
 
 abbrev pub invariant-sixteens : goal.invariant-sixteens

@@ -1,6 +1,5 @@
 use Rattle.std.proofs.Common.{◌-◌, length}
-use Rattle.yaml_scan.proofs.Prelude.{no_break}
-use Rattle.yaml_scan.specs.Classes.{ArePassed}
+use Rattle.yaml_scan.{proofs.Prelude.no_break, specs.Classes.ArePassed}
 use Rattle.yaml_scan.proofs.breaks.last_unbroken_end.Given as goal
 
 abbrev pub invariant-loop-end : goal.invariant-loop-end

@@ -1,6 +1,5 @@
 use Rattle.std.proofs.Common.{◌-◌, arith, ap, get_or, sym, ◌∙◌}
-use Rattle.yaml_scan.proofs.Prelude.{line_break}
-use Rattle.yaml_scan.proofs.LineStarts.{starts_at_beginning, starts_by_break, starts_by_mark}
+use Rattle.yaml_scan.proofs.{Prelude.line_break, LineStarts.{starts_at_beginning, starts_by_break, starts_by_mark}}
 use Rattle.yaml_scan.proofs.breaks.line_starts.Goals as goal
 
 pub returns-then-at-eq0 : goal.returns-then-at-eq0

@@ -1,6 +1,5 @@
 use Rattle.std.proofs.Common.{◌≡◌, ◌<◌, false, length, slice_index, subst}
-use Rattle.yaml_scan.specs.Classes.{test_of, ArePassed}
-use Rattle.yaml_scan.proofs.ClassTable.{run_ends}
+use Rattle.yaml_scan.{specs.Classes.{test_of, ArePassed}, proofs.ClassTable.run_ends}
 use Rattle.yaml_scan.proofs.classes.run_end.Goals as goal
 
 pub returns : goal.returns

@@ -1,6 +1,5 @@
-use Rattle.std.proofs.Common.{◌≡◌, ◌++◌}
+use Rattle.std.{proofs.Common.{◌≡◌, ◌++◌}, specs.String.string_bytes}
 use Rattle.yaml_scan.proofs.Prelude.{line_feeds}
-use Rattle.std.specs.String.{string_bytes}
 use Rattle.yaml_scan.proofs.feeds.push_line_feeds.Given as goal
 
 abbrev pub invariant-loop : goal.invariant-loop

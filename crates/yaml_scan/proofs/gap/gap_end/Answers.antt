@@ -1,5 +1,4 @@
-use Rattle.yaml_scan.proofs.Prelude.{context_of}
-use Rattle.yaml_scan.proofs.GapSteps.{short_gap_is}
+use Rattle.yaml_scan.proofs.{Prelude.context_of, GapSteps.short_gap_is}
 use Rattle.yaml_scan.proofs.gap.gap_end.Goals as goal
 
 pub returns-in-Some-clause-found : goal.returns-in-Some-clause-found

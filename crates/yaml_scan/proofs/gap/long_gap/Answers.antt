@@ -1,9 +1,9 @@
 use Rattle.std.proofs.Common.{sym, ◌∙◌}
-use Rattle.yaml_scan.proofs.Prelude.{rest, context_of}
-use Rattle.yaml_scan.specs.Gaps.{IsGap, IsLinesGap, NoGap, NoLinesGap}
-use Rattle.yaml_scan.proofs.{Outcomes.faults_so, Outcomes.ok_so, gap.long_gap.Goals.then-is_on_one_line-via-then-is_on_one_line}
-use Rattle.yaml_scan.proofs.{gap.long_gap.Goals.then-is_on_one_line-via-else-is_on_one_line+then-solid_at}
-use Rattle.yaml_scan.proofs.GapSteps.{gap_over_lines_is, inline_gap_is, no_gap, reads_before_solid, reads_in_key, reads_on_line}
+use Rattle.yaml_scan.proofs.{Prelude.{rest, context_of}, Outcomes.{faults_so, ok_so}}
+use Rattle.yaml_scan.proofs.gap.long_gap.Goals.{then-is_on_one_line-via-then-is_on_one_line}
+use Rattle.yaml_scan.proofs.{gap.long_gap.Goals.then-is_on_one_line-via-else-is_on_one_line+then-solid_at, GapSteps.gap_over_lines_is}
+use Rattle.yaml_scan.{proofs.GapSteps.{inline_gap_is, no_gap, reads_before_solid, reads_in_key, reads_on_line}, specs.Gaps.IsGap}
+use Rattle.yaml_scan.specs.Gaps.{IsLinesGap, NoGap, NoLinesGap}
 use Rattle.yaml_scan.proofs.gap.long_gap.Goals as goal
 
 pub returns-then-is_on_one_line-clause-found : goal.returns-then-is_on_one_line-clause-found

@@ -1,5 +1,5 @@
 use Rattle.std.proofs.Common.{sym, ◌∙◌, arith}
-use Rattle.yaml_scan.proofs.{ByteSigns.sign_there, GapSteps.no_white_taken, GapSteps.space_taken}
+use Rattle.yaml_scan.proofs.{ByteSigns.sign_there, GapSteps.{no_white_taken, space_taken}}
 use Rattle.yaml_scan.proofs.gap.short_gap_end.Goals as goal
 
 pub returns-then-solid_at-clause-taken : goal.returns-then-solid_at-clause-taken

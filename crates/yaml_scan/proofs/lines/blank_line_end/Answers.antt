@@ -1,8 +1,7 @@
 use Rattle.std.proofs.Common.{◌≡◌, Bool, false, None, subst, sym}
-use Rattle.yaml_scan.proofs.Prelude.{rest, read_line_end}
-use Rattle.yaml_scan.specs.Lines.{IsContentEnd, IsLineEnd}
-use Rattle.yaml_scan.proofs.{LineSteps.content_bare, LineSteps.content_commented, LineSteps.white_filled, Outcomes.none_so}
-use Rattle.yaml_scan.proofs.{Outcomes.some_so, lines.blank_line_end.Goals.then-white-at, lines.blank_line_end.Goals.else-white-at}
+use Rattle.yaml_scan.proofs.{Prelude.{rest, read_line_end}, LineSteps.{content_bare, content_commented, white_filled}, Outcomes.none_so}
+use Rattle.yaml_scan.{proofs.{Outcomes.some_so, lines.blank_line_end.Goals.{then-white-at, else-white-at}}, specs.Lines.IsContentEnd}
+use Rattle.yaml_scan.specs.Lines.{IsLineEnd}
 use Rattle.yaml_scan.proofs.lines.blank_line_end.Goals as goal
 
 content : (c : goal.After-after_content) → IsContentEnd false c.args.text.now c.args.at c.if-white-at.content

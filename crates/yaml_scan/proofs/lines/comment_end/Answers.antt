@@ -1,5 +1,5 @@
 use Rattle.std.proofs.Common.{arith, sym, ◌∙◌}
-use Rattle.yaml_scan.proofs.{ByteSigns.sign_there, LineSteps.comment_missing, LineSteps.comment_there}
+use Rattle.yaml_scan.proofs.{ByteSigns.sign_there, LineSteps.{comment_missing, comment_there}}
 use Rattle.yaml_scan.proofs.lines.comment_end.Goals as goal
 
 pub returns-then-not-stands_at : goal.returns-then-not-stands_at

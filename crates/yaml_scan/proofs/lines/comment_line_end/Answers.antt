@@ -1,7 +1,6 @@
 use Rattle.std.proofs.Common.{◌≡◌, Bool, true, None, refl}
-use Rattle.yaml_scan.proofs.Prelude.{rest, read_line_end}
+use Rattle.yaml_scan.proofs.{Prelude.{rest, read_line_end}, LineSteps.content_commented, Outcomes.{none_so, some_so}}
 use Rattle.yaml_scan.specs.Lines.{IsContentEnd, IsLineEnd}
-use Rattle.yaml_scan.proofs.{LineSteps.content_commented, Outcomes.none_so, Outcomes.some_so}
 use Rattle.yaml_scan.proofs.lines.comment_line_end.Goals as goal
 
 content : (c : goal.After-after_content) → IsContentEnd true c.args.text.now c.args.at c.comment_end-content.result

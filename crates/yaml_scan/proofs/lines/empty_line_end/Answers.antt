@@ -1,8 +1,6 @@
 use Rattle.std.proofs.Common.{◌∙◌, Bool, true, refl, sym}
-use Rattle.yaml_scan.proofs.Prelude.{rest}
+use Rattle.yaml_scan.proofs.{Prelude.rest, LineSteps.{comment_missing, content_commented, feed_no_hash, line_feed_taken}, Outcomes.some_so}
 use Rattle.yaml_scan.specs.Lines.{IsContentEnd, IsLineEnd}
-use Rattle.yaml_scan.proofs.LineSteps.{comment_missing, content_commented, feed_no_hash, line_feed_taken}
-use Rattle.yaml_scan.proofs.Outcomes.{some_so}
 use Rattle.yaml_scan.proofs.lines.empty_line_end.Goals as goal
 
 pub returns : goal.returns

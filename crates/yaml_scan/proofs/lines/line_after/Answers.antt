@@ -1,6 +1,6 @@
 use Rattle.std.proofs.Common.{arith, false, inr}
-use Rattle.yaml_scan.proofs.Prelude.{rest, rest-end}
-use Rattle.yaml_scan.proofs.LineSteps.{closes_after_end, closes_at_end, line_after_end, line_at_end, no_comments_at, open_line}
+use Rattle.yaml_scan.proofs.{Prelude.{rest, rest-end}, LineSteps.{closes_after_end, closes_at_end, line_after_end, line_at_end}}
+use Rattle.yaml_scan.proofs.LineSteps.{no_comments_at, open_line}
 use Rattle.yaml_scan.proofs.lines.line_after.Goals as goal
 
 pub returns-in-Some-clause-found : goal.returns-in-Some-clause-found

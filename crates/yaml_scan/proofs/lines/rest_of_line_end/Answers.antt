@@ -1,7 +1,6 @@
 use Rattle.std.proofs.Common.{◌≡◌, ◌∙◌, Bool, false, None, arith, sym}
-use Rattle.yaml_scan.proofs.Prelude.{rest, read_line_end}
+use Rattle.yaml_scan.proofs.{Prelude.{rest, read_line_end}, LineSteps.{content_bare, line_feed_taken}, Outcomes.{none_so, some_so}}
 use Rattle.yaml_scan.specs.Lines.{IsContentEnd, IsLineEnd}
-use Rattle.yaml_scan.proofs.{LineSteps.content_bare, LineSteps.line_feed_taken, Outcomes.none_so, Outcomes.some_so}
 use Rattle.yaml_scan.proofs.lines.rest_of_line_end.Goals as goal
 
 pub returns-then-stands_at-clause-found : goal.returns-then-stands_at-clause-found

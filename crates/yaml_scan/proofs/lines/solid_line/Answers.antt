@@ -1,6 +1,6 @@
 use Rattle.std.proofs.Common.{sym, ◌∙◌}
-use Rattle.yaml_scan.proofs.Prelude.{rest, no_line_end}
-use Rattle.yaml_scan.proofs.LineSteps.{comment_lines_more, comment_lines_none, solid_after_spaces, solid_line_is}
+use Rattle.yaml_scan.proofs.{Prelude.{rest, no_line_end}, LineSteps.{comment_lines_more, comment_lines_none, solid_after_spaces}}
+use Rattle.yaml_scan.proofs.LineSteps.{solid_line_is}
 use Rattle.yaml_scan.proofs.lines.solid_line.Goals as goal
 
 pub lines-init : goal.lines-init

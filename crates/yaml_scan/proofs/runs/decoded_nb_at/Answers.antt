@@ -1,6 +1,5 @@
 use Rattle.std.proofs.Common.{◌≡◌, ◌<◌, ◌≤◌, ℕ, Bool, true, false, inl, inr, length}
-use Rattle.yaml_scan.proofs.Prelude.{cases_lt, false≢true, nb}
-use Rattle.yaml_scan.proofs.ByteRuns.{first_at_end}
+use Rattle.yaml_scan.proofs.{Prelude.{cases_lt, false≢true, nb}, ByteRuns.first_at_end}
 use Rattle.yaml_scan.proofs.runs.decoded_nb_at.Goals as goal
 
 ended : (at end : ℕ) → (at < end → ◌≡◌ {A = Bool} false true) → end ≤ at

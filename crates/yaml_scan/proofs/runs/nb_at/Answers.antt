@@ -1,7 +1,5 @@
 use Rattle.std.proofs.Common.{◌<◌, arith, ap, sym, ◌∙◌, get_or, length}
-use Rattle.yaml_scan.proofs.Prelude.{nb}
-use Rattle.yaml_scan.specs.Classes.{line_ascii}
-use Rattle.yaml_scan.proofs.{ByteRuns.first_at_end, ByteRuns.nb_by_byte, LineRuns.no_nb_by_byte}
+use Rattle.yaml_scan.{proofs.{Prelude.nb, ByteRuns.{first_at_end, nb_by_byte}, LineRuns.no_nb_by_byte}, specs.Classes.line_ascii}
 use Rattle.yaml_scan.proofs.runs.nb_at.Goals as goal
 
 pub returns-then-at-bytes-clause-none : goal.returns-then-at-bytes-clause-none

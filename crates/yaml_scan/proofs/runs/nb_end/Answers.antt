@@ -1,6 +1,5 @@
 use Rattle.std.proofs.Common.{ap, arith, get_or}
-use Rattle.yaml_scan.proofs.ByteRuns.{take_while_all_at, take_while_more, take_while_none}
-use Rattle.yaml_scan.proofs.LineRuns.{take_while_ends, take_while_to_stop}
+use Rattle.yaml_scan.proofs.{ByteRuns.{take_while_all_at, take_while_more, take_while_none}, LineRuns.{take_while_ends, take_while_to_stop}}
 use Rattle.yaml_scan.proofs.runs.nb_end.Goals as goal
 
 pub characters-init : goal.characters-init

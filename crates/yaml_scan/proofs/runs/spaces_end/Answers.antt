@@ -1,7 +1,5 @@
 use Rattle.std.proofs.Common.{◌≡◌, ◌+◌, ◌<◌, false, length, get_or, subst}
-use Rattle.yaml_scan.proofs.Prelude.{space}
-use Rattle.yaml_scan.specs.Classes.{ArePassed}
-use Rattle.yaml_scan.proofs.{ByteRuns.spaces_passed_are, ClassTable.passed_joined}
+use Rattle.yaml_scan.{proofs.{Prelude.space, ByteRuns.spaces_passed_are, ClassTable.passed_joined}, specs.Classes.ArePassed}
 use Rattle.yaml_scan.proofs.runs.spaces_end.Goals as goal
 
 pub returns-then-count-lt16 : goal.returns-then-count-lt16

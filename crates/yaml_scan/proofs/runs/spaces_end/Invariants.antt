@@ -1,6 +1,5 @@
 use Rattle.std.proofs.Common.{◌-◌, length}
-use Rattle.yaml_scan.proofs.Prelude.{space}
-use Rattle.yaml_scan.specs.Classes.{ArePassed}
+use Rattle.yaml_scan.{proofs.Prelude.space, specs.Classes.ArePassed}
 use Rattle.yaml_scan.proofs.runs.spaces_end.Given as goal
 
 abbrev pub invariant-sixteens : goal.invariant-sixteens

@@ -1,6 +1,5 @@
 use Rattle.std.proofs.Common.{arith, ap, sym, ◌∙◌, get_or}
-use Rattle.yaml_scan.proofs.Prelude.{white, blind-white, run_is}
-use Rattle.yaml_scan.proofs.ByteRuns.{take_while_is}
+use Rattle.yaml_scan.proofs.{Prelude.{white, blind-white, run_is}, ByteRuns.take_while_is}
 use Rattle.yaml_scan.proofs.runs.white_end.Goals as goal
 
 pub returns-else-is_white-clause-run : goal.returns-else-is_white-clause-run

@@ -1,6 +1,5 @@
 use Rattle.std.proofs.Common.{◌≡◌, ◌<◌, ◌≤◌, ℕ, Bool, true, false, inl, inr, length, sym}
-use Rattle.yaml_scan.proofs.Prelude.{ns, cases_lt, false≢true}
-use Rattle.yaml_scan.proofs.ByteRuns.{first_at_end}
+use Rattle.yaml_scan.proofs.{Prelude.{ns, cases_lt, false≢true}, ByteRuns.first_at_end}
 use Rattle.yaml_scan.proofs.signs.decoded_ns_at.Goals as goal
 
 ended : (at end : ℕ) → (at < end → ◌≡◌ {A = Bool} false true) → end ≤ at

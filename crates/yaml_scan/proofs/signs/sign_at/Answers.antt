@@ -1,7 +1,5 @@
-use Rattle.std.proofs.Common.{ap, sym, ◌∙◌}
-use Rattle.std.specs.Prelude.{not}
-use Rattle.yaml_scan.proofs.Prelude.{rest}
-use Rattle.yaml_scan.proofs.ByteSigns.{no_sign, sign_before, sign_there}
+use Rattle.std.{proofs.Common.{ap, sym, ◌∙◌}, specs.Prelude.not}
+use Rattle.yaml_scan.proofs.{Prelude.rest, ByteSigns.{no_sign, sign_before, sign_there}}
 use Rattle.yaml_scan.proofs.signs.sign_at.Goals as goal
 
 pub returns-then-not-stands_at : goal.returns-then-not-stands_at

@@ -1,6 +1,5 @@
 use Rattle.std.proofs.Common.{◌<◌, arith, ap, sym, ◌∙◌, get_or, length, nat_lt}
-use Rattle.yaml_scan.proofs.Prelude.{solid}
-use Rattle.yaml_scan.proofs.{ByteSigns.blind-solid, ByteSigns.past_end, ByteRuns.first_there}
+use Rattle.yaml_scan.proofs.{Prelude.solid, ByteSigns.{blind-solid, past_end}, ByteRuns.first_there}
 use Rattle.yaml_scan.proofs.signs.solid_at.Goals as goal
 
 pub returns-then-at-bytes : goal.returns-then-at-bytes

@@ -1,6 +1,5 @@
 use Rattle.std.proofs.Common.{◌<◌, arith, ap, sym, ◌∙◌, get_or, length, nat_lt}
-use Rattle.yaml_scan.specs.ScanPlaces.{is_sign}
-use Rattle.yaml_scan.proofs.{ByteRuns.first_there, ByteSigns.blind-is_sign, ByteSigns.past_end}
+use Rattle.yaml_scan.{specs.ScanPlaces.is_sign, proofs.{ByteRuns.first_there, ByteSigns.{blind-is_sign, past_end}}}
 use Rattle.yaml_scan.proofs.signs.stands_at.Goals as goal
 
 pub returns-then-at-bytes : goal.returns-then-at-bytes

@@ -1,6 +1,5 @@
 use Rattle.std.proofs.Common.{◌<◌, arith, ap, sym, ◌∙◌, get_or, length, nat_lt}
-use Rattle.yaml_scan.proofs.Prelude.{white, blind-white}
-use Rattle.yaml_scan.proofs.{ByteSigns.past_end, ByteRuns.first_there}
+use Rattle.yaml_scan.proofs.{Prelude.{white, blind-white}, ByteSigns.past_end, ByteRuns.first_there}
 use Rattle.yaml_scan.proofs.signs.white_at.Goals as goal
 
 pub returns-then-at-bytes : goal.returns-then-at-bytes

@@ -1,7 +1,6 @@
 -- Up to this place both texts are the same.
 use Rattle.std.proofs.Common.{◌≡◌, ◌-◌, true, length}
-use Rattle.yaml_style.proofs.Prelude.{chars, IsCharBoundary, rest}
-use Rattle.yaml_style.specs.Comparing.{comparison_after}
+use Rattle.yaml_style.{proofs.Prelude.{chars, IsCharBoundary, rest}, specs.Comparing.comparison_after}
 use Rattle.yaml_style.proofs.comparison.after_common.Given as goal
 
 abbrev pub invariant-loop-len : goal.invariant-loop-len

@@ -1,7 +1,5 @@
 use Rattle.std.proofs.Common.{◌≡◌, refl, ◌∷◌, [], true, List, ℕ}
-use Rattle.yaml_style.proofs.Prelude.{rest, false≢true}
-use Rattle.yaml_style.specs.Comparing.{comparison_after}
-use Rattle.yaml_style.proofs.ComparingLemmas.{at_the_end, nothing_left}
+use Rattle.yaml_style.{proofs.{Prelude.{rest, false≢true}, ComparingLemmas.{at_the_end, nothing_left}}, specs.Comparing.comparison_after}
 use Rattle.yaml_style.proofs.comparison.common_char.Goals as goal
 
 pub returns-in_default-clause-none : goal.returns-in_default-clause-none

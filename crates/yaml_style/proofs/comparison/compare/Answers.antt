@@ -1,7 +1,5 @@
 use Rattle.std.proofs.Common.{ap, sym, ◌∙◌, true, false}
-use Rattle.yaml_style.proofs.Prelude.{chars}
-use Rattle.yaml_style.specs.Comparing.{comparison_after}
-use Rattle.yaml_style.proofs.ComparingLemmas.{strips, no_prefix}
+use Rattle.yaml_style.{proofs.{Prelude.chars, ComparingLemmas.{strips, no_prefix}}, specs.Comparing.comparison_after}
 use Rattle.yaml_style.proofs.comparison.compare.Goals as goal
 
 pub returns-in-Some : goal.returns-in-Some

@@ -1,6 +1,5 @@
 use Rattle.std.proofs.Common.{refl}
-use Rattle.yaml_style.proofs.Prelude.{IsCharBoundary-start, false≢true}
-use Rattle.yaml_style.proofs.ComparingLemmas.{at_the_end}
+use Rattle.yaml_style.proofs.{Prelude.{IsCharBoundary-start, false≢true}, ComparingLemmas.at_the_end}
 use Rattle.yaml_style.proofs.comparison.strip_char.Goals as goal
 
 pub next_char-requires : goal.next_char-requires

@@ -1,7 +1,6 @@
 -- The rest's bytes end the text's.
 use Rattle.std.proofs.Common.{◌≡◌, ◌-◌, ◌++◌, length, take, ap, sym, ◌∙◌, arith}
-use Rattle.yaml_style.proofs.Prelude.{chars}
-use Rattle.yaml_style.proofs.ComparingLemmas.{ends_with}
+use Rattle.yaml_style.proofs.{Prelude.chars, ComparingLemmas.ends_with}
 use Rattle.yaml_style.proofs.findings.before.Goals as goal
 
 pub overflow_sub-text : goal.overflow_sub-text

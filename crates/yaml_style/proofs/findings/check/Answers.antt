@@ -1,10 +1,8 @@
 -- What was written was compared with the text, and counted.
 use Rattle.std.proofs.Common.{ℕ, ◌≤◌, List, length, sym, ap, subst, ◌∙◌}
-use Rattle.yaml_style.proofs.Prelude.{err_from_is_err_and, chars, config_limits, byte_len}
-use Rattle.yaml_grammar.specs.Style.{style_text}
-use Rattle.yaml_tree.proofs.WriterLemmas.{read_within, large_refused}
-use Rattle.yaml_style.specs.{Findings.style_line, Findings.with_style, Findings.line_findings, Lines.lines}
-use Rattle.yaml_style.proofs.{ComparingLemmas.from_start, CountLemmas.counted_within, CountLemmas.counted_beyond}
+use Rattle.yaml_style.proofs.{Prelude.{err_from_is_err_and, chars, config_limits, byte_len}, ComparingLemmas.from_start}
+use Rattle.yaml_style.{proofs.CountLemmas.{counted_within, counted_beyond}, specs.Findings.{style_line, with_style, line_findings}}
+use Rattle.{yaml_style.specs.Lines.lines, yaml_grammar.specs.Style.style_text, yaml_tree.proofs.WriterLemmas.{read_within, large_refused}}
 use Rattle.yaml_style.proofs.findings.check.Goals as goal
 
 pub from_utf8_unchecked-text-requires : goal.from_utf8_unchecked-text-requires

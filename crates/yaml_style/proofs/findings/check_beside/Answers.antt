@@ -1,7 +1,6 @@
 -- The wanted text was compared with the text.
 use Rattle.std.proofs.Common.{ap, ◌∙◌}
-use Rattle.yaml_style.proofs.Prelude.{chars}
-use Rattle.yaml_style.specs.Findings.{with_style}
+use Rattle.yaml_style.{proofs.Prelude.chars, specs.Findings.with_style}
 use Rattle.yaml_style.proofs.findings.check_beside.Goals as goal
 
 pub style_line-requires-clause-written : goal.style_line-requires-clause-written

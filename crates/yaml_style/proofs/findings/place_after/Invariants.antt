@@ -1,7 +1,6 @@
 -- So many findings were passed, and the place comes after them.
 use Rattle.std.proofs.Common.{◌≡◌, ◌+◌, drop}
-use Rattle.yaml_style.proofs.Prelude.{position_or_len}
-use Rattle.yaml_style.proofs.PlaceLemmas.{later}
+use Rattle.yaml_style.proofs.{Prelude.position_or_len, PlaceLemmas.later}
 use Rattle.yaml_style.proofs.findings.place_after.Given as goal
 
 abbrev pub invariant-loop-finding : goal.invariant-loop-finding

@@ -1,10 +1,8 @@
 -- What was written, compared with all of the text.
 use Rattle.std.proofs.Common.{◌≡◌, ℕ, suc, Bool, true, List, [], ◌++◌, Some, ap, sym, ◌∙◌, add-one}
-use Rattle.yaml_style.proofs.Prelude.{chars, false≢true, append_cancel_right, is_empty}
-use Rattle.yaml_style.specs.{Lines.breaks, Findings.common}
-use Rattle.yaml_style.proofs.ComparingLemmas.{shares, in_style, not_in_style}
-use Rattle.yaml_style.proofs.SplitLemmas.{no_chars}
-use Rattle.yaml_style.proofs.findings.style_line.Goals.{else-written-via-then-written+else-is_empty_text, else-written-via-else-written}
+use Rattle.yaml_style.proofs.{Prelude.{chars, false≢true, append_cancel_right, is_empty}, ComparingLemmas.{shares, in_style, not_in_style}}
+use Rattle.yaml_style.proofs.{SplitLemmas.no_chars, findings.style_line.Goals.else-written-via-then-written+else-is_empty_text}
+use Rattle.yaml_style.{proofs.findings.style_line.Goals.else-written-via-else-written, specs.{Lines.breaks, Findings.common}}
 use Rattle.yaml_style.proofs.findings.style_line.Goals as goal
 
 pub returns-then-is_empty_text : goal.returns-then-is_empty_text

@@ -1,8 +1,7 @@
 -- A break more is counted; where none is left, all are.
 use Rattle.std.proofs.Common.{ap, arith}
-use Rattle.yaml_style.proofs.Prelude.{chars, IsCharBoundary-start}
+use Rattle.yaml_style.proofs.{Prelude.{chars, IsCharBoundary-start}, LineLemmas.no_more_breaks, SplitLemmas.{is_split, break_len}}
 use Rattle.yaml_style.specs.Lines.{breaks}
-use Rattle.yaml_style.proofs.{LineLemmas.no_more_breaks, SplitLemmas.is_split, SplitLemmas.break_len}
 use Rattle.yaml_style.proofs.lines.break_count.Goals as goal
 
 pub next_break-requires : goal.next_break-requires

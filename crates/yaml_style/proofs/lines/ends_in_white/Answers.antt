@@ -1,7 +1,7 @@
 -- By what `ends_with` found.
 use Rattle.std.proofs.Common.{sym, ◌∙◌, lit<, refl, inl, inr}
-use Rattle.yaml_style.proofs.Prelude.{cases_Bool, MatchBool-at_true, MatchBool-at_false, tab, space_char}
-use Rattle.yaml_style.proofs.RuleLemmas.{white_at_end, no_white_at_end}
+use Rattle.yaml_style.proofs.{Prelude.{cases_Bool, MatchBool-at_true, MatchBool-at_false, tab, space_char}, RuleLemmas.white_at_end}
+use Rattle.yaml_style.proofs.RuleLemmas.{no_white_at_end}
 use Rattle.yaml_style.proofs.lines.ends_in_white.Goals as goal
 
 pub returns-then-ends_with : goal.returns-then-ends_with

@@ -1,9 +1,6 @@
 -- A line of no more than 120 bytes has no more code points; of a longer one they are counted.
-use Rattle.std.proofs.Common.{nat_lt, ap, sym, ◌∙◌}
-use Rattle.yaml_style.proofs.Prelude.{le-ltb}
-use Rattle.std.proofs.lemmas.Iterator.{YieldsList-from_chars}
-use Rattle.std.proofs.lemmas.Iterator.Consumers.{count_from_yields_List}
-use Rattle.yaml_style.proofs.RuleLemmas.{short_line}
+use Rattle.std.proofs.{Common.{nat_lt, ap, sym, ◌∙◌}, lemmas.Iterator.{YieldsList-from_chars, Consumers.count_from_yields_List}}
+use Rattle.yaml_style.proofs.{Prelude.le-ltb, RuleLemmas.short_line}
 use Rattle.yaml_style.proofs.lines.is_long.Goals as goal
 
 pub returns-then-content-gt-LONGEST_LINE : goal.returns-then-content-gt-LONGEST_LINE

@@ -1,8 +1,6 @@
 -- At the end nothing is left.
 use Rattle.std.proofs.Common.{◌++◌, ap, sym, ◌∙◌, suc, append-nil}
-use Rattle.yaml_style.proofs.Prelude.{chars, chars-nil}
-use Rattle.yaml_style.specs.{Lines.lines, Findings.line_findings}
-use Rattle.yaml_style.proofs.SplitLemmas.{no_bytes}
+use Rattle.yaml_style.{proofs.{Prelude.{chars, chars-nil}, SplitLemmas.no_bytes}, specs.{Lines.lines, Findings.line_findings}}
 use Rattle.yaml_style.proofs.lines.line_findings.Goals as goal
 
 pub returns : goal.returns

@@ -1,9 +1,8 @@
 -- Each rule adds its finding, or nothing.
 use Rattle.std.proofs.Common.{◌++◌, sym, ap, ◌∙◌}
-use Rattle.yaml_style.proofs.Prelude.{on_ok_weaker}
-use Rattle.yaml_style.specs.declared.finding.Rule.TheVariants.{TrailingWhitespace, LineEnd, LongLine}
-use Rattle.yaml_style.specs.Findings.{ends_in_white, ends_otherwise, is_long}
-use Rattle.yaml_style.proofs.RuleLemmas.{all_three, found_same}
+use Rattle.yaml_style.proofs.{Prelude.on_ok_weaker, RuleLemmas.{all_three, found_same}}
+use Rattle.yaml_style.specs.{declared.finding.Rule.TheVariants.{TrailingWhitespace, LineEnd, LongLine}, Findings.ends_in_white}
+use Rattle.yaml_style.specs.Findings.{ends_otherwise, is_long}
 use Rattle.yaml_style.proofs.lines.push_findings.Goals as goal
 
 pub returns : goal.returns

@@ -1,7 +1,6 @@
 -- The line ends at the next break, or it is the last one.
 use Rattle.std.proofs.Common.{◌≡◌, slice_range}
-use Rattle.yaml_style.proofs.Prelude.{IsCharBoundary-start}
-use Rattle.yaml_style.proofs.SplitLemmas.{is_split, is_last}
+use Rattle.yaml_style.proofs.{Prelude.IsCharBoundary-start, SplitLemmas.{is_split, is_last}}
 use Rattle.yaml_style.proofs.lines.split_line.Goals as goal
 
 pub next_break-requires : goal.next_break-requires

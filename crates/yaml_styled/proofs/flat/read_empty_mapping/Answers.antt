@@ -1,7 +1,5 @@
 use Rattle.std.proofs.Common.{codes, refl, subst}
-use Rattle.yaml_styled.proofs.Prelude.{mapping, no_member, chars-literal}
-use Rattle.yaml_styled.specs.Taking.{Took}
-use Rattle.yaml_styled.proofs.SoundLemmas.{no_members_sound}
+use Rattle.yaml_styled.{proofs.{Prelude.{mapping, no_member, chars-literal}, SoundLemmas.no_members_sound}, specs.Taking.Took}
 use Rattle.yaml_styled.proofs.flat.read_empty_mapping.Goals as goal
 
 pub returns : goal.returns

@@ -1,7 +1,5 @@
 use Rattle.std.proofs.Common.{codes, refl, subst}
-use Rattle.yaml_styled.proofs.Prelude.{sequence, no_element, chars-literal}
-use Rattle.yaml_styled.specs.Taking.{Took}
-use Rattle.yaml_styled.proofs.SoundLemmas.{no_elements_sound}
+use Rattle.yaml_styled.{proofs.{Prelude.{sequence, no_element, chars-literal}, SoundLemmas.no_elements_sound}, specs.Taking.Took}
 use Rattle.yaml_styled.proofs.flat.read_empty_sequence.Goals as goal
 
 pub returns : goal.returns

@@ -1,9 +1,7 @@
 use Rattle.std.proofs.Common.{◌-◌, ◌≤◌, [], length, refl, sym, ap, subst, ◌∙◌, arith}
-use Rattle.yaml_styled.proofs.Prelude.{chars, byte_len, text, scalar_lines, style_text, text_bytes, indented}
-use Rattle.yaml_data.proofs.SeenLemmas.{tree_of-Text}
-use Rattle.yaml_data.proofs.TextLemmas.{IsUtf8-text_bytes}
-use Rattle.yaml_styled.specs.Taking.{Took}
-use Rattle.yaml_styled.proofs.{SoundLemmas.text_sound, TakingLemmas.took_uncounted, StyledLemmas.scalar_short}
+use Rattle.yaml_styled.proofs.{Prelude.{chars, byte_len, text, scalar_lines, style_text, text_bytes, indented}, SoundLemmas.text_sound}
+use Rattle.yaml_styled.{proofs.{TakingLemmas.took_uncounted, StyledLemmas.scalar_short}, specs.Taking.Took}
+use Rattle.yaml_data.proofs.{SeenLemmas.tree_of-Text, TextLemmas.IsUtf8-text_bytes}
 use Rattle.yaml_styled.proofs.flat.read_own_text.Goals as goal
 
 pub of_element-size-requires-clause-long : goal.of_element-size-requires-clause-long

@@ -1,6 +1,5 @@
 use Rattle.std.proofs.Common.{refl, sym, ◌∙◌}
-use Rattle.yaml_styled.proofs.Prelude.{chars, text}
-use Rattle.yaml_styled.proofs.WordLemmas.{took_plain_value, plain_sound}
+use Rattle.yaml_styled.proofs.{Prelude.{chars, text}, WordLemmas.{took_plain_value, plain_sound}}
 use Rattle.yaml_styled.proofs.flat.read_plain.Goals as goal
 
 pub returns : goal.returns

@@ -1,6 +1,5 @@
 use Rattle.std.proofs.Common.{refl, sym, ◌∙◌}
-use Rattle.yaml_styled.proofs.Prelude.{chars, text}
-use Rattle.yaml_styled.proofs.WordLemmas.{took_quoted_value, quoted_sound}
+use Rattle.yaml_styled.proofs.{Prelude.{chars, text}, WordLemmas.{took_quoted_value, quoted_sound}}
 use Rattle.yaml_styled.proofs.flat.read_quoted.Goals as goal
 
 pub returns-in_ok-made-in-Some : goal.returns-in_ok-made-in-Some

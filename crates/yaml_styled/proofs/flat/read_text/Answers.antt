@@ -1,6 +1,5 @@
 use Rattle.std.proofs.Common.{refl}
-use Rattle.yaml_styled.proofs.Prelude.{chars, text}
-use Rattle.yaml_styled.proofs.SoundLemmas.{text_sound}
+use Rattle.yaml_styled.proofs.{Prelude.{chars, text}, SoundLemmas.text_sound}
 use Rattle.yaml_styled.proofs.flat.read_text.Goals as goal
 
 pub returns : goal.returns

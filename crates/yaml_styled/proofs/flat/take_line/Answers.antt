@@ -1,8 +1,6 @@
 use Rattle.std.proofs.Common.{sym, subst}
-use Rattle.yaml_styled.proofs.Prelude.{on_ok_weaker, chars, one_line, IsLiteral}
+use Rattle.yaml_styled.{proofs.{Prelude.{on_ok_weaker, chars, one_line, IsLiteral}, TakingLemmas.took_as}, specs.Taking.took_both}
 use Rattle.yaml_writer.proofs.StyleLemmas.{value_plain, value_double}
-use Rattle.yaml_styled.specs.Taking.{took_both}
-use Rattle.yaml_styled.proofs.TakingLemmas.{took_as}
 use Rattle.yaml_styled.proofs.flat.take_line.Goals as goal
 
 pub returns-in_ok-put_text-in-Plain : goal.returns-in_ok-put_text-in-Plain

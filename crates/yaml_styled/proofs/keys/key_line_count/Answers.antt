@@ -1,6 +1,5 @@
 use Rattle.std.proofs.Common.{if◌then◌else◌, ap, arith}
-use Rattle.yaml_styled.proofs.Prelude.{chars, byte_len-chars, short_key}
-use Rattle.yaml_writer.proofs.LengthLemmas.{length-byte_len}
+use Rattle.{yaml_styled.proofs.Prelude.{chars, byte_len-chars, short_key}, yaml_writer.proofs.LengthLemmas.length-byte_len}
 use Rattle.yaml_styled.proofs.keys.key_line_count.Goals as goal
 
 pub returns-then-key-le-SHORT_KEY : goal.returns-then-key-le-SHORT_KEY

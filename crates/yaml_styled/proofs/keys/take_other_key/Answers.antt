@@ -1,6 +1,5 @@
 use Rattle.std.proofs.Common.{[], subst}
-use Rattle.yaml_styled.specs.Taking.{Took}
-use Rattle.yaml_styled.proofs.TakingLemmas.{took_counted}
+use Rattle.yaml_styled.{specs.Taking.Took, proofs.TakingLemmas.took_counted}
 use Rattle.yaml_styled.proofs.keys.take_other_key.Goals as goal
 
 pub returns : goal.returns

@@ -1,6 +1,5 @@
 use Rattle.std.proofs.Common.{◌≡◌, ◌<◌, ◌≤◌, ℕ, true, get_or, length, ap, ap₂, sym, ◌++◌, ◌∙◌, arith, take-append-drop}
-use Rattle.yaml_styled.proofs.Prelude.{space, encoded_spaces}
-use Rattle.yaml_styled.proofs.RunLemmas.{run_spaces}
+use Rattle.yaml_styled.proofs.{Prelude.{space, encoded_spaces}, RunLemmas.run_spaces}
 use Rattle.yaml_styled.proofs.lines.strip_few_spaces.Goals as goal
 
 pub returns : goal.returns

@@ -1,6 +1,5 @@
 use Rattle.std.proofs.Common.{◌≡◌, ◌+◌, ◌-◌, ap, subst, ◌∙◌, arith, rules}
-use Rattle.yaml_styled.proofs.Prelude.{replicate-append-replicate, space_char, spaces}
-use Rattle.yaml_styled.specs.Comparing.{GoesOn, goes_on_both}
+use Rattle.yaml_styled.{proofs.Prelude.{replicate-append-replicate, space_char, spaces}, specs.Comparing.{GoesOn, goes_on_both}}
 use Rattle.yaml_styled.proofs.lines.strip_spaces.Goals as goal
 
 pub loop-left-preserved : goal.loop-left-preserved

@@ -1,5 +1,4 @@
-use Rattle.yaml_styled.proofs.Prelude.{AllAdjacentBelow}
-use Rattle.yaml_styled.specs.Names.{IsBelow}
+use Rattle.yaml_styled.{proofs.Prelude.AllAdjacentBelow, specs.Names.IsBelow}
 use Rattle.yaml_styled.proofs.open_keys.do_ascend.Given as goal
 
 -- the keys before this place ascend

@@ -1,6 +1,5 @@
 use Rattle.std.proofs.Common.{◌≡◌, drop}
-use Rattle.yaml_styled.proofs.Prelude.{keys_differ}
-use Rattle.yaml_styled.specs.Names.{named}
+use Rattle.yaml_styled.{proofs.Prelude.keys_differ, specs.Names.named}
 use Rattle.yaml_styled.proofs.open_keys.few_differ.Given as goal
 
 -- the keys differ where those that are left do

@@ -1,6 +1,5 @@
 use Rattle.std.proofs.Common.{◌≡◌, drop}
-use Rattle.yaml_styled.proofs.Prelude.{chars, has_key}
-use Rattle.yaml_styled.specs.Names.{named}
+use Rattle.yaml_styled.{proofs.Prelude.{chars, has_key}, specs.Names.named}
 use Rattle.yaml_styled.proofs.open_keys.is_among.Given as goal
 
 -- the key is among the others where it is among those that are left

@@ -1,7 +1,6 @@
 use Rattle.std.proofs.Common.{take, get_or, sym, ap, ap₂, ◌∙◌, arith}
-use Rattle.yaml_styled.proofs.Prelude.{take_more, chars, nothing, key_members}
+use Rattle.yaml_styled.proofs.{Prelude.{take_more, chars, nothing, key_members}, NameLemmas.{no_key, key_members-and, named-and}}
 use Rattle.yaml_styled.specs.{Parts.members_and, Names.named}
-use Rattle.yaml_styled.proofs.NameLemmas.{no_key, key_members-and, named-and}
 use Rattle.yaml_styled.proofs.open_keys.many_differ.Goals as goal
 
 pub loop-key-preserved : goal.loop-key-preserved

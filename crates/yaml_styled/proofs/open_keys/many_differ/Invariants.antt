@@ -1,6 +1,5 @@
 use Rattle.std.proofs.Common.{◌≡◌, take}
-use Rattle.yaml_styled.proofs.Prelude.{key_members}
-use Rattle.yaml_styled.specs.Names.{named}
+use Rattle.yaml_styled.{proofs.Prelude.key_members, specs.Names.named}
 use Rattle.yaml_styled.proofs.open_keys.many_differ.Given as goal
 
 -- the pairs so far have the keys so far

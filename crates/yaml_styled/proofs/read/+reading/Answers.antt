@@ -1,9 +1,8 @@
 use Rattle.std.proofs.Common.{◌≡◌, ◌+◌, true, List, [], ◌∷◌, ◌++◌, codes, if◌then◌else◌, refl, sym, ap, subst, ◌∙◌, append-nil}
 use Rattle.std.proofs.Common.{append_assoc, arith}
-use Rattle.yaml_styled.proofs.Prelude.{IfOk-weaker, spaces, keys_differ, chars-literal}
-use Rattle.yaml_styled.specs.{Taking.Took, Names.named}
-use Rattle.yaml_styled.proofs.{NameLemmas.Key, NameLemmas.own_keys, ValueLemmas.value_below}
-use Rattle.yaml_styled.proofs.RowLemmas.{no_elements, no_members, element_more, element_last, member_more, member_last}
+use Rattle.yaml_styled.proofs.{Prelude.{IfOk-weaker, spaces, keys_differ, chars-literal}, NameLemmas.{Key, own_keys}}
+use Rattle.yaml_styled.proofs.{ValueLemmas.value_below, RowLemmas.{no_elements, no_members, element_more, element_last, member_more}}
+use Rattle.yaml_styled.{proofs.RowLemmas.member_last, specs.{Taking.Took, Names.named}}
 use Rattle.yaml_styled.proofs.read.+reading.Goals as goal
 
 pub read_below-returns-clause-read : goal.read_below-returns-clause-read

@@ -1,5 +1,5 @@
 use Rattle.std.proofs.Common.{◌≡◌, ◌+◌, ◌*◌, ◌++◌, List}
-use Rattle.yaml_styled.proofs.{NameLemmas.Key, RowLemmas.StartedElements, RowLemmas.StartedMembers}
+use Rattle.yaml_styled.proofs.{NameLemmas.Key, RowLemmas.{StartedElements, StartedMembers}}
 use Rattle.yaml_styled.proofs.read.+reading.Given as goal
 
 -- the rows so far were read, and the spaces before the next

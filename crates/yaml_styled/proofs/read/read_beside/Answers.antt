@@ -1,7 +1,5 @@
 use Rattle.std.proofs.Common.{codes, refl, subst}
-use Rattle.yaml_styled.proofs.Prelude.{IfOk-weaker, chars-literal}
-use Rattle.yaml_styled.specs.Taking.{Took}
-use Rattle.yaml_styled.proofs.ValueLemmas.{value_beside}
+use Rattle.yaml_styled.{proofs.{Prelude.{IfOk-weaker, chars-literal}, ValueLemmas.value_beside}, specs.Taking.Took}
 use Rattle.yaml_styled.proofs.read.read_beside.Goals as goal
 
 pub returns : goal.returns

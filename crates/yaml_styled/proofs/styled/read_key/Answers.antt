@@ -1,6 +1,5 @@
 use Rattle.std.proofs.Common.{sym, subst, ◌∙◌}
-use Rattle.yaml_styled.proofs.Prelude.{chars, key_lines}
-use Rattle.yaml_styled.specs.Comparing.{GoesOn}
+use Rattle.yaml_styled.{proofs.Prelude.{chars, key_lines}, specs.Comparing.GoesOn}
 use Rattle.yaml_styled.proofs.styled.read_key.Goals as goal
 
 pub returns : goal.returns

@@ -1,6 +1,5 @@
 use Rattle.std.proofs.Common.{sym, subst, ◌∙◌}
-use Rattle.yaml_styled.proofs.Prelude.{value_at}
-use Rattle.yaml_styled.specs.Styles.{IsStyled}
+use Rattle.yaml_styled.{proofs.Prelude.value_at, specs.Styles.IsStyled}
 use Rattle.yaml_styled.proofs.StyledLemmas as lemmas
 use Rattle.yaml_styled.proofs.styled.styled_beside.Goals as goal
 

@@ -1,6 +1,5 @@
 use Rattle.std.proofs.Common.{refl, sym, subst, ◌∙◌}
-use Rattle.yaml_styled.proofs.Prelude.{style_text, Size}
-use Rattle.yaml_styled.specs.Styles.{IsStyled}
+use Rattle.yaml_styled.{proofs.Prelude.{style_text, Size}, specs.Styles.IsStyled}
 use Rattle.yaml_styled.proofs.StyledLemmas as lemmas
 use Rattle.yaml_styled.proofs.styled.styled_flat.Goals as goal
 

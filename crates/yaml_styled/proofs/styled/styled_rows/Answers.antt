@@ -1,6 +1,5 @@
 use Rattle.std.proofs.Common.{◌+◌, ◌*◌, sym, ap, subst, ◌∙◌}
-use Rattle.yaml_styled.proofs.Prelude.{style_text}
-use Rattle.yaml_styled.specs.Styles.{IsStyled}
+use Rattle.yaml_styled.{proofs.Prelude.style_text, specs.Styles.IsStyled}
 use Rattle.yaml_styled.proofs.StyledLemmas as lemmas
 use Rattle.yaml_styled.proofs.styled.styled_rows.Goals as goal
 

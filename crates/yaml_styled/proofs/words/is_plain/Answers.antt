@@ -1,8 +1,7 @@
 use Rattle.std.proofs.Common.{◌≡◌, Bool, true, false, if◌then◌else◌, refl, ap, ◌∙◌}
 use Rattle.yaml_styled.proofs.Prelude.{chars, plain_in_style}
 use denote.Enum.Bare.{sameb}
-use Rattle.yaml_writer.specs.contracts.scalar_style.ScalarStyle.{the_type}
-use Rattle.yaml_writer.specs.declared.scalar_style.ScalarStyle.TheVariants.{Plain, Double}
+use Rattle.yaml_writer.specs.{contracts.scalar_style.ScalarStyle.the_type, declared.scalar_style.ScalarStyle.TheVariants.{Plain, Double}}
 use Rattle.yaml_styled.proofs.words.is_plain.Goals as goal
 
 same : (plain : Bool) → sameb the_type (if plain then Plain else Double) Plain ≡ plain

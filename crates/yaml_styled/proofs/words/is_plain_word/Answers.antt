@@ -1,6 +1,5 @@
 use Rattle.std.proofs.Common.{◌≡◌, true, ap, sym, subst, ◌∙◌}
-use Rattle.yaml_styled.proofs.Prelude.{list_all, chars, plain_in_style, word_char}
-use Rattle.yaml_styled.proofs.WordLemmas.{plain_long, plain_begins}
+use Rattle.yaml_styled.proofs.{Prelude.{list_all, chars, plain_in_style, word_char}, WordLemmas.{plain_long, plain_begins}}
 use Rattle.yaml_styled.proofs.words.is_plain_word.Goals.{then-bytes-gt-LONGEST-via-then-bytes-gt-LONGEST}
 use Rattle.yaml_styled.proofs.words.is_plain_word.Goals.{then-bytes-gt-LONGEST-via-else-bytes-gt-LONGEST+then-not-is_special_initial}
 use Rattle.yaml_styled.proofs.words.is_plain_word.Goals as goal

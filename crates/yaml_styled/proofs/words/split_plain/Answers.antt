@@ -1,6 +1,5 @@
 use Rattle.std.proofs.Common.{take, ap, sym, ◌∙◌}
-use Rattle.yaml_styled.proofs.Prelude.{list_all, word_char}
-use Rattle.yaml_styled.proofs.{RunLemmas.run_passes, WordLemmas.word_same}
+use Rattle.yaml_styled.proofs.{Prelude.{list_all, word_char}, RunLemmas.run_passes, WordLemmas.word_same}
 use Rattle.yaml_styled.proofs.words.split_plain.Goals as goal
 
 pub is_plain_word-requires : goal.is_plain_word-requires

@@ -1,6 +1,5 @@
 use Rattle.std.proofs.Common.{take, ap, sym, ◌∙◌}
-use Rattle.yaml_styled.proofs.Prelude.{list_all, stands_alone}
-use Rattle.yaml_styled.proofs.RunLemmas.{run_passes}
+use Rattle.yaml_styled.proofs.{Prelude.{list_all, stands_alone}, RunLemmas.run_passes}
 use Rattle.yaml_styled.proofs.words.split_quoted.Goals as goal
 
 pub returns-clause-alone : goal.returns-clause-alone

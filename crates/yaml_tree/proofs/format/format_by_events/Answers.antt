@@ -1,7 +1,6 @@
 use Rattle.std.proofs.Common.{Err, sym, subst, refl}
-use Rattle.yaml_tree.proofs.Prelude.{err_from_is_err_and, limits_of}
+use Rattle.yaml_tree.proofs.{Prelude.{err_from_is_err_and, limits_of}, WriterLemmas.{formatted, too_large, not_too_long}}
 use Rattle.yaml_tree.specs.Formatting.{IsFormatted}
-use Rattle.yaml_tree.proofs.WriterLemmas.{formatted, too_large, not_too_long}
 use Rattle.yaml_tree.proofs.format.format_by_events.Goals as goal
 
 pub returns-in_err-write-clause-too_long : goal.returns-in_err-write-clause-too_long

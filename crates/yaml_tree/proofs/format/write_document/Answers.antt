@@ -1,8 +1,7 @@
 use Rattle.std.proofs.Common.{◌≡◌, Some, List, [], sym, ap, ◌∙◌, rules}
-use Rattle.yaml_tree.proofs.Prelude.{err_from_is_err_and, events_of, Event, shapes, nothing}
-use Rattle.yaml_tree.specs.OpenText.{indent_in}
-use Rattle.yaml_tree.proofs.{FrameLemmas.run, OpenTextLemmas.indent_in-kept, WriterLemmas.begins, WriterLemmas.is_written}
-use Rattle.yaml_tree.proofs.EventLemmas.{run_on, run_ended, stopped_refuses, unfinished_refuses}
+use Rattle.yaml_tree.proofs.{Prelude.{err_from_is_err_and, events_of, Event, shapes, nothing}, FrameLemmas.run}
+use Rattle.yaml_tree.proofs.{OpenTextLemmas.indent_in-kept, WriterLemmas.{begins, is_written}, EventLemmas.{run_on, run_ended}}
+use Rattle.yaml_tree.{proofs.EventLemmas.{stopped_refuses, unfinished_refuses}, specs.OpenText.indent_in}
 use Rattle.yaml_tree.proofs.format.write_document.Goals as goal
 
 pub loop-event-init : goal.loop-event-init

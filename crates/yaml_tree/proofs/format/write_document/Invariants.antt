@@ -1,6 +1,5 @@
 use Rattle.std.proofs.Common.{List}
-use Rattle.yaml_tree.specs.{Formatting.Writes, Frames.Frame}
-use Rattle.yaml_tree.proofs.EventLemmas.{RunsOn}
+use Rattle.yaml_tree.{specs.{Formatting.Writes, Frames.Frame}, proofs.EventLemmas.RunsOn}
 use Rattle.yaml_tree.proofs.format.write_document.Given as goal
 
 -- the parts that the writer has come to, over the events that are left, become what all events become

@@ -1,7 +1,6 @@
 use Rattle.std.proofs.Common.{length, sym, subst}
-use Rattle.yaml_tree.proofs.Prelude.{eqb-true, nil_from_length, limits_of, style_text, GoesOn}
+use Rattle.yaml_tree.proofs.{Prelude.{eqb-true, nil_from_length, limits_of, style_text, GoesOn}, InStyleLemmas.styled_formatted}
 use Rattle.yaml_tree.specs.InStyle.{AreLinesOf}
-use Rattle.yaml_tree.proofs.InStyleLemmas.{styled_formatted}
 use Rattle.yaml_tree.proofs.in_style.lines_in_style.Goals as goal
 
 pub returns-in-Ok-clause-given : goal.returns-in-Ok-clause-given

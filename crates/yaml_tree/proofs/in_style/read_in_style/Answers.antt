@@ -1,7 +1,6 @@
 use Rattle.std.proofs.Common.{IfSome, sym, subst}
-use Rattle.yaml_tree.proofs.Prelude.{limits_of, tree_of}
-use Rattle.yaml_tree.specs.{InStyle.AreLinesOf, Reading.IsRead}
-use Rattle.yaml_tree.proofs.InStyleLemmas.{own_good, styled_good, styled_read}
+use Rattle.yaml_tree.{proofs.{Prelude.{limits_of, tree_of}, InStyleLemmas.{own_good, styled_good, styled_read}}, specs.InStyle.AreLinesOf}
+use Rattle.yaml_tree.specs.Reading.{IsRead}
 use Rattle.yaml_data.specs.declared.tree.Tree as trees
 use Rattle.yaml_tree.proofs.in_style.read_in_style.Goals as goal
 

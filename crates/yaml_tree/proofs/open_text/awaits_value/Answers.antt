@@ -1,6 +1,5 @@
 use Rattle.std.proofs.Common.{sym, ap, ◌∙◌}
-use Rattle.yaml_tree.specs.{OpenParts.open_frames, Frames.awaits_value}
-use Rattle.yaml_tree.proofs.PartLemmas.{open_frames-push}
+use Rattle.yaml_tree.{specs.{OpenParts.open_frames, Frames.awaits_value}, proofs.PartLemmas.open_frames-push}
 use Rattle.yaml_tree.proofs.open_text.awaits_value.Goals as goal
 
 pub returns-in-Some : goal.returns-in-Some

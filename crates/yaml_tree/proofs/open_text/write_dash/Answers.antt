@@ -1,7 +1,6 @@
 use Rattle.std.proofs.Common.{◌++◌, codes, subst, refl, sym, ap, ◌∙◌}
-use Rattle.yaml_tree.proofs.Prelude.{on_ok_weaker, chars-literal}
-use Rattle.yaml_tree.specs.{OpenParts.open_frame, OpenParts.open_frames, OpenText.line_start, OpenText.dash}
-use Rattle.yaml_tree.proofs.OpenPartLemmas.{dash_of}
+use Rattle.yaml_tree.{proofs.{Prelude.{on_ok_weaker, chars-literal}, OpenPartLemmas.dash_of}, specs.OpenParts.{open_frame, open_frames}}
+use Rattle.yaml_tree.specs.OpenText.{line_start, dash}
 use Rattle.yaml_tree.proofs.open_text.write_dash.Goals as goal
 
 pub returns-in_ok-write_line_start-in-Seq : goal.returns-in_ok-write_line_start-in-Seq

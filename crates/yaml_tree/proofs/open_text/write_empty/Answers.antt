@@ -1,7 +1,5 @@
 use Rattle.std.proofs.Common.{subst, sym, ◌∙◌}
-use Rattle.yaml_tree.proofs.Prelude.{on_ok_weaker, chars}
-use Rattle.yaml_tree.specs.OpenParts.{open_frames}
-use Rattle.yaml_tree.proofs.OpenPartLemmas.{empty_line-after_key}
+use Rattle.yaml_tree.{proofs.{Prelude.{on_ok_weaker, chars}, OpenPartLemmas.empty_line-after_key}, specs.OpenParts.open_frames}
 use Rattle.yaml_tree.proofs.open_text.write_empty.Goals as goal
 
 pub returns : goal.returns

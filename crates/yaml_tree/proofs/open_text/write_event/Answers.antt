@@ -1,7 +1,7 @@
 use Rattle.std.proofs.Common.{subst, sym, ap, ap₂, ◌∙◌}
-use Rattle.yaml_tree.proofs.Prelude.{on_ok_weaker, chars, event_of, shape}
-use Rattle.yaml_tree.specs.{OpenParts.open_frame, OpenParts.open_frames, OpenText.indent_in, OpenText.scalar_in, OpenText.added}
-use Rattle.yaml_tree.proofs.{OpenPartLemmas.start_added, OpenPartLemmas.own_room, PartLemmas.open_frames-push}
+use Rattle.yaml_tree.proofs.{Prelude.{on_ok_weaker, chars, event_of, shape}, OpenPartLemmas.{start_added, own_room}}
+use Rattle.yaml_tree.{proofs.PartLemmas.open_frames-push, specs.{OpenParts.{open_frame, open_frames}, OpenText.{indent_in, scalar_in}}}
+use Rattle.yaml_tree.specs.OpenText.{added}
 use Rattle.yaml_tree.proofs.open_text.write_event.Goals as goal
 
 pub write_scalar_in-requires-clause-indent : goal.write_scalar_in-requires-clause-indent

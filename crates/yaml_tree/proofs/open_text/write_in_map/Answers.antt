@@ -1,9 +1,6 @@
-use Rattle.std.proofs.Common.{◌≡◌, ◌++◌, length, subst, sym, ap, ◌∙◌, arith}
-use Rattle.yaml_tree.proofs.Prelude.{on_ok_weaker, chars, key_lines}
-use Rattle.std.specs.Vec.{vec_len}
-use Rattle.yaml_tree.specs.{Kept.members_by, Kept.no_tree, OpenParts.frame_by_next, OpenParts.open_frames}
-use Rattle.yaml_tree.specs.OpenText.{line_start, key_start, scalar_in}
-use Rattle.yaml_tree.proofs.OpenPartLemmas.{key_start_of}
+use Rattle.std.{proofs.Common.{◌≡◌, ◌++◌, length, subst, sym, ap, ◌∙◌, arith}, specs.Vec.vec_len}
+use Rattle.yaml_tree.{proofs.{Prelude.{on_ok_weaker, chars, key_lines}, OpenPartLemmas.key_start_of}, specs.Kept.{members_by, no_tree}}
+use Rattle.yaml_tree.specs.{OpenParts.{frame_by_next, open_frames}, OpenText.{line_start, key_start, scalar_in}}
 use Rattle.yaml_tree.proofs.open_text.write_in_map.Goals as goal
 
 pub returns : goal.returns

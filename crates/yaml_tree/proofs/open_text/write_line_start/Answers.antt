@@ -1,7 +1,5 @@
 use Rattle.std.proofs.Common.{subst, sym, ◌∙◌}
-use Rattle.yaml_tree.proofs.Prelude.{on_ok_weaker}
-use Rattle.yaml_tree.specs.OpenParts.{open_frames}
-use Rattle.yaml_tree.proofs.OpenPartLemmas.{line_start-after_key}
+use Rattle.yaml_tree.{proofs.{Prelude.on_ok_weaker, OpenPartLemmas.line_start-after_key}, specs.OpenParts.open_frames}
 use Rattle.yaml_tree.proofs.open_text.write_line_start.Goals as goal
 
 pub returns : goal.returns

@@ -1,8 +1,7 @@
 use Rattle.std.proofs.Common.{◌≡◌, codes, length, subst, refl, sym, ap, ◌∙◌, arith}
-use Rattle.yaml_tree.proofs.Prelude.{eqb-true, eqb-false, on_ok_weaker, chars-literal}
-use Rattle.yaml_tree.specs.{OpenParts.open_frame, OpenParts.open_frames, Kept.members_by, Kept.no_tree, OpenText.empty_line}
-use Rattle.yaml_tree.specs.{OpenText.map_end}
-use Rattle.yaml_tree.proofs.OpenPartLemmas.{map_end-key, map_end-empty, map_end-filled}
+use Rattle.yaml_tree.proofs.{Prelude.{eqb-true, eqb-false, on_ok_weaker, chars-literal}, OpenPartLemmas.{map_end-key, map_end-empty}}
+use Rattle.yaml_tree.{proofs.OpenPartLemmas.map_end-filled, specs.{OpenParts.{open_frame, open_frames}, Kept.{members_by, no_tree}}}
+use Rattle.yaml_tree.specs.OpenText.{empty_line, map_end}
 use Rattle.yaml_tree.proofs.open_text.write_map_end.Goals as goal
 
 pub returns-then-map : goal.returns-then-map

@@ -1,7 +1,6 @@
 use Rattle.std.proofs.Common.{codes, subst, refl, sym, ap, ◌∙◌}
-use Rattle.yaml_tree.proofs.Prelude.{on_ok_weaker, chars-literal}
-use Rattle.yaml_tree.specs.{OpenParts.open_frame, OpenParts.open_frames, OpenText.empty_line, OpenText.seq_end}
-use Rattle.yaml_tree.proofs.OpenPartLemmas.{seq_end-empty, seq_end-filled}
+use Rattle.yaml_tree.proofs.{Prelude.{on_ok_weaker, chars-literal}, OpenPartLemmas.{seq_end-empty, seq_end-filled}}
+use Rattle.yaml_tree.specs.{OpenParts.{open_frame, open_frames}, OpenText.{empty_line, seq_end}}
 use Rattle.yaml_tree.proofs.open_text.write_seq_end.Goals as goal
 
 pub returns-then-not-items : goal.returns-then-not-items

@@ -1,7 +1,6 @@
 use Rattle.std.proofs.Common.{◌≡◌, Some, List, []}
-use Rattle.yaml_tree.proofs.Prelude.{MatchResult-weaker, err_from_is_err_and, events_of, Event, shapes}
-use Rattle.yaml_tree.proofs.EventLemmas.{run_on, run_ended, run_tree, stopped_refuses, unfinished_refuses}
-use Rattle.yaml_tree.proofs.FrameLemmas.{run}
+use Rattle.yaml_tree.proofs.{Prelude.{MatchResult-weaker, err_from_is_err_and, events_of, Event, shapes}, EventLemmas.{run_on, run_ended}}
+use Rattle.yaml_tree.proofs.{EventLemmas.{run_tree, stopped_refuses, unfinished_refuses}, FrameLemmas.run}
 use Rattle.yaml_tree.proofs.parts.document_value.Goals as goal
 
 pub loop-event-preserved : goal.loop-event-preserved

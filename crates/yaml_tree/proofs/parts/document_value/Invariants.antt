@@ -1,6 +1,5 @@
 use Rattle.std.proofs.Common.{List}
-use Rattle.yaml_tree.specs.{OpenParts.Holds, Frames.Frame}
-use Rattle.yaml_tree.proofs.EventLemmas.{RunsOn}
+use Rattle.yaml_tree.{specs.{OpenParts.Holds, Frames.Frame}, proofs.EventLemmas.RunsOn}
 use Rattle.yaml_tree.proofs.parts.document_value.Given as goal
 
 -- the parts that the events have opened, over the events that are left, become what all events become

@@ -1,7 +1,6 @@
 use Rattle.std.proofs.Common.{◌≡◌, ◌<◌, Bool, true, false, List, sym, ap, subst, ◌∙◌, arith}
 use Rattle.yaml_tree.proofs.Prelude.{err_from_is_err_and, events_of, Event, Tree, IsTreeOf, depth, distinct, limits_of, tree_of}
-use Rattle.yaml_tree.specs.{OpenParts.IsOutcome, Reading.IsRead}
-use Rattle.yaml_tree.proofs.ReadLemmas.{tree_read, shallow_refused, deep_refused}
+use Rattle.yaml_tree.{proofs.ReadLemmas.{tree_read, shallow_refused, deep_refused}, specs.{OpenParts.IsOutcome, Reading.IsRead}}
 use Rattle.yaml_tree.specs.Kept as keep
 use Rattle.yaml_data.specs.declared.tree.Tree as trees
 use Rattle.yaml_tree.proofs.read.read_by_events.Goals as goal

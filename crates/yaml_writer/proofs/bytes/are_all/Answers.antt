@@ -1,6 +1,5 @@
 use Rattle.std.proofs.Common.{ap, ◌∙◌, arith}
-use Rattle.yaml_writer.proofs.Prelude.{list_all}
-use Rattle.yaml_writer.proofs.BlockLemmas.{outer_pass, outer_pass_twice}
+use Rattle.yaml_writer.proofs.{Prelude.list_all, BlockLemmas.{outer_pass, outer_pass_twice}}
 use Rattle.yaml_writer.proofs.bytes.are_all.Goals as goal
 
 pub returns-then-len-ge8 : goal.returns-then-len-ge8

@@ -1,6 +1,5 @@
 use Rattle.std.proofs.Common.{arith}
-use Rattle.yaml_writer.proofs.Prelude.{chars}
-use Rattle.yaml_writer.proofs.{ByteLemmas.byte_len-chars, LengthLemmas.length-byte_len, SizeBounds.short_key}
+use Rattle.yaml_writer.proofs.{Prelude.chars, ByteLemmas.byte_len-chars, LengthLemmas.length-byte_len, SizeBounds.short_key}
 use Rattle.yaml_writer.proofs.count.is_long_key.Goals as goal
 
 pub returns-then-key-le-SHORT_KEY : goal.returns-then-key-le-SHORT_KEY

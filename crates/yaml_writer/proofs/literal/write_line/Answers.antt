@@ -1,7 +1,6 @@
 use Rattle.std.proofs.Common.{subst, sym}
-use Rattle.yaml_writer.proofs.Prelude.{eqb-true, eqb-false, on_ok_weaker, chars, chars_empty, chars_filled}
+use Rattle.yaml_writer.proofs.{Prelude.{eqb-true, eqb-false, on_ok_weaker, chars, chars_empty, chars_filled}, LiteralLemmas.line_filled}
 use Rattle.yaml_writer.specs.Lines.{line_text}
-use Rattle.yaml_writer.proofs.LiteralLemmas.{line_filled}
 use Rattle.yaml_writer.proofs.literal.write_line.Goals as goal
 
 pub returns-then-is_empty : goal.returns-then-is_empty

@@ -1,7 +1,6 @@
 use Rattle.std.proofs.Common.{sym, ap, ◌∙◌, subst}
-use Rattle.yaml_writer.proofs.Prelude.{on_ok_weaker, list_all, chars, every-bytes}
+use Rattle.yaml_writer.proofs.{Prelude.{on_ok_weaker, list_all, chars, every-bytes}, QuotedLemmas.{quoted_chars-alone, stands_alone-below}}
 use Rattle.yaml_writer.specs.Runs.{stands_alone}
-use Rattle.yaml_writer.proofs.QuotedLemmas.{quoted_chars-alone, stands_alone-below}
 use Rattle.yaml_writer.proofs.quoted.write_between_quotes.Goals as goal
 
 pub returns-then-stand_alone : goal.returns-then-stand_alone

@@ -1,6 +1,5 @@
 use Rattle.std.proofs.Common.{sym, subst}
-use Rattle.yaml_writer.proofs.Prelude.{on_ok_weaker}
-use Rattle.yaml_writer.proofs.QuotedLemmas.{number_escape-two, number_escape-four}
+use Rattle.yaml_writer.proofs.{Prelude.on_ok_weaker, QuotedLemmas.{number_escape-two, number_escape-four}}
 use Rattle.yaml_writer.proofs.quoted.write_code_escape.Goals as goal
 
 pub returns-then-number-le255 : goal.returns-then-number-le255

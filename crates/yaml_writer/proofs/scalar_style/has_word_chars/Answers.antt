@@ -1,6 +1,5 @@
 use Rattle.std.proofs.Common.{sym, ap, ◌∙◌}
-use Rattle.yaml_writer.proofs.Prelude.{list_all, chars, word_char, every-IsAscii, chars-same, every-bytes}
-use Rattle.yaml_writer.proofs.ScalarLemmas.{word_char-below}
+use Rattle.yaml_writer.proofs.{Prelude.{list_all, chars, word_char, every-IsAscii, chars-same, every-bytes}, ScalarLemmas.word_char-below}
 use Rattle.yaml_writer.proofs.scalar_style.has_word_chars.Goals as goal
 
 pub returns-clause-word : goal.returns-clause-word

@@ -1,6 +1,5 @@
 use Rattle.std.proofs.Common.{◌∙◌, sym, ap, ◌&&◌, not, nat_le, length}
-use Rattle.yaml_writer.proofs.Prelude.{chars, special_words, lower, is_among}
-use Rattle.yaml_writer.proofs.ScalarLemmas.{long-not-plain}
+use Rattle.yaml_writer.proofs.{Prelude.{chars, special_words, lower, is_among}, ScalarLemmas.long-not-plain}
 use Rattle.yaml_writer.proofs.scalar_style.is_plain_in_style.Goals.{then-text-le128, else-text-le128}
 use Rattle.yaml_writer.proofs.scalar_style.is_plain_in_style.Goals as goal
 

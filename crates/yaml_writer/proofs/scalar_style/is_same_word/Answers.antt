@@ -1,5 +1,4 @@
-use Rattle.yaml_writer.proofs.Prelude.{same_from_decides, same_text-Decides}
-use Rattle.yaml_writer.proofs.ScalarLemmas.{map-lower}
+use Rattle.yaml_writer.proofs.{Prelude.{same_from_decides, same_text-Decides}, ScalarLemmas.map-lower}
 use Rattle.yaml_writer.proofs.scalar_style.is_same_word.Goals as goal
 
 pub returns : goal.returns

@@ -1,9 +1,7 @@
-use Rattle.std.proofs.Common.{rules, ap, sym, ◌∙◌}
+use Rattle.std.proofs.{Common.{rules, ap, sym, ◌∙◌}, lemmas.Iterator.Search.all_from_yields_List}
 use Rattle.yaml_writer.proofs.Prelude.{list_all, YieldsList-from_chars, shown_or_feed}
-use Rattle.std.proofs.lemmas.Iterator.Search.{all_from_yields_List}
 use borrow.Author.Tests.{tests}
-use Rattle.yaml_writer.specs.Runs.{ascii_in_lines}
-use Rattle.yaml_writer.proofs.ScalarLemmas.{shown-lines}
+use Rattle.yaml_writer.{specs.Runs.ascii_in_lines, proofs.ScalarLemmas.shown-lines}
 use Rattle.yaml_writer.proofs.scalar_style.is_shown_in_lines.Goals as goal
 
 pub returns-then-are_all : goal.returns-then-are_all

@@ -1,6 +1,5 @@
 use Rattle.std.proofs.Common.{◌∙◌, length, sym, ap}
-use Rattle.yaml_writer.proofs.Prelude.{ne_eqb, is_among}
-use Rattle.yaml_writer.proofs.SpecialWords.{same_length, special_of_length, none_of_length, only, second}
+use Rattle.yaml_writer.proofs.{Prelude.{ne_eqb, is_among}, SpecialWords.{same_length, special_of_length, none_of_length, only, second}}
 use Rattle.yaml_writer.proofs.scalar_style.is_special_word.Goals as goal
 
 pub returns-else-is_same_word : goal.returns-else-is_same_word

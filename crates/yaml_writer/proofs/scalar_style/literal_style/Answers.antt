@@ -1,8 +1,6 @@
-use Rattle.std.proofs.Common.{suc, None, Some, ap, sym, ◌∙◌, lit<}
-use Rattle.yaml_writer.proofs.Prelude.{true≢false, line_feed}
-use Rattle.std.proofs.lemmas.Str.Pattern.{strip_suffix_char, ends_char}
+use Rattle.std.proofs.{Common.{suc, None, Some, ap, sym, ◌∙◌, lit<}, lemmas.Str.Pattern.{strip_suffix_char, ends_char}}
+use Rattle.yaml_writer.proofs.{Prelude.{true≢false, line_feed}, ScalarLemmas.{no_feed_at_end, feed_at_end, prefix_IsUtf8}}
 use Rattle.yaml_writer.specs.ScalarStyles.{literal_style}
-use Rattle.yaml_writer.proofs.ScalarLemmas.{no_feed_at_end, feed_at_end, prefix_IsUtf8}
 use Rattle.yaml_writer.proofs.scalar_style.literal_style.Goals as goal
 
 pub returns-in-None : goal.returns-in-None

@@ -2,10 +2,8 @@ use Rattle.std.proofs.Common.{◌+◌, drop, sym, ap, ◌∙◌, arith}
 use Rattle.yaml_writer.proofs.Prelude.{eqb-false, drop_all, chars, tree_of, elements_of, members_of, drop_item, tree_of-Map, elements_after}
 use Rattle.yaml_writer.proofs.Prelude.{members_after, byte_len, mapping}
 use denote.Param.Weighed.{at_most}
-use Rattle.yaml_data.specs.TextBytes.{text_bytes}
-use Rattle.yaml_writer.specs.Sizes.{element_size, key_size, elements_after_indented, members_after_indented}
-use Rattle.yaml_writer.specs.declared.size.Size.{Size}
-use Rattle.yaml_writer.proofs.SizeBounds.{element_bound}
+use Rattle.{yaml_data.specs.TextBytes.text_bytes, yaml_writer.specs.Sizes.{element_size, key_size, elements_after_indented}}
+use Rattle.yaml_writer.{specs.{Sizes.members_after_indented, declared.size.Size.Size}, proofs.SizeBounds.element_bound}
 use Rattle.yaml_writer.proofs.SizeSums.{same_size, first_element, first_member, element_rows, member_rows, value_longer}
 use Rattle.yaml_writer.proofs.size.+sizes.Goals as goal
 

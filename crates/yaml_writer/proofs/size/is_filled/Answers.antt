@@ -1,7 +1,6 @@
 use Rattle.std.proofs.Common.{not, sym, ap, ◌∙◌, arith}
-use Rattle.yaml_writer.proofs.Prelude.{tree_of, tree_of-Seq, tree_of-Map}
+use Rattle.yaml_writer.proofs.{Prelude.{tree_of, tree_of-Seq, tree_of-Map}, SizeSums.{filled_elements, filled_members}}
 use Rattle.yaml_writer.specs.Sizes.{is_filled}
-use Rattle.yaml_writer.proofs.SizeSums.{filled_elements, filled_members}
 use Rattle.yaml_writer.proofs.size.is_filled.Goals as goal
 
 pub returns-in-Seq : goal.returns-in-Seq

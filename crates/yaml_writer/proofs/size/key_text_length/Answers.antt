@@ -1,6 +1,5 @@
 use Rattle.std.proofs.Common.{arith}
-use Rattle.yaml_writer.proofs.Prelude.{chars}
-use Rattle.yaml_writer.proofs.{ByteLemmas.byte_len-chars, SizeBounds.key_bytes_bound, SizeSums.key_bytes}
+use Rattle.yaml_writer.proofs.{Prelude.chars, ByteLemmas.byte_len-chars, SizeBounds.key_bytes_bound, SizeSums.key_bytes}
 use Rattle.yaml_writer.proofs.size.key_text_length.Goals as goal
 
 pub returns-clause-length : goal.returns-clause-length

@@ -1,7 +1,6 @@
 use Rattle.std.proofs.Common.{◌+◌, sym, ap, arith}
-use Rattle.yaml_writer.proofs.Prelude.{eqb-true, eqb-false, chars, chars_empty, chars_filled, byte_len}
-use Rattle.yaml_writer.specs.Lines.{line_text}
-use Rattle.yaml_writer.proofs.{ByteLemmas.byte_len-chars, SizeSums.line_bytes}
+use Rattle.yaml_writer.proofs.{Prelude.{eqb-true, eqb-false, chars, chars_empty, chars_filled, byte_len}, ByteLemmas.byte_len-chars}
+use Rattle.yaml_writer.{proofs.SizeSums.line_bytes, specs.Lines.line_text}
 use Rattle.yaml_writer.proofs.size.line_size.Goals as goal
 
 pub returns-then-is_empty-clause-bytes : goal.returns-then-is_empty-clause-bytes

@@ -1,8 +1,7 @@
 use Rattle.std.proofs.Common.{codes, true, subst, sym, ap, ◌∙◌, arith}
-use Rattle.yaml_writer.proofs.Prelude.{chars, literal_lines, in_double_quotes, byte_len}
-use Rattle.yaml_writer.specs.BudgetLaws.{byte_len-append}
-use Rattle.yaml_writer.proofs.{ByteLemmas.byte_len-chars, SizeLaws.sized, SizeSums.IsLiteral, SizeSums.one_line, SizeSums.literal_lines_of}
-use Rattle.yaml_writer.proofs.StyleLemmas.{value_plain, value_double, value_strip, value_clip, value_keep}
+use Rattle.yaml_writer.proofs.{Prelude.{chars, literal_lines, in_double_quotes, byte_len}, ByteLemmas.byte_len-chars, SizeLaws.sized}
+use Rattle.yaml_writer.proofs.{SizeSums.{IsLiteral, one_line, literal_lines_of}, StyleLemmas.{value_plain, value_double, value_strip}}
+use Rattle.yaml_writer.{proofs.StyleLemmas.{value_clip, value_keep}, specs.BudgetLaws.byte_len-append}
 use Rattle.yaml_writer.proofs.size.scalar_size.Goals as goal
 
 pub quoted_length-requires : goal.quoted_length-requires

@@ -1,6 +1,5 @@
 use Rattle.std.proofs.Common.{◌+◌, ◌*◌, ◌<◌, drop}
-use Rattle.yaml_writer.proofs.Prelude.{elements_depth, members_depth, elements_of, members_of}
-use Rattle.yaml_writer.proofs.WalkLemmas.{elements_led, members_led}
+use Rattle.yaml_writer.proofs.{Prelude.{elements_depth, members_depth, elements_of, members_of}, WalkLemmas.{elements_led, members_led}}
 use Rattle.yaml_writer.proofs.style.+lines.Given as goal
 
 -- what is left has room, and what ends its lines from here ends all lines from the start

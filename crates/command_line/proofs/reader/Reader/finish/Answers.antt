@@ -1,9 +1,6 @@
 -- What is wrong of the argument is the first that is wrong.
-use Rattle.std.proofs.Common.{map, rules, inr, sym, ap, ◌∙◌}
-use Rattle.std.specs.Prelude.{Err, if◌then◌else◌}
-use Rattle.command_line.specs.Rows.{row_of}
-use Rattle.command_line.specs.Words.{checked}
-use Rattle.command_line.specs.declared.refusal.Refusal.TheVariants.{MissingText}
+use Rattle.std.{proofs.Common.{map, rules, inr, sym, ap, ◌∙◌}, specs.Prelude.{Err, if◌then◌else◌}}
+use Rattle.command_line.specs.{Rows.row_of, Words.checked, declared.refusal.Refusal.TheVariants.MissingText}
 use Rattle.command_line.proofs.WordLemmas.{any_argument, waits_on, wrong_at}
 use Rattle.command_line.proofs.reader.Reader.finish.Goals as goal
 

@@ -1,7 +1,6 @@
 -- Nothing is wrong of the arguments before.
 use Rattle.std.proofs.Common.{◌≡◌, drop, map}
-use Rattle.command_line.specs.Rows.{row_of}
-use Rattle.command_line.specs.Words.{checked}
+use Rattle.command_line.specs.{Rows.row_of, Words.checked}
 use Rattle.command_line.proofs.reader.Reader.finish.Given as goal
 
 abbrev pub invariant-loop-argument : goal.invariant-loop-argument

@@ -1,10 +1,6 @@
 -- It is the first such place.
-use Rattle.std.proofs.Common.{rules}
-use Rattle.std.specs.Prelude.{◌&&◌, ◌||◌, not}
-use Rattle.command_line.specs.Forms.{is_place, may_repeat}
-use Rattle.command_line.specs.Rows.{row_of}
-use Rattle.command_line.specs.Matches.{has}
-use Rattle.command_line.proofs.FindLemmas.{found_as}
+use Rattle.std.{proofs.Common.rules, specs.Prelude.{◌&&◌, ◌||◌, not}}
+use Rattle.command_line.{specs.{Forms.{is_place, may_repeat}, Rows.row_of, Matches.has}, proofs.FindLemmas.found_as}
 use Rattle.command_line.proofs.WordLemmas.{any_argument}
 use Rattle.command_line.proofs.reader.Reader.next_place.Goals as goal
 

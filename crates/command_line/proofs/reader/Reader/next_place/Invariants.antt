@@ -1,7 +1,6 @@
 -- The arguments before are no next place.
 use Rattle.std.proofs.Common.{◌≡◌, drop, map}
-use Rattle.command_line.specs.Rows.{row_of}
-use Rattle.command_line.specs.Words.{next_place}
+use Rattle.command_line.specs.{Rows.row_of, Words.next_place}
 use Rattle.command_line.proofs.reader.Reader.next_place.Given as goal
 
 abbrev pub invariant-loop-argument : goal.invariant-loop-argument

@@ -1,10 +1,6 @@
 -- A word that is refused.
-use Rattle.std.proofs.Common.{map, rules, string_bytes}
-use Rattle.std.specs.Prelude.{Ok}
-use Rattle.command_line.specs.Readers.{reading_of}
-use Rattle.command_line.specs.Rows.{row_of}
-use Rattle.command_line.specs.Words.{read_words}
-use Rattle.command_line.proofs.WordLemmas.{word_refused}
+use Rattle.std.{proofs.Common.{map, rules, string_bytes}, specs.Prelude.Ok}
+use Rattle.command_line.{specs.{Readers.reading_of, Rows.row_of, Words.read_words}, proofs.WordLemmas.word_refused}
 use Rattle.command_line.proofs.reader.Reader.read_words.Goals as goal
 
 pub returns-in-Err-clause-read : goal.returns-in-Err-clause-read

@@ -1,9 +1,6 @@
 -- The words that are left go on to what all of them give.
-use Rattle.std.proofs.Common.{◌≡◌, drop, map, string_bytes}
-use Rattle.std.specs.Prelude.{Ok}
-use Rattle.command_line.specs.Readers.{reading_of}
-use Rattle.command_line.specs.Rows.{row_of}
-use Rattle.command_line.specs.Words.{read_words}
+use Rattle.std.{proofs.Common.{◌≡◌, drop, map, string_bytes}, specs.Prelude.Ok}
+use Rattle.command_line.specs.{Readers.reading_of, Rows.row_of, Words.read_words}
 use Rattle.command_line.proofs.reader.Reader.read_words.Given as goal
 
 abbrev pub invariant-loop-word : goal.invariant-loop-word

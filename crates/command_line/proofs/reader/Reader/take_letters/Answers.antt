@@ -1,14 +1,8 @@
 -- One more letter, and the end of the word.
-use Rattle.std.proofs.Common.{[], ◌∷◌, ◌++◌, ◌∙◌, length, arith, map}
-use Rattle.std.specs.Prelude.{Ok}
-use Rattle.std.proofs.lemmas.Iterator.{YieldsList-from_chars}
-use Rattle.std.proofs.lemmas.Iterator.Consumers.{YieldsList-turn, YieldsList-end}
-use Rattle.std.proofs.lemmas.List.{length_push}
-use Rattle.std.specs.Str.{chars}
-use Rattle.command_line.specs.Readers.{reading_of}
-use Rattle.command_line.specs.Rows.{row_of}
-use Rattle.command_line.specs.Words.{take_letters}
-use Rattle.command_line.proofs.WordLemmas.{letter_refused, letter_taken, letters_done}
+use Rattle.std.proofs.{Common.{[], ◌∷◌, ◌++◌, ◌∙◌, length, arith, map}, lemmas.Iterator.{YieldsList-from_chars, Consumers.YieldsList-turn}}
+use Rattle.std.{proofs.lemmas.{Iterator.Consumers.YieldsList-end, List.length_push}, specs.{Prelude.Ok, Str.chars}}
+use Rattle.command_line.{specs.{Readers.reading_of, Rows.row_of, Words.take_letters}, proofs.WordLemmas.{letter_refused, letter_taken}}
+use Rattle.command_line.proofs.WordLemmas.{letters_done}
 use Rattle.command_line.proofs.reader.Reader.take_letters.Goals as goal
 
 pub loop-letter-preserved : goal.loop-letter-preserved

@@ -1,10 +1,6 @@
 -- The letters that are left go on to what all of them give.
-use Rattle.std.proofs.Common.{◌≡◌, drop, length, map}
-use Rattle.std.specs.Prelude.{Ok}
-use Rattle.std.specs.Str.{chars}
-use Rattle.command_line.specs.Readers.{reading_of}
-use Rattle.command_line.specs.Rows.{row_of}
-use Rattle.command_line.specs.Words.{take_letters}
+use Rattle.std.{proofs.Common.{◌≡◌, drop, length, map}, specs.{Prelude.Ok, Str.chars}}
+use Rattle.command_line.specs.{Readers.reading_of, Rows.row_of, Words.take_letters}
 use Rattle.command_line.proofs.reader.Reader.take_letters.Given as goal
 
 abbrev pub invariant-loop-letter : goal.invariant-loop-letter

@@ -1,7 +1,5 @@
-use Rattle.std.proofs.Common.{arith}
-use Rattle.std.specs.Str.{chars}
-use Rattle.yaml_writer.proofs.Prelude.{on_ok_weaker}
-use Rattle.comments_kept.proofs.LineEnds.{end_behind, end_alone}
+use Rattle.std.{proofs.Common.arith, specs.Str.chars}
+use Rattle.{yaml_writer.proofs.Prelude.on_ok_weaker, comments_kept.proofs.LineEnds.{end_behind, end_alone}}
 use Rattle.comments_kept.proofs.weaver.Weaver.end_header.Goals as goal
 
 pub returns-in-None : goal.returns-in-None

@@ -1,5 +1,4 @@
-use Rattle.yaml_writer.proofs.Prelude.{on_ok_weaker}
-use Rattle.comments_kept.proofs.LineEnds.{line_ended}
+use Rattle.{yaml_writer.proofs.Prelude.on_ok_weaker, comments_kept.proofs.LineEnds.line_ended}
 use Rattle.comments_kept.proofs.weaver.Weaver.end_line.Goals as goal
 
 pub returns : goal.returns

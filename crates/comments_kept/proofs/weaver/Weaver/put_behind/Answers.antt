@@ -1,8 +1,5 @@
-use Rattle.std.proofs.Common.{codes, refl, ◌++◌, subst}
-use Rattle.std.specs.Str.{chars}
-use Rattle.yaml_writer.proofs.Prelude.{on_ok_weaker, chars-literal}
-use Rattle.comments_kept.specs.Weaving.{Wrote}
-use Rattle.comments_kept.proofs.Weaving.{wrote_both}
+use Rattle.std.{proofs.Common.{codes, refl, ◌++◌, subst}, specs.Str.chars}
+use Rattle.{yaml_writer.proofs.Prelude.{on_ok_weaker, chars-literal}, comments_kept.{specs.Weaving.Wrote, proofs.Weaving.wrote_both}}
 use Rattle.comments_kept.proofs.weaver.Weaver.put_behind.Goals as goal
 
 pub returns : goal.returns

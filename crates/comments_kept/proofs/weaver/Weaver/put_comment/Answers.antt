@@ -1,6 +1,5 @@
 use Rattle.std.specs.Str.{chars}
-use Rattle.yaml_writer.proofs.Prelude.{on_ok_weaker}
-use Rattle.comments_kept.proofs.LineEnds.{comment_wrote}
+use Rattle.{yaml_writer.proofs.Prelude.on_ok_weaker, comments_kept.proofs.LineEnds.comment_wrote}
 use Rattle.comments_kept.proofs.weaver.Weaver.put_comment.Goals as goal
 
 pub returns : goal.returns

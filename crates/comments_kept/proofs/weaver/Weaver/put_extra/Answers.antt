@@ -1,6 +1,5 @@
 use Rattle.std.proofs.Common.{sym, subst}
-use Rattle.yaml_writer.proofs.Prelude.{on_ok_weaker}
-use Rattle.comments_kept.specs.Weaving.{WroteExtra}
+use Rattle.{yaml_writer.proofs.Prelude.on_ok_weaker, comments_kept.specs.Weaving.WroteExtra}
 use Rattle.comments_kept.proofs.weaver.Weaver.put_extra.Goals as goal
 
 pub returns-in-EmptyLine : goal.returns-in-EmptyLine

@@ -1,5 +1,4 @@
-use Rattle.yaml_writer.proofs.Prelude.{on_ok_weaker}
-use Rattle.comments_kept.proofs.LineEnds.{skipped_lines}
+use Rattle.{yaml_writer.proofs.Prelude.on_ok_weaker, comments_kept.proofs.LineEnds.skipped_lines}
 use Rattle.comments_kept.proofs.weaver.Weaver.put_filled_lines.Goals as goal
 
 pub returns : goal.returns

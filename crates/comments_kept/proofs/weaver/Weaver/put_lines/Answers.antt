@@ -1,7 +1,6 @@
 use Rattle.std.proofs.Common.{◌∙◌, arith}
-use Rattle.yaml_commented.specs.Trails.{extra_text}
-use Rattle.comments_kept.specs.Weaving.{extra_of}
-use Rattle.comments_kept.proofs.LineEnds.{Began, no_lines, one_line, later_first, later_nothing}
+use Rattle.{yaml_commented.specs.Trails.extra_text, comments_kept.{specs.Weaving.extra_of, proofs.LineEnds.{Began, no_lines, one_line}}}
+use Rattle.comments_kept.proofs.LineEnds.{later_first, later_nothing}
 use Rattle.comments_kept.proofs.weaver.Weaver.put_lines.Goals as goal
 
 pub loop-next-preserved : goal.loop-next-preserved

@@ -1,6 +1,5 @@
 use Rattle.std.proofs.Common.{sym}
-use Rattle.conf_about.proofs.Prelude.{tree_of, tree_of-IsTextTree}
-use Rattle.conf_about.proofs.FaultLemmas.{None-about}
+use Rattle.conf_about.proofs.{Prelude.{tree_of, tree_of-IsTextTree}, FaultLemmas.None-about}
 use Rattle.conf_about.proofs.about.About.add.Goals as goal
 
 pub invariant_of-self-in-None : goal.invariant_of-self-in-None

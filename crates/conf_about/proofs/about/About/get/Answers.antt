@@ -1,7 +1,5 @@
 use Rattle.std.proofs.Common.{Ok, Err, ap, sym, ◌∙◌}
-use Rattle.conf_about.proofs.Prelude.{chars, tree_of}
-use Rattle.conf_about.specs.Abouts.{text_under}
-use Rattle.conf_about.proofs.PairLemmas.{under-child}
+use Rattle.conf_about.{proofs.{Prelude.{chars, tree_of}, PairLemmas.under-child}, specs.Abouts.text_under}
 use Rattle.conf_about.proofs.about.About.get.Goals as goal
 
 pub returns-in-Ok : goal.returns-in-Ok

@@ -1,6 +1,5 @@
 use Rattle.std.proofs.Common.{sym, ap, ◌∙◌}
-use Rattle.conf_about.proofs.Prelude.{members_of, tree_of, tree_of-Map}
-use Rattle.conf_about.specs.Abouts.{pairs_in, pairs_of}
+use Rattle.conf_about.{proofs.Prelude.{members_of, tree_of, tree_of-Map}, specs.Abouts.{pairs_in, pairs_of}}
 use Rattle.conf_about.proofs.about.About.pairs.Goals as goal
 
 pub returns-in-Map : goal.returns-in-Map

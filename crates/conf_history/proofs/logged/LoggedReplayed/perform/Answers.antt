@@ -1,7 +1,6 @@
 -- The line is that of the command, with the number after the count.
 use Rattle.std.proofs.Common.{refl, subst, ◌+◌}
-use Rattle.conf_history.proofs.Prelude.{command_of}
-use Rattle.conf_history.specs.Logs.{TellsEntry}
+use Rattle.conf_history.{proofs.Prelude.command_of, specs.Logs.TellsEntry}
 use Rattle.conf_history.proofs.logged.LoggedReplayed.perform.Goals as goal
 
 pub returns-clause-told : goal.returns-clause-told

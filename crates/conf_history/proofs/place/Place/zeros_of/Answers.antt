@@ -1,8 +1,6 @@
 -- The first zero is one of the piece's bytes.
-use Rattle.std.proofs.Common.{arith, sym, ◌∙◌, ◌≡◌, ◌<◌, ◌∷◌, ℕ, List, length, subst, All}
-use Rattle.std.proofs.lemmas.List.Elements.{All-head}
-use Rattle.memchr.specs.Find.{Passes, is_byte, places}
-use Rattle.memchr.proofs.lemmas.CallerLemmas.{All-places}
+use Rattle.std.proofs.{Common.{arith, sym, ◌∙◌, ◌≡◌, ◌<◌, ◌∷◌, ℕ, List, length, subst, All}, lemmas.List.Elements.All-head}
+use Rattle.memchr.{specs.Find.{Passes, is_byte, places}, proofs.lemmas.CallerLemmas.All-places}
 use Rattle.conf_history.proofs.place.Place.zeros_of.Goals as goal
 
 first-within : (piece : List ℕ) (first : ℕ) (others : List ℕ) → places (is_byte 0) piece ≡ first ∷ others → first < length piece

@@ -1,6 +1,5 @@
 -- Bytes that are borrowed are those that were given.
-use Rattle.std.proofs.Common.{subst}
-use Rattle.std.specs.Prelude.{IfNone, IfOk}
+use Rattle.std.{proofs.Common.subst, specs.Prelude.{IfNone, IfOk}}
 use Rattle.conf_history.proofs.Prelude.{IsNoBase}
 use Rattle.conf_history.proofs.replayed.StateOfBase.of_base.Goals as goal
 

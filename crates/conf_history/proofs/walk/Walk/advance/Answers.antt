@@ -1,8 +1,6 @@
 -- The next piece, or the end, or why there is none.
-use Rattle.std.proofs.Common.{sym, subst}
-use Rattle.std.specs.Prelude.{Ok, Err}
-use Rattle.conf_history.specs.Walks.{LacksPiece, with_state}
-use Rattle.conf_history.proofs.WalkLemmas.{own-limits, advances, refuses-next}
+use Rattle.std.{proofs.Common.{sym, subst}, specs.Prelude.{Ok, Err}}
+use Rattle.conf_history.{specs.Walks.{LacksPiece, with_state}, proofs.WalkLemmas.{own-limits, advances, refuses-next}}
 use Rattle.conf_history.proofs.walk.Walk.advance.Goals as goal
 
 pub returns-in-Ok : goal.returns-in-Ok

@@ -1,8 +1,7 @@
 -- The first piece is a base, or the file is no store.
-use Rattle.std.proofs.Common.{subst}
-use Rattle.std.specs.Prelude.{Ok}
-use Rattle.conf_history.proofs.Prelude.{store_limit, Advances, AdvancesToPiece, AdvancesToEnd, piece_or_rest}
-use Rattle.conf_history.proofs.WalkLemmas.{own-limits, placed, no-piece, no-base, begun}
+use Rattle.std.{proofs.Common.subst, specs.Prelude.Ok}
+use Rattle.conf_history.proofs.{Prelude.{store_limit, Advances, AdvancesToPiece, AdvancesToEnd, piece_or_rest}, WalkLemmas.own-limits}
+use Rattle.conf_history.proofs.WalkLemmas.{placed, no-piece, no-base, begun}
 use Rattle.conf_history.proofs.walk.Walk.begin.Goals as goal
 
 pub returns-in-Ok-false-clause-refused : goal.returns-in-Ok-false-clause-refused

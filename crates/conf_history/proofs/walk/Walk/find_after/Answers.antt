@@ -1,9 +1,7 @@
 -- What follows the bad piece is counted.
 use Rattle.std.proofs.Common.{refl, ap, ◌∙◌, ◌++◌}
-use Rattle.conf_history.specs.{BadPieces.zeros_of, Prelude.is_several}
-use Rattle.conf_history.proofs.Prelude.{concat, err_from_is_err_and, piece_or_rest}
-use Rattle.conf_history.specs.Walks.{with_state}
-use Rattle.conf_history.proofs.SurveyLemmas.{past-piece, surveyed-bad}
+use Rattle.conf_history.{specs.{BadPieces.zeros_of, Prelude.is_several, Walks.with_state}, proofs.Prelude.{concat, err_from_is_err_and}}
+use Rattle.conf_history.proofs.{Prelude.piece_or_rest, SurveyLemmas.{past-piece, surveyed-bad}}
 use Rattle.conf_history.proofs.walk.Walk.find_after.Goals as goal
 
 pub returns-in_err-pieces-clause-refused : goal.returns-in_err-pieces-clause-refused

@@ -1,9 +1,7 @@
 -- Where the number is not reached, the next piece is looked for.
-use Rattle.std.proofs.Common.{inl, inr, sym, ◌∙◌, ap, subst}
-use Rattle.std.specs.Prelude.{Some, Ok}
-use Rattle.conf_history.proofs.Prelude.{err_from_is_err_and}
+use Rattle.std.{proofs.Common.{inl, inr, sym, ◌∙◌, ap, subst}, specs.Prelude.{Some, Ok}}
+use Rattle.conf_history.proofs.{Prelude.err_from_is_err_and, ReadingLemmas.{goes-to-piece, stops-at-end, stops-before}}
 use Rattle.conf_history.specs.Walks.{AfterAdvance, IsAtEndOf, IsAtPiece, with_state}
-use Rattle.conf_history.proofs.ReadingLemmas.{goes-to-piece, stops-at-end, stops-before}
 use Rattle.conf_history.proofs.walk.Walk.goes_on.Goals as goal
 
 pub returns-then-is_reached : goal.returns-then-is_reached

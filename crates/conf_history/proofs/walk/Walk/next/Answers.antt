@@ -1,13 +1,9 @@
 -- At a bad piece, what follows it says whether a crash may have left it.
-use Rattle.std.proofs.Common.{◌≡◌, rules, refl, inl, inr, sym, ◌∙◌, ap, subst, ◌++◌}
-use Rattle.std.specs.Prelude.{IfErr, Result, Bool}
-use Rattle.conf_history.specs.Prelude.{is_several}
-use Rattle.conf_history.proofs.Prelude.{concat, err_from_is_err_and, piece_or_rest, Contents, IsState}
-use Rattle.conf_history.specs.Walks.{Fails, IsTornBehind, Stops, with_state}
-use Rattle.conf_history.specs.{declared.fault.HistoryFault.HistoryFault, declared.fault.HistoryFault.TheVariants.Damaged}
-use Rattle.conf_history.specs.declared.place.BadPiece.{BadPiece}
-use Rattle.conf_history.proofs.ReadingLemmas.{fails-at, fails-lacking, fails-stop, torn-at, torn-none}
-use Rattle.conf_history.proofs.{SurveyLemmas.past-piece, WalkLemmas.torn-followed}
+use Rattle.std.{proofs.Common.{◌≡◌, rules, refl, inl, inr, sym, ◌∙◌, ap, subst, ◌++◌}, specs.Prelude.{IfErr, Result, Bool}}
+use Rattle.conf_history.specs.{Prelude.is_several, Walks.{Fails, IsTornBehind, Stops, with_state}, declared.fault.HistoryFault.HistoryFault}
+use Rattle.conf_history.{specs.declared.{fault.HistoryFault.TheVariants.Damaged, place.BadPiece.BadPiece}, proofs.Prelude.concat}
+use Rattle.conf_history.proofs.{Prelude.{err_from_is_err_and, piece_or_rest, Contents, IsState}, ReadingLemmas.{fails-at, fails-lacking}}
+use Rattle.conf_history.proofs.{ReadingLemmas.{fails-stop, torn-at, torn-none}, SurveyLemmas.past-piece, WalkLemmas.torn-followed}
 use Rattle.conf_history.proofs.walk.Walk.next.Goals as goal
 
 pub returns-in-Ok-clause-ended : goal.returns-in-Ok-clause-ended

@@ -1,8 +1,6 @@
 -- A piece that is no next record is the first bad one.
 use Rattle.std.proofs.Common.{sym, subst}
-use Rattle.conf_history.proofs.Prelude.{IsNoRecord, RefusesRecord}
-use Rattle.conf_history.specs.Walks.{RefusesPiece, with_state}
-use Rattle.conf_history.proofs.WalkLemmas.{refuses-here}
+use Rattle.conf_history.{proofs.{Prelude.{IsNoRecord, RefusesRecord}, WalkLemmas.refuses-here}, specs.Walks.{RefusesPiece, with_state}}
 use Rattle.conf_history.proofs.walk.Walk.replay_piece.Goals as goal
 
 pub returns-in-Err-clause-refused : goal.returns-in-Err-clause-refused

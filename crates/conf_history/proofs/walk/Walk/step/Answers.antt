@@ -1,9 +1,7 @@
 -- The next piece is performed, or the walk has ended, or stopped.
-use Rattle.std.proofs.Common.{sym, subst}
-use Rattle.std.specs.Prelude.{◌+◌, Ok}
-use Rattle.conf_history.proofs.Prelude.{err_from_is_err_and, piece_or_rest, IsNoRecord}
-use Rattle.conf_history.specs.{Walks.AfterGoing, Walks.Stops, Walks.with_state, declared.walk.Walk.Walk}
-use Rattle.conf_history.proofs.{ReadingLemmas.goes, ReadingLemmas.stops-at-piece, WalkLemmas.has-room}
+use Rattle.std.{proofs.Common.{sym, subst}, specs.Prelude.{◌+◌, Ok}}
+use Rattle.conf_history.proofs.{Prelude.{err_from_is_err_and, piece_or_rest, IsNoRecord}, ReadingLemmas.{goes, stops-at-piece}}
+use Rattle.conf_history.{proofs.WalkLemmas.has-room, specs.{Walks.{AfterGoing, Stops, with_state}, declared.walk.Walk.Walk}}
 use Rattle.conf_history.proofs.walk.Walk.step.Goals as goal
 
 pub goes_on-requires : goal.goes_on-requires

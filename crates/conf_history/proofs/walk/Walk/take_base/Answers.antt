@@ -1,9 +1,7 @@
 -- A base begins the walk, also once it was taken out of the reader.
-use Rattle.std.proofs.Common.{rules, refl, subst, inl, inr, ◌<◌, [], ◌∷◌}
-use Rattle.std.specs.Prelude.{ℕ, IfSome, ◌≤◌}
-use Rattle.conf_history.proofs.Prelude.{err_from_is_err_and, piece_or_rest, store_limit, IsBase, IsNoBase}
-use Rattle.conf_history.specs.Walks.{with_state}
-use Rattle.conf_history.proofs.WalkLemmas.{any-bytes, some-map, starts-after, taken-out}
+use Rattle.std.{proofs.Common.{rules, refl, subst, inl, inr, ◌<◌, [], ◌∷◌}, specs.Prelude.{ℕ, IfSome, ◌≤◌}}
+use Rattle.conf_history.proofs.{Prelude.{err_from_is_err_and, piece_or_rest, store_limit, IsBase, IsNoBase}, WalkLemmas.any-bytes}
+use Rattle.conf_history.{proofs.WalkLemmas.{some-map, starts-after, taken-out}, specs.Walks.with_state}
 use Rattle.conf_history.proofs.walk.Walk.take_base.Goals as goal
 
 pub returns-in_err-held-clause-refused : goal.returns-in_err-held-clause-refused

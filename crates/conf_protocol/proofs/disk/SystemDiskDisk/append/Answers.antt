@@ -1,15 +1,10 @@
 use Rattle.std.proofs.Common.{◌≡◌, arith, refl, ap, sym, subst}
+use Rattle.conf_disk.specs.{Image.IsImage, Moments.{Elapses, CountsFailures}, declared.disk.DiskFault.TheVariants.Device}
+use Rattle.{conf_system.specs.{Folders.folder_of, Models.Passes}, conf_protocol.specs.Moments.{Goes, LeftSince, MayEnd}}
+use Rattle.conf_protocol.proofs.{Moving.{Elapses-of, Changes-quiet, Quiet-none}, Shown.{performs, performs-none, counts-spent, is-device}}
+use Rattle.conf_protocol.proofs.{Shown.{never-memory, ends-always}, disk.SystemDiskDisk.append.Goals.{in-Store, in-Next}}
 use Rattle.conf_disk.specs.Folder as disk
-use Rattle.conf_disk.specs.Image.{IsImage}
-use Rattle.conf_disk.specs.Moments.{Elapses, CountsFailures}
-use Rattle.conf_disk.specs.declared.disk.DiskFault.TheVariants.{Device}
-use Rattle.conf_system.specs.Folders.{folder_of}
-use Rattle.conf_system.specs.Models.{Passes}
-use Rattle.conf_protocol.specs.Moments.{Goes, LeftSince, MayEnd}
-use Rattle.conf_protocol.proofs.Moving.{Elapses-of, Changes-quiet, Quiet-none}
-use Rattle.conf_protocol.proofs.Shown.{performs, performs-none, counts-spent, is-device, never-memory, ends-always}
 use Rattle.conf_protocol.proofs.disk.SystemDiskDisk.append.Goals as goal
-use Rattle.conf_protocol.proofs.disk.SystemDiskDisk.append.Goals.{in-Store, in-Next}
 
 pub returns-clause-goes : goal.returns-clause-goes
 returns-clause-goes g c =

@@ -1,10 +1,6 @@
 use Rattle.std.proofs.Common.{ap, sym, subst, ◌∙◌}
-use Rattle.conf_disk.specs.Folder.{several_waited}
-use Rattle.conf_disk.specs.Image.{IsImage}
-use Rattle.conf_disk.specs.Moments.{Elapses}
-use Rattle.conf_system.specs.Folders.{folder_of}
-use Rattle.conf_protocol.specs.Moments.{LeftSince}
-use Rattle.conf_protocol.proofs.Moving.{Elapses-of, Changes-quiet}
+use Rattle.{conf_disk.specs.{Folder.several_waited, Image.IsImage, Moments.Elapses}, conf_system.specs.Folders.folder_of}
+use Rattle.conf_protocol.{specs.Moments.LeftSince, proofs.Moving.{Elapses-of, Changes-quiet}}
 use Rattle.conf_protocol.proofs.disk.SystemDiskDisk.read.Goals as goal
 
 pub invariant_of-self : goal.invariant_of-self

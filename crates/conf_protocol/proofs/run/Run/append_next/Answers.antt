@@ -1,14 +1,9 @@
-use Rattle.std.specs.Prelude.{Ok, Err}
-use Rattle.std.proofs.Common.{ℕ, List, take, refl, sym, ◌∙◌, ap, subst}
-use Rattle.std.proofs.Math.Seq.{take-length}
+use Rattle.std.{specs.Prelude.{Ok, Err}, proofs.{Common.{ℕ, List, take, refl, sym, ◌∙◌, ap, subst}, Math.Seq.take-length}}
+use Rattle.conf_system.specs.{declared.system.FileName.TheVariants.Next, Machine.{Write, after, is_any}}
+use Rattle.conf_protocol.{specs.{Keeps.bytes_after, declared.run.Bytes.{Bytes, TheVariants.Unsure}}, proofs.Keeping.Holds}
+use Rattle.conf_protocol.proofs.{Keeping.{holds-next_longer, holds-wrote_next}, Appends.{Goes-wrote, Goes-wrote_part, next-appends}}
+use Rattle.conf_protocol.proofs.Appends.{next-exact}
 use Rattle.conf_disk.specs.declared.disk.Name.TheVariants as disk_name
-use Rattle.conf_system.specs.declared.system.FileName.TheVariants.{Next}
-use Rattle.conf_system.specs.Machine.{Write, after, is_any}
-use Rattle.conf_protocol.specs.Keeps.{bytes_after}
-use Rattle.conf_protocol.specs.declared.run.Bytes.{Bytes}
-use Rattle.conf_protocol.specs.declared.run.Bytes.TheVariants.{Unsure}
-use Rattle.conf_protocol.proofs.Keeping.{Holds, holds-next_longer, holds-wrote_next}
-use Rattle.conf_protocol.proofs.Appends.{Goes-wrote, Goes-wrote_part, next-appends, next-exact}
 use Rattle.conf_protocol.proofs.run.Run.append_next.Goals as goal
 
 pub invariant_of-self : goal.invariant_of-self

@@ -1,8 +1,7 @@
 use Rattle.std.proofs.Common.{Bool, subst}
+use Rattle.conf_protocol.{specs.Moments.Goes, proofs.Going.Goes-then}
 use Rattle.conf_disk.specs.Folder as disk
 use Rattle.conf_disk.specs.declared.disk.Name.TheVariants as disk_name
-use Rattle.conf_protocol.specs.Moments.{Goes}
-use Rattle.conf_protocol.proofs.Going.{Goes-then}
 use Rattle.conf_protocol.proofs.run.Run.append_store.Goals as goal
 
 pub returns : goal.returns

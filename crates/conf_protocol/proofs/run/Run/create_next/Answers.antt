@@ -1,12 +1,9 @@
 use Rattle.std.proofs.Common.{◌≡◌, true, refl, sym, ◌∙◌, subst}
+use Rattle.{conf_system.specs.Machine.{CreateNext, after}, conf_protocol.specs.{Keeps.may_change, declared.run.Bytes.TheVariants.OnDevice}}
+use Rattle.conf_protocol.{specs.declared.run.Bytes.TheVariants.Unsure, proofs.{Shown.{call-either, blamed-ok, blamed-err}, Keeping.Holds}}
+use Rattle.conf_protocol.proofs.{Keeping.{other_names, holds-created, holds-create_part, less_next, next-none}, Calls.create-step}
+use Rattle.conf_protocol.proofs.{Calls.create-part, Going.{Goes-done, Goes-failed}}
 use Rattle.conf_disk.specs.Folder as disk
-use Rattle.conf_system.specs.Machine.{CreateNext, after}
-use Rattle.conf_protocol.specs.Keeps.{may_change}
-use Rattle.conf_protocol.specs.declared.run.Bytes.TheVariants.{OnDevice, Unsure}
-use Rattle.conf_protocol.proofs.Shown.{call-either, blamed-ok, blamed-err}
-use Rattle.conf_protocol.proofs.Keeping.{Holds, other_names, holds-created, holds-create_part, less_next, next-none}
-use Rattle.conf_protocol.proofs.Calls.{create-step, create-part}
-use Rattle.conf_protocol.proofs.Going.{Goes-done, Goes-failed}
 use Rattle.conf_protocol.proofs.run.Run.create_next.Goals as goal
 
 pub invariant_of-self : goal.invariant_of-self

@@ -1,11 +1,7 @@
 use Rattle.std.proofs.Common.{◌≡◌, refl, ◌∙◌, ap, false}
-use Rattle.conf_system.specs.declared.system.Note.{Note}
-use Rattle.conf_system.specs.Machine.{Machine, WriteNote, after}
-use Rattle.conf_system.specs.Folders.{IsTold}
-use Rattle.conf_protocol.specs.Keeps.{IsSafe, Knows}
-use Rattle.conf_protocol.proofs.Shown.{call-either, blamed-ok}
-use Rattle.conf_protocol.proofs.Noted.{knows-noted, knows-note_part, safe-note_part, note-folder, told-note_part, Quiet-noted}
-use Rattle.conf_protocol.proofs.Known.{safe-off}
+use Rattle.conf_system.specs.{declared.system.Note.Note, Machine.{Machine, WriteNote, after}, Folders.IsTold}
+use Rattle.conf_protocol.{specs.Keeps.{IsSafe, Knows}, proofs.{Shown.{call-either, blamed-ok}, Noted.{knows-noted, knows-note_part}}}
+use Rattle.conf_protocol.proofs.{Noted.{safe-note_part, note-folder, told-note_part, Quiet-noted}, Known.safe-off}
 use Rattle.conf_protocol.proofs.run.Run.have_noted.Goals as goal
 
 pub invariant_of-self : goal.invariant_of-self

@@ -1,7 +1,5 @@
 use Rattle.std.proofs.Common.{◌≡◌, refl, ◌∙◌}
-use Rattle.conf_system.specs.Machine.{SyncNote}
-use Rattle.conf_protocol.specs.Keeps.{IsSafe, Knows}
-use Rattle.conf_protocol.proofs.Shown.{call-either}
+use Rattle.{conf_system.specs.Machine.SyncNote, conf_protocol.{specs.Keeps.{IsSafe, Knows}, proofs.Shown.call-either}}
 use Rattle.conf_protocol.proofs.Noted.{knows-note_synced, knows-sync_part, safe-note_synced, safe-sync_part, sync-note}
 use Rattle.conf_protocol.proofs.run.Run.note_append.Goals as goal
 

@@ -1,14 +1,10 @@
-use Rattle.std.specs.Prelude.{option_map, Some}
-use Rattle.std.proofs.Common.{◌≡◌, ◌≤◌, ℕ, List, length, false, sym, ◌∙◌, ap, subst, arith, rules}
+use Rattle.std.{specs.Prelude.{option_map, Some}, proofs.Common.{◌≡◌, ◌≤◌, ℕ, List, length, false, sym, ◌∙◌, ap, subst, arith, rules}}
+use Rattle.{conf_disk.specs.declared.disk.{Content.TheVariants.Bytes, Name.TheVariants.Next}, conf_system.specs.Machine.Machine}
+use Rattle.{conf_system.specs.{Machine.{bytes_under, are_linked}, Folders.folder_of}, conf_protocol.proofs.Shown.blamed-ok}
+use Rattle.conf_protocol.proofs.{SameBytes.{read-same, length-of}, run.Run.read.Goals.else-eq-via-then-eq+in_ok-blame+else-branch}
+use Rattle.conf_protocol.proofs.run.Run.read.Goals.{else-eq-via-else-eq}
 use Rattle.conf_disk.specs.Folder as disk
-use Rattle.conf_disk.specs.declared.disk.Content.TheVariants.{Bytes}
-use Rattle.conf_disk.specs.declared.disk.Name.TheVariants.{Next}
-use Rattle.conf_system.specs.Machine.{Machine, bytes_under, are_linked}
-use Rattle.conf_system.specs.Folders.{folder_of}
-use Rattle.conf_protocol.proofs.Shown.{blamed-ok}
-use Rattle.conf_protocol.proofs.SameBytes.{read-same, length-of}
 use Rattle.conf_protocol.proofs.run.Run.read.Goals as goal
-use Rattle.conf_protocol.proofs.run.Run.read.Goals.{else-eq-via-then-eq+in_ok-blame+else-branch, else-eq-via-else-eq}
 
 pub returns-clause-content : goal.returns-clause-content
 returns-clause-content g c h =

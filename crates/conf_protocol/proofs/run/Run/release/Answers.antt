@@ -1,14 +1,9 @@
 use Rattle.std.proofs.Common.{◌≡◌, true, ap, rules}
-use Rattle.conf_system.specs.declared.system.Note.{Note}
-use Rattle.conf_system.specs.Machine.{WriteNote}
-use Rattle.conf_system.specs.Folders.{IsTold}
-use Rattle.conf_protocol.specs.Keeps.{IsSafe, may_change, is_kept}
-use Rattle.conf_protocol.specs.declared.run.Bytes.TheVariants.{OnDevice}
-use Rattle.conf_protocol.specs.declared.run.Names.TheVariants.{Settled, Changed}
-use Rattle.conf_protocol.proofs.Shown.{call-either}
-use Rattle.conf_protocol.proofs.Noted.{safe-on, note-folder, told-note_part, Quiet-noted}
+use Rattle.{conf_system.specs.{declared.system.Note.Note, Machine.WriteNote, Folders.IsTold}, conf_protocol.specs.Keeps.IsSafe}
+use Rattle.conf_protocol.specs.{Keeps.{may_change, is_kept}, declared.run.{Bytes.TheVariants.OnDevice, Names.TheVariants.Settled}}
+use Rattle.conf_protocol.{specs.declared.run.Names.TheVariants.Changed, proofs.{Shown.call-either, Noted.{safe-on, note-folder}}}
+use Rattle.conf_protocol.proofs.{Noted.{told-note_part, Quiet-noted}, run.Run.release.Goals.{then-eq, else-eq}}
 use Rattle.conf_protocol.proofs.run.Run.release.Goals as goal
-use Rattle.conf_protocol.proofs.run.Run.release.Goals.{then-eq, else-eq}
 
 pub returns-then-ne-clause-safe : goal.returns-then-ne-clause-safe
 returns-then-ne-clause-safe g c h =

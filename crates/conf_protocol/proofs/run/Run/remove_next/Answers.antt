@@ -1,13 +1,8 @@
-use Rattle.std.proofs.Common.{◌≡◌, ℕ, length, Option, refl, rules}
-use Rattle.std.specs.Prelude.{option_map, IsSome}
+use Rattle.std.{proofs.Common.{◌≡◌, ℕ, length, Option, refl, rules}, specs.Prelude.{option_map, IsSome}}
+use Rattle.{conf_system.specs.Machine.{UnlinkNext, after, version_at, version_bytes}, conf_protocol.proofs.Shown.{call-either, blamed-ok}}
+use Rattle.conf_protocol.proofs.{Shown.blamed-err, Known.knows-less_next, Keeping.{Holds, other_names, holds-unlinked}, Calls.remove-step}
+use Rattle.conf_protocol.{proofs.{Calls.{remove-part, looked}, Going.{Goes-done, Goes-failed}}, specs.declared.run.Bytes.TheVariants.Unsure}
 use Rattle.conf_disk.specs.Folder as disk
-use Rattle.conf_system.specs.Machine.{UnlinkNext, after, version_at, version_bytes}
-use Rattle.conf_protocol.proofs.Shown.{call-either, blamed-ok, blamed-err}
-use Rattle.conf_protocol.specs.declared.run.Bytes.TheVariants.{Unsure}
-use Rattle.conf_protocol.proofs.Known.{knows-less_next}
-use Rattle.conf_protocol.proofs.Keeping.{Holds, other_names, holds-unlinked}
-use Rattle.conf_protocol.proofs.Calls.{remove-step, remove-part, looked}
-use Rattle.conf_protocol.proofs.Going.{Goes-done, Goes-failed}
 use Rattle.conf_protocol.proofs.run.Run.remove_next.Goals as goal
 
 pub returns-in_err-blame-2 : goal.returns-in_err-blame-2

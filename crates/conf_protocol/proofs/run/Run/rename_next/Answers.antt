@@ -1,7 +1,6 @@
 use Rattle.std.proofs.Common.{Bool, subst}
+use Rattle.conf_protocol.{specs.Moments.Goes, proofs.Going.Goes-then}
 use Rattle.conf_disk.specs.Folder as disk
-use Rattle.conf_protocol.specs.Moments.{Goes}
-use Rattle.conf_protocol.proofs.Going.{Goes-then}
 use Rattle.conf_protocol.proofs.run.Run.rename_next.Goals as goal
 
 pub returns-in-Some : goal.returns-in-Some

@@ -1,9 +1,7 @@
 use Rattle.std.proofs.Common.{◌≡◌, refl}
+use Rattle.{conf_system.specs.Machine.{RenameNext, after}, conf_protocol.proofs.{Shown.{blamed-ok, blamed-err}, Calls.rename-step}}
+use Rattle.conf_protocol.proofs.{Calls.{rename-part, next-some}, Going.{Goes-done, Goes-failed}}
 use Rattle.conf_disk.specs.Folder as disk
-use Rattle.conf_system.specs.Machine.{RenameNext, after}
-use Rattle.conf_protocol.proofs.Shown.{blamed-ok, blamed-err}
-use Rattle.conf_protocol.proofs.Calls.{rename-step, rename-part, next-some}
-use Rattle.conf_protocol.proofs.Going.{Goes-done, Goes-failed}
 use Rattle.conf_protocol.proofs.run.Run.replace_store.Goals as goal
 
 pub returns-in_err-blame : goal.returns-in_err-blame

@@ -1,14 +1,8 @@
-use Rattle.std.specs.Prelude.{Ok}
-use Rattle.std.proofs.Common.{Bool, sym, ◌∙◌, ap, subst}
+use Rattle.std.{specs.Prelude.Ok, proofs.Common.{Bool, sym, ◌∙◌, ap, subst}}
+use Rattle.{conf_system.specs.declared.system.Note.Note, conf_protocol.specs.{Keeps.Knows, Moments.Goes, declared.run.Bytes.Bytes}}
+use Rattle.conf_protocol.{specs.declared.run.Names.TheVariants.Broken, proofs.{Keeping.holds-kept, Going.{Goes-then, Goes-unchanged}}}
 use Rattle.conf_disk.specs.Folder as disk
 use Rattle.conf_disk.specs.declared.disk.Name.TheVariants as disk_name
-use Rattle.conf_system.specs.declared.system.Note.{Note}
-use Rattle.conf_protocol.specs.Keeps.{Knows}
-use Rattle.conf_protocol.specs.Moments.{Goes}
-use Rattle.conf_protocol.specs.declared.run.Bytes.{Bytes}
-use Rattle.conf_protocol.specs.declared.run.Names.TheVariants.{Broken}
-use Rattle.conf_protocol.proofs.Keeping.{holds-kept}
-use Rattle.conf_protocol.proofs.Going.{Goes-then, Goes-unchanged}
 use Rattle.conf_protocol.proofs.run.Run.sync_by_copy.Goals as goal
 
 pub invariant_of-self : goal.invariant_of-self

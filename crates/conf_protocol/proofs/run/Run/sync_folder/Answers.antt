@@ -1,13 +1,8 @@
-use Rattle.std.specs.Prelude.{Err}
-use Rattle.std.proofs.Common.{Bool, refl, sym, subst}
-use Rattle.conf_disk.specs.Folder as disk
-use Rattle.conf_system.specs.Machine.{SyncFolder}
-use Rattle.conf_protocol.specs.declared.run.Bytes.TheVariants.{Unsure}
-use Rattle.conf_protocol.specs.declared.run.Names.TheVariants.{Settled}
-use Rattle.conf_protocol.specs.Moments.{Goes}
-use Rattle.conf_protocol.proofs.Keeping.{Holds, holds-settled, less_store}
-use Rattle.conf_protocol.proofs.Calls.{settle-step, settle-part}
+use Rattle.std.{specs.Prelude.Err, proofs.Common.{Bool, refl, sym, subst}}
+use Rattle.{conf_system.specs.Machine.SyncFolder, conf_protocol.specs.declared.run.{Bytes.TheVariants.Unsure, Names.TheVariants.Settled}}
+use Rattle.conf_protocol.{specs.Moments.Goes, proofs.{Keeping.{Holds, holds-settled, less_store}, Calls.{settle-step, settle-part}}}
 use Rattle.conf_protocol.proofs.Going.{Goes-done, Goes-failed, Goes-before}
+use Rattle.conf_disk.specs.Folder as disk
 use Rattle.conf_protocol.proofs.run.Run.sync_folder.Goals as goal
 
 pub invariant_of-self : goal.invariant_of-self

@@ -1,12 +1,9 @@
 use Rattle.std.proofs.Common.{◌≡◌, refl, sym, subst, rules}
+use Rattle.conf_system.specs.{declared.system.FileName.TheVariants.Next, Machine.Sync}
+use Rattle.conf_protocol.{specs.declared.run.Bytes.TheVariants.{OnDevice, Unsure}, proofs.Keeping.{Holds, holds-next_synced}}
+use Rattle.conf_protocol.proofs.{Keeping.holds-next_failed, Calls.{sync_next-step, sync_next-part}, Going.{Goes-done, Goes-failed}}
 use Rattle.conf_disk.specs.Folder as disk
 use Rattle.conf_disk.specs.declared.disk.Name.TheVariants as disk_name
-use Rattle.conf_system.specs.declared.system.FileName.TheVariants.{Next}
-use Rattle.conf_system.specs.Machine.{Sync}
-use Rattle.conf_protocol.specs.declared.run.Bytes.TheVariants.{OnDevice, Unsure}
-use Rattle.conf_protocol.proofs.Keeping.{Holds, holds-next_synced, holds-next_failed}
-use Rattle.conf_protocol.proofs.Calls.{sync_next-step, sync_next-part}
-use Rattle.conf_protocol.proofs.Going.{Goes-done, Goes-failed}
 use Rattle.conf_protocol.proofs.run.Run.sync_next.Goals as goal
 
 pub invariant_of-self : goal.invariant_of-self

@@ -1,14 +1,10 @@
-use Rattle.std.proofs.Common.{◌≡◌, Bool, refl, sym, subst, rules}
-use Rattle.std.specs.Prelude.{Err}
+use Rattle.std.{proofs.Common.{◌≡◌, Bool, refl, sym, subst, rules}, specs.Prelude.Err}
+use Rattle.conf_system.specs.{declared.system.FileName.TheVariants.Store, Machine.Sync}
+use Rattle.conf_protocol.{specs.{declared.run.Bytes.TheVariants.{OnDevice, Unsure}, Moments.Goes}, proofs.Keeping.Holds}
+use Rattle.conf_protocol.proofs.{Keeping.{holds-store_synced, holds-store_failed}, Calls.{sync_store-step, sync_store-part}}
+use Rattle.conf_protocol.proofs.Going.{Goes-done, Goes-failed, Goes-before}
 use Rattle.conf_disk.specs.Folder as disk
 use Rattle.conf_disk.specs.declared.disk.Name.TheVariants as disk_name
-use Rattle.conf_system.specs.declared.system.FileName.TheVariants.{Store}
-use Rattle.conf_system.specs.Machine.{Sync}
-use Rattle.conf_protocol.specs.declared.run.Bytes.TheVariants.{OnDevice, Unsure}
-use Rattle.conf_protocol.specs.Moments.{Goes}
-use Rattle.conf_protocol.proofs.Keeping.{Holds, holds-store_synced, holds-store_failed}
-use Rattle.conf_protocol.proofs.Calls.{sync_store-step, sync_store-part}
-use Rattle.conf_protocol.proofs.Going.{Goes-done, Goes-failed, Goes-before}
 use Rattle.conf_protocol.proofs.run.Run.sync_store.Goals as goal
 
 pub invariant_of-self : goal.invariant_of-self

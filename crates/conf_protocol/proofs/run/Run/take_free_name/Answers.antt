@@ -1,17 +1,10 @@
-use Rattle.std.specs.Prelude.{Ok}
-use Rattle.std.proofs.Common.{◌≡◌, false, refl, sym, ◌∙◌, ap, subst}
+use Rattle.std.{specs.Prelude.Ok, proofs.Common.{◌≡◌, false, refl, sym, ◌∙◌, ap, subst}}
+use Rattle.conf_system.specs.{declared.system.{Linking.Linking, Note.Note}, Machine.{Machine, LinkNext, UnlinkNext, after, after_linking}}
+use Rattle.{conf_system.specs.{Machine.failing, Folders.{folder_of, IsTold}}, conf_protocol.specs.Moments.Goes}
+use Rattle.conf_protocol.{specs.declared.refusal.Refusal.Refusal, proofs.{Known.safe-off, Moving.Quiet-call, Shown.{blamed-ok, blamed-err}}}
+use Rattle.conf_protocol.proofs.{Calls.{link-step, link-part, next-some, linked-folder, unlink-note, unlink-told}, Going.Goes-done}
+use Rattle.conf_protocol.proofs.Going.{Goes-failed, Goes-before, Goes-then, Goes-late}
 use Rattle.conf_disk.specs.Folder as disk
-use Rattle.conf_system.specs.declared.system.Linking.{Linking}
-use Rattle.conf_system.specs.declared.system.Note.{Note}
-use Rattle.conf_system.specs.Machine.{Machine, LinkNext, UnlinkNext, after, after_linking, failing}
-use Rattle.conf_system.specs.Folders.{folder_of, IsTold}
-use Rattle.conf_protocol.specs.Moments.{Goes}
-use Rattle.conf_protocol.specs.declared.refusal.Refusal.{Refusal}
-use Rattle.conf_protocol.proofs.Known.{safe-off}
-use Rattle.conf_protocol.proofs.Moving.{Quiet-call}
-use Rattle.conf_protocol.proofs.Shown.{blamed-ok, blamed-err}
-use Rattle.conf_protocol.proofs.Calls.{link-step, link-part, next-some, linked-folder, unlink-note, unlink-told}
-use Rattle.conf_protocol.proofs.Going.{Goes-done, Goes-failed, Goes-before, Goes-then, Goes-late}
 use Rattle.conf_protocol.proofs.run.Run.take_free_name.Goals as goal
 
 pub returns-in_err-blame : goal.returns-in_err-blame

@@ -1,15 +1,9 @@
-use Rattle.std.specs.Prelude.{Ok, Err}
-use Rattle.std.proofs.Common.{ℕ, List, Bool, take, refl, sym, ◌∙◌, ap, subst}
-use Rattle.std.proofs.Math.Seq.{take-length}
+use Rattle.std.{specs.Prelude.{Ok, Err}, proofs.{Common.{ℕ, List, Bool, take, refl, sym, ◌∙◌, ap, subst}, Math.Seq.take-length}}
+use Rattle.{conf_system.specs.{declared.system.FileName.TheVariants.Store, Machine.{Write, after}}, conf_protocol.specs.Keeps.several_after}
+use Rattle.conf_protocol.{specs.{Moments.Goes, declared.run.Bytes.TheVariants.{Pending, Unsure}}, proofs.Keeping.{Holds, holds-store_part}}
+use Rattle.conf_protocol.proofs.{Keeping.holds-store_longer, Appends.{Goes-wrote, Goes-wrote_part, store-appends, store-exact}}
 use Rattle.conf_disk.specs.Folder as disk
 use Rattle.conf_disk.specs.declared.disk.Name.TheVariants as disk_name
-use Rattle.conf_system.specs.declared.system.FileName.TheVariants.{Store}
-use Rattle.conf_system.specs.Machine.{Write, after}
-use Rattle.conf_protocol.specs.Keeps.{several_after}
-use Rattle.conf_protocol.specs.Moments.{Goes}
-use Rattle.conf_protocol.specs.declared.run.Bytes.TheVariants.{Pending, Unsure}
-use Rattle.conf_protocol.proofs.Keeping.{Holds, holds-store_part, holds-store_longer}
-use Rattle.conf_protocol.proofs.Appends.{Goes-wrote, Goes-wrote_part, store-appends, store-exact}
 use Rattle.conf_protocol.proofs.run.Run.write_store.Goals as goal
 
 pub invariant_of-self : goal.invariant_of-self

@@ -1,6 +1,5 @@
 use Rattle.std.proofs.Common.{string_bytes, ap, ◌∙◌}
-use Rattle.conf_record.proofs.Prelude.{IfOk-weaker, names_of}
-use Rattle.conf_record.proofs.BaseSpanLemmas.{names_same}
+use Rattle.conf_record.proofs.{Prelude.{IfOk-weaker, names_of}, BaseSpanLemmas.names_same}
 use Rattle.conf_record.proofs.held_base.BaseTextOrigin.all_names.Goals as goal
 
 pub returns : goal.returns

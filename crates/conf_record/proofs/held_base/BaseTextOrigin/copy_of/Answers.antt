@@ -1,8 +1,7 @@
 use Rattle.std.proofs.Common.{◌≡◌, string_bytes, option_copied, sym, ap, subst, ◌∙◌}
-use Rattle.conf_record.proofs.Prelude.{IfOk-weaker, lookup, chars, tree_of, is_name, config_named}
-use Rattle.conf_record.specs.{BaseSpans.bytes_at, BaseSpans.entry_bytes, Documents.IsBase}
-use Rattle.conf_record.proofs.BaseCopyLemmas.{built_is}
-use Rattle.conf_record.proofs.BaseSpanLemmas.{lookup_named, lookup_some, lookup_none, span_found}
+use Rattle.conf_record.proofs.{Prelude.{IfOk-weaker, lookup, chars, tree_of, is_name, config_named}, BaseCopyLemmas.built_is}
+use Rattle.conf_record.{proofs.BaseSpanLemmas.{lookup_named, lookup_some, lookup_none, span_found}, specs.BaseSpans.{bytes_at, entry_bytes}}
+use Rattle.conf_record.specs.Documents.{IsBase}
 use Rattle.conf_record.proofs.held_base.BaseTextOrigin.copy_of.Goals as goal
 
 pub returns-in_default : goal.returns-in_default

@@ -1,6 +1,6 @@
 use Rattle.std.proofs.Common.{is_some, string_bytes, ap, ◌∙◌}
-use Rattle.conf_record.proofs.Prelude.{lookup, chars, is_name, config_named}
-use Rattle.conf_record.proofs.BaseSpanLemmas.{lookup_named, lookup_is_some, copied_is_some}
+use Rattle.conf_record.proofs.{Prelude.{lookup, chars, is_name, config_named}, BaseSpanLemmas.{lookup_named, lookup_is_some}}
+use Rattle.conf_record.proofs.BaseSpanLemmas.{copied_is_some}
 use Rattle.conf_record.proofs.held_base.BaseTextOrigin.has.Goals as goal
 
 pub returns : goal.returns

@@ -1,7 +1,6 @@
 use Rattle.std.proofs.Common.{string_bytes, option_copied, sym, ap, ◌∙◌}
-use Rattle.conf_record.proofs.Prelude.{lookup, chars, byte_len, is_name, entry_named}
-use Rattle.conf_record.specs.BaseSpans.{entry_bytes}
-use Rattle.conf_record.proofs.BaseSpanLemmas.{lookup_named, lookup_some, lookup_none, span_length, named_length, named_none}
+use Rattle.conf_record.proofs.{Prelude.{lookup, chars, byte_len, is_name, entry_named}, BaseSpanLemmas.{lookup_named, lookup_some}}
+use Rattle.conf_record.{proofs.BaseSpanLemmas.{lookup_none, span_length, named_length, named_none}, specs.BaseSpans.entry_bytes}
 use Rattle.conf_record.proofs.held_base.BaseTextOrigin.length_of.Goals as goal
 
 pub returns-in-Some : goal.returns-in-Some

@@ -1,6 +1,5 @@
 use Rattle.std.proofs.Common.{sym, ◌∙◌}
-use Rattle.conf_session.specs.Answers.{word}
-use Rattle.conf_session.proofs.WordLemmas.{word_lines, word_plain}
+use Rattle.conf_session.{specs.Answers.word, proofs.WordLemmas.{word_lines, word_plain}}
 use Rattle.conf_session.proofs.words.Refusal.answer.Goals as goal
 
 pub returns : goal.returns

@@ -1,6 +1,5 @@
 use Rattle.std.proofs.Common.{ap, ◌∙◌}
-use Rattle.conf_state.specs.Places.{present}
-use Rattle.conf_state.proofs.PlaceLemmas.{present-closed}
+use Rattle.conf_state.{specs.Places.present, proofs.PlaceLemmas.present-closed}
 use Rattle.conf_state.proofs.configs.Configs.close_if_sparse.Goals as goal
 
 pub returns-then-self-len : goal.returns-then-self-len

@@ -1,7 +1,5 @@
 use Rattle.std.proofs.Common.{ap, sym, ◌∙◌}
-use Rattle.conf_state.proofs.Prelude.{lookup, option_copied}
-use Rattle.conf_state.specs.Configs.{is_name}
-use Rattle.conf_state.proofs.PlaceLemmas.{in_place, lookup-present}
+use Rattle.conf_state.{proofs.{Prelude.{lookup, option_copied}, PlaceLemmas.{in_place, lookup-present}}, specs.Configs.is_name}
 use Rattle.conf_state.proofs.configs.Configs.get.Goals as goal
 
 pub returns-in_err-get : goal.returns-in_err-get

@@ -1,8 +1,6 @@
 use Rattle.std.proofs.Common.{◌≡◌, OnSome, Some, refl, ap, sym, ◌∙◌}
-use Rattle.conf_state.proofs.Prelude.{lookup, set_value, set_value_same}
-use Rattle.yaml_data.specs.declared.tree.Tree.{Tree}
-use Rattle.conf_state.specs.{Configs.is_name, Places.present}
-use Rattle.conf_state.proofs.PlaceLemmas.{in_place, lookup-present, present-set, on_some}
+use Rattle.conf_state.proofs.{Prelude.{lookup, set_value, set_value_same}, PlaceLemmas.{in_place, lookup-present, present-set, on_some}}
+use Rattle.{conf_state.specs.{Configs.is_name, Places.present}, yaml_data.specs.declared.tree.Tree.Tree}
 use Rattle.conf_state.proofs.configs.Configs.get_mut.Goals as goal
 
 pub returns-in_err-self-inside : goal.returns-in_err-self-inside

@@ -1,6 +1,5 @@
 use Rattle.std.proofs.Common.{◌≡◌, ◌++◌, subst, ◌∙◌}
-use Rattle.conf_state.specs.Kept.{entries_of, ArePlain}
-use Rattle.conf_state.proofs.CopyLemmas.{copied_more}
+use Rattle.conf_state.{specs.Kept.{entries_of, ArePlain}, proofs.CopyLemmas.copied_more}
 use Rattle.conf_state.proofs.configs.Configs.try_copy.Goals as goal
 
 pub loop-name-preserved : goal.loop-name-preserved

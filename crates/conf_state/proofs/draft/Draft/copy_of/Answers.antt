@@ -1,6 +1,5 @@
 use Rattle.std.proofs.Common.{Some, option_copied, sym, ap, ◌∙◌}
-use Rattle.conf_state.proofs.Prelude.{IfOk-weaker}
-use Rattle.conf_state.proofs.OriginLemmas.{held-there, not-held}
+use Rattle.conf_state.proofs.{Prelude.IfOk-weaker, OriginLemmas.{held-there, not-held}}
 use Rattle.conf_state.proofs.draft.Draft.copy_of.Goals as goal
 
 pub returns-in-Some : goal.returns-in-Some

@@ -1,9 +1,8 @@
 use Rattle.std.proofs.Common.{inr, Err, option_map, sym, ap, ◌∙◌}
 use Rattle.conf_state.proofs.Prelude.{on_ok_weaker, IfOk-weaker, IfErr-weaker, err_from_is_err_and, chars, tree_of}
-use Rattle.conf_state.specs.{Commands.text_of, Configs.put_under, Drafts.drafted, Edits.absence}
-use Rattle.conf_state.proofs.{EditLemmas.edited-nothing, OriginLemmas.there-good, OriginLemmas.drafted-within, PlanningLemmas.edit-refused}
-use Rattle.conf_state.proofs.{PlanningLemmas.or_so}
+use Rattle.conf_state.proofs.{EditLemmas.edited-nothing, OriginLemmas.{there-good, drafted-within}, PlanningLemmas.{edit-refused, or_so}}
 use Rattle.conf_state.proofs.DraftEdits.{held-config, changed-in, copied-config, copy-put-in, after-edit, after-kept, after-change}
+use Rattle.conf_state.specs.{Commands.text_of, Configs.put_under, Drafts.drafted, Edits.absence}
 use Rattle.conf_state.proofs.draft.Draft.edit_uncounted.Goals as goal
 
 -- ---- a configuration that the draft holds

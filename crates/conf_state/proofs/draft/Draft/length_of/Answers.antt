@@ -1,8 +1,7 @@
 use Rattle.std.proofs.Common.{◌≡◌, ℕ, ◌<◌, min, option_copied, sym, ap, ◌∙◌, arith}
-use Rattle.conf_state.proofs.Prelude.{chars, byte_len, tree_of}
-use Rattle.conf_state.specs.{Drafts.drafted, Drafts.texts_of, EntryTexts.lines_if_there, EntryTexts.entry_named}
-use Rattle.conf_state.proofs.{DraftLemmas.named-cut_all-gone, DraftLemmas.named-cut_all-other, DraftSteps.listed}
-use Rattle.conf_state.proofs.OriginLemmas.{held-there, not-held, there-length}
+use Rattle.conf_state.proofs.{Prelude.{chars, byte_len, tree_of}, DraftLemmas.{named-cut_all-gone, named-cut_all-other}, DraftSteps.listed}
+use Rattle.conf_state.{proofs.OriginLemmas.{held-there, not-held, there-length}, specs.Drafts.{drafted, texts_of}}
+use Rattle.conf_state.specs.EntryTexts.{lines_if_there, entry_named}
 use Rattle.conf_state.proofs.draft.Draft.length_of.Goals as goal
 
 pub returns-in-Some : goal.returns-in-Some

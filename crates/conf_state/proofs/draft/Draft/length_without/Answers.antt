@@ -1,7 +1,5 @@
 use Rattle.std.proofs.Common.{arith}
-use Rattle.conf_state.proofs.Prelude.{chars}
-use Rattle.conf_state.specs.Drafts.{drafted}
-use Rattle.conf_state.proofs.OriginLemmas.{entry-cut}
+use Rattle.conf_state.{proofs.{Prelude.chars, OriginLemmas.entry-cut}, specs.Drafts.drafted}
 use Rattle.conf_state.proofs.draft.Draft.length_without.Goals as goal
 
 pub overflow_sub-result : goal.overflow_sub-result

@@ -1,9 +1,7 @@
 -- Each turn takes a name that is held, if it isn't left in the origin.
 use Rattle.std.proofs.Common.{◌≡◌, ◌++◌, ◌∷◌, [], true, false, map, is_some, append-nil, sym, ap, ◌∙◌}
-use Rattle.conf_state.proofs.Prelude.{chars}
-use Rattle.conf_state.specs.{Commands.text_of, Drafts.cut_all, Drafts.texts_of, Kept.entries_of, States.config_named, States.names_of}
-use Rattle.conf_state.proofs.DraftLemmas.{has_name-named}
-use Rattle.conf_state.proofs.ListedNames.{outside, outside-step, names-put_all, mapped-more}
+use Rattle.conf_state.proofs.{Prelude.chars, DraftLemmas.has_name-named, ListedNames.{outside, outside-step, names-put_all, mapped-more}}
+use Rattle.conf_state.specs.{Commands.text_of, Drafts.{cut_all, texts_of}, Kept.entries_of, States.{config_named, names_of}}
 use Rattle.conf_state.proofs.draft.Draft.names.Goals as goal
 
 pub loop-name-init : goal.loop-name-init

@@ -1,5 +1,5 @@
 use Rattle.std.proofs.Common.{◌≡◌, ◌++◌, map}
-use Rattle.conf_state.specs.{Commands.text_of, Drafts.cut_all, Drafts.drafted, Drafts.texts_of, Kept.entries_of, States.names_of}
+use Rattle.conf_state.specs.{Commands.text_of, Drafts.{cut_all, drafted, texts_of}, Kept.entries_of, States.names_of}
 use Rattle.conf_state.proofs.ListedNames.{outside}
 use Rattle.conf_state.proofs.draft.Draft.names.Given as goal
 

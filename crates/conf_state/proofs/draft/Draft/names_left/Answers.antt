@@ -1,9 +1,8 @@
 -- Each turn leaves out a name that is removed, or takes another one.
 use Rattle.std.proofs.Common.{rules, ◌++◌, true, false, map, length, append-nil, string_bytes, sym, ap, ◌∙◌, arith}
-use Rattle.conf_state.proofs.Prelude.{IsUtf8-string_bytes, into_iter_items, into_iter_len}
-use Rattle.conf_state.specs.{Commands.text_of, Drafts.texts_of}
-use Rattle.conf_state.proofs.DraftSteps.{listed}
-use Rattle.conf_state.proofs.ListedNames.{outside, outside-step, names-cut_all, mapped-more, nothing-left}
+use Rattle.conf_state.proofs.{Prelude.{IsUtf8-string_bytes, into_iter_items, into_iter_len}, DraftSteps.listed, ListedNames.outside}
+use Rattle.conf_state.{proofs.ListedNames.{outside-step, names-cut_all, mapped-more, nothing-left}, specs.Commands.text_of}
+use Rattle.conf_state.specs.Drafts.{texts_of}
 use Rattle.conf_state.proofs.draft.Draft.names_left.Goals as goal
 
 pub loop-name-init : goal.loop-name-init

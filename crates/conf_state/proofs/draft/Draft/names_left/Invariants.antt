@@ -1,7 +1,6 @@
 use Rattle.std.proofs.Common.{◌≡◌, ◌++◌, map, length}
-use Rattle.conf_state.proofs.Prelude.{into_iter_items, into_iter_len}
-use Rattle.conf_state.specs.{Commands.text_of, Drafts.cut_all, Drafts.texts_of, States.names_of}
-use Rattle.conf_state.proofs.ListedNames.{outside}
+use Rattle.conf_state.{proofs.{Prelude.{into_iter_items, into_iter_len}, ListedNames.outside}, specs.{Commands.text_of, Drafts.cut_all}}
+use Rattle.conf_state.specs.{Drafts.texts_of, States.names_of}
 use Rattle.conf_state.proofs.draft.Draft.names_left.Given as goal
 
 -- the names so far, and then those among the others that are not removed, are all that are not removed

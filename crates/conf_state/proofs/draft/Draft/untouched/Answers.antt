@@ -1,7 +1,6 @@
 use Rattle.std.proofs.Common.{sym, ◌∙◌}
-use Rattle.conf_state.proofs.Prelude.{IfOk-weaker, chars}
+use Rattle.conf_state.proofs.{Prelude.{IfOk-weaker, chars}, DraftLemmas.{named-cut_all-gone, named-cut_all-other}, DraftSteps.listed}
 use Rattle.conf_state.specs.Drafts.{texts_of}
-use Rattle.conf_state.proofs.{DraftLemmas.named-cut_all-gone, DraftLemmas.named-cut_all-other, DraftSteps.listed}
 use Rattle.conf_state.proofs.draft.Draft.untouched.Goals as goal
 
 pub returns-then-contains : goal.returns-then-contains

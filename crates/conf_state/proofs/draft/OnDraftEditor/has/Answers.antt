@@ -1,7 +1,5 @@
 use Rattle.std.proofs.Common.{sym, ◌∙◌}
-use Rattle.conf_state.proofs.Prelude.{chars}
-use Rattle.conf_state.specs.Drafts.{drafted}
-use Rattle.conf_state.proofs.{EditLemmas.found-good, OriginLemmas.drafted-within}
+use Rattle.conf_state.{proofs.{Prelude.chars, EditLemmas.found-good, OriginLemmas.drafted-within}, specs.Drafts.drafted}
 use Rattle.conf_state.proofs.draft.OnDraftEditor.has.Goals as goal
 
 pub returns-clause-named : goal.returns-clause-named

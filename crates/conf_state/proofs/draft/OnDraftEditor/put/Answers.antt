@@ -1,8 +1,7 @@
 use Rattle.std.proofs.Common.{◌≡◌, Ok, string_bytes, subst, sym, ap, ◌∙◌}
-use Rattle.conf_state.proofs.Prelude.{IsUtf8-string_bytes, chars, tree_of}
-use Rattle.conf_state.specs.{BaseTexts.entries_length, Commands.text_of, Drafts.drafted, Kept.entries_of, Kept.ArePlain, States.put_config}
-use Rattle.conf_state.proofs.{DraftSteps.put-made, DraftSteps.put-kept, EntryLemmas.put_under-named, EntryLemmas.plain_put_under}
-use Rattle.conf_state.proofs.{NameLemmas.good_name-ascii}
+use Rattle.conf_state.proofs.{Prelude.{IsUtf8-string_bytes, chars, tree_of}, DraftSteps.{put-made, put-kept}, EntryLemmas.put_under-named}
+use Rattle.conf_state.{proofs.{EntryLemmas.plain_put_under, NameLemmas.good_name-ascii}, specs.{BaseTexts.entries_length, Commands.text_of}}
+use Rattle.conf_state.specs.{Drafts.drafted, Kept.{entries_of, ArePlain}, States.put_config}
 use Rattle.conf_state.proofs.draft.OnDraftEditor.put.Goals as goal
 
 pub returns : goal.returns

@@ -1,7 +1,6 @@
 use Rattle.std.proofs.Common.{Ok, sym, ap, ◌∙◌}
-use Rattle.conf_state.proofs.Prelude.{chars}
-use Rattle.conf_state.specs.{BaseTexts.entries_length, Configs.cut_from, Drafts.drafted, States.cut_config}
-use Rattle.conf_state.proofs.DraftSteps.{is_cut}
+use Rattle.conf_state.{proofs.{Prelude.chars, DraftSteps.is_cut}, specs.{BaseTexts.entries_length, Configs.cut_from, Drafts.drafted}}
+use Rattle.conf_state.specs.States.{cut_config}
 use Rattle.conf_state.proofs.draft.OnDraftEditor.remove.Goals as goal
 
 pub returns : goal.returns

@@ -1,6 +1,5 @@
 use Rattle.std.proofs.Common.{subst}
-use Rattle.conf_state.proofs.Prelude.{chars}
-use Rattle.conf_state.specs.{Edits.configs_edited, Endings.EndsInPlace}
+use Rattle.conf_state.{proofs.Prelude.chars, specs.{Edits.configs_edited, Endings.EndsInPlace}}
 use Rattle.conf_state.proofs.in_place.InPlaceEditor.edit.Goals as goal
 
 pub returns : goal.returns

@@ -1,6 +1,5 @@
 use Rattle.std.proofs.Common.{is_some, ap, sym, ◌∙◌}
-use Rattle.conf_state.proofs.Prelude.{chars, tree_of}
-use Rattle.conf_state.proofs.{EditLemmas.found-good, StepLemmas.is_some-mapped}
+use Rattle.conf_state.proofs.{Prelude.{chars, tree_of}, EditLemmas.found-good, StepLemmas.is_some-mapped}
 use Rattle.conf_state.proofs.in_place.InPlaceEditor.has.Goals as goal
 
 pub returns-clause-found : goal.returns-clause-found

@@ -1,6 +1,5 @@
 use Rattle.std.proofs.Common.{Ok, inr, subst}
-use Rattle.conf_state.proofs.Prelude.{IfErr-weaker, chars}
-use Rattle.conf_state.specs.{Endings.EndsInPlace, States.cut_config}
+use Rattle.conf_state.{proofs.Prelude.{IfErr-weaker, chars}, specs.{Endings.EndsInPlace, States.cut_config}}
 use Rattle.conf_state.proofs.in_place.InPlaceEditor.remove.Goals as goal
 
 pub returns : goal.returns

@@ -1,6 +1,5 @@
 use Rattle.std.proofs.Common.{min, ap, sym, subst, ◌∙◌, arith}
-use Rattle.conf_state.specs.{BaseTexts.framed_length, Limits.IsState}
-use Rattle.conf_state.proofs.PartStates.{part-short, part-long}
+use Rattle.conf_state.{specs.{BaseTexts.framed_length, Limits.IsState}, proofs.PartStates.{part-short, part-long}}
 use Rattle.conf_state.proofs.part.Part.new.Goals as goal
 
 pub invariant_of-result : goal.invariant_of-result

@@ -1,8 +1,8 @@
 use Rattle.std.proofs.Common.{inr, ◌∙◌, sym, ap, arith}
 use Rattle.conf_state.proofs.Prelude.{err_from_is_err_and, chars, depth, tree_of, tree_after_edit, config_limits, path_of}
-use Rattle.conf_state.specs.{Edits.checked_edit, Steps.and_then, Steps.checked_tree}
-use Rattle.conf_state.proofs.EditLemmas.{at_most, parsed-Ok, parsed-Err, path-refused, pointer-steps}
-use Rattle.conf_state.proofs.PlanningLemmas.{at-path, checked_edit-deep, checked_edit-large, or_so}
+use Rattle.conf_state.proofs.{EditLemmas.{at_most, parsed-Ok, parsed-Err, path-refused, pointer-steps}, PlanningLemmas.at-path}
+use Rattle.conf_state.{proofs.PlanningLemmas.{checked_edit-deep, checked_edit-large, or_so}, specs.{Edits.checked_edit, Steps.and_then}}
+use Rattle.conf_state.specs.Steps.{checked_tree}
 use Rattle.conf_state.proofs.planning.EditPlan.new.Goals as goal
 
 pub returns-in_err-path-clause-refused : goal.returns-in_err-path-clause-refused

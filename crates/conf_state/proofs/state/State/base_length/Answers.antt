@@ -1,6 +1,5 @@
 use Rattle.std.proofs.Common.{◌≡◌, min, ap, ap₂, subst, ◌∙◌, arith}
-use Rattle.conf_state.specs.{BaseTexts.framed_length, Limits.IsState}
-use Rattle.conf_state.proofs.BaseLemmas.{base_length-framed}
+use Rattle.conf_state.{specs.{BaseTexts.framed_length, Limits.IsState}, proofs.BaseLemmas.base_length-framed}
 use Rattle.conf_state.proofs.state.State.base_length.Goals as goal
 
 pub returns : goal.returns

@@ -1,13 +1,11 @@
 use Rattle.std.proofs.Common.{◌≡◌, ◌+◌, List, OnSome, Ok, Err, Some, inr, is_some, option_map, refl, ap, subst, ◌∙◌, sym, arith}
 use Rattle.conf_state.proofs.Prelude.{err_from_is_err_and, lookup, set_value, option_copied_mut, chars, tree_of, tree_after_edit}
+use Rattle.conf_state.proofs.{EditLemmas.{named-good, found-good, found-named, same_edit, edited-nothing}, EntryLemmas.lookup-named}
+use Rattle.conf_state.proofs.{EntryLemmas.{set_value-named, plain_set_value, put_config-same}, PlanningLemmas.{edit-made, edit-refused}}
+use Rattle.conf_state.proofs.{PlanningLemmas.{plan-made, or_so}, StateLemmas.{kept_put, kept_same}, state.State.edit.Goals.In-Some}
+use Rattle.conf_state.{proofs.state.State.edit.Goals.In_ok-perform, specs.{BaseTexts.entries_length, Configs.is_name, Edits.configs_edited}}
+use Rattle.conf_state.specs.{Kept.{entries_of, ArePlain, IsKept}, States.{Entry, config_named, put_config}, Steps.{and_then, next_state}}
 use Rattle.yaml_data.specs.declared.tree.Tree.{Tree}
-use Rattle.conf_state.specs.{BaseTexts.entries_length, Configs.is_name, Edits.configs_edited, Kept.entries_of, Kept.ArePlain, Kept.IsKept}
-use Rattle.conf_state.specs.{States.Entry, States.config_named, States.put_config, Steps.and_then, Steps.next_state}
-use Rattle.conf_state.proofs.EditLemmas.{named-good, found-good, found-named, same_edit, edited-nothing}
-use Rattle.conf_state.proofs.EntryLemmas.{lookup-named, set_value-named, plain_set_value, put_config-same}
-use Rattle.conf_state.proofs.PlanningLemmas.{edit-made, edit-refused, plan-made, or_so}
-use Rattle.conf_state.proofs.StateLemmas.{kept_put, kept_same}
-use Rattle.conf_state.proofs.state.State.edit.Goals.{In-Some, In_ok-perform}
 use Rattle.conf_state.proofs.state.State.edit.Goals as goal
 
 -- ---- no configuration has the name

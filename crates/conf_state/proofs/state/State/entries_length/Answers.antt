@@ -1,6 +1,5 @@
 use Rattle.std.proofs.Common.{subst, arith}
-use Rattle.conf_state.specs.{Kept.entries_of, Limits.IsState}
-use Rattle.conf_state.proofs.BaseLemmas.{entries_length-short}
+use Rattle.conf_state.{specs.{Kept.entries_of, Limits.IsState}, proofs.BaseLemmas.entries_length-short}
 use Rattle.conf_state.proofs.state.State.entries_length.Goals as goal
 
 pub returns-clause-short : goal.returns-clause-short

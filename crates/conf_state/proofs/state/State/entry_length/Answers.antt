@@ -1,7 +1,5 @@
 use Rattle.std.proofs.Common.{ap, sym}
-use Rattle.conf_state.proofs.Prelude.{chars, byte_len, tree_of}
-use Rattle.conf_state.specs.EntryTexts.{lines_if_there}
-use Rattle.conf_state.proofs.EntryTextLemmas.{entry-exact}
+use Rattle.conf_state.{proofs.{Prelude.{chars, byte_len, tree_of}, EntryTextLemmas.entry-exact}, specs.EntryTexts.lines_if_there}
 use Rattle.conf_state.proofs.state.State.entry_length.Goals as goal
 
 pub returns-in-Some : goal.returns-in-Some

@@ -1,7 +1,6 @@
 use Rattle.std.proofs.Common.{◌≡◌, ◌+◌, [], Ok, refl, ap, sym, subst, ◌∙◌, arith}
-use Rattle.conf_state.proofs.Prelude.{err_from_is_err_and}
-use Rattle.conf_state.specs.{BaseTexts.entries_length, Drafts.drafted, Steps.next_state}
-use Rattle.conf_state.proofs.{StateLemmas.kept_new, TakeLemmas.drafted-nothing, TakeLemmas.drafted-configs, TakeLemmas.drafted-distinct}
+use Rattle.conf_state.proofs.{Prelude.err_from_is_err_and, StateLemmas.kept_new, TakeLemmas.{drafted-nothing, drafted-configs}}
+use Rattle.conf_state.{proofs.TakeLemmas.drafted-distinct, specs.{BaseTexts.entries_length, Drafts.drafted, Steps.next_state}}
 use Rattle.conf_state.proofs.state.State.fill.Goals as goal
 
 pub invariant_of-self : goal.invariant_of-self

@@ -1,7 +1,5 @@
 use Rattle.std.proofs.Common.{◌≡◌, length}
-use Rattle.conf_state.proofs.Prelude.{into_iter_items, into_iter_len}
-use Rattle.conf_state.specs.Kept.{entries_of}
-use Rattle.conf_state.proofs.PartLemmas.{SoFar}
+use Rattle.conf_state.{proofs.{Prelude.{into_iter_items, into_iter_len}, PartLemmas.SoFar}, specs.Kept.entries_of}
 use Rattle.conf_state.proofs.state.State.from_parts.Given as goal
 
 abbrev pub invariant-loop-name : goal.invariant-loop-name

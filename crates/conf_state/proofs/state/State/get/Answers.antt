@@ -1,8 +1,6 @@
 use Rattle.std.proofs.Common.{Option, Some, None, Bor, option_map, option_copied, ◌≡◌, refl, ap, subst, ◌∙◌}
-use Rattle.conf_state.proofs.Prelude.{chars, tree_of}
+use Rattle.conf_state.{proofs.{Prelude.{chars, tree_of}, EntryLemmas.lookup-named}, specs.{Limits.IsState, States.config_named}}
 use Rattle.yaml_data.specs.declared.tree.Tree.{Tree}
-use Rattle.conf_state.specs.{Limits.IsState, States.config_named}
-use Rattle.conf_state.proofs.EntryLemmas.{lookup-named}
 use Rattle.conf_state.proofs.state.State.get.Goals as goal
 
 seen : (found : Option (Bor Tree)) → option_map (λ config. tree_of config.now) found ≡ option_map tree_of (option_copied found)

@@ -1,8 +1,7 @@
 use Rattle.std.proofs.Common.{◌≤◌, option_map, ap, sym, subst, ◌∙◌, arith}
-use Rattle.conf_state.proofs.Prelude.{chars, tree_of}
-use Rattle.conf_state.specs.{States.base_limit, States.config_named, BaseTexts.entries_length, Kept.entries_of}
-use Rattle.conf_state.proofs.{EntryLemmas.lookup-named, BaseLemmas.entries_length-short}
-use Rattle.conf_state.proofs.LimitLemmas.{entries_length-found, entries_length-absent}
+use Rattle.conf_state.proofs.{Prelude.{chars, tree_of}, EntryLemmas.lookup-named, BaseLemmas.entries_length-short}
+use Rattle.conf_state.{proofs.LimitLemmas.{entries_length-found, entries_length-absent}, specs.States.{base_limit, config_named}}
+use Rattle.conf_state.specs.{BaseTexts.entries_length, Kept.entries_of}
 use Rattle.conf_state.proofs.state.State.length_of.Goals as goal
 
 pub returns-in-Some : goal.returns-in-Some

@@ -1,6 +1,5 @@
 use Rattle.std.proofs.Common.{arith}
-use Rattle.conf_state.proofs.Prelude.{chars, tree_of}
-use Rattle.conf_state.proofs.LimitLemmas.{entries_length-put}
+use Rattle.conf_state.proofs.{Prelude.{chars, tree_of}, LimitLemmas.entries_length-put}
 use Rattle.conf_state.proofs.state.State.length_with.Goals as goal
 
 pub returns : goal.returns

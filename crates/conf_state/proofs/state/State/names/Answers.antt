@@ -1,7 +1,6 @@
 use Rattle.std.proofs.Common.{List, [], ◌∷◌, String, Global, string_bytes, ◌≡◌, refl, ap, ◌∙◌}
-use Rattle.conf_state.proofs.Prelude.{chars}
+use Rattle.conf_state.{proofs.Prelude.chars, specs.{States.names_of, Kept.{names_from, entries_of}}}
 use Rattle.yaml_data.specs.declared.tree.Tree.{Tree}
-use Rattle.conf_state.specs.{States.names_of, Kept.names_from, Kept.entries_of}
 use Rattle.conf_state.proofs.state.State.names.Goals as goal
 
 same_names : (es : List (String Global × Tree)) → names_from es ≡ names_of (entries_of es)

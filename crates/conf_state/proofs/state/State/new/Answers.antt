@@ -1,6 +1,5 @@
 use Rattle.std.proofs.Common.{subst, sym}
-use Rattle.conf_state.specs.Kept.{IsKept}
-use Rattle.conf_state.proofs.StateLemmas.{kept_empty}
+use Rattle.conf_state.{specs.Kept.IsKept, proofs.StateLemmas.kept_empty}
 use Rattle.conf_state.proofs.state.State.new.Goals as goal
 
 pub invariant_of-result : goal.invariant_of-result

@@ -1,6 +1,5 @@
 use Rattle.std.proofs.Common.{refl, sym, ap, subst, ◌∙◌}
-use Rattle.conf_state.specs.{Kept.entries_of, Trails.Trail}
-use Rattle.conf_state.proofs.StateLemmas.{kept_same}
+use Rattle.conf_state.{specs.{Kept.entries_of, Trails.Trail}, proofs.StateLemmas.kept_same}
 use Rattle.conf_state.proofs.state.State.set_all.Goals as goal
 
 -- ---- a refusal: the sets that were made are taken back

@@ -1,8 +1,7 @@
 use Rattle.std.proofs.Common.{◌≡◌, ◌+◌, inr, Ok, ap, sym, subst, ◌∙◌, arith}
-use Rattle.conf_state.proofs.Prelude.{err_from_is_err_and}
-use Rattle.conf_state.specs.{BaseTexts.entries_length, Drafts.drafted, Kept.entries_of, Steps.next_state}
-use Rattle.conf_state.proofs.StateLemmas.{kept_new}
-use Rattle.conf_state.proofs.TakeLemmas.{drafted-configs, drafted-distinct, taken-named, taken-plain}
+use Rattle.conf_state.proofs.{Prelude.err_from_is_err_and, StateLemmas.kept_new, TakeLemmas.{drafted-configs, drafted-distinct}}
+use Rattle.conf_state.{proofs.TakeLemmas.{taken-named, taken-plain}, specs.{BaseTexts.entries_length, Drafts.drafted, Kept.entries_of}}
+use Rattle.conf_state.specs.Steps.{next_state}
 use Rattle.conf_state.proofs.state.State.take.Goals as goal
 
 pub invariant_of-self-2 : goal.invariant_of-self-2

@@ -1,7 +1,7 @@
 use Rattle.std.proofs.Common.{◌≡◌, [], refl, sym, ap, subst, ◌∙◌}
-use Rattle.conf_state.specs.{Drafts.drafted, Drafts.IsDraftOf, Kept.entries_of, Kept.IsKept, declared.draft.Draft.Draft}
-use Rattle.conf_state.proofs.{StateLemmas.kept_nothing, state.State.take_configs.Goals.After-new-2}
-use Rattle.conf_state.proofs.TakeLemmas.{whole-draft, whole-drafted, whole-counted}
+use Rattle.conf_state.specs.{Drafts.{drafted, IsDraftOf}, Kept.{entries_of, IsKept}, declared.draft.Draft.Draft}
+use Rattle.conf_state.proofs.{StateLemmas.kept_nothing, state.State.take_configs.Goals.After-new-2, TakeLemmas.{whole-draft, whole-drafted}}
+use Rattle.conf_state.proofs.TakeLemmas.{whole-counted}
 use Rattle.conf_state.proofs.state.State.take_configs.Goals as goal
 
 abbrev taken : After-new-2 → Draft

@@ -1,7 +1,6 @@
 use Rattle.std.proofs.Common.{◌≡◌, ◌+◌, Ok, ap, sym, subst, ◌∙◌, arith}
-use Rattle.conf_state.proofs.Prelude.{chars}
-use Rattle.conf_state.specs.{BaseTexts.entries_length, States.cut_config, Kept.entries_of, Steps.next_state}
-use Rattle.conf_state.proofs.{EntryLemmas.cut_from-named, StateLemmas.kept_cut}
+use Rattle.conf_state.{proofs.{Prelude.chars, EntryLemmas.cut_from-named, StateLemmas.kept_cut}, specs.BaseTexts.entries_length}
+use Rattle.conf_state.specs.{States.cut_config, Kept.entries_of, Steps.next_state}
 use Rattle.conf_state.proofs.state.State.take_out.Goals as goal
 
 pub invariant_of-self : goal.invariant_of-self

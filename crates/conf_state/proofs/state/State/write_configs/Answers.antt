@@ -1,8 +1,6 @@
 use Rattle.std.proofs.Common.{◌≡◌, true, false, ◌∷◌, ◌++◌, [], List, String, Global, length, codes, refl, ap, subst, sym, ◌∙◌, arith}
-use Rattle.conf_state.proofs.Prelude.{on_ok_weaker, chars, mapping, value_at, members_after, tree_of}
-use Rattle.yaml_data.specs.declared.tree.Tree.{Tree}
-use Rattle.conf_state.specs.{BaseTexts.members, BaseTexts.entry_lines, Kept.entries_of}
-use Rattle.conf_state.proofs.LineLemmas.{ascii}
+use Rattle.conf_state.proofs.{Prelude.{on_ok_weaker, chars, mapping, value_at, members_after, tree_of}, LineLemmas.ascii}
+use Rattle.{conf_state.specs.{BaseTexts.{members, entry_lines}, Kept.entries_of}, yaml_data.specs.declared.tree.Tree.Tree}
 use Rattle.conf_state.proofs.state.State.write_configs.Goals as goal
 
 no_truth : false ≡ true → ⊥

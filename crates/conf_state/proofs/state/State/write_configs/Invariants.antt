@@ -1,5 +1,4 @@
-use Rattle.conf_state.proofs.Prelude.{members_after}
-use Rattle.conf_state.specs.{BaseTexts.members, Kept.entries_of}
+use Rattle.conf_state.{proofs.Prelude.members_after, specs.{BaseTexts.members, Kept.entries_of}}
 use Rattle.conf_state.proofs.state.State.write_configs.Given as goal
 
 -- what ends the configurations from here ends them all from the start

@@ -1,7 +1,5 @@
-use Rattle.std.proofs.Common.{◌≡◌, ◌++◌, ◌+◌, ◌-◌, if◌then◌else◌, take, drop, string_bytes, ap, sym, ◌∙◌, arith}
-use Rattle.conf_store.proofs.Prelude.{length-take}
-use Rattle.std.specs.Vec.{vec_capacity}
-use Rattle.conf_store.proofs.CuttingLemmas.{cut-same}
+use Rattle.std.{proofs.Common.{◌≡◌, ◌++◌, ◌+◌, ◌-◌, if◌then◌else◌, take, drop, string_bytes, ap, sym, ◌∙◌, arith}, specs.Vec.vec_capacity}
+use Rattle.conf_store.proofs.{Prelude.length-take, CuttingLemmas.cut-same}
 use Rattle.conf_store.proofs.cutting.Cutting.cut_more.Goals as goal
 
 pub returns-clause-same : goal.returns-clause-same

@@ -1,6 +1,5 @@
 use Rattle.std.proofs.Common.{sym, subst, append-nil, encode_utf8}
-use Rattle.conf_store.specs.Room.{AppendsWithin}
-use Rattle.conf_store.proofs.RoomLemmas.{appended}
+use Rattle.conf_store.{specs.Room.AppendsWithin, proofs.RoomLemmas.appended}
 use Rattle.conf_store.proofs.part_text.PartTextSink.put_char.Goals as goal
 
 pub returns : goal.returns

@@ -1,6 +1,5 @@
 use Rattle.std.proofs.Common.{sym, subst}
-use Rattle.yaml_writer.proofs.SpacesLemmas.{encoded_spaces}
-use Rattle.conf_store.specs.Room.{AppendsWithin}
+use Rattle.{yaml_writer.proofs.SpacesLemmas.encoded_spaces, conf_store.specs.Room.AppendsWithin}
 use Rattle.conf_store.proofs.part_text.PartTextSink.put_spaces.Goals as goal
 
 pub returns : goal.returns

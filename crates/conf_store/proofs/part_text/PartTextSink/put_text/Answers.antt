@@ -1,6 +1,5 @@
 use Rattle.std.proofs.Common.{sym, subst}
-use Rattle.conf_store.proofs.Prelude.{encodes-chars}
-use Rattle.conf_store.specs.Room.{AppendsWithin}
+use Rattle.conf_store.{proofs.Prelude.encodes-chars, specs.Room.AppendsWithin}
 use Rattle.conf_store.proofs.part_text.PartTextSink.put_text.Goals as goal
 
 pub returns : goal.returns

@@ -1,7 +1,6 @@
 use Rattle.std.proofs.Common.{◌≡◌, true, is_some, string_bytes, ap, sym, ◌∙◌, subst}
-use Rattle.conf_store.proofs.Prelude.{get_by_text, chars}
-use Rattle.conf_store.specs.Parts.{IsMade, texts}
-use Rattle.conf_store.proofs.PendingLemmas.{parts-unchanged, there-made, early-same, early-stays, absent-name, text-made, key-there}
+use Rattle.conf_store.proofs.{Prelude.{get_by_text, chars}, PendingLemmas.{parts-unchanged, there-made, early-same, early-stays}}
+use Rattle.conf_store.{proofs.PendingLemmas.{absent-name, text-made, key-there}, specs.Parts.{IsMade, texts}}
 use Rattle.conf_store.proofs.pending.Pending.keep.Goals as goal
 
 pub returns-then-contains_key-clause-kept : goal.returns-then-contains_key-clause-kept

@@ -1,7 +1,6 @@
 use Rattle.std.proofs.Common.{map, take, sym, ◌∙◌, subst, arith}
-use Rattle.conf_store.proofs.Prelude.{edit_of, name_of}
-use Rattle.conf_store.specs.Parts.{AreMade, IsMade}
-use Rattle.conf_store.proofs.PendingLemmas.{AreMade-more, AreMade-stays, names-taken}
+use Rattle.conf_store.{proofs.{Prelude.{edit_of, name_of}, PendingLemmas.{AreMade-more, AreMade-stays, names-taken}}, specs.Parts.AreMade}
+use Rattle.conf_store.specs.Parts.{IsMade}
 use Rattle.conf_store.proofs.pending.Pending.keep_each.Goals as goal
 
 pub loop-edit-preserved : goal.loop-edit-preserved

@@ -1,7 +1,6 @@
 -- The texts stay, and those of the names so far are made.
 use Rattle.std.proofs.Common.{◌≡◌, map, take}
-use Rattle.conf_store.proofs.Prelude.{edit_of, name_of}
-use Rattle.conf_store.specs.Parts.{AreMade, texts}
+use Rattle.conf_store.{proofs.Prelude.{edit_of, name_of}, specs.Parts.{AreMade, texts}}
 use Rattle.conf_store.proofs.pending.Pending.keep_each.Given as goal
 
 abbrev pub invariant-loop-edit : goal.invariant-loop-edit

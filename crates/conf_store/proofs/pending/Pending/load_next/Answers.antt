@@ -1,8 +1,7 @@
-use Rattle.std.proofs.Common.{◌<◌, ◌+◌, ◌++◌, length, ap, sym, ◌∙◌, subst, arith}
-use Rattle.conf_store.proofs.Prelude.{on_ok_weaker}
-use Rattle.std.specs.Option.{option_to_list}
-use Rattle.conf_store.specs.{Early.AreApart, Early.part_of, Early.parts_of, Early.text_named, Parts.AreWithin, Parts.joined, Parts.texts}
-use Rattle.conf_store.proofs.PendingLemmas.{some-names, marked-parts, first-within, others-within, first-joined, one-fewer}
+use Rattle.std.{proofs.Common.{◌<◌, ◌+◌, ◌++◌, length, ap, sym, ◌∙◌, subst, arith}, specs.Option.option_to_list}
+use Rattle.conf_store.proofs.{Prelude.on_ok_weaker, PendingLemmas.{some-names, marked-parts, first-within, others-within, first-joined}}
+use Rattle.conf_store.{proofs.PendingLemmas.one-fewer, specs.{Early.{AreApart, part_of, parts_of, text_named}, Parts.{AreWithin, joined}}}
+use Rattle.conf_store.specs.Parts.{texts}
 use Rattle.conf_store.proofs.pending.Pending.load_next.Goals as goal
 
 pub unwrap-name-requires : goal.unwrap-name-requires

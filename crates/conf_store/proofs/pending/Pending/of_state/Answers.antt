@@ -1,7 +1,6 @@
 use Rattle.std.proofs.Common.{◌≡◌, ap, ◌∙◌, subst}
-use Rattle.conf_store.proofs.Prelude.{chars, text_of, names_of}
-use Rattle.conf_store.specs.Parts.{AreWithin, parts_named, texts}
-use Rattle.conf_store.proofs.PendingLemmas.{names-more, names-all, apart-names, parts-named, within-more}
+use Rattle.conf_store.proofs.{Prelude.{chars, text_of, names_of}, PendingLemmas.{names-more, names-all, apart-names, parts-named}}
+use Rattle.conf_store.{proofs.PendingLemmas.within-more, specs.Parts.{AreWithin, parts_named, texts}}
 use Rattle.conf_store.proofs.pending.Pending.of_state.Goals as goal
 
 pub loop-name-preserved : goal.loop-name-preserved

@@ -1,8 +1,6 @@
 -- The names so far and those that are left are all names, and no text of those so far is longer.
 use Rattle.std.proofs.Common.{◌≡◌, ◌++◌}
-use Rattle.conf_store.proofs.Prelude.{names_of}
-use Rattle.conf_store.specs.Parts.{AreWithin, parts_named, texts}
-use Rattle.conf_store.proofs.PendingLemmas.{texts_of}
+use Rattle.conf_store.{proofs.{Prelude.names_of, PendingLemmas.texts_of}, specs.Parts.{AreWithin, parts_named, texts}}
 use Rattle.conf_store.proofs.pending.Pending.of_state.Given as goal
 
 abbrev pub invariant-loop-name : goal.invariant-loop-name

@@ -1,8 +1,6 @@
 use Rattle.std.proofs.Common.{◌+◌, ◌++◌, length, string_bytes, refl, ap, sym, ◌∙◌}
-use Rattle.conf_store.proofs.Prelude.{on_ok_weaker, command_of}
-use Rattle.conf_store.specs.Stagings.{left_of}
-use Rattle.conf_store.proofs.RoomLemmas.{appended, ok-holds}
-use Rattle.conf_store.proofs.StageLemmas.{left-step, ready-step, view-more, none-more}
+use Rattle.conf_store.proofs.{Prelude.{on_ok_weaker, command_of}, RoomLemmas.{appended, ok-holds}, StageLemmas.{left-step, ready-step}}
+use Rattle.conf_store.{proofs.StageLemmas.{view-more, none-more}, specs.Stagings.left_of}
 use Rattle.conf_store.proofs.staging.Staging.step.Goals as goal
 
 pub returns-then-not-self-clause-staged : goal.returns-then-not-self-clause-staged

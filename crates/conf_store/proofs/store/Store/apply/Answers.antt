@@ -1,8 +1,6 @@
-use Rattle.std.proofs.Common.{◌⊎◌, sym, subst}
-use Rattle.std.specs.Prelude.{[], ◌∷◌, ◌++◌}
-use Rattle.conf_store.proofs.Prelude.{LeavesOnly-joined, command_of}
-use Rattle.conf_store.specs.{Meaning.ImageMeans, Durable.MeansPrefix}
-use Rattle.conf_store.proofs.HeldLemmas.{prefix-last}
+use Rattle.std.{proofs.Common.{◌⊎◌, sym, subst}, specs.Prelude.{[], ◌∷◌, ◌++◌}}
+use Rattle.conf_store.{proofs.{Prelude.{LeavesOnly-joined, command_of}, HeldLemmas.prefix-last}, specs.Meaning.ImageMeans}
+use Rattle.conf_store.specs.Durable.{MeansPrefix}
 use Rattle.conf_store.proofs.store.Store.apply.Goals as goal
 
 pub returns-in-Ok-flush-clause-any_moment : goal.returns-in-Ok-flush-clause-any_moment

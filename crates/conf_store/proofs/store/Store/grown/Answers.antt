@@ -1,7 +1,6 @@
 use Rattle.std.proofs.Common.{arith, ◌≡◌, ◌-◌, ◌≤◌, false, ap, ◌∙◌, subst}
-use Rattle.conf_store.proofs.Prelude.{bytes_under, Store}
-use Rattle.conf_store.specs.{Grown.HasGrown, View.StoreView}
-use Rattle.conf_store.proofs.{FileLemmas.held-length, GrownLemmas.file-grown}
+use Rattle.conf_store.{proofs.{Prelude.{bytes_under, Store}, FileLemmas.held-length, GrownLemmas.file-grown}, specs.Grown.HasGrown}
+use Rattle.conf_store.specs.View.{StoreView}
 use Rattle.conf_store.proofs.store.Store.grown.Goals as goal
 
 pub returns-clause-grown : goal.returns-clause-grown

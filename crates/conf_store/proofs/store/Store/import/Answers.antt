@@ -1,10 +1,9 @@
 -- Without a command the store stays as it is; otherwise the command is performed.
 use Rattle.std.proofs.Common.{◌≡◌, ◌⊎◌, inl, false, Err, refl, sym, ◌∙◌, ap, subst}
 use Rattle.conf_store.proofs.Prelude.{false≢true, IfOk-weaker, IfErr-weaker, on_ok_weaker, chars, bytes_under, Store, LeavesOnly-start}
-use Rattle.conf_store.proofs.Prelude.{file_with_bytes, command_of, BadName, Reopen, Device}
-use Rattle.conf_store.specs.{Imports.RefusesImport, Meaning.ImageMeans, Durable.MeansPrefix, Durable.staged_text}
-use Rattle.conf_store.specs.Calls.{Accepts, RefusesCommand, next_record}
-use Rattle.conf_store.proofs.ImportLemmas.{import-refused, unread-refused, unread-of_state}
+use Rattle.conf_store.proofs.{Prelude.{file_with_bytes, command_of, BadName, Reopen, Device}, ImportLemmas.{import-refused, unread-refused}}
+use Rattle.conf_store.{proofs.ImportLemmas.unread-of_state, specs.{Imports.RefusesImport, Meaning.ImageMeans, Durable.MeansPrefix}}
+use Rattle.conf_store.specs.{Durable.staged_text, Calls.{Accepts, RefusesCommand, next_record}}
 use Rattle.conf_store.proofs.store.Store.import.Goals as goal
 
 -- ---- a store that has to be opened again

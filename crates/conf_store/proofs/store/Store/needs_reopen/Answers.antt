@@ -1,9 +1,7 @@
-use Rattle.std.proofs.Common.{◌≡◌, false, subst, ap, ◌∙◌}
-use Rattle.std.specs.Prelude.{List, IsSome}
-use Rattle.conf_store.proofs.Prelude.{bytes_under, Store, Command, Contents}
-use Rattle.conf_store.specs.{Stagings.staged_of, View.StoreView, Staged.staged_length, Files.HasLength}
-use Rattle.conf_store.specs.Durable.{HasFlushed, AllImagesAfterPrefix, staged_text}
-use Rattle.conf_store.proofs.{FileLemmas.held-length, FileLemmas.staging-length, HeldLemmas.held-flushed, HeldLemmas.held-images}
+use Rattle.std.{proofs.Common.{◌≡◌, false, subst, ap, ◌∙◌}, specs.Prelude.{List, IsSome}}
+use Rattle.conf_store.proofs.{Prelude.{bytes_under, Store, Command, Contents}, FileLemmas.{held-length, staging-length}}
+use Rattle.conf_store.{proofs.HeldLemmas.{held-flushed, held-images}, specs.{Stagings.staged_of, View.StoreView, Staged.staged_length}}
+use Rattle.conf_store.specs.{Files.HasLength, Durable.{HasFlushed, AllImagesAfterPrefix, staged_text}}
 use Rattle.conf_store.proofs.store.Store.needs_reopen.Goals as goal
 
 pub returns-clause-waits : goal.returns-clause-waits

@@ -1,16 +1,13 @@
-use Rattle.std.proofs.Common.{arith, false, ◌≡◌, ◌⊎◌, inl, ⊎_elim, ◌≤◌, Some, Err, refl, sym, ◌∙◌, ap, subst}
-use Rattle.std.specs.Prelude.{ℕ, Option, None, IfSome}
+use Rattle.std.{proofs.Common.{arith, false, ◌≡◌, ◌⊎◌, inl, ⊎_elim, ◌≤◌, Some, Err, refl, sym, ◌∙◌, ap, subst}, specs.Prelude.{ℕ, Option}}
+use Rattle.std.specs.Prelude.{None, IfSome}
 use Rattle.conf_store.proofs.Prelude.{bytes_under, Image, IsImage, LeavesOnly, Store, Next, LeavesOnly-weaker, LeavesOnly-joined}
-use Rattle.conf_store.proofs.Prelude.{LeavesOnly-now}
-use Rattle.conf_store.proofs.Prelude.{IsStoreOf, several_waited, store_limit, base_bytes}
-use Rattle.conf_store.specs.{Durable.IsDurable, Durable.IsStaging, Grown.FileStartsWithBase, Grown.StagedStartsWithBase}
-use Rattle.conf_store.specs.{Staged.staged_length, Meaning.ImageMeans, Opens.MeantAtEntry}
-use Rattle.conf_store.specs.Files.{FilesStay, IsOldOrBase, LeavesOldOrBase}
-use Rattle.conf_store.proofs.{GrownLemmas.found-base, HeldLemmas.durable-held, HeldLemmas.held-means, StoreLemmas.quiet-flushed}
-use Rattle.conf_store.proofs.OpenLemmas.{image-meant, loaded-meant, state-meant, found-means, found-durable, failed-later, reads-stays}
-use Rattle.conf_store.proofs.OpenLemmas.{reads-staged, refused-nothing, disk-refused, disk-no-meaning, disk-device}
-use Rattle.conf_store.proofs.FileLemmas.{held-length, files-stay, images-old, not-needed, kept-as-it-is, disk-memory, base-leaves}
-use Rattle.conf_store.proofs.FileLemmas.{base-reads}
+use Rattle.conf_store.proofs.{Prelude.{LeavesOnly-now, IsStoreOf, several_waited, store_limit, base_bytes}, GrownLemmas.found-base}
+use Rattle.conf_store.proofs.{HeldLemmas.{durable-held, held-means}, StoreLemmas.quiet-flushed, OpenLemmas.{image-meant, loaded-meant}}
+use Rattle.conf_store.proofs.OpenLemmas.{state-meant, found-means, found-durable, failed-later, reads-stays, reads-staged, refused-nothing}
+use Rattle.conf_store.proofs.{OpenLemmas.{disk-refused, disk-no-meaning, disk-device}, FileLemmas.{held-length, files-stay, images-old}}
+use Rattle.conf_store.{proofs.FileLemmas.{not-needed, kept-as-it-is, disk-memory, base-leaves, base-reads}, specs.Durable.IsDurable}
+use Rattle.conf_store.specs.{Durable.IsStaging, Grown.{FileStartsWithBase, StagedStartsWithBase}, Staged.staged_length, Meaning.ImageMeans}
+use Rattle.conf_store.specs.{Opens.MeantAtEntry, Files.{FilesStay, IsOldOrBase, LeavesOldOrBase}}
 use Rattle.conf_store.proofs.store.Store.open.Goals as goal
 
 pub returns-in-Err-clause-no_meaning : goal.returns-in-Err-clause-no_meaning

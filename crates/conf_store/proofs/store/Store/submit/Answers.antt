@@ -1,14 +1,12 @@
 use Rattle.std.proofs.Common.{rules, arith, ◌≡◌, ◌⊎◌, inl, inr, ⊎_elim, ◌+◌, ◌≤◌, max, false, true, length, string_bytes, Some, Ok, Err}
 use Rattle.std.proofs.Common.{refl, sym, ◌∙◌, ap, subst}
 use Rattle.conf_store.proofs.Prelude.{false≢true, Image, bytes_under, LeavesOnly, Store, store_limit, file_with_bytes, command_of, Reopen}
-use Rattle.conf_store.proofs.Prelude.{Device}
-use Rattle.conf_store.specs.{Stagings.staged_of, Meaning.ImageMeans, Grown.FileStartsWithBase, Grown.StagedStartsWithBase}
-use Rattle.conf_store.specs.{Staged.staged_length, Staged.with_more, View.StoreView, Accepting.IsAccepted}
-use Rattle.conf_store.specs.Durable.{HasFlushed, MeansPrefix, IsHeld, IsStaging, staged_text}
-use Rattle.conf_store.specs.Calls.{outcome, journal_length, next_record, Accepts}
-use Rattle.conf_store.proofs.{RefusalLemmas.refusal-returned, GrownLemmas.file-more, GrownLemmas.staged-base-more}
-use Rattle.conf_store.proofs.StagedLemmas.{staging-more, text-more, length-more, length-least}
-use Rattle.conf_store.proofs.StoreLemmas.{start-prefix, or-means, append-leaves, append-held, append-flushed}
+use Rattle.conf_store.proofs.{Prelude.Device, RefusalLemmas.refusal-returned, GrownLemmas.{file-more, staged-base-more}}
+use Rattle.conf_store.proofs.{StagedLemmas.{staging-more, text-more, length-more, length-least}, StoreLemmas.{start-prefix, or-means}}
+use Rattle.conf_store.{proofs.StoreLemmas.{append-leaves, append-held, append-flushed}, specs.{Stagings.staged_of, Meaning.ImageMeans}}
+use Rattle.conf_store.specs.{Grown.{FileStartsWithBase, StagedStartsWithBase}, Staged.{staged_length, with_more}, View.StoreView}
+use Rattle.conf_store.specs.{Accepting.IsAccepted, Durable.{HasFlushed, MeansPrefix, IsHeld, IsStaging, staged_text}, Calls.outcome}
+use Rattle.conf_store.specs.Calls.{journal_length, next_record, Accepts}
 use Rattle.conf_store.proofs.store.Store.submit.Goals as goal
 
 -- ---- a command that is refused

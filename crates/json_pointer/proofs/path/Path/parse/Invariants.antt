@@ -1,6 +1,5 @@
 use Rattle.std.proofs.Common.{◌≡◌, ◌++◌, length}
-use Rattle.json_pointer.proofs.Prelude.{chars, IsUtf8, chars_rest}
-use Rattle.json_pointer.specs.{Pointers.pointer_text, Tokens.texts}
+use Rattle.json_pointer.{proofs.Prelude.{chars, IsUtf8, chars_rest}, specs.{Pointers.pointer_text, Tokens.texts}}
 use Rattle.json_pointer.proofs.path.Path.parse.Given as goal
 
 abbrev pub invariant-loop-c : goal.invariant-loop-c

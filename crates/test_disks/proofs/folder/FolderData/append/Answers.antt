@@ -1,9 +1,7 @@
-use Rattle.std.proofs.Common.{◌≡◌, rules, ◌<◌, ℕ, List, Bool, get_or, set, Some, sym, ◌∙◌, ap, subst}
-use Rattle.std.proofs.lemmas.List.{length-map, get_or-map}
-use Rattle.conf_disk.specs.Folder.{File, empty_file, under, with_pending}
-use Rattle.test_disks.specs.Replay.{file_of, files_of, notes_in, stage_of, folder_of, notes_of}
-use Rattle.test_disks.specs.declared.folder.FileData.{FileData}
-use Rattle.test_disks.proofs.Files.{under-made, data-made}
+use Rattle.std.proofs.{Common.{◌≡◌, rules, ◌<◌, ℕ, List, Bool, get_or, set, Some, sym, ◌∙◌, ap, subst}, lemmas.List.length-map}
+use Rattle.std.proofs.lemmas.List.{get_or-map}
+use Rattle.{conf_disk.specs.Folder.{File, empty_file, under, with_pending}, test_disks.specs.Replay.{file_of, files_of, notes_in, stage_of}}
+use Rattle.test_disks.{specs.{Replay.{folder_of, notes_of}, declared.folder.FileData.FileData}, proofs.Files.{under-made, data-made}}
 use Rattle.test_disks.proofs.Notes.{notes-appended, append-at, noted_by}
 use Rattle.test_disks.proofs.folder.FolderData.append.Goals as goal
 

@@ -1,11 +1,7 @@
-use Rattle.std.proofs.Common.{◌≡◌, rules, ◌<◌, ℕ, [], ◌∷◌, map, Some, sym, ◌∙◌, ap, subst}
-use Rattle.std.proofs.lemmas.List.{length-map, map-append}
-use Rattle.conf_disk.specs.Folder.{after_rename}
-use Rattle.conf_disk.specs.declared.disk.Name.TheVariants.{Next}
-use Rattle.test_disks.specs.Replay.{files_of, notes_in, stage_of, folder_of, notes_of}
-use Rattle.test_disks.specs.declared.folder.FileData.{FileData}
-use Rattle.test_disks.proofs.Files.{under-made, data-made}
-use Rattle.test_disks.proofs.Notes.{notes-unset}
+use Rattle.std.proofs.{Common.{◌≡◌, rules, ◌<◌, ℕ, [], ◌∷◌, map, Some, sym, ◌∙◌, ap, subst}, lemmas.List.{length-map, map-append}}
+use Rattle.{conf_disk.specs.{Folder.after_rename, declared.disk.Name.TheVariants.Next}, test_disks.specs.Replay.{files_of, notes_in}}
+use Rattle.test_disks.{specs.{Replay.{stage_of, folder_of, notes_of}, declared.folder.FileData.FileData}, proofs.Files.under-made}
+use Rattle.test_disks.proofs.{Files.data-made, Notes.notes-unset}
 use Rattle.test_disks.proofs.folder.FolderData.rename_next.Goals as goal
 
 pub returns : goal.returns

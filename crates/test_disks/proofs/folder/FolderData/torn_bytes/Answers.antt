@@ -1,8 +1,5 @@
-use Rattle.std.proofs.Common.{◌≡◌, ◌≤◌, rules, ℕ, length, Option, Some, true, sym, ◌∙◌, ap, arith}
-use Rattle.std.proofs.lemmas.List.{length-map}
-use Rattle.conf_disk.specs.Image.{fits_at, torn_at}
-use Rattle.test_disks.specs.Replay.{file_of, files_of}
-use Rattle.test_disks.proofs.Holes.{torn-past}
+use Rattle.std.proofs.{Common.{◌≡◌, ◌≤◌, rules, ℕ, length, Option, Some, true, sym, ◌∙◌, ap, arith}, lemmas.List.length-map}
+use Rattle.{conf_disk.specs.Image.{fits_at, torn_at}, test_disks.{specs.Replay.{file_of, files_of}, proofs.Holes.torn-past}}
 use Rattle.test_disks.proofs.folder.FolderData.torn_bytes.Goals as goal
 
 pub returns : goal.returns

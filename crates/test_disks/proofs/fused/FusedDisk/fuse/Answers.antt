@@ -1,6 +1,5 @@
 use Rattle.std.proofs.Common.{rules}
-use Rattle.test_disks.specs.Fused.{call_step}
-use Rattle.conf_disk.proofs.Images.{Performs-failed}
+use Rattle.{test_disks.specs.Fused.call_step, conf_disk.proofs.Images.Performs-failed}
 use Rattle.test_disks.proofs.fused.FusedDisk.fuse.Goals as goal
 
 -- the call of the disk below had its effect, or a part of it

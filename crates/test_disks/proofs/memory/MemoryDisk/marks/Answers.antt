@@ -1,13 +1,8 @@
-use Rattle.std.proofs.Common.{◌≡◌, ◌+◌, ◌<◌, length, get_or, take, map, ◌++◌, [], ◌∷◌, List, sym, ◌∙◌, ap, arith}
-use Rattle.std.proofs.lemmas.List.{take_more, map-append}
-use Rattle.conf_disk.specs.Image.{folder_of_image}
-use Rattle.conf_disk.specs.Log.{folder_after}
-use Rattle.conf_disk.specs.LogLaws.{folder_after-whole, image-whole}
-use Rattle.conf_disk.proofs.Log.{folder_after-pushed}
-use Rattle.test_disks.specs.Replay.{step_of, image_of}
-use Rattle.test_disks.specs.Marks.{marks_of, marks_after}
-use Rattle.test_disks.specs.declared.folder.Change.{Change}
-use Rattle.test_disks.proofs.MarkLemmas.{marks-after}
+use Rattle.std.proofs.{Common.{◌≡◌, ◌+◌, ◌<◌, length, get_or, take, map, ◌++◌, [], ◌∷◌, List, sym, ◌∙◌, ap, arith}, lemmas.List.take_more}
+use Rattle.std.proofs.lemmas.List.{map-append}
+use Rattle.conf_disk.specs.{Image.folder_of_image, Log.folder_after, LogLaws.{folder_after-whole, image-whole}}
+use Rattle.{conf_disk.proofs.Log.folder_after-pushed, test_disks.specs.{Replay.{step_of, image_of}, Marks.{marks_of, marks_after}}}
+use Rattle.test_disks.{specs.declared.folder.Change.Change, proofs.MarkLemmas.marks-after}
 use Rattle.test_disks.proofs.memory.MemoryDisk.marks.Goals as goal
 
 pub loop-change-preserved : goal.loop-change-preserved

@@ -1,8 +1,6 @@
-use Rattle.std.proofs.Common.{rules, ◌≡◌, [], ◌∷◌, ◌++◌, map, ◌∙◌, ap}
-use Rattle.std.proofs.lemmas.List.{map-append}
-use Rattle.test_disks.specs.Replay.{step_of, image_of}
-use Rattle.conf_disk.specs.Image.{folder_of_image}
-use Rattle.conf_disk.proofs.Log.{folder_after-pushed, Elapses-pushed}
+use Rattle.std.proofs.{Common.{rules, ◌≡◌, [], ◌∷◌, ◌++◌, map, ◌∙◌, ap}, lemmas.List.map-append}
+use Rattle.{test_disks.specs.Replay.{step_of, image_of}, conf_disk.{specs.Image.folder_of_image, proofs.Log.folder_after-pushed}}
+use Rattle.conf_disk.proofs.Log.{Elapses-pushed}
 use Rattle.test_disks.proofs.memory.MemoryDisk.note.Goals as goal
 
 pub returns-clause-change : goal.returns-clause-change

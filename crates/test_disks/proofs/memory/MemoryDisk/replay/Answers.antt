@@ -1,12 +1,7 @@
 use Rattle.std.proofs.Common.{◌≡◌, ◌+◌, ◌<◌, ◌≤◌, length, get_or, take, map, ◌++◌, [], ◌∷◌, List, sym, ◌∙◌, ap, subst, arith}
 use Rattle.std.proofs.lemmas.List.{take_more, take_all, map-append}
-use Rattle.conf_disk.specs.Folder.{after}
-use Rattle.conf_disk.specs.Image.{IsWhole, folder_of_image}
-use Rattle.conf_disk.specs.Log.{folder_after}
-use Rattle.conf_disk.specs.LogLaws.{folder_after-whole, image-whole}
-use Rattle.test_disks.specs.Replay.{step_of, image_of}
-use Rattle.test_disks.specs.declared.folder.Change.{Change}
-use Rattle.conf_disk.proofs.Log.{folder_after-pushed}
+use Rattle.conf_disk.specs.{Folder.after, Image.{IsWhole, folder_of_image}, Log.folder_after, LogLaws.{folder_after-whole, image-whole}}
+use Rattle.{conf_disk.proofs.Log.folder_after-pushed, test_disks.specs.{Replay.{step_of, image_of}, declared.folder.Change.Change}}
 use Rattle.test_disks.proofs.memory.MemoryDisk.replay.Goals as goal
 
 -- the folder after some of the changes is whole

@@ -1,7 +1,5 @@
 use Rattle.std.proofs.Common.{◌≡◌, take, map}
-use Rattle.conf_disk.specs.Image.{folder_of_image}
-use Rattle.conf_disk.specs.Log.{folder_after}
-use Rattle.test_disks.specs.Replay.{folder_of, step_of, image_of}
+use Rattle.{conf_disk.specs.{Image.folder_of_image, Log.folder_after}, test_disks.specs.Replay.{folder_of, step_of, image_of}}
 use Rattle.test_disks.proofs.memory.MemoryDisk.replay.Given as goal
 
 abbrev pub invariant-loop-change : goal.invariant-loop-change

@@ -1,8 +1,6 @@
 use Rattle.std.proofs.Common.{rules, ◌≡◌, ◌⊎◌, ◌<◌, ◌≤◌, ◌++◌, [], ◌∷◌, ℕ, false, List, length, get_or, take, ap, ◌∙◌, sym, append_assoc}
-use Rattle.std.specs.Prelude.{if◌then◌else◌}
-use Rattle.std.proofs.lemmas.List.{get_or_read}
-use Rattle.test_files.specs.Crashes.{worn}
-use Rattle.test_files.proofs.Left.{worn-more, worn-all}
+use Rattle.std.{proofs.lemmas.List.get_or_read, specs.Prelude.if◌then◌else◌}
+use Rattle.test_files.{specs.Crashes.worn, proofs.Left.{worn-more, worn-all}}
 use Rattle.test_files.proofs.file.FileData.torn.Goals as goal
 
 pub loop-place-preserved : goal.loop-place-preserved

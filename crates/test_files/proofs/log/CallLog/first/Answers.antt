@@ -1,7 +1,5 @@
-use Rattle.std.proofs.Common.{◌∙◌, sym, ap, map, refl, List, false}
-use Rattle.std.proofs.lemmas.List.{take-map}
-use Rattle.test_files.specs.Replay.{Entry, History, entry_of, entries_of, start_of, machine_after}
-use Rattle.test_files.specs.declared.spares.Spent.{Spent}
+use Rattle.std.proofs.{Common.{◌∙◌, sym, ap, map, refl, List, false}, lemmas.List.take-map}
+use Rattle.test_files.specs.{Replay.{Entry, History, entry_of, entries_of, start_of, machine_after}, declared.spares.Spent.Spent}
 use Rattle.test_files.proofs.Failures.{none-spare}
 use Rattle.test_files.proofs.log.CallLog.first.Goals as goal
 

@@ -1,8 +1,6 @@
 use Rattle.std.proofs.Common.{◌≡◌, ◌+◌, ◌≤◌, false, sym, subst, List, map, arith, vec_len, vec_capacity}
-use Rattle.test_files.specs.Replay.{entry_of, entries_of, start_of, machine_after}
-use Rattle.test_files.specs.Spares.{rooms, is_any_spent, IsSpent}
-use Rattle.test_files.specs.declared.change.Made.{Made}
-use Rattle.test_files.proofs.Failures.{none-spare, none-rooms}
+use Rattle.test_files.specs.{Replay.{entry_of, entries_of, start_of, machine_after}, Spares.{rooms, is_any_spent, IsSpent}}
+use Rattle.test_files.{specs.declared.change.Made.Made, proofs.Failures.{none-spare, none-rooms}}
 use Rattle.test_files.proofs.log.CallLog.keep.Goals as goal
 
 pub invariant_of-self : goal.invariant_of-self

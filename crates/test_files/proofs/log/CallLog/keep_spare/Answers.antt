@@ -1,9 +1,6 @@
 use Rattle.std.proofs.Common.{◌+◌, ◌≤◌, sym, subst, ap, arith, vec_len, vec_capacity}
-use Rattle.test_files.specs.Replay.{entries_of, start_of, machine_after}
-use Rattle.test_files.specs.Spares.{rooms, IsSpent}
-use Rattle.test_files.specs.declared.spares.Spent.{Spent}
-use Rattle.test_files.proofs.Pushes.{spare-pushed}
-use Rattle.test_files.proofs.Failures.{rooms-spend}
+use Rattle.test_files.specs.{Replay.{entries_of, start_of, machine_after}, Spares.{rooms, IsSpent}, declared.spares.Spent.Spent}
+use Rattle.test_files.proofs.{Pushes.spare-pushed, Failures.rooms-spend}
 use Rattle.test_files.proofs.log.CallLog.keep_spare.Goals as goal
 
 pub invariant_of-self : goal.invariant_of-self

@@ -1,8 +1,5 @@
-use Rattle.std.proofs.Common.{◌≡◌, ◌+◌, ◌<◌, length, get_or, take, ◌++◌, [], ◌∷◌, List, sym, ◌∙◌, ap, arith}
-use Rattle.std.proofs.lemmas.List.{take_more}
-use Rattle.test_files.specs.Replay.{entry_of, machine_made, start_of}
-use Rattle.test_files.specs.declared.change.Made.{Made}
-use Rattle.test_files.proofs.Pushes.{made-pushed}
+use Rattle.std.proofs.{Common.{◌≡◌, ◌+◌, ◌<◌, length, get_or, take, ◌++◌, [], ◌∷◌, List, sym, ◌∙◌, ap, arith}, lemmas.List.take_more}
+use Rattle.test_files.{specs.{Replay.{entry_of, machine_made, start_of}, declared.change.Made.Made}, proofs.Pushes.made-pushed}
 use Rattle.test_files.proofs.log.CallLog.replay.Goals as goal
 
 pub loop-made-preserved : goal.loop-made-preserved

@@ -1,7 +1,5 @@
 use Rattle.std.proofs.Common.{◌∙◌, ap, Option, ℕ}
-use Rattle.test_files.specs.Log.{history_of}
-use Rattle.test_files.specs.Replay.{call_of, then}
-use Rattle.test_files.specs.declared.memory.MemoryFileCalls.{MemoryFileCalls}
+use Rattle.test_files.specs.{Log.history_of, Replay.{call_of, then}, declared.memory.MemoryFileCalls.MemoryFileCalls}
 use Rattle.test_files.proofs.OneMore.{goes-done, goes-failed}
 use Rattle.test_files.proofs.memory.MemoryFileCalls.keep.Goals as goal
 

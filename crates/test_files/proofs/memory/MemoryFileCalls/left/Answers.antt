@@ -1,10 +1,6 @@
-use Rattle.std.proofs.Common.{◌≡◌, List, ℕ, Option, sym, ap, subst, ◌∙◌}
-use Rattle.std.specs.Prelude.{IfOk, Result, Ok, Err, Vec}
+use Rattle.std.{proofs.Common.{◌≡◌, List, ℕ, Option, sym, ap, subst, ◌∙◌}, specs.Prelude.{IfOk, Result, Ok, Err, Vec}}
 use Rattle.std.specs.declared.alloc.Global.{Global}
-use Rattle.file_calls.specs.Machine.{Machine}
-use Rattle.test_files.specs.Crashes.{left_of, MayBeLeft}
-use Rattle.test_files.specs.Memory.{memory_machine}
-use Rattle.test_files.specs.Replay.{items_of}
+use Rattle.{file_calls.specs.Machine.Machine, test_files.specs.{Crashes.{left_of, MayBeLeft}, Memory.memory_machine, Replay.items_of}}
 use Rattle.test_files.proofs.Left.{may-be-left}
 use Rattle.test_files.proofs.memory.MemoryFileCalls.left.Goals as goal
 

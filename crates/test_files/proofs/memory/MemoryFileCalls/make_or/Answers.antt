@@ -1,6 +1,4 @@
-use Rattle.test_files.specs.Replay.{call_of}
-use Rattle.test_files.specs.declared.memory.MemoryFileCalls.{MemoryFileCalls}
-use Rattle.test_files.proofs.OneMore.{goes-spare}
+use Rattle.test_files.{specs.{Replay.call_of, declared.memory.MemoryFileCalls.MemoryFileCalls}, proofs.OneMore.goes-spare}
 use Rattle.test_files.proofs.memory.MemoryFileCalls.make_or.Goals as goal
 
 pub returns-in-Err : goal.returns-in-Err

@@ -1,6 +1,4 @@
-use Rattle.test_locks.specs.Memory.{locks_in}
-use Rattle.test_locks.specs.Tables.{call_of}
-use Rattle.test_locks.proofs.Going.{reaches-does}
+use Rattle.test_locks.{specs.{Memory.locks_in, Tables.call_of}, proofs.Going.reaches-does}
 use Rattle.test_locks.proofs.locks.MemoryLocks.ask.Goals as goal
 
 pub returns-then-make_own-clause-reaches : goal.returns-then-make_own-clause-reaches

@@ -1,6 +1,5 @@
 use Rattle.std.proofs.Common.{refl}
-use Rattle.test_locks.specs.declared.locks.MemoryLocks.{MemoryLocks}
-use Rattle.test_locks.proofs.Going.{passed-more}
+use Rattle.test_locks.{specs.declared.locks.MemoryLocks.MemoryLocks, proofs.Going.passed-more}
 use Rattle.test_locks.proofs.locks.MemoryLocks.pass_others.Goals as goal
 
 pub loop-index-preserved : goal.loop-index-preserved

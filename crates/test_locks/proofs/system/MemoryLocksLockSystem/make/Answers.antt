@@ -1,8 +1,5 @@
 use Rattle.std.proofs.Common.{Bool, Some, ◌+◌, subst, refl}
-use Rattle.conf_locks.specs.Locks.{Make}
-use Rattle.test_locks.specs.Memory.{locks_in}
-use Rattle.test_locks.specs.Tables.{Does}
-use Rattle.test_locks.specs.declared.locks.MemoryLocks.{MemoryLocks}
+use Rattle.{conf_locks.specs.Locks.Make, test_locks.specs.{Memory.locks_in, Tables.Does, declared.locks.MemoryLocks.MemoryLocks}}
 use Rattle.test_locks.proofs.Going.{goes-made}
 use Rattle.test_locks.proofs.system.MemoryLocksLockSystem.make.Goals as goal
 

@@ -1,8 +1,5 @@
 use Rattle.std.proofs.Common.{Bool, subst}
-use Rattle.conf_locks.specs.Locks.{Mark}
-use Rattle.test_locks.specs.Memory.{locks_in}
-use Rattle.test_locks.specs.Tables.{Does}
-use Rattle.test_locks.proofs.Going.{goes-mark}
+use Rattle.{conf_locks.specs.Locks.Mark, test_locks.{specs.{Memory.locks_in, Tables.Does}, proofs.Going.goes-mark}}
 use Rattle.test_locks.proofs.system.MemoryLocksLockSystem.mark.Goals as goal
 
 pub returns-then-make_own-clause-goes : goal.returns-then-make_own-clause-goes

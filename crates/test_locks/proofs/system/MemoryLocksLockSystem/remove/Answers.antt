@@ -1,8 +1,5 @@
 use Rattle.std.proofs.Common.{Bool, subst}
-use Rattle.conf_locks.specs.Locks.{Remove}
-use Rattle.test_locks.specs.Memory.{locks_in}
-use Rattle.test_locks.specs.Tables.{Does}
-use Rattle.test_locks.proofs.Going.{goes-may}
+use Rattle.{conf_locks.specs.Locks.Remove, test_locks.{specs.{Memory.locks_in, Tables.Does}, proofs.Going.goes-may}}
 use Rattle.test_locks.proofs.system.MemoryLocksLockSystem.remove.Goals as goal
 
 pub returns-then-make_own : goal.returns-then-make_own

@@ -1,8 +1,6 @@
 use Rattle.std.proofs.Common.{◌∙◌, ap, List, Some, get_or}
-use Rattle.conf_locks.specs.Locks.{Locks}
-use Rattle.test_locks.specs.Tables.{locks_of, no_file}
+use Rattle.{conf_locks.specs.Locks.Locks, test_locks.{specs.Tables.{locks_of, no_file}, proofs.Entries.parts-more}}
 use Rattle.test_locks.specs.declared.table.LockFile as file
-use Rattle.test_locks.proofs.Entries.{parts-more}
 use Rattle.test_locks.proofs.table.LockTable.add_file.Goals as goal
 
 pub returns-in-Ok : goal.returns-in-Ok

@@ -1,8 +1,6 @@
-use Rattle.std.proofs.Common.{rules, ◌≤◌, length, None, ap}
-use Rattle.std.proofs.lemmas.List.{get_or_past}
-use Rattle.test_locks.specs.Tables.{locks_of, no_file}
+use Rattle.std.proofs.{Common.{rules, ◌≤◌, length, None, ap}, lemmas.List.get_or_past}
+use Rattle.test_locks.{specs.Tables.{locks_of, no_file}, proofs.Entries.entry-kept}
 use Rattle.test_locks.specs.declared.table.LockFile as file
-use Rattle.test_locks.proofs.Entries.{entry-kept}
 use Rattle.test_locks.proofs.table.LockTable.clear_holder.Goals as goal
 
 pub returns-else-file-len-clause-cleared : goal.returns-else-file-len-clause-cleared

@@ -1,6 +1,5 @@
 use Rattle.std.proofs.Common.{rules, ◌≡◌, ◌<◌, ◌≤◌, ℕ, List, Bool, false, get_or, length, below_more, inl, inr, arith}
-use Rattle.std.proofs.lemmas.Bool.{cases_lt}
-use Rattle.std.proofs.lemmas.List.{get_or_past}
+use Rattle.std.proofs.lemmas.{Bool.cases_lt, List.get_or_past}
 use Rattle.test_locks.proofs.table.LockTable.is_shared.Goals as goal
 
 -- none below a place, and none from there on

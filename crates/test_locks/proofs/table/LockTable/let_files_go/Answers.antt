@@ -1,7 +1,6 @@
 use Rattle.std.proofs.Common.{rules, ◌≤◌, ◌∙◌, length, arith}
-use Rattle.conf_locks.proofs.Going.{reach-same, reach-then}
-use Rattle.test_locks.specs.Tables.{locks_of}
-use Rattle.test_locks.proofs.LetGo.{reaches-file, below-next, none-past}
+use Rattle.{conf_locks.proofs.Going.{reach-same, reach-then}, test_locks.{specs.Tables.locks_of, proofs.LetGo.{reaches-file, below-next}}}
+use Rattle.test_locks.proofs.LetGo.{none-past}
 use Rattle.test_locks.proofs.table.LockTable.let_files_go.Goals as goal
 
 pub loop-file-init : goal.loop-file-init

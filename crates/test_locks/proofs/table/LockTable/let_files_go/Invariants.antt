@@ -1,6 +1,5 @@
 use Rattle.std.proofs.Common.{◌≡◌, ◌≢◌, ◌<◌, ℕ, Some, vec_len}
-use Rattle.conf_locks.specs.Locks.{Reaches}
-use Rattle.test_locks.specs.Tables.{locks_of}
+use Rattle.{conf_locks.specs.Locks.Reaches, test_locks.specs.Tables.locks_of}
 use Rattle.test_locks.proofs.table.LockTable.let_files_go.Given as goal
 
 abbrev pub invariant-loop-file : goal.invariant-loop-file

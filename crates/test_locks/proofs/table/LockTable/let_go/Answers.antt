@@ -1,5 +1,4 @@
-use Rattle.test_locks.specs.Tables.{locks_of}
-use Rattle.test_locks.proofs.LetGo.{reaches-all, holds-none}
+use Rattle.test_locks.{specs.Tables.locks_of, proofs.LetGo.{reaches-all, holds-none}}
 use Rattle.test_locks.proofs.table.LockTable.let_go.Goals as goal
 
 pub returns-clause-reaches : goal.returns-clause-reaches

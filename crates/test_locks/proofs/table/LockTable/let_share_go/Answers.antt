@@ -1,7 +1,5 @@
-use Rattle.std.proofs.Common.{rules, ◌≤◌, length, false}
-use Rattle.std.proofs.lemmas.List.{get_or_past}
-use Rattle.test_locks.specs.Tables.{locks_of}
-use Rattle.test_locks.proofs.Entries.{entry-kept}
+use Rattle.std.proofs.{Common.{rules, ◌≤◌, length, false}, lemmas.List.get_or_past}
+use Rattle.test_locks.{specs.Tables.locks_of, proofs.Entries.entry-kept}
 use Rattle.test_locks.proofs.table.LockTable.let_share_go.Goals as goal
 
 pub returns-else-run-len : goal.returns-else-run-len

@@ -1,9 +1,6 @@
-use Rattle.std.proofs.Common.{◌∙◌, ◌+◌, ◌≤◌, false, sym, ap, map, refl, vec_len, vec_capacity}
-use Rattle.std.proofs.lemmas.List.{take-map}
-use Rattle.test_system.specs.Replay.{entry_of, entries_of, machine_after, new_machine}
-use Rattle.test_system.specs.declared.spares.Spent.{Spent}
-use Rattle.test_system.proofs.Pushes.{sound-first}
-use Rattle.test_system.proofs.Failures.{none-spare}
+use Rattle.std.proofs.{Common.{◌∙◌, ◌+◌, ◌≤◌, false, sym, ap, map, refl, vec_len, vec_capacity}, lemmas.List.take-map}
+use Rattle.test_system.specs.{Replay.{entry_of, entries_of, machine_after, new_machine}, declared.spares.Spent.Spent}
+use Rattle.test_system.proofs.{Pushes.sound-first, Failures.none-spare}
 use Rattle.test_system.proofs.log.CallLog.first.Goals as goal
 
 pub invariant_of-result : goal.invariant_of-result

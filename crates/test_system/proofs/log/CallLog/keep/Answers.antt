@@ -1,9 +1,6 @@
-use Rattle.std.proofs.Common.{◌≡◌, ◌+◌, ◌≤◌, false, sym, arith, vec_len, vec_capacity}
-use Rattle.std.specs.Result.{is_ok}
-use Rattle.test_system.specs.Replay.{entries_of, machine_after, new_machine}
-use Rattle.test_system.specs.Spares.{rooms, is_any_spent}
-use Rattle.test_system.proofs.Pushes.{sound-same, spare-same, sound-either}
-use Rattle.test_system.proofs.Failures.{none-spare, none-rooms}
+use Rattle.std.{proofs.Common.{◌≡◌, ◌+◌, ◌≤◌, false, sym, arith, vec_len, vec_capacity}, specs.Result.is_ok}
+use Rattle.test_system.{specs.{Replay.{entries_of, machine_after, new_machine}, Spares.{rooms, is_any_spent}}, proofs.Pushes.sound-same}
+use Rattle.test_system.proofs.{Pushes.{spare-same, sound-either}, Failures.{none-spare, none-rooms}}
 use Rattle.test_system.proofs.log.CallLog.keep.Goals as goal
 
 pub invariant_of-self : goal.invariant_of-self

@@ -1,9 +1,6 @@
 use Rattle.std.proofs.Common.{◌+◌, ◌≤◌, sym, subst, ap, arith, vec_len, vec_capacity}
-use Rattle.test_system.specs.Replay.{entries_of, machine_after, new_machine, MayBeMade}
-use Rattle.test_system.specs.Spares.{rooms, ChangesNothing}
-use Rattle.test_system.specs.declared.spares.Spent.{Spent}
-use Rattle.test_system.specs.Log.{machine_now}
-use Rattle.test_system.proofs.Pushes.{sound-pushed, spare-pushed}
+use Rattle.test_system.specs.{Replay.{entries_of, machine_after, new_machine, MayBeMade}, Spares.{rooms, ChangesNothing}}
+use Rattle.test_system.{specs.{declared.spares.Spent.Spent, Log.machine_now}, proofs.Pushes.{sound-pushed, spare-pushed}}
 use Rattle.test_system.proofs.Failures.{rooms-spend}
 use Rattle.test_system.proofs.log.CallLog.keep_spare.Goals as goal
 

@@ -1,7 +1,5 @@
 use Rattle.std.proofs.Common.{None}
-use Rattle.test_system.specs.Replay.{call_of, Called}
-use Rattle.test_system.specs.Log.{entries}
-use Rattle.test_system.proofs.OneMore.{made_last}
+use Rattle.test_system.{specs.{Replay.{call_of, Called}, Log.entries}, proofs.OneMore.made_last}
 use Rattle.test_system.proofs.log.CallLog.make.Goals as goal
 
 pub returns : goal.returns

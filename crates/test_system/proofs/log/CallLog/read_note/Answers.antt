@@ -1,6 +1,4 @@
-use Rattle.test_system.specs.Replay.{NoteRead}
-use Rattle.test_system.specs.Log.{entries}
-use Rattle.test_system.proofs.OneMore.{made_last}
+use Rattle.test_system.{specs.{Replay.NoteRead, Log.entries}, proofs.OneMore.made_last}
 use Rattle.test_system.proofs.log.CallLog.read_note.Goals as goal
 
 pub returns : goal.returns

@@ -1,10 +1,7 @@
-use Rattle.std.proofs.Common.{◌≡◌, ◌+◌, ◌<◌, length, get_or, take, map, ◌++◌, [], ◌∷◌, List, sym, ◌∙◌, ap, arith}
-use Rattle.std.proofs.lemmas.List.{take_more, map-append}
-use Rattle.conf_system.specs.Machine.{Machine}
-use Rattle.test_system.specs.Replay.{entry_of, machine_made, machine_after, new_machine, bare}
-use Rattle.test_system.specs.declared.change.Made.{Made}
-use Rattle.test_system.proofs.OneMore.{made_last}
-use Rattle.test_system.proofs.Bares.{made-bare}
+use Rattle.std.proofs.{Common.{◌≡◌, ◌+◌, ◌<◌, length, get_or, take, map, ◌++◌, [], ◌∷◌, List, sym, ◌∙◌, ap, arith}, lemmas.List.take_more}
+use Rattle.std.proofs.lemmas.List.{map-append}
+use Rattle.{conf_system.specs.Machine.Machine, test_system.specs.Replay.{entry_of, machine_made, machine_after, new_machine, bare}}
+use Rattle.test_system.{specs.declared.change.Made.Made, proofs.{OneMore.made_last, Bares.made-bare}}
 use Rattle.test_system.proofs.log.CallLog.replay.Goals as goal
 
 pub loop-made-preserved : goal.loop-made-preserved

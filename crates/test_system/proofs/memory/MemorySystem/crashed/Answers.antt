@@ -1,7 +1,5 @@
 use Rattle.std.proofs.Common.{rules, ◌≡◌, Some, sym}
-use Rattle.test_system.specs.Crashes.{found_after}
-use Rattle.test_system.specs.Memory.{memory_machine}
-use Rattle.test_system.proofs.Left.{found_after-left}
+use Rattle.test_system.{specs.{Crashes.found_after, Memory.memory_machine}, proofs.Left.found_after-left}
 use Rattle.test_system.proofs.memory.MemorySystem.crashed.Goals as goal
 
 pub returns-clause-left : goal.returns-clause-left

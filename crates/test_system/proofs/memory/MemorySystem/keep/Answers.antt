@@ -1,8 +1,6 @@
 use Rattle.std.proofs.Common.{◌∙◌, ap, Option, ℕ}
-use Rattle.test_system.specs.Replay.{call_of}
-use Rattle.test_system.specs.Log.{then, entries}
-use Rattle.test_system.specs.declared.memory.MemorySystem.{MemorySystem}
-use Rattle.test_system.proofs.OneMore.{goes-done, goes-failed}
+use Rattle.test_system.{specs.{Replay.call_of, Log.{then, entries}, declared.memory.MemorySystem.MemorySystem}, proofs.OneMore.goes-done}
+use Rattle.test_system.proofs.OneMore.{goes-failed}
 use Rattle.test_system.proofs.memory.MemorySystem.keep.Goals as goal
 
 pub returns-in-None-clause-goes : goal.returns-in-None-clause-goes

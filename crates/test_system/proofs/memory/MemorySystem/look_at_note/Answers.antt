@@ -1,7 +1,6 @@
 use Rattle.std.proofs.Common.{ap}
-use Rattle.conf_system.specs.Machine.{Machine}
-use Rattle.test_system.specs.declared.memory.MemorySystem.{MemorySystem}
-use Rattle.test_system.proofs.OneMore.{reads-note, reads-no-note}
+use Rattle.{conf_system.specs.Machine.Machine, test_system.{specs.declared.memory.MemorySystem.MemorySystem, proofs.OneMore.reads-note}}
+use Rattle.test_system.proofs.OneMore.{reads-no-note}
 use Rattle.test_system.proofs.memory.MemorySystem.look_at_note.Goals as goal
 
 pub returns-in-Ok-keep-clause-reads : goal.returns-in-Ok-keep-clause-reads

@@ -1,7 +1,5 @@
-use Rattle.test_system.specs.declared.memory.MemorySystem.{MemorySystem}
-use Rattle.test_system.specs.declared.spares.Spare.TheVariants.{FailedSync}
-use Rattle.test_system.proofs.OneMore.{goes-no-memory}
-use Rattle.test_system.proofs.Pushes.{keeps-from}
+use Rattle.test_system.specs.declared.{memory.MemorySystem.MemorySystem, spares.Spare.TheVariants.FailedSync}
+use Rattle.test_system.proofs.{OneMore.goes-no-memory, Pushes.keeps-from}
 use Rattle.test_system.proofs.memory.MemorySystem.make_sync.Goals as goal
 
 pub returns-in-Err-clause-goes : goal.returns-in-Err-clause-goes

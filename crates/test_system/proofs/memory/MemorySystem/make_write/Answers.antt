@@ -1,10 +1,6 @@
 use Rattle.std.proofs.Common.{rules, ◌≡◌, ◌≤◌, ◌∙◌, refl, ap, arith, ℕ, min, List, length, take, Ok, Err}
-use Rattle.conf_system.specs.Machine.{Write, after}
-use Rattle.conf_system.specs.Models.{Goes}
-use Rattle.test_system.specs.Memory.{memory_machine, memory_model, Follows}
-use Rattle.test_system.proofs.Chosen.{chosen-whole}
-use Rattle.test_system.proofs.OneMore.{wrote, wrote-none}
-use Rattle.test_system.proofs.Pushes.{take-shorter}
+use Rattle.{conf_system.specs.{Machine.{Write, after}, Models.Goes}, test_system.specs.Memory.{memory_machine, memory_model, Follows}}
+use Rattle.test_system.proofs.{Chosen.chosen-whole, OneMore.{wrote, wrote-none}, Pushes.take-shorter}
 use Rattle.test_system.proofs.memory.MemorySystem.make_write.Goals as goal
 
 pub returns-in-Err-clause-writes : goal.returns-in-Err-clause-writes

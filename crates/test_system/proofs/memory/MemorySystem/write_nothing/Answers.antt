@@ -1,9 +1,6 @@
 use Rattle.std.proofs.Common.{refl}
-use Rattle.conf_system.specs.Machine.{Write}
-use Rattle.conf_system.specs.declared.system.FileName.TheVariants.{Next, Copy}
-use Rattle.test_system.specs.Memory.{memory_machine}
-use Rattle.test_system.specs.declared.memory.MemorySystem.{MemorySystem}
-use Rattle.test_system.proofs.Failures.{next_writes_nothing, copy_writes_nothing}
+use Rattle.{conf_system.specs.{Machine.Write, declared.system.FileName.TheVariants.{Next, Copy}}, test_system.specs.Memory.memory_machine}
+use Rattle.test_system.{specs.declared.memory.MemorySystem.MemorySystem, proofs.Failures.{next_writes_nothing, copy_writes_nothing}}
 use Rattle.test_system.proofs.OneMore.{wrote-nothing, wrote-spare}
 use Rattle.test_system.proofs.memory.MemorySystem.write_nothing.Goals as goal
 

@@ -1,9 +1,6 @@
 use Rattle.std.proofs.Common.{rules, ◌≡◌, ◌≤◌, ◌∙◌, refl, sym, ap, arith, ℕ, min, List, length, take}
-use Rattle.conf_system.specs.Machine.{WriteRest, after}
-use Rattle.test_system.specs.Memory.{memory_machine}
-use Rattle.test_system.proofs.OneMore.{wrote, passes-same}
-use Rattle.test_system.proofs.Failures.{writes_nothing}
-use Rattle.test_system.proofs.Pushes.{take-shorter}
+use Rattle.{conf_system.specs.Machine.{WriteRest, after}, test_system.{specs.Memory.memory_machine, proofs.OneMore.{wrote, passes-same}}}
+use Rattle.test_system.proofs.{Failures.writes_nothing, Pushes.take-shorter}
 use Rattle.test_system.proofs.system.MemorySystemSystem.write_rest.Goals as goal
 
 pub returns-in-Err-clause-writes : goal.returns-in-Err-clause-writes

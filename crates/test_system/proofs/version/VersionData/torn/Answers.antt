@@ -1,8 +1,6 @@
 use Rattle.std.proofs.Common.{◌≡◌, ◌<◌, ◌++◌, [], ◌∷◌, ℕ, Bool, false, List, length, get_or, take, ap, ◌∙◌, sym, arith, append_assoc}
-use Rattle.std.specs.Prelude.{if◌then◌else◌}
-use Rattle.std.proofs.lemmas.List.{take_all, get_or_read}
-use Rattle.test_system.specs.Crashes.{worn}
-use Rattle.test_system.proofs.Left.{worn-more}
+use Rattle.std.{proofs.lemmas.List.{take_all, get_or_read}, specs.Prelude.if◌then◌else◌}
+use Rattle.test_system.{specs.Crashes.worn, proofs.Left.worn-more}
 use Rattle.test_system.proofs.version.VersionData.torn.Goals as goal
 
 pub loop-place-preserved : goal.loop-place-preserved

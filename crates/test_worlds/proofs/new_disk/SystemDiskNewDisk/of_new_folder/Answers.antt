@@ -1,11 +1,6 @@
 use Rattle.std.proofs.Common.{◌≡◌, ◌∙◌, sym, ap, subst, length, None}
-use Rattle.conf_disk.specs.Folder.{bytes_under}
-use Rattle.conf_disk.specs.declared.disk.Name.{Name}
-use Rattle.conf_disk.specs.declared.disk.Name.TheVariants.{Store, Next}
-use Rattle.conf_system.specs.Machine.{stages}
-use Rattle.conf_system.specs.Folders.{folder_of}
-use Rattle.test_worlds.specs.Entries.{IsBlank}
-use Rattle.test_worlds.proofs.Blank.{blank, new-safe, new-reads}
+use Rattle.{conf_disk.specs.{Folder.bytes_under, declared.disk.Name.{Name, TheVariants.{Store, Next}}}, conf_system.specs.Machine.stages}
+use Rattle.{conf_system.specs.Folders.folder_of, test_worlds.{specs.Entries.IsBlank, proofs.Blank.{blank, new-safe, new-reads}}}
 use Rattle.test_worlds.proofs.new_disk.SystemDiskNewDisk.of_new_folder.Goals as goal
 
 pub open-requires : goal.open-requires

@@ -1,6 +1,5 @@
 use Rattle.std.proofs.Common.{◌∙◌, ap, refl, None}
-use Rattle.test_worlds.specs.Entries.{Entry}
-use Rattle.test_worlds.proofs.Setting.{entry-at, place-changes, place-same, same-entry}
+use Rattle.test_worlds.{specs.Entries.Entry, proofs.Setting.{entry-at, place-changes, place-same, same-entry}}
 use Rattle.test_worlds.proofs.places.Places.hand_out.Goals as goal
 
 pub returns-in-Ok-clause-handed_out : goal.returns-in-Ok-clause-handed_out

@@ -1,7 +1,5 @@
 use Rattle.std.proofs.Common.{◌≡◌, ◌≢◌, ◌∙◌, ℕ, ◌<◌, length, sym, ap, arith, below_more}
-use Rattle.test_worlds.specs.Entries.{Entry, entry_at}
-use Rattle.test_worlds.specs.Places.{entries_of, entry_of}
-use Rattle.test_worlds.proofs.Setting.{entry-at}
+use Rattle.test_worlds.{specs.{Entries.{Entry, entry_at}, Places.{entries_of, entry_of}}, proofs.Setting.entry-at}
 use Rattle.test_worlds.proofs.places.Places.position.Goals as goal
 
 pub loop-place-preserved : goal.loop-place-preserved

@@ -1,6 +1,5 @@
 use Rattle.std.proofs.Common.{◌≢◌, ◌<◌, ℕ}
-use Rattle.test_worlds.specs.Entries.{entry_at}
-use Rattle.test_worlds.specs.Places.{entries_of}
+use Rattle.test_worlds.specs.{Entries.entry_at, Places.entries_of}
 use Rattle.test_worlds.proofs.places.Places.position.Given as goal
 
 abbrev pub invariant-loop-place : goal.invariant-loop-place

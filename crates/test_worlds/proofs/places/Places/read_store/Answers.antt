@@ -1,11 +1,7 @@
-use Rattle.std.proofs.Common.{◌≡◌, ℕ, List, Option, Result, Ok, Err, ap, subst, sym}
-use Rattle.std.specs.Prelude.{IfOk}
-use Rattle.conf_disk.specs.Folder.{Folder}
-use Rattle.test_worlds.specs.Entries.{Entry, IsFirst, entry_at}
-use Rattle.test_worlds.specs.Places.{entries_of, folder_in}
-use Rattle.test_worlds.specs.Shown.{ShowsIn, ShowsAt}
-use Rattle.test_worlds.specs.declared.file.MemoryFile.{MemoryFile}
-use Rattle.test_worlds.proofs.Setting.{entry-at, place-same, same-entry}
+use Rattle.std.{proofs.Common.{◌≡◌, ℕ, List, Option, Result, Ok, Err, ap, subst, sym}, specs.Prelude.IfOk}
+use Rattle.{conf_disk.specs.Folder.Folder, test_worlds.specs.{Entries.{Entry, IsFirst, entry_at}, Places.{entries_of, folder_in}}}
+use Rattle.test_worlds.{specs.{Shown.{ShowsIn, ShowsAt}, declared.file.MemoryFile.MemoryFile}, proofs.Setting.{entry-at, place-same}}
+use Rattle.test_worlds.proofs.Setting.{same-entry}
 use Rattle.test_worlds.proofs.places.Places.read_store.Goals as goal
 
 shown-at : {E : Type 0} (result : Result (Option MemoryFile) E) (entries : List Entry) (path : List ℕ) (place : ℕ)

@@ -1,8 +1,6 @@
 use Rattle.std.proofs.Common.{sym, subst, ◌∙◌}
-use Rattle.tree_path.proofs.Prelude.{tree_of}
-use Rattle.tree_path.specs.Tables.{Leaves, steps_of}
-use Rattle.tree_path.proofs.IndexLemmas.{delete-apart, delete-missing, delete-there, delete-under, has-buckets}
-use Rattle.tree_path.proofs.StepLaws.{none-other}
+use Rattle.tree_path.proofs.{Prelude.tree_of, IndexLemmas.{delete-apart, delete-missing, delete-there, delete-under, has-buckets}}
+use Rattle.tree_path.{proofs.StepLaws.none-other, specs.Tables.{Leaves, steps_of}}
 use Rattle.tree_path.proofs.key_index.KeyIndex.note_delete.Goals as goal
 
 pub note_removed-requires : goal.note_removed-requires

@@ -1,7 +1,6 @@
 use Rattle.std.proofs.Common.{[], ◌∷◌, ◌++◌, sym, ap, subst, ◌∙◌}
-use Rattle.tree_path.proofs.Prelude.{chars, tree_of}
-use Rattle.tree_path.specs.Tables.{Leaves, steps_of}
-use Rattle.tree_path.proofs.IndexLemmas.{has-buckets, is-none, set-apart, set-new, set-there, set-under, some-there}
+use Rattle.tree_path.proofs.{Prelude.{chars, tree_of}, IndexLemmas.{has-buckets, is-none, set-apart, set-new, set-there, set-under}}
+use Rattle.tree_path.{proofs.IndexLemmas.some-there, specs.Tables.{Leaves, steps_of}}
 use Rattle.tree_path.proofs.key_index.KeyIndex.note_set.Goals as goal
 
 pub note_new-requires : goal.note_new-requires

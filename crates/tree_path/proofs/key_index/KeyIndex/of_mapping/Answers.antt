@@ -1,6 +1,5 @@
 use Rattle.std.proofs.Common.{ap, ◌∙◌}
-use Rattle.tree_path.proofs.Prelude.{mapping, members_of}
-use Rattle.tree_path.specs.Paths.{at}
+use Rattle.tree_path.{proofs.Prelude.{mapping, members_of}, specs.Paths.at}
 use Rattle.tree_path.proofs.key_index.KeyIndex.of_mapping.Goals as goal
 
 pub returns : goal.returns

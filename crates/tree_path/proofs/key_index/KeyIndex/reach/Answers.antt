@@ -1,8 +1,7 @@
 use Rattle.std.proofs.Common.{◌≡◌, ◌<◌, ◌≤◌, [], ◌∷◌, ◌++◌, ◌+◌, Ok, length, get_or, take, drop, ⊎_elim, sym, ap, ap₂, subst, ◌∙◌, arith}
-use Rattle.tree_path.proofs.Prelude.{cow_str_bytes, chars, take_all, texts, tree_of, text_bytes}
-use Rattle.tree_path.specs.{Steps.step_place, Tables.Reaches, Tables.steps_of}
-use Rattle.tree_path.proofs.Descents.{at_from-turn, texts-split, texts-turn}
-use Rattle.tree_path.proofs.IndexLemmas.{key-deeper, key-only, same_key, step-placed, steps-split, steps-take}
+use Rattle.tree_path.proofs.{Prelude.{cow_str_bytes, chars, take_all, texts, tree_of, text_bytes}, Descents.{at_from-turn, texts-split}}
+use Rattle.tree_path.proofs.{Descents.texts-turn, IndexLemmas.{key-deeper, key-only, same_key, step-placed, steps-split, steps-take}}
+use Rattle.tree_path.specs.{Steps.step_place, Tables.{Reaches, steps_of}}
 use Rattle.tree_path.proofs.key_index.KeyIndex.reach.Goals as goal
 
 pub returns-then-not-is_same : goal.returns-then-not-is_same

@@ -1,6 +1,5 @@
 use Rattle.std.proofs.Common.{◌≡◌, ◌<◌, Ok, length, take}
-use Rattle.tree_path.proofs.Prelude.{texts, tree_of}
-use Rattle.tree_path.specs.{Paths.at, Tables.steps_of}
+use Rattle.tree_path.{proofs.Prelude.{texts, tree_of}, specs.{Paths.at, Tables.steps_of}}
 use Rattle.tree_path.proofs.key_index.KeyIndex.reach.Given as goal
 
 abbrev pub invariant-loop-passed : goal.invariant-loop-passed

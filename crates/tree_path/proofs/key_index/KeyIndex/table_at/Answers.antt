@@ -1,7 +1,5 @@
 use Rattle.std.proofs.Common.{sym, ap, ◌∙◌}
-use Rattle.tree_path.proofs.Prelude.{texts}
-use Rattle.tree_path.specs.Tables.{steps_of}
-use Rattle.tree_path.proofs.IndexLemmas.{table-copied}
+use Rattle.tree_path.{proofs.{Prelude.texts, IndexLemmas.table-copied}, specs.Tables.steps_of}
 use Rattle.tree_path.proofs.key_index.KeyIndex.table_at.Goals as goal
 
 pub returns : goal.returns

@@ -1,6 +1,5 @@
 use Rattle.std.proofs.Common.{◌≡◌, [], ◌∷◌, ◌++◌, suc, length, set, refl, ap, ◌∙◌, arith}
-use Rattle.tree_path.proofs.Prelude.{get_or_default_zero, chars}
-use Rattle.tree_path.proofs.TableLemmas.{lists-added}
+use Rattle.tree_path.proofs.{Prelude.{get_or_default_zero, chars}, TableLemmas.lists-added}
 use Rattle.tree_path.proofs.key_table.KeyTable.add.Goals as goal
 
 pub returns : goal.returns

@@ -1,8 +1,6 @@
-use Rattle.std.proofs.Common.{◌≡◌, ◌<◌, ◌∷◌, ◌++◌, [], ◌%◌, refl, sym, ap, subst, ◌∙◌, arith, length}
+use Rattle.std.proofs.{Common.{◌≡◌, ◌<◌, ◌∷◌, ◌++◌, [], ◌%◌, refl, sym, ap, subst, ◌∙◌, arith, length}, lemmas.Nat.mod_below}
 use Rattle.tree_path.proofs.Prelude.{YieldsList-from_chars, YieldsList-turn, YieldsList-end, at_drop_all, length_push, chars}
-use Rattle.std.proofs.lemmas.Nat.{mod_below}
-use Rattle.tree_path.specs.Tables.{hash_after, bucket_of}
-use Rattle.tree_path.proofs.TableLemmas.{hash-turn}
+use Rattle.tree_path.{proofs.TableLemmas.hash-turn, specs.Tables.{hash_after, bucket_of}}
 use Rattle.tree_path.proofs.key_table.KeyTable.bucket.Goals as goal
 
 pub loop-c-preserved : goal.loop-c-preserved

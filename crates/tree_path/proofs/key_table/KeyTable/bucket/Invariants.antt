@@ -1,6 +1,5 @@
 use Rattle.std.proofs.Common.{◌≡◌, length, drop}
-use Rattle.tree_path.proofs.Prelude.{chars}
-use Rattle.tree_path.specs.Tables.{hash_after}
+use Rattle.tree_path.{proofs.Prelude.chars, specs.Tables.hash_after}
 use Rattle.tree_path.proofs.key_table.KeyTable.bucket.Given as goal
 
 abbrev pub invariant-loop-c : goal.invariant-loop-c

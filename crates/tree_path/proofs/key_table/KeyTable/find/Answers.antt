@@ -1,7 +1,6 @@
 use Rattle.std.proofs.Common.{◌≡◌, true, length, get_or, Some, sym, ap, subst, ◌∙◌, arith}
-use Rattle.tree_path.proofs.Prelude.{get_or_default_zero, chars}
-use Rattle.tree_path.specs.{Steps.key_place, Tables.chain_of, Tables.on_chain, Tables.place_at}
-use Rattle.tree_path.proofs.{IndexLemmas.key-listed, StepLaws.none-other, TableLemmas.chain-start}
+use Rattle.tree_path.proofs.{Prelude.{get_or_default_zero, chars}, IndexLemmas.key-listed, StepLaws.none-other, TableLemmas.chain-start}
+use Rattle.tree_path.specs.{Steps.key_place, Tables.{chain_of, on_chain, place_at}}
 use Rattle.tree_path.proofs.key_table.KeyTable.find.Goals as goal
 
 pub loop-link-init : goal.loop-link-init

@@ -1,6 +1,5 @@
 use Rattle.std.proofs.Common.{◌≡◌, ℕ, true, Some, length}
-use Rattle.tree_path.proofs.Prelude.{chars}
-use Rattle.tree_path.specs.{Steps.key_place, Tables.chain_of, Tables.on_chain, Tables.place_at}
+use Rattle.tree_path.{proofs.Prelude.chars, specs.{Steps.key_place, Tables.{chain_of, on_chain, place_at}}}
 use Rattle.tree_path.proofs.key_table.KeyTable.find.Given as goal
 
 abbrev pub invariant-loop-link : goal.invariant-loop-link

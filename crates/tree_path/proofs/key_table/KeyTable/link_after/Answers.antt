@@ -1,6 +1,5 @@
 use Rattle.std.proofs.Common.{◌-◌, inl, inr, ◌∙◌, subst, ◌≤◌, arith}
-use Rattle.tree_path.proofs.Prelude.{get_or_default_zero, get_or_past}
-use Rattle.tree_path.proofs.TableLemmas.{chain-ends, chain-step}
+use Rattle.tree_path.proofs.{Prelude.{get_or_default_zero, get_or_past}, TableLemmas.{chain-ends, chain-step}}
 use Rattle.tree_path.proofs.key_table.KeyTable.link_after.Goals as goal
 
 pub returns-then-number-len-clause-kept : goal.returns-then-number-len-clause-kept

@@ -1,7 +1,5 @@
 use Rattle.std.proofs.Common.{[], ◌∷◌, ◌++◌, take, sym, subst}
-use Rattle.tree_path.proofs.Prelude.{chars, members_of}
-use Rattle.tree_path.specs.Tables.{Lists, keys_of}
-use Rattle.tree_path.proofs.IndexLemmas.{keys-take}
+use Rattle.tree_path.{proofs.{Prelude.{chars, members_of}, IndexLemmas.keys-take}, specs.Tables.{Lists, keys_of}}
 use Rattle.tree_path.proofs.key_table.KeyTable.of_pairs.Goals as goal
 
 pub loop-place-preserved : goal.loop-place-preserved

@@ -1,6 +1,5 @@
 use Rattle.std.proofs.Common.{take}
-use Rattle.tree_path.proofs.Prelude.{members_of}
-use Rattle.tree_path.specs.Tables.{Lists, keys_of}
+use Rattle.tree_path.{proofs.Prelude.members_of, specs.Tables.{Lists, keys_of}}
 use Rattle.tree_path.proofs.key_table.KeyTable.of_pairs.Given as goal
 
 abbrev pub invariant-loop-place : goal.invariant-loop-place

@@ -1,7 +1,5 @@
 use Rattle.std.proofs.Common.{◌≡◌, ◌+◌, ap, subst, ◌∙◌, arith}
-use Rattle.tree_path.proofs.Prelude.{insert}
-use Rattle.tree_path.specs.Chains.{KeepsOthers}
-use Rattle.tree_path.proofs.TableLemmas.{lists-removed}
+use Rattle.tree_path.{proofs.{Prelude.insert, TableLemmas.lists-removed}, specs.Chains.KeepsOthers}
 use Rattle.tree_path.proofs.key_table.KeyTable.remove.Goals as goal
 
 pub returns : goal.returns

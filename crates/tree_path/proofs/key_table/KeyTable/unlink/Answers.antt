@@ -1,7 +1,5 @@
 use Rattle.std.proofs.Common.{◌≡◌, ◌+◌, ◌<◌, suc, length, get_or, set, refl, ap, subst, ◌∙◌, arith}
-use Rattle.tree_path.proofs.Prelude.{get_or_default_zero}
-use Rattle.tree_path.specs.Chains.{LeadsTo}
-use Rattle.tree_path.proofs.TableLemmas.{head-unlinked, newer-unlinked}
+use Rattle.tree_path.{proofs.{Prelude.get_or_default_zero, TableLemmas.{head-unlinked, newer-unlinked}}, specs.Chains.LeadsTo}
 use Rattle.tree_path.proofs.key_table.KeyTable.unlink.Goals as goal
 
 pub returns-then-index-number-clause-chains : goal.returns-then-index-number-clause-chains

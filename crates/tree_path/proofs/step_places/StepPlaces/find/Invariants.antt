@@ -1,6 +1,5 @@
 use Rattle.std.proofs.Common.{◌≡◌, true, Ok, length, take}
-use Rattle.tree_path.proofs.Prelude.{distinct, tree_of, texts}
-use Rattle.tree_path.specs.{Paths.at, Steps.Leads}
+use Rattle.tree_path.{proofs.Prelude.{distinct, tree_of, texts}, specs.{Paths.at, Steps.Leads}}
 use Rattle.tree_path.proofs.step_places.StepPlaces.find.Given as goal
 
 abbrev pub invariant-loop-passed : goal.invariant-loop-passed

@@ -1,8 +1,7 @@
 use Rattle.std.proofs.Common.{arith, inl, inr, refl, sym, ◌∙◌}
-use Rattle.yaml_block.proofs.Prelude.{err_from_is_err_and, fault_passed, refuses}
-use Rattle.yaml_block.specs.{States.BeforeColon, States.Fails, declared.line_sign.Sign.TheVariants.Colon}
-use Rattle.yaml_block.proofs.{Stacks.grown_same, TextPlaces.past_sign}
-use Rattle.yaml_block.proofs.KeysAndPairs.{after_onward, pair_key, pair_unkeyed}
+use Rattle.yaml_block.proofs.{Prelude.{err_from_is_err_and, fault_passed, refuses}, Stacks.grown_same, TextPlaces.past_sign}
+use Rattle.yaml_block.{proofs.KeysAndPairs.{after_onward, pair_key, pair_unkeyed}, specs.States.{BeforeColon, Fails}}
+use Rattle.yaml_block.specs.declared.line_sign.Sign.TheVariants.{Colon}
 use Rattle.yaml_block.proofs.reader.Reader.after_key.Goals as goal
 
 pub returns-then-not-sign_at-clause-none : goal.returns-then-not-sign_at-clause-none

@@ -1,10 +1,7 @@
-use Rattle.std.proofs.Common.{◌≡◌, refl, sym, ◌∙◌, ap, subst, arith}
-use Rattle.std.specs.Prelude.{◌++◌, MatchOption}
-use Rattle.yaml_block.proofs.Prelude.{omitted_at, ok_so}
-use Rattle.yaml_block.specs.{Frames.AfterPair, declared.line_sign.Sign.TheVariants.Asked, declared.line_sign.Sign.TheVariants.Dash}
-use Rattle.yaml_block.proofs.Stacks.{grown_grown, grown_same}
-use Rattle.yaml_block.proofs.UnwindSteps.{SignHere, alone_key, item_ends, item_next, item_of, key_of, left_out, pair_of, sign_here}
-use Rattle.yaml_block.proofs.UnwindSteps.{sign_onward, value_next}
+use Rattle.std.{proofs.Common.{◌≡◌, refl, sym, ◌∙◌, ap, subst, arith}, specs.Prelude.{◌++◌, MatchOption}}
+use Rattle.yaml_block.proofs.{Prelude.{omitted_at, ok_so}, Stacks.{grown_grown, grown_same}, UnwindSteps.{SignHere, alone_key, item_ends}}
+use Rattle.yaml_block.proofs.UnwindSteps.{item_next, item_of, key_of, left_out, pair_of, sign_here, sign_onward, value_next}
+use Rattle.yaml_block.specs.{Frames.AfterPair, declared.line_sign.Sign.TheVariants.{Asked, Dash}}
 use Rattle.yaml_block.proofs.reader.Reader.after_part.Goals as goal
 
 pub returns-then-goes_on_with-clause-turn : goal.returns-then-goes_on_with-clause-turn

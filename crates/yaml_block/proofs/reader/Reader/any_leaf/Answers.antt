@@ -1,10 +1,7 @@
-use Rattle.std.proofs.Common.{refl, sym, ◌∙◌, subst, arith, ℕ, ◌+◌, ◌-◌, ◌*◌, ◌≤◌, length}
-use Rattle.std.specs.Prelude.{Option, IfSome}
-use Rattle.yaml_block.proofs.Prelude.{faults_so, ok_so}
-use Rattle.yaml_block.specs.{declared.frame.Next.Next, declared.line_sign.Sign.TheVariants.Asked}
+use Rattle.std.{proofs.Common.{refl, sym, ◌∙◌, subst, arith, ℕ, ◌+◌, ◌-◌, ◌*◌, ◌≤◌, length}, specs.Prelude.{Option, IfSome}}
+use Rattle.yaml_block.proofs.{Prelude.{faults_so, ok_so}, TextPlaces.{IsPastSign, past_sign}, SignsAndLines.{ok_opens, asked_onward}}
+use Rattle.yaml_block.{proofs.SignsAndLines.asked_first, specs.declared.{frame.Next.Next, line_sign.Sign.TheVariants.Asked}}
 use Rattle.yaml_block.specs.States.{BeforeLeaf, Fails, Onward, Leads}
-use Rattle.yaml_block.proofs.TextPlaces.{IsPastSign, past_sign}
-use Rattle.yaml_block.proofs.SignsAndLines.{ok_opens, asked_onward, asked_first}
 use Rattle.yaml_block.specs.declared.frame.Next.TheVariants as next
 use Rattle.yaml_block.proofs.reader.Reader.any_leaf.Goals as goal
 

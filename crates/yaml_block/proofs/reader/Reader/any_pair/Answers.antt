@@ -1,8 +1,8 @@
 use Rattle.std.proofs.Common.{refl, ◌∙◌, arith, sym}
-use Rattle.yaml_block.proofs.Prelude.{block_key, fault_kept, faults_so, ok_so, NoFlowNodeFound}
-use Rattle.yaml_block.specs.{States.BeforeColon, States.BeforePair, States.Fails, declared.line_sign.Sign.TheVariants.Asked}
-use Rattle.yaml_block.proofs.{TextPlaces.past_sign, Stacks.grown_appended, Stacks.grown_grown, Stacks.grown_same}
-use Rattle.yaml_block.proofs.KeysAndPairs.{after_onward, key_fails, key_leads, pair_asked, pair_missing}
+use Rattle.yaml_block.proofs.{Prelude.{block_key, fault_kept, faults_so, ok_so, NoFlowNodeFound}, TextPlaces.past_sign}
+use Rattle.yaml_block.proofs.{Stacks.{grown_appended, grown_grown, grown_same}, KeysAndPairs.{after_onward, key_fails, key_leads}}
+use Rattle.yaml_block.{proofs.KeysAndPairs.{pair_asked, pair_missing}, specs.States.{BeforeColon, BeforePair, Fails}}
+use Rattle.yaml_block.specs.declared.line_sign.Sign.TheVariants.{Asked}
 use Rattle.yaml_block.proofs.reader.Reader.any_pair.Goals as goal
 
 pub returns-in-Err-clause-none : goal.returns-in-Err-clause-none

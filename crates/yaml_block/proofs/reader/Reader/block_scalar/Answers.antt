@@ -1,9 +1,7 @@
 use Rattle.std.proofs.Common.{refl}
 use Rattle.yaml_block.proofs.Prelude.{cow_str_bytes, err_from_is_err_and, rest, NoBody, NoHeader, Scalar, fault_passed}
-use Rattle.yaml_block.specs.States.{BeforeLeaf, Fails}
 use Rattle.yaml_block.proofs.BlockScalarSteps.{block_scalar_read, no_body_there, no_header_there, scalar_borrows, scalar_event_is}
-use Rattle.yaml_block.proofs.BlockScalarSteps.{scalar_onward}
-use Rattle.yaml_block.proofs.Stacks.{grown_same}
+use Rattle.yaml_block.{proofs.{BlockScalarSteps.scalar_onward, Stacks.grown_same}, specs.States.{BeforeLeaf, Fails}}
 use Rattle.yaml_block.proofs.reader.Reader.block_scalar.Goals as goal
 
 pub returns-in_err-head-clause-none : goal.returns-in_err-head-clause-none

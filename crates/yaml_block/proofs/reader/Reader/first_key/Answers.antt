@@ -1,9 +1,9 @@
 use Rattle.std.proofs.Common.{arith, length, refl, ◌*◌, ◌-◌}
-use Rattle.yaml_block.proofs.Prelude.{err_from_is_err_and, FlowNodeRead, outer, fault_passed, faults_so, ok_so}
-use Rattle.yaml_block.specs.{States.BeforeLeaf, States.Fails, declared.line_sign.Sign.TheVariants.Colon}
-use Rattle.yaml_block.proofs.{KeysAndPairs.after_onward, SignsAndLines.onward_so, Stacks.grown_grown, TextPlaces.past_sign}
-use Rattle.yaml_block.proofs.{reader.Reader.first_key.Goals.In_ok-put_plain}
-use Rattle.yaml_block.proofs.LineValueSteps.{first_key_value, first_key_waits, plain_before_colon}
+use Rattle.yaml_block.proofs.{Prelude.{err_from_is_err_and, FlowNodeRead, outer, fault_passed, faults_so, ok_so}, KeysAndPairs.after_onward}
+use Rattle.yaml_block.proofs.{SignsAndLines.onward_so, Stacks.grown_grown, TextPlaces.past_sign}
+use Rattle.yaml_block.proofs.{reader.Reader.first_key.Goals.In_ok-put_plain, LineValueSteps.{first_key_value, first_key_waits}}
+use Rattle.yaml_block.{proofs.LineValueSteps.plain_before_colon, specs.States.{BeforeLeaf, Fails}}
+use Rattle.yaml_block.specs.declared.line_sign.Sign.TheVariants.{Colon}
 use Rattle.yaml_block.proofs.reader.Reader.first_key.Goals as goal
 
 -- the key is read

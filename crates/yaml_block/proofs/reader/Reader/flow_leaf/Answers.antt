@@ -1,12 +1,10 @@
-use Rattle.std.proofs.Common.{arith, length, refl, sym, ◌*◌, ◌-◌, ◌∙◌, ap, subst, ◌≤◌}
-use Rattle.std.specs.Prelude.{ℕ, [], ◌∷◌, ◌++◌, Option, IfSome, insert}
+use Rattle.std.{proofs.Common.{arith, length, refl, sym, ◌*◌, ◌-◌, ◌∙◌, ap, subst, ◌≤◌}, specs.Prelude.{ℕ, [], ◌∷◌, ◌++◌, Option, IfSome}}
+use Rattle.std.specs.Prelude.{insert}
 use Rattle.yaml_block.proofs.Prelude.{err_from_is_err_and, outer, sign, MapStart, fault_kept, fault_passed, faults_so, ok_so, refuses}
-use Rattle.yaml_block.proofs.Prelude.{NoFlowNodeFound}
-use Rattle.yaml_block.specs.{declared.line_sign.Sign.TheVariants.Colon, declared.frame.Waits.TheVariants.Value}
-use Rattle.yaml_block.specs.States.{BeforeLeaf, Fails}
-use Rattle.yaml_block.proofs.{LineValueSteps.leaf_value, SignsAndLines.onward_so, TextPlaces.past_sign}
+use Rattle.yaml_block.proofs.{Prelude.NoFlowNodeFound, LineValueSteps.leaf_value, SignsAndLines.onward_so, TextPlaces.past_sign}
 use Rattle.yaml_block.proofs.KeysAndPairs.{after_onward, leaf_key, leaf_line, leaf_nothing, leaf_unclosed, leaf_unkeyed}
 use Rattle.yaml_block.proofs.Stacks.{grown_appended, grown_before, grown_grown, grown_same}
+use Rattle.yaml_block.specs.{declared.{line_sign.Sign.TheVariants.Colon, frame.Waits.TheVariants.Value}, States.{BeforeLeaf, Fails}}
 use Rattle.yaml_block.proofs.reader.Reader.flow_leaf.Goals as goal
 
 pub returns-in-Err-clause-none : goal.returns-in-Err-clause-none

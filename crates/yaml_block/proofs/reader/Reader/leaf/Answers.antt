@@ -1,5 +1,4 @@
-use Rattle.std.proofs.Common.{subst, sym, ℕ, ◌≤◌, ◌∙◌}
-use Rattle.std.specs.Prelude.{IfSome, Option}
+use Rattle.std.{proofs.Common.{subst, sym, ℕ, ◌≤◌, ◌∙◌}, specs.Prelude.{IfSome, Option}}
 use Rattle.yaml_block.proofs.Prelude.{and_parts}
 use Rattle.yaml_block.proofs.reader.Reader.leaf.Goals as goal
 

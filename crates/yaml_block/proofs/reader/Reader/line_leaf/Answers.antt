@@ -1,8 +1,5 @@
-use Rattle.std.proofs.Common.{length, subst, true, ◌*◌, ◌-◌}
-use Rattle.std.specs.Prelude.{ℕ}
-use Rattle.yaml_block.proofs.Prelude.{outer, FlowNodeRead}
-use Rattle.yaml_block.specs.States.{Onward}
-use Rattle.yaml_block.proofs.LineValueSteps.{leaf_is_line, line_onward}
+use Rattle.std.{proofs.Common.{length, subst, true, ◌*◌, ◌-◌}, specs.Prelude.ℕ}
+use Rattle.yaml_block.{proofs.{Prelude.{outer, FlowNodeRead}, LineValueSteps.{leaf_is_line, line_onward}}, specs.States.Onward}
 use Rattle.yaml_block.specs.declared.frame.Next.TheVariants as next
 use Rattle.yaml_block.proofs.reader.Reader.line_leaf.Goals as goal
 

@@ -1,6 +1,5 @@
 use Rattle.std.proofs.Common.{refl, true, ◌+◌}
-use Rattle.yaml_block.proofs.Prelude.{outer}
-use Rattle.yaml_block.proofs.LineValueSteps.{further, line_onward, value_ends, value_goes_on}
+use Rattle.yaml_block.proofs.{Prelude.outer, LineValueSteps.{further, line_onward, value_ends, value_goes_on}}
 use Rattle.yaml_block.proofs.reader.Reader.line_pair.Goals as goal
 
 pub returns-in-Some-clause-leads : goal.returns-in-Some-clause-leads

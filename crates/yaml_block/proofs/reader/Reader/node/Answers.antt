@@ -1,10 +1,8 @@
-use Rattle.std.proofs.Common.{sym, ap, subst, arith, ℕ, ◌+◌, ◌-◌, ◌*◌, ◌<◌, ◌≤◌, length}
-use Rattle.std.specs.Prelude.{Option, MatchOption}
-use Rattle.yaml_block.proofs.Prelude.{err_from_is_err_and, rest, block_missing, line_starts, fault_passed}
-use Rattle.yaml_block.specs.{Lines.is_shallow, declared.frame.Next.Next}
-use Rattle.yaml_block.specs.States.{BeforeNode, BeforePair, BeforePart, Fails, IsPlaced, Onward, steps_left, place_of}
-use Rattle.yaml_block.proofs.{EachNode.each_node, Stacks.grown_grown}
-use Rattle.yaml_block.proofs.NodeLoop.{prefix_leads, prefix_fails, part_leads, part_fails, pair_leads, pair_fails, line_leads, line_ends}
+use Rattle.std.{proofs.Common.{sym, ap, subst, arith, ℕ, ◌+◌, ◌-◌, ◌*◌, ◌<◌, ◌≤◌, length}, specs.Prelude.{Option, MatchOption}}
+use Rattle.yaml_block.proofs.{Prelude.{err_from_is_err_and, rest, block_missing, line_starts, fault_passed}, EachNode.each_node}
+use Rattle.yaml_block.proofs.{Stacks.grown_grown, NodeLoop.{prefix_leads, prefix_fails, part_leads, part_fails, pair_leads, pair_fails}}
+use Rattle.yaml_block.{proofs.NodeLoop.{line_leads, line_ends}, specs.{Lines.is_shallow, declared.frame.Next.Next, States.BeforeNode}}
+use Rattle.yaml_block.specs.States.{BeforePair, BeforePart, Fails, IsPlaced, Onward, steps_left, place_of}
 use Rattle.yaml_block.specs.declared.frame.Next.TheVariants as next
 use Rattle.yaml_block.proofs.reader.Reader.node.Goals as goal
 

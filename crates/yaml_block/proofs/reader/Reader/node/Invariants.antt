@@ -1,6 +1,5 @@
 use Rattle.std.proofs.Common.{◌≤◌, ◌<◌, ◌^◌, length}
-use Rattle.yaml_block.specs.{States.GoesOn, States.Grown, States.IsPlaced, States.steps_left, States.place_of, Lines.is_shallow}
-use Rattle.yaml_block.proofs.NodeLoop.{all}
+use Rattle.yaml_block.{specs.{States.{GoesOn, Grown, IsPlaced, steps_left, place_of}, Lines.is_shallow}, proofs.NodeLoop.all}
 use Rattle.yaml_block.proofs.reader.Reader.node.Given as goal
 
 abbrev pub invariant-parts : goal.invariant-parts

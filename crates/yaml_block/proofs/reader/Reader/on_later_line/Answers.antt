@@ -1,10 +1,8 @@
-use Rattle.std.proofs.Common.{◌≡◌, refl, sym, ◌∙◌, ap, arith, length, ◌+◌, ◌-◌, ◌*◌, ◌≤◌}
-use Rattle.std.specs.Prelude.{true, false, suc}
-use Rattle.yaml_block.proofs.Prelude.{err_from_is_err_and, rest, fault_passed, refuses, block_node_stops}
-use Rattle.yaml_block.specs.Signs.{is_shallow as is_shallow_after}
-use Rattle.yaml_block.specs.{States.BeforePart, States.BeforeNodeLine, States.Fails, declared.indentation.Indentation.Indentation}
-use Rattle.yaml_block.proofs.SignsAndLines.{Becomes, leads_so, fails_so, onward_so, left_out_key, left_out_value, node_there}
-use Rattle.yaml_block.proofs.Stacks.{grown_same}
+use Rattle.std.{proofs.Common.{◌≡◌, refl, sym, ◌∙◌, ap, arith, length, ◌+◌, ◌-◌, ◌*◌, ◌≤◌}, specs.Prelude.{true, false, suc}}
+use Rattle.yaml_block.proofs.{Prelude.{err_from_is_err_and, rest, fault_passed, refuses, block_node_stops}, SignsAndLines.Becomes}
+use Rattle.yaml_block.proofs.{SignsAndLines.{leads_so, fails_so, onward_so, left_out_key, left_out_value, node_there}, Stacks.grown_same}
+use Rattle.yaml_block.specs.{Signs.is_shallow as is_shallow_after, States.{BeforePart, BeforeNodeLine, Fails}}
+use Rattle.yaml_block.specs.declared.indentation.Indentation.{Indentation}
 use Rattle.yaml_block.proofs.reader.Reader.on_later_line.Goals as goal
 
 pub returns-then-waits_for_key-clause-none : goal.returns-then-waits_for_key-clause-none

@@ -1,11 +1,10 @@
-use Rattle.std.proofs.Common.{◌≡◌, refl, sym, ◌∙◌, subst, arith, ◌+◌, ◌-◌, ◌*◌, ◌≤◌, length}
-use Rattle.std.specs.Prelude.{Some, None, List, ℕ, Result, IfOk}
-use Rattle.yaml_block.proofs.Prelude.{ScanFault, and_parts, faults_so, ok_so, refuses}
-use Rattle.yaml_block.specs.{declared.frame.Leaf.Leaf, declared.frame.Next.Next, declared.line_sign.Sign.TheVariants.Dash}
-use Rattle.yaml_block.specs.States.{BeforeLeaf, BeforeNodeLine, Fails, Onward, Leads}
-use Rattle.yaml_block.proofs.{TextPlaces.IsPastSign, TextPlaces.past_sign, Stacks.grown_same}
-use Rattle.yaml_block.proofs.SignsAndLines.{either, ok_opens, onward_so, Becomes, leads_so, fails_so, dash_onward, line_sequence}
-use Rattle.yaml_block.proofs.SignsAndLines.{line_refused, line_leaf_only, line_leaf_or_pairs}
+use Rattle.std.{proofs.Common.{◌≡◌, refl, sym, ◌∙◌, subst, arith, ◌+◌, ◌-◌, ◌*◌, ◌≤◌, length}, specs.Prelude.{Some, None, List, ℕ, Result}}
+use Rattle.std.specs.Prelude.{IfOk}
+use Rattle.yaml_block.proofs.{Prelude.{ScanFault, and_parts, faults_so, ok_so, refuses}, TextPlaces.{IsPastSign, past_sign}}
+use Rattle.yaml_block.proofs.{Stacks.grown_same, SignsAndLines.{either, ok_opens, onward_so, Becomes, leads_so, fails_so, dash_onward}}
+use Rattle.yaml_block.proofs.SignsAndLines.{line_sequence, line_refused, line_leaf_only, line_leaf_or_pairs}
+use Rattle.yaml_block.specs.{declared.{frame.{Leaf.Leaf, Next.Next}, line_sign.Sign.TheVariants.Dash}, States.{BeforeLeaf, BeforeNodeLine}}
+use Rattle.yaml_block.specs.States.{Fails, Onward, Leads}
 use Rattle.yaml_block.specs.declared.frame.Next.TheVariants as next
 use Rattle.yaml_block.proofs.reader.Reader.on_line.Goals as goal
 

@@ -1,13 +1,13 @@
-use Rattle.std.proofs.Common.{◌≡◌, refl, sym, ◌∙◌, ap, subst, arith, ◌+◌, ◌-◌, ◌*◌, ◌<◌, ◌≤◌, length, inl, inr}
-use Rattle.std.specs.Prelude.{true, false, ◌⊎◌, Some, None}
-use Rattle.yaml_block.proofs.Prelude.{rest, faults_so, ok_so, refuses, white, first, past_spaces}
-use Rattle.yaml_block.specs.{Signs.is_colon, declared.frame.Leaf.Leaf, declared.frame.Next.Next, declared.line_sign.Sign.TheVariants.Dash}
-use Rattle.yaml_block.specs.States.{BeforePart, BeforeLeaf, Fails, Onward, Leads}
-use Rattle.yaml_block.proofs.{TextPlaces.IsPastSign, TextPlaces.past_sign, PlaceSteps.tab, Stacks.grown_same}
-use Rattle.yaml_block.proofs.{reader.Reader.on_sign_line.Goals.then-not-allows_compact-via-then-not-allows_compact}
-use Rattle.yaml_block.proofs.{reader.Reader.on_sign_line.Goals.then-not-allows_compact-via-else-not-allows_compact+then-spaces_end-first}
+use Rattle.std.{proofs.Common.{◌≡◌, refl, sym, ◌∙◌, ap, subst, arith, ◌+◌, ◌-◌, ◌*◌, ◌<◌, ◌≤◌, length, inl, inr}, specs.Prelude.true}
+use Rattle.std.specs.Prelude.{false, ◌⊎◌, Some, None}
+use Rattle.yaml_block.proofs.{Prelude.{rest, faults_so, ok_so, refuses, white, first, past_spaces}, TextPlaces.{IsPastSign, past_sign}}
+use Rattle.yaml_block.proofs.{PlaceSteps.tab, Stacks.grown_same}
+use Rattle.yaml_block.proofs.reader.Reader.on_sign_line.Goals.{then-not-allows_compact-via-then-not-allows_compact}
+use Rattle.yaml_block.proofs.reader.Reader.on_sign_line.Goals.{then-not-allows_compact-via-else-not-allows_compact+then-spaces_end-first}
 use Rattle.yaml_block.proofs.SignsAndLines.{ok_opens, Becomes, leads_so, fails_so, onward_from, onward_so, dash_onward, nothing_there}
 use Rattle.yaml_block.proofs.SignsAndLines.{leaf_there, compact_leaf_there, compact_sequence_there, spaces_below, allowed, not_allowed}
+use Rattle.yaml_block.specs.{Signs.is_colon, declared.{frame.{Leaf.Leaf, Next.Next}, line_sign.Sign.TheVariants.Dash}, States.BeforePart}
+use Rattle.yaml_block.specs.States.{BeforeLeaf, Fails, Onward, Leads}
 use Rattle.yaml_block.specs.declared.frame.Next.TheVariants as next
 use Rattle.yaml_block.proofs.reader.Reader.on_sign_line.Goals as goal
 

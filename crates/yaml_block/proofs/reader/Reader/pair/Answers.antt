@@ -1,10 +1,9 @@
 use Rattle.std.proofs.Common.{arith, length, refl, subst, ◌*◌, ◌-◌, ◌≤◌}
-use Rattle.yaml_block.proofs.Prelude.{block_key, faults_so, ok_so, FlowNodeRead}
-use Rattle.yaml_block.specs.States.{BeforeColon, BeforePair, Fails, IsPlaced, Leads, place_of}
-use Rattle.yaml_block.specs.declared.frame.Next.{Next}
-use Rattle.yaml_block.proofs.{KeysAndPairs.key_fails, KeysAndPairs.key_leads, LineValueSteps.first_line_key, LineValueSteps.pair_value}
-use Rattle.yaml_block.proofs.{PairLoop.pairs_fail, PairLoop.pairs_first, PairLoop.pairs_lead, SignsAndLines.onward_from, Stacks.grown_grown}
-use Rattle.yaml_block.proofs.{Stacks.grown_same, reader.Reader.pair.Goals.In_ok-next, reader.Reader.pair.Goals.In_ok-put_plain}
+use Rattle.yaml_block.proofs.{Prelude.{block_key, faults_so, ok_so, FlowNodeRead}, KeysAndPairs.{key_fails, key_leads}}
+use Rattle.yaml_block.proofs.{LineValueSteps.{first_line_key, pair_value}, PairLoop.{pairs_fail, pairs_first, pairs_lead}}
+use Rattle.yaml_block.proofs.{SignsAndLines.onward_from, Stacks.{grown_grown, grown_same}, reader.Reader.pair.Goals.In_ok-next}
+use Rattle.yaml_block.{proofs.reader.Reader.pair.Goals.In_ok-put_plain, specs.States.{BeforeColon, BeforePair, Fails, IsPlaced, Leads}}
+use Rattle.yaml_block.specs.{States.place_of, declared.frame.Next.Next}
 use Rattle.yaml_block.proofs.reader.Reader.pair.Goals as goal
 
 pub pairs-init : goal.pairs-init

@@ -1,11 +1,8 @@
-use Rattle.std.proofs.Common.{refl, sym, ◌∙◌, arith, length, ◌-◌, ◌*◌, ◌<◌, ◌≤◌}
-use Rattle.std.specs.Prelude.{None}
-use Rattle.yaml_block.proofs.Prelude.{refuses}
-use Rattle.yaml_block.specs.{Lines.is_shallow, declared.frame.Leaf.Leaf, declared.indentation.Indentation.Indentation}
-use Rattle.yaml_block.specs.States.{BeforeLeaf, BeforeNode, BeforeNodeLine}
-use Rattle.yaml_block.proofs.SignsAndLines.{Becomes, leads_so, fails_so, onward_so, nothing_at_end, prefix_rest_there, prefix_leaf_there}
-use Rattle.yaml_block.proofs.SignsAndLines.{prefix_nothing_there}
-use Rattle.yaml_block.proofs.Stacks.{grown_same}
+use Rattle.std.{proofs.Common.{refl, sym, ◌∙◌, arith, length, ◌-◌, ◌*◌, ◌<◌, ◌≤◌}, specs.Prelude.None}
+use Rattle.yaml_block.proofs.{Prelude.refuses, SignsAndLines.{Becomes, leads_so, fails_so, onward_so, nothing_at_end, prefix_rest_there}}
+use Rattle.yaml_block.{proofs.{SignsAndLines.{prefix_leaf_there, prefix_nothing_there}, Stacks.grown_same}, specs.Lines.is_shallow}
+use Rattle.yaml_block.specs.{declared.{frame.Leaf.Leaf, indentation.Indentation.Indentation}, States.{BeforeLeaf, BeforeNode}}
+use Rattle.yaml_block.specs.States.{BeforeNodeLine}
 use Rattle.yaml_block.proofs.reader.Reader.prefix.Goals as goal
 
 pub returns-then-at-text-clause-none : goal.returns-then-at-text-clause-none

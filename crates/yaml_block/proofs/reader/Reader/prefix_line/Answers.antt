@@ -1,6 +1,5 @@
-use Rattle.std.proofs.Common.{◌≡◌, arith, inl, inr, length, ◌-◌, ◌*◌, ◌≤◌}
-use Rattle.std.specs.Prelude.{◌⊎◌}
-use Rattle.yaml_block.specs.{States.BeforeNode, States.BeforeNodeLine, Lines.is_shallow, declared.indentation.Indentation.Indentation}
+use Rattle.std.{proofs.Common.{◌≡◌, arith, inl, inr, length, ◌-◌, ◌*◌, ◌≤◌}, specs.Prelude.◌⊎◌}
+use Rattle.yaml_block.specs.{States.{BeforeNode, BeforeNodeLine}, Lines.is_shallow, declared.indentation.Indentation.Indentation}
 use Rattle.yaml_block.proofs.SignsAndLines.{Becomes, leads_so, fails_so, onward_so, prefix_line_there}
 use Rattle.yaml_block.proofs.reader.Reader.prefix_line.Goals.{then-line-at, else-line-at}
 use Rattle.yaml_block.proofs.reader.Reader.prefix_line.Goals as goal

@@ -1,7 +1,6 @@
 use Rattle.std.proofs.Common.{ap, refl, subst, sym}
-use Rattle.yaml_block.proofs.Prelude.{chars, ScalarAt, plain_style, scalar_read}
+use Rattle.yaml_block.proofs.{Prelude.{chars, ScalarAt, plain_style, scalar_read}, PlainStarts.plain_start}
 use Rattle.yaml_flow.proofs.ScalarSteps.{scalar_node_read}
-use Rattle.yaml_block.proofs.PlainStarts.{plain_start}
 use Rattle.yaml_block.proofs.reader.Reader.put_plain.Goals as goal
 
 pub returns-clause-read : goal.returns-clause-read

@@ -1,9 +1,6 @@
-use Rattle.std.proofs.Common.{◌≡◌, refl, sym, ap, subst, arith, length}
-use Rattle.std.specs.Prelude.{[], Option, MatchOption}
-use Rattle.yaml_block.proofs.Prelude.{append-nil}
-use Rattle.yaml_block.specs.declared.frame.Next.{Next}
-use Rattle.yaml_block.proofs.Stacks.{grown_grown}
-use Rattle.yaml_block.proofs.UnwindSteps.{no_items, still_first, unwinds_on, unwinds_more, unwinds_all}
+use Rattle.std.{proofs.Common.{◌≡◌, refl, sym, ap, subst, arith, length}, specs.Prelude.{[], Option, MatchOption}}
+use Rattle.yaml_block.proofs.{Prelude.append-nil, Stacks.grown_grown, UnwindSteps.{no_items, still_first, unwinds_on, unwinds_more}}
+use Rattle.yaml_block.{proofs.UnwindSteps.unwinds_all, specs.declared.frame.Next.Next}
 use Rattle.yaml_block.proofs.reader.Reader.unwind.Goals as goal
 
 pub collections-init : goal.collections-init

@@ -1,7 +1,6 @@
 use Rattle.std.proofs.Common.{◌≡◌, [], refl, sym, ap, subst, ◌∙◌, arith}
 use Rattle.yaml_config.proofs.Prelude.{chars, style_text, byte_len, Tree, text, tree_of, Text, tree_of-Text, chars-nil, indented}
-use Rattle.yaml_grammar.specs.Reads.{Good}
-use Rattle.yaml_config.specs.Kept.{own_limits}
+use Rattle.{yaml_config.specs.Kept.own_limits, yaml_grammar.specs.Reads.Good}
 use Rattle.yaml_config.proofs.config.Config.empty.Goals as goal
 
 empty_text : Good (text []) own_limits × (3 ≡ byte_len (style_text (text []))) × (0 ≡ indented (text []))

@@ -1,7 +1,6 @@
 use Rattle.std.proofs.Common.{◌≡◌, ◌≤◌, Result, Ok, sym, ap, ap₂, subst, ◌∙◌, arith}
 use Rattle.yaml_config.proofs.Prelude.{style_text, byte_len, Tree, depth, distinct, tree_of, set, set-distinct}
-use Rattle.yaml_config.specs.Limits.{config_limits}
-use Rattle.yaml_config.proofs.TextTreeLemmas.{tree_of-IsTextTree}
+use Rattle.yaml_config.{proofs.TextTreeLemmas.tree_of-IsTextTree, specs.Limits.config_limits}
 use Rattle.yaml_config.proofs.config.Config.set_planned.Goals as goal
 
 -- a result is one tree at most

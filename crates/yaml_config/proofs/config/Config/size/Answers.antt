@@ -1,5 +1,4 @@
-use Rattle.yaml_config.proofs.Prelude.{tree_of}
-use Rattle.yaml_config.proofs.SizeLemmas.{element-fits, child-fits}
+use Rattle.yaml_config.proofs.{Prelude.tree_of, SizeLemmas.{element-fits, child-fits}}
 use Rattle.yaml_config.proofs.config.Config.size.Goals as goal
 
 pub size_from-requires-clause-small : goal.size_from-requires-clause-small

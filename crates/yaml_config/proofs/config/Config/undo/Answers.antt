@@ -1,7 +1,5 @@
 use Rattle.std.proofs.Common.{sym, ap, subst, ◌∙◌}
-use Rattle.yaml_config.proofs.Prelude.{style_text, byte_len, tree_of}
-use Rattle.yaml_grammar.specs.Reads.{Good}
-use Rattle.yaml_config.specs.Kept.{own_limits}
+use Rattle.{yaml_config.{proofs.Prelude.{style_text, byte_len, tree_of}, specs.Kept.own_limits}, yaml_grammar.specs.Reads.Good}
 use Rattle.tree_path.specs.Undoing.{IsUndo}
 use Rattle.yaml_config.proofs.config.Config.undo.Goals as goal
 

@@ -1,6 +1,5 @@
 use Rattle.std.proofs.Common.{arith}
-use Rattle.yaml_config.proofs.Prelude.{tree_of}
-use Rattle.yaml_config.proofs.SizeLemmas.{element-fits}
+use Rattle.yaml_config.proofs.{Prelude.tree_of, SizeLemmas.element-fits}
 use Rattle.yaml_config.proofs.config.Config.with_size.Goals as goal
 
 pub overflow_cast-result : goal.overflow_cast-result

@@ -1,7 +1,6 @@
 use Rattle.std.proofs.Common.{◌≡◌, ◌≤◌, Result, Ok, sym, ap, subst, ◌∙◌, arith}
-use Rattle.yaml_config.proofs.Prelude.{style_text, byte_len, Tree, depth, distinct, tree_of, ArePlaces}
+use Rattle.yaml_config.proofs.{Prelude.{style_text, byte_len, Tree, depth, distinct, tree_of, ArePlaces}, TextTreeLemmas.tree_of-IsTextTree}
 use Rattle.yaml_config.specs.{Edits.tree_after_edit, Limits.config_limits}
-use Rattle.yaml_config.proofs.TextTreeLemmas.{tree_of-IsTextTree}
 use Rattle.yaml_config.proofs.edit.Edit.edit_config.Goals as goal
 
 -- a result is one tree at most

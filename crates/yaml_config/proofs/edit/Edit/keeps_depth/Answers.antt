@@ -1,7 +1,6 @@
 use Rattle.std.proofs.Common.{◌≡◌, ◌+◌, Ok, nat_le, length, ap, subst, ◌∙◌, arith}
-use Rattle.yaml_config.proofs.Prelude.{depth, tree_of}
-use Rattle.yaml_config.specs.{Edits.tree_after_edit, Limits.config_limits}
-use Rattle.yaml_config.proofs.DepthLemmas.{set-fits, delete-fits, capped_fits}
+use Rattle.yaml_config.{proofs.{Prelude.{depth, tree_of}, DepthLemmas.{set-fits, delete-fits, capped_fits}}, specs.Edits.tree_after_edit}
+use Rattle.yaml_config.specs.Limits.{config_limits}
 use Rattle.yaml_config.proofs.edit.Edit.keeps_depth.Goals as goal
 
 pub returns-in-Set : goal.returns-in-Set

@@ -1,6 +1,5 @@
 use Rattle.std.proofs.Common.{◌≡◌, Ok, sym, subst}
-use Rattle.yaml_config.proofs.Prelude.{tree_of}
-use Rattle.yaml_config.specs.Edits.{tree_after_edit}
+use Rattle.yaml_config.{proofs.Prelude.tree_of, specs.Edits.tree_after_edit}
 use Rattle.yaml_config.proofs.edit.Edit.perform.Goals as goal
 
 pub put_index-requires : goal.put_index-requires

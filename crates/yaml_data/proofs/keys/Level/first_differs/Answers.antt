@@ -1,7 +1,6 @@
 use Rattle.std.proofs.Common.{◌&&◌, refl, sym, ap, ◌∙◌, arith}
-use Rattle.yaml_data.proofs.Prelude.{distinct}
-use Rattle.yaml_data.specs.{Keys.level_distinct, Keys.levels_distinct, Keys.steps_left, Seen.tree_of}
-use Rattle.yaml_data.proofs.LevelLemmas.{levels_distinct-append, steps_left-append, step_distinct, step_refused, and_true, own_refused}
+use Rattle.yaml_data.proofs.{Prelude.distinct, LevelLemmas.{levels_distinct-append, steps_left-append, step_distinct, step_refused}}
+use Rattle.yaml_data.{proofs.LevelLemmas.{and_true, own_refused}, specs.{Keys.{level_distinct, levels_distinct, steps_left}, Seen.tree_of}}
 use Rattle.yaml_data.proofs.keys.Level.first_differs.Goals as goal
 
 pub returns-in_default-clause-keys : goal.returns-in_default-clause-keys

@@ -1,7 +1,6 @@
 use Rattle.std.proofs.Common.{◌&&◌, ap, sym, ◌∙◌}
-use Rattle.yaml_data.proofs.Prelude.{distinct}
-use Rattle.yaml_data.specs.{Keys.own_keys_differ, Keys.values_distinct, Seen.tree_of, Seen.members_of}
-use Rattle.yaml_data.proofs.{KeyLemmas.members_distinct-parts, SeenLemmas.tree_of-Map}
+use Rattle.yaml_data.{proofs.{Prelude.distinct, KeyLemmas.members_distinct-parts, SeenLemmas.tree_of-Map}, specs.Keys.own_keys_differ}
+use Rattle.yaml_data.specs.{Keys.values_distinct, Seen.{tree_of, members_of}}
 use Rattle.yaml_data.proofs.keys.Level.inside.Goals as goal
 
 pub returns-in-Map-clause-keys : goal.returns-in-Map-clause-keys

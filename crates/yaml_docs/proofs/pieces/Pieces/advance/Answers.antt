@@ -1,9 +1,7 @@
 -- Each turn takes in what was read before, and then reads on.
-use Rattle.std.proofs.Common.{refl, ap, subst}
-use Rattle.std.specs.Prelude.{Ok, Err}
-use Rattle.yaml_docs.proofs.Prelude.{err_from_is_err_and}
-use Rattle.yaml_docs.specs.PieceReading.{piece_limit, input_limit, Feeds, FeedsAll, Fills}
-use Rattle.yaml_docs.proofs.PieceReads.{feeds-at, fills-at, cleared-sound, so_far-none, so_far-more, at-end, fill-fails}
+use Rattle.std.{proofs.Common.{refl, ap, subst}, specs.Prelude.{Ok, Err}}
+use Rattle.yaml_docs.proofs.{Prelude.err_from_is_err_and, PieceReads.{feeds-at, fills-at, cleared-sound, so_far-none, so_far-more, at-end}}
+use Rattle.yaml_docs.{proofs.PieceReads.fill-fails, specs.PieceReading.{piece_limit, input_limit, Feeds, FeedsAll, Fills}}
 use Rattle.yaml_docs.proofs.pieces.Pieces.advance.Goals as goal
 
 pub parts-init : goal.parts-init

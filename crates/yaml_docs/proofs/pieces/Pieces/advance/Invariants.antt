@@ -1,7 +1,6 @@
 -- What was read is the piece so far and what is not looked at yet.
 use Rattle.std.proofs.Common.{◌-◌}
-use Rattle.yaml_docs.specs.PieceReading.{IsSound, piece_limit, input_limit}
-use Rattle.yaml_docs.proofs.PieceReads.{SoFar}
+use Rattle.yaml_docs.{specs.PieceReading.{IsSound, piece_limit, input_limit}, proofs.PieceReads.SoFar}
 use Rattle.yaml_docs.proofs.pieces.Pieces.advance.Given as goal
 
 abbrev pub invariant-parts : goal.invariant-parts

@@ -1,8 +1,7 @@
 -- The bytes ahead close a piece, so it is there once they are taken in.
-use Rattle.std.proofs.Common.{refl, sym, ap, subst}
-use Rattle.std.specs.Prelude.{Ok, Err}
-use Rattle.yaml_docs.specs.{Cutting.Unclosed, PieceReading.piece_limit, PieceReading.input_limit}
-use Rattle.yaml_docs.proofs.PieceReads.{feeds-at, cleared-sound, unclosed-none, advances-ahead, fails-ahead}
+use Rattle.std.{proofs.Common.{refl, sym, ap, subst}, specs.Prelude.{Ok, Err}}
+use Rattle.yaml_docs.{specs.{Cutting.Unclosed, PieceReading.{piece_limit, input_limit}}, proofs.PieceReads.{feeds-at, cleared-sound}}
+use Rattle.yaml_docs.proofs.PieceReads.{unclosed-none, advances-ahead, fails-ahead}
 use Rattle.yaml_docs.proofs.pieces.Pieces.advance_ahead.Goals as goal
 
 pub feed-requires-clause-unclosed : goal.feed-requires-clause-unclosed

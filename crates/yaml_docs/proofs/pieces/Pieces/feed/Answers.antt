@@ -1,8 +1,6 @@
 -- What the cutter takes is no longer ahead.
-use Rattle.std.proofs.Common.{ap}
-use Rattle.std.specs.Prelude.{Err}
-use Rattle.yaml_docs.specs.PieceReading.{piece_limit, input_limit}
-use Rattle.yaml_docs.proofs.PieceReads.{feeds, overfed}
+use Rattle.std.{proofs.Common.ap, specs.Prelude.Err}
+use Rattle.yaml_docs.{specs.PieceReading.{piece_limit, input_limit}, proofs.PieceReads.{feeds, overfed}}
 use Rattle.yaml_docs.proofs.pieces.Pieces.feed.Goals as goal
 
 pub returns-in-Ok : goal.returns-in-Ok

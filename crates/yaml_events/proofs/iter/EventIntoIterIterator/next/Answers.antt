@@ -1,5 +1,4 @@
-use Rattle.std.proofs.Common.{◌∷◌, length, ap, ◌∙◌}
-use Rattle.std.specs.Vec.Iter.{into_iter_items}
+use Rattle.std.{proofs.Common.{◌∷◌, length, ap, ◌∙◌}, specs.Vec.Iter.into_iter_items}
 use Rattle.yaml_events.proofs.PartLemmas.{borrowed-lacks, omitted-lacks}
 use Rattle.yaml_events.proofs.iter.EventIntoIterIterator.next.Goals as goal
 

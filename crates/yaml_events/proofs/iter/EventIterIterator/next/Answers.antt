@@ -1,5 +1,4 @@
-use Rattle.std.proofs.Common.{◌∷◌, ap, ◌∙◌}
-use Rattle.std.specs.Slice.Iter.{iter_rest}
+use Rattle.std.{proofs.Common.{◌∷◌, ap, ◌∙◌}, specs.Slice.Iter.iter_rest}
 use Rattle.yaml_events.proofs.PartLemmas.{borrowed-lacks, omitted-lacks, other-lacks}
 use Rattle.yaml_events.proofs.iter.EventIterIterator.next.Goals as goal
 

@@ -1,6 +1,5 @@
 use Rattle.std.proofs.Common.{◌≡◌, ◌∷◌, ◌++◌, [], true, is_ok, ap, ◌∙◌}
-use Rattle.yaml_events.specs.Parts.{events_in}
-use Rattle.yaml_events.proofs.PartLemmas.{events-push, fits-push}
+use Rattle.yaml_events.{specs.Parts.events_in, proofs.PartLemmas.{events-push, fits-push}}
 use Rattle.yaml_events.proofs.list.Events.push.Goals as goal
 
 pub invariant_of-self-in-Ok : goal.invariant_of-self-in-Ok

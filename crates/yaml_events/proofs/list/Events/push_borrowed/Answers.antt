@@ -1,8 +1,6 @@
-use Rattle.std.proofs.Common.{◌≡◌, ◌∷◌, ◌++◌, [], true, is_ok, refl, ap, ◌∙◌}
-use Rattle.std.specs.declared.borrow.CowStr.TheVariants.{Borrowed}
-use Rattle.yaml_events.specs.{declared.event.Event.TheVariants.Scalar, declared.parts.BorrowedScalar.BorrowedScalar}
-use Rattle.yaml_events.specs.Parts.{borrowed_event, events_in}
-use Rattle.yaml_events.proofs.PartLemmas.{events-push_borrowed}
+use Rattle.std.{proofs.Common.{◌≡◌, ◌∷◌, ◌++◌, [], true, is_ok, refl, ap, ◌∙◌}, specs.declared.borrow.CowStr.TheVariants.Borrowed}
+use Rattle.yaml_events.specs.{declared.{event.Event.TheVariants.Scalar, parts.BorrowedScalar.BorrowedScalar}, Parts.borrowed_event}
+use Rattle.yaml_events.{specs.Parts.events_in, proofs.PartLemmas.events-push_borrowed}
 use Rattle.yaml_events.proofs.list.Events.push_borrowed.Goals as goal
 
 pub returns-clause-ok : goal.returns-clause-ok

@@ -1,6 +1,5 @@
 use Rattle.std.proofs.Common.{◌∷◌, ◌++◌, [], ap, ◌∙◌}
-use Rattle.yaml_events.proofs.PartLemmas.{appends_omitted}
-use Rattle.yaml_events.proofs.list.Events.push_far_omitted.Goals.{in-Ok, in-Err}
+use Rattle.yaml_events.proofs.{PartLemmas.appends_omitted, list.Events.push_far_omitted.Goals.{in-Ok, in-Err}}
 use Rattle.yaml_events.proofs.list.Events.push_far_omitted.Goals as goal
 
 pub returns-clause-ok : goal.returns-clause-ok

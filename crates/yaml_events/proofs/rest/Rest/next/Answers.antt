@@ -1,6 +1,4 @@
-use Rattle.std.proofs.Common.{◌≡◌, ◌+◌, ◌≤◌, ◌∷◌, drop, length, ap, sym, subst, ◌∙◌}
-use Rattle.std.proofs.Math.ListN.{drop_of_length-le}
-use Rattle.std.proofs.lemmas.List.{drop_more}
+use Rattle.std.proofs.{Common.{◌≡◌, ◌+◌, ◌≤◌, ◌∷◌, drop, length, ap, sym, subst, ◌∙◌}, Math.ListN.drop_of_length-le, lemmas.List.drop_more}
 use Rattle.yaml_events.proofs.rest.Rest.next.Goals as goal
 
 -- no value is left

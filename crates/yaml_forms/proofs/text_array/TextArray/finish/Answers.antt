@@ -1,6 +1,5 @@
 use Rattle.std.proofs.Common.{◌++◌, encode_utf8_all, string_bytes, ap, ◌∙◌}
-use Rattle.yaml_forms.specs.TextArrays.{is_fresh}
-use Rattle.yaml_forms.proofs.ArrayLemmas.{end_chars}
+use Rattle.yaml_forms.{specs.TextArrays.is_fresh, proofs.ArrayLemmas.end_chars}
 use Rattle.yaml_forms.proofs.text_array.TextArray.finish.Goals as goal
 
 pub returns : goal.returns

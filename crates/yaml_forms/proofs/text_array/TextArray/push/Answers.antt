@@ -1,7 +1,5 @@
 use Rattle.std.proofs.Common.{◌++◌, encode_utf8_all, string_bytes, ap, ◌∙◌}
-use Rattle.yaml_forms.proofs.Prelude.{on_ok_weaker, chars}
-use Rattle.yaml_forms.specs.Json.{json_string}
-use Rattle.yaml_forms.proofs.ArrayLemmas.{text_pushed}
+use Rattle.yaml_forms.{proofs.{Prelude.{on_ok_weaker, chars}, ArrayLemmas.text_pushed}, specs.Json.json_string}
 use Rattle.yaml_forms.proofs.text_array.TextArray.push.Goals as goal
 
 pub returns : goal.returns

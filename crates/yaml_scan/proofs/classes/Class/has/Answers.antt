@@ -1,6 +1,5 @@
 use Rattle.std.proofs.Common.{ap, ◌∙◌, get_or}
-use Rattle.yaml_scan.specs.declared.classes.TheConstants.{CLASSES}
-use Rattle.yaml_scan.proofs.ClassTable.{has, class_is}
+use Rattle.yaml_scan.{specs.declared.classes.TheConstants.CLASSES, proofs.ClassTable.{has, class_is}}
 use Rattle.yaml_scan.proofs.classes.Class.has.Goals as goal
 
 pub returns : goal.returns

@@ -1,6 +1,6 @@
 use Rattle.std.proofs.Common.{ap, ◌∙◌, ◌∷◌, []}
-use Rattle.yaml_style.proofs.Prelude.{chars, replicate-append-replicate, space_char, spaces}
-use Rattle.yaml_style.specs.{Comparing.comparison_after, ComparingLaws.comparison_after-both}
+use Rattle.yaml_style.{proofs.Prelude.{chars, replicate-append-replicate, space_char, spaces}, specs.Comparing.comparison_after}
+use Rattle.yaml_style.specs.ComparingLaws.{comparison_after-both}
 use Rattle.yaml_style.proofs.comparison.ComparisonSink.put_spaces.Goals as goal
 
 pub loop-preserved : goal.loop-preserved

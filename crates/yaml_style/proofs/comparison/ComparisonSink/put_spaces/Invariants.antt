@@ -1,7 +1,6 @@
 -- So many spaces were compared.
 use Rattle.std.proofs.Common.{◌≡◌, List, ℕ, Bool}
-use Rattle.yaml_style.proofs.Prelude.{chars, spaces}
-use Rattle.yaml_style.specs.Comparing.{comparison_after}
+use Rattle.yaml_style.{proofs.Prelude.{chars, spaces}, specs.Comparing.comparison_after}
 use Rattle.yaml_style.proofs.comparison.ComparisonSink.put_spaces.Given as goal
 
 abbrev pub invariant-loop : goal.invariant-loop

@@ -1,7 +1,5 @@
 use Rattle.std.proofs.Common.{ap, ap₂, ◌∙◌}
-use Rattle.yaml_styled.proofs.Prelude.{elements_of}
-use Rattle.yaml_styled.specs.Parts.{elements_and}
-use Rattle.yaml_styled.proofs.BuildLemmas.{elements_of-and}
+use Rattle.yaml_styled.{proofs.{Prelude.elements_of, BuildLemmas.elements_of-and}, specs.Parts.elements_and}
 use Rattle.yaml_styled.proofs.build.TreeBuild.add_element.Goals as goal
 
 pub returns : goal.returns

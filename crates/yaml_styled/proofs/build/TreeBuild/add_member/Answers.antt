@@ -1,7 +1,5 @@
 use Rattle.std.proofs.Common.{ap, ap₂, ◌∙◌}
-use Rattle.yaml_styled.proofs.Prelude.{chars, tree_of, members_of}
-use Rattle.yaml_styled.specs.Parts.{members_and}
-use Rattle.yaml_styled.proofs.BuildLemmas.{members_of-and}
+use Rattle.yaml_styled.{proofs.{Prelude.{chars, tree_of, members_of}, BuildLemmas.members_of-and}, specs.Parts.members_and}
 use Rattle.yaml_styled.proofs.build.TreeBuild.add_member.Goals as goal
 
 pub returns : goal.returns

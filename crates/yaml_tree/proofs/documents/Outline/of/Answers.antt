@@ -1,7 +1,5 @@
 use Rattle.std.proofs.Common.{◌≡◌, ◌+◌, List, [], arith, sym, ap, ◌∙◌}
-use Rattle.yaml_tree.proofs.Prelude.{events_of, shapes}
-use Rattle.yaml_tree.specs.Reading.{document_count}
-use Rattle.yaml_tree.proofs.DepthLemmas.{deepest_from, events_deepest}
+use Rattle.yaml_tree.{proofs.{Prelude.{events_of, shapes}, DepthLemmas.{deepest_from, events_deepest}}, specs.Reading.document_count}
 use Rattle.yaml_grammar.specs.Events as grammar
 use Rattle.yaml_tree.proofs.documents.Outline.of.Goals as goal
 

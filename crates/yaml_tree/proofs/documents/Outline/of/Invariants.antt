@@ -1,7 +1,5 @@
 use Rattle.std.proofs.Common.{◌≡◌, ◌+◌, ◌≤◌, length}
-use Rattle.yaml_tree.proofs.Prelude.{events_of, shapes}
-use Rattle.yaml_tree.specs.Reading.{document_count}
-use Rattle.yaml_tree.proofs.DepthLemmas.{deepest_from}
+use Rattle.yaml_tree.{proofs.{Prelude.{events_of, shapes}, DepthLemmas.deepest_from}, specs.Reading.document_count}
 use Rattle.yaml_tree.proofs.documents.Outline.of.Given as goal
 
 -- what is counted so far and what the events that are left add is what all events give

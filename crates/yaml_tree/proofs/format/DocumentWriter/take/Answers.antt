@@ -1,7 +1,5 @@
 use Rattle.std.proofs.Common.{ap, subst, ◌∙◌}
-use Rattle.yaml_tree.proofs.Prelude.{event_of, shape}
-use Rattle.yaml_tree.specs.{OpenParts.open_frames, OpenText.added, OpenText.BringsText}
-use Rattle.yaml_tree.proofs.WriterLemmas.{wrote}
+use Rattle.yaml_tree.{proofs.{Prelude.{event_of, shape}, WriterLemmas.wrote}, specs.{OpenParts.open_frames, OpenText.{added, BringsText}}}
 use Rattle.yaml_tree.proofs.format.DocumentWriter.take.Goals as goal
 
 pub returns : goal.returns

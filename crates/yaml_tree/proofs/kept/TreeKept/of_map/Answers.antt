@@ -1,6 +1,5 @@
 use Rattle.std.proofs.Common.{ap, ◌∙◌}
-use Rattle.yaml_tree.proofs.Prelude.{mapping, tree_of-Map}
-use Rattle.yaml_tree.proofs.PartLemmas.{members_of-by}
+use Rattle.yaml_tree.proofs.{Prelude.{mapping, tree_of-Map}, PartLemmas.members_of-by}
 use Rattle.yaml_tree.proofs.kept.TreeKept.of_map.Goals as goal
 
 pub returns : goal.returns

@@ -1,6 +1,5 @@
 use Rattle.std.proofs.Common.{ap, ◌∙◌}
-use Rattle.yaml_tree.proofs.Prelude.{elements_of}
-use Rattle.yaml_tree.proofs.PartLemmas.{elements_of-and}
+use Rattle.yaml_tree.proofs.{Prelude.elements_of, PartLemmas.elements_of-and}
 use Rattle.yaml_tree.proofs.kept.TreeKept.put_element.Goals as goal
 
 pub returns : goal.returns

@@ -1,8 +1,6 @@
 use Rattle.std.proofs.Common.{[], Some, sym, ap, ap₂, ◌∙◌}
-use Rattle.yaml_tree.proofs.Prelude.{cow_str_bytes, chars}
-use Rattle.yaml_tree.specs.{Kept.scalar_placed, Kept.with_last, Kept.members_by, OpenParts.frame_by_next, Frames.at_key, Frames.at_value}
-use Rattle.yaml_tree.specs.{Frames.members_and}
-use Rattle.yaml_tree.proofs.PartLemmas.{members_by-and}
+use Rattle.yaml_tree.{proofs.{Prelude.{cow_str_bytes, chars}, PartLemmas.members_by-and}, specs.Kept.{scalar_placed, with_last, members_by}}
+use Rattle.yaml_tree.specs.{OpenParts.frame_by_next, Frames.{at_key, at_value, members_and}}
 use Rattle.yaml_tree.proofs.parts.OpenMap.put_scalar.Goals as goal
 
 pub returns-then-self : goal.returns-then-self

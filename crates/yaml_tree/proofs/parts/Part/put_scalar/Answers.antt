@@ -1,6 +1,6 @@
 use Rattle.std.proofs.Common.{Some, sym, ap, ◌∙◌}
-use Rattle.yaml_tree.proofs.Prelude.{cow_str_bytes, chars}
-use Rattle.yaml_tree.specs.{Kept.scalar_placed, Kept.elements_more, OpenParts.part_frame, Frames.in_seq}
+use Rattle.yaml_tree.{proofs.Prelude.{cow_str_bytes, chars}, specs.{Kept.{scalar_placed, elements_more}, OpenParts.part_frame}}
+use Rattle.yaml_tree.specs.Frames.{in_seq}
 use Rattle.yaml_tree.proofs.parts.Part.put_scalar.Goals as goal
 
 pub returns-in_ok-put_element-in-Seq : goal.returns-in_ok-put_element-in-Seq

@@ -1,10 +1,8 @@
 use Rattle.std.proofs.Common.{◌≡◌, ◌&&◌, Bool, sym, ap, subst, ◌∙◌}
-use Rattle.yaml_tree.proofs.Prelude.{MatchResult-weaker, err_from_is_err_and, key_members, keys_differ}
-use Rattle.yaml_tree.specs.{Building.HasNone, OpenParts.part_frames, Frames.after_map_end, Frames.innermost}
-use Rattle.yaml_tree.specs.Kept.{kept_frames, value_placed, members_by, map_ended}
-use Rattle.yaml_tree.proofs.{CheckLemmas.took, CheckLemmas.has_none, PartLemmas.keys_differ-by, parts.Parts.end_map.Goals.then-self}
-use Rattle.yaml_tree.proofs.{parts.Parts.end_map.Goals.else-self}
-use Rattle.yaml_tree.proofs.KeptLemmas.{in_map_parts, map_stepped, map_put_none, map_none}
+use Rattle.yaml_tree.proofs.{Prelude.{MatchResult-weaker, err_from_is_err_and, key_members, keys_differ}, CheckLemmas.{took, has_none}}
+use Rattle.yaml_tree.proofs.{PartLemmas.keys_differ-by, parts.Parts.end_map.Goals.{then-self, else-self}, KeptLemmas.in_map_parts}
+use Rattle.yaml_tree.{proofs.KeptLemmas.{map_stepped, map_put_none, map_none}, specs.{Building.HasNone, OpenParts.part_frames}}
+use Rattle.yaml_tree.specs.{Frames.{after_map_end, innermost}, Kept.{kept_frames, value_placed, members_by, map_ended}}
 use Rattle.yaml_tree.proofs.parts.Parts.end_map.Goals as goal
 
 pub returns-in_err-pairs : goal.returns-in_err-pairs

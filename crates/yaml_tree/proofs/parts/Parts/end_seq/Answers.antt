@@ -1,9 +1,7 @@
 use Rattle.std.proofs.Common.{sym, subst, ◌∙◌}
-use Rattle.yaml_tree.proofs.Prelude.{MatchResult-weaker, err_from_is_err_and}
-use Rattle.yaml_tree.specs.{Building.HasNone, OpenParts.part_frames, Frames.after_seq_end, Frames.innermost}
-use Rattle.yaml_tree.specs.Kept.{kept_frames, value_placed, frames_distinct, seq_ended}
-use Rattle.yaml_tree.proofs.CheckLemmas.{took, has_none}
-use Rattle.yaml_tree.proofs.KeptLemmas.{in_seq_parts, seq_stepped, seq_put_none, seq_none}
+use Rattle.yaml_tree.proofs.{Prelude.{MatchResult-weaker, err_from_is_err_and}, CheckLemmas.{took, has_none}, KeptLemmas.in_seq_parts}
+use Rattle.yaml_tree.{proofs.KeptLemmas.{seq_stepped, seq_put_none, seq_none}, specs.{Building.HasNone, OpenParts.part_frames}}
+use Rattle.yaml_tree.specs.{Frames.{after_seq_end, innermost}, Kept.{kept_frames, value_placed, frames_distinct, seq_ended}}
 use Rattle.yaml_tree.proofs.parts.Parts.end_seq.Goals as goal
 
 pub returns-in_err-items : goal.returns-in_err-items

@@ -1,7 +1,6 @@
 use Rattle.std.proofs.Common.{sym, ap, subst, ◌∙◌}
-use Rattle.yaml_tree.proofs.Prelude.{err_from_is_err_and}
+use Rattle.yaml_tree.proofs.{Prelude.err_from_is_err_and, CheckLemmas.has_none, KeptLemmas.{finished_kept, finished_none}}
 use Rattle.yaml_tree.specs.{Building.HasNone, Kept.kept_frames, Frames.finished_tree}
-use Rattle.yaml_tree.proofs.{CheckLemmas.has_none, KeptLemmas.finished_kept, KeptLemmas.finished_none}
 use Rattle.yaml_tree.proofs.parts.Parts.finish.Goals as goal
 
 pub returns-in_err-value : goal.returns-in_err-value

@@ -1,7 +1,5 @@
 use Rattle.std.proofs.Common.{refl, ap, ◌∙◌, arith}
-use Rattle.yaml_tree.proofs.Prelude.{nil_from_length}
-use Rattle.yaml_tree.specs.OpenParts.{part_frames}
-use Rattle.yaml_tree.proofs.PartLemmas.{part_frames-push}
+use Rattle.yaml_tree.{proofs.{Prelude.nil_from_length, PartLemmas.part_frames-push}, specs.OpenParts.part_frames}
 use Rattle.yaml_tree.proofs.parts.Parts.pop.Goals as goal
 
 pub returns-in-Some-clause-parts : goal.returns-in-Some-clause-parts

@@ -1,6 +1,5 @@
 use Rattle.std.proofs.Common.{ap, ◌∙◌}
-use Rattle.yaml_tree.specs.OpenParts.{part_frames}
-use Rattle.yaml_tree.proofs.PartLemmas.{part_frames-push}
+use Rattle.yaml_tree.{specs.OpenParts.part_frames, proofs.PartLemmas.part_frames-push}
 use Rattle.yaml_tree.proofs.parts.Parts.push.Goals as goal
 
 pub returns-clause-parts : goal.returns-clause-parts

@@ -1,6 +1,5 @@
 use Rattle.std.proofs.Common.{◌-◌, ◌<◌, refl, arith}
-use Rattle.yaml_tree.specs.{Kept.value_placed, OpenParts.part_frame}
-use Rattle.yaml_tree.proofs.InnermostLemmas.{change_innermost}
+use Rattle.yaml_tree.{specs.{Kept.value_placed, OpenParts.part_frame}, proofs.InnermostLemmas.change_innermost}
 use Rattle.yaml_tree.proofs.parts.Parts.put_collection.Goals as goal
 
 pub returns-in-Some-clause-parts : goal.returns-in-Some-clause-parts

@@ -1,7 +1,6 @@
 use Rattle.std.proofs.Common.{◌-◌, ◌<◌, refl, arith}
-use Rattle.yaml_tree.proofs.Prelude.{cow_str_bytes, chars}
-use Rattle.yaml_tree.specs.{Kept.scalar_placed, OpenParts.part_frame}
-use Rattle.yaml_tree.proofs.InnermostLemmas.{change_innermost}
+use Rattle.yaml_tree.{proofs.{Prelude.{cow_str_bytes, chars}, InnermostLemmas.change_innermost}, specs.Kept.scalar_placed}
+use Rattle.yaml_tree.specs.OpenParts.{part_frame}
 use Rattle.yaml_tree.proofs.parts.Parts.put_scalar.Goals as goal
 
 pub returns-in-Some-clause-parts : goal.returns-in-Some-clause-parts

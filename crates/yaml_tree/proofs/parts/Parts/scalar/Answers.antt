@@ -1,8 +1,7 @@
 use Rattle.std.proofs.Common.{sym, ap, subst, ◌∙◌}
-use Rattle.yaml_tree.proofs.Prelude.{MatchResult-weaker, cow_str_bytes, chars, text}
-use Rattle.yaml_tree.specs.{Building.HasNone, OpenParts.part_frames, Frames.frames_with, Frames.innermost}
-use Rattle.yaml_tree.specs.Kept.{kept_frames, frames_distinct, scalar_placed}
-use Rattle.yaml_tree.proofs.{CheckLemmas.took, CheckLemmas.has_none, KeptLemmas.scalar_stepped, KeptLemmas.scalar_refused}
+use Rattle.yaml_tree.proofs.{Prelude.{MatchResult-weaker, cow_str_bytes, chars, text}, CheckLemmas.{took, has_none}}
+use Rattle.yaml_tree.{proofs.KeptLemmas.{scalar_stepped, scalar_refused}, specs.{Building.HasNone, OpenParts.part_frames}}
+use Rattle.yaml_tree.specs.{Frames.{frames_with, innermost}, Kept.{kept_frames, frames_distinct, scalar_placed}}
 use Rattle.yaml_tree.proofs.parts.Parts.scalar.Goals as goal
 
 pub returns : goal.returns

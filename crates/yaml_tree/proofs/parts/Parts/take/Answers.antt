@@ -1,7 +1,6 @@
 use Rattle.std.proofs.Common.{◌∷◌, ap}
 use Rattle.yaml_tree.proofs.Prelude.{event_of, shape, document_from, document_to, seq_from, map_from, no_element, no_member}
-use Rattle.yaml_tree.specs.{OpenParts.part_frames, Frames.awaiting, Frames.in_seq, Frames.at_key}
-use Rattle.yaml_tree.proofs.CheckLemmas.{took_inner, opened}
+use Rattle.yaml_tree.{proofs.CheckLemmas.{took_inner, opened}, specs.{OpenParts.part_frames, Frames.{awaiting, in_seq, at_key}}}
 use Rattle.yaml_tree.proofs.parts.Parts.take.Goals as goal
 
 pub returns-in-DocStart : goal.returns-in-DocStart

@@ -1,7 +1,5 @@
 use Rattle.std.proofs.Common.{◌≡◌, ◌<◌, false, eqb, ap, sym, ◌∙◌, arith}
-use Rattle.yaml_tree.proofs.Prelude.{nat_tests}
-use Rattle.yaml_tree.specs.{OpenParts.part_frame, Frames.finished_tree}
-use Rattle.yaml_tree.proofs.PartLemmas.{unfinished}
+use Rattle.yaml_tree.{proofs.{Prelude.nat_tests, PartLemmas.unfinished}, specs.{OpenParts.part_frame, Frames.finished_tree}}
 use Rattle.yaml_tree.proofs.parts.Parts.take_whole.Goals as goal
 
 pub returns-then-not-is_empty-clause-parts : goal.returns-then-not-is_empty-clause-parts

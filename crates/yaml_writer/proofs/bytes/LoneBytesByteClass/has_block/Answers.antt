@@ -1,7 +1,5 @@
 use Rattle.std.proofs.Common.{ℕ, leb, cond, bit_or, refl, arith}
-use Rattle.yaml_writer.proofs.Prelude.{zip2_of_maps, zip2_splat, splat_is_map}
-use Rattle.yaml_writer.specs.Runs.{stands_alone}
-use Rattle.yaml_writer.proofs.BlockLemmas.{lanes_pass}
+use Rattle.yaml_writer.{proofs.{Prelude.{zip2_of_maps, zip2_splat, splat_is_map}, BlockLemmas.lanes_pass}, specs.Runs.stands_alone}
 use Rattle.yaml_writer.proofs.bytes.LoneBytesByteClass.has_block.Goals as goal
 
 pub returns : goal.returns

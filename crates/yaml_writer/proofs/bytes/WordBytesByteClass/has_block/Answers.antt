@@ -1,6 +1,5 @@
 use Rattle.std.proofs.Common.{ℕ, leb, cond, bit_and, refl, arith}
-use Rattle.yaml_writer.proofs.Prelude.{zip2_of_maps, zip2_splat, splat_is_map, word_char}
-use Rattle.yaml_writer.proofs.BlockLemmas.{lanes_pass}
+use Rattle.yaml_writer.proofs.{Prelude.{zip2_of_maps, zip2_splat, splat_is_map, word_char}, BlockLemmas.lanes_pass}
 use Rattle.yaml_writer.proofs.bytes.WordBytesByteClass.has_block.Goals as goal
 
 pub returns : goal.returns

@@ -1,6 +1,5 @@
 use Rattle.std.proofs.Common.{sym, ap, ◌∙◌}
-use Rattle.yaml_writer.specs.Budget.{left_after}
-use Rattle.yaml_writer.proofs.ByteLemmas.{byte_len-spaces}
+use Rattle.yaml_writer.{specs.Budget.left_after, proofs.ByteLemmas.byte_len-spaces}
 use Rattle.yaml_writer.proofs.count.ByteBudgetSink.put_spaces.Goals as goal
 
 pub returns : goal.returns

@@ -1,6 +1,5 @@
-use Rattle.std.proofs.Common.{arith}
+use Rattle.std.proofs.{Common.arith, lemmas.Iterator.Consumers.count_from_yields_List}
 use Rattle.yaml_writer.proofs.Prelude.{YieldsList-from_chars}
-use Rattle.std.proofs.lemmas.Iterator.Consumers.{count_from_yields_List}
 use Rattle.yaml_writer.proofs.count.CharCountSink.put_text.Goals as goal
 
 pub returns : goal.returns

@@ -1,7 +1,5 @@
 use Rattle.std.proofs.Common.{◌++◌, string_bytes, encode_utf8_all, sym, ap, ◌∙◌}
-use Rattle.yaml_writer.proofs.Prelude.{chars}
-use Rattle.yaml_writer.specs.Budget.{left_after}
-use Rattle.yaml_writer.proofs.{ByteLemmas.byte_len-chars, BudgetLemmas.spent}
+use Rattle.yaml_writer.{proofs.{Prelude.chars, ByteLemmas.byte_len-chars, BudgetLemmas.spent}, specs.Budget.left_after}
 use Rattle.yaml_writer.proofs.limited.LimitedTextSink.put_text.Goals as goal
 
 pub returns-in_ok-put_text : goal.returns-in_ok-put_text

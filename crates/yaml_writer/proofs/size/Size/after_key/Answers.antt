@@ -1,6 +1,5 @@
 use Rattle.std.proofs.Common.{◌+◌, ap, ◌∙◌}
-use Rattle.yaml_writer.proofs.Prelude.{tree_of}
-use Rattle.yaml_writer.proofs.{SizeLaws.made, SizeSums.filled_value, SizeSums.other_value}
+use Rattle.yaml_writer.proofs.{Prelude.tree_of, SizeLaws.made, SizeSums.{filled_value, other_value}}
 use Rattle.yaml_writer.proofs.size.Size.after_key.Goals as goal
 
 pub returns-then-is_filled : goal.returns-then-is_filled

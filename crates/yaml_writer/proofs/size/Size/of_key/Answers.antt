@@ -1,6 +1,5 @@
 use Rattle.std.proofs.Common.{if◌then◌else◌, ap, arith}
-use Rattle.yaml_writer.proofs.Prelude.{chars}
-use Rattle.yaml_writer.proofs.{SizeLaws.sized, SizeSums.key_bytes}
+use Rattle.yaml_writer.proofs.{Prelude.chars, SizeLaws.sized, SizeSums.key_bytes}
 use Rattle.yaml_writer.proofs.size.Size.of_key.Goals as goal
 
 pub returns-then-is_long_key-clause-size : goal.returns-then-is_long_key-clause-size

@@ -1,7 +1,6 @@
 use Rattle.std.proofs.Common.{ap, arith}
-use Rattle.yaml_writer.proofs.Prelude.{tree_of}
+use Rattle.yaml_writer.proofs.{Prelude.tree_of, SizeBounds.{element_bound, element_small, value_bound, value_small}}
 use Rattle.yaml_writer.specs.declared.size.Size.{Size}
-use Rattle.yaml_writer.proofs.SizeBounds.{element_bound, element_small, value_bound, value_small}
 use Rattle.yaml_writer.proofs.size.Size.of_value.Goals as goal
 
 pub element_size-requires : goal.element_size-requires

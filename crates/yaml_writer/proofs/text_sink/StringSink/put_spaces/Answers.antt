@@ -1,6 +1,5 @@
 use Rattle.std.proofs.Common.{◌++◌, string_bytes, ap, sym, ◌∙◌}
-use Rattle.yaml_writer.proofs.Prelude.{on_ok_weaker}
-use Rattle.yaml_writer.proofs.SpacesLemmas.{encoded_spaces}
+use Rattle.yaml_writer.proofs.{Prelude.on_ok_weaker, SpacesLemmas.encoded_spaces}
 use Rattle.yaml_writer.proofs.text_sink.StringSink.put_spaces.Goals as goal
 
 pub returns : goal.returns
