@@ -1,13 +1,10 @@
 -- Sequences and mappings of the code, by their lengths and from a place on.
 use Rattle.std.proofs.Common.{◌≡◌, ◌≤◌, ◌<◌, ℕ, zero, suc, ◌-◌, nat_lt, Bool, true, false, ◌&&◌, if◌then◌else◌, List, [], ◌∷◌, length, drop}
 use Rattle.std.proofs.Common.{get_or, ◌+◌, refl, sym, ap, ap₂, ◌∙◌, arith}
-use Rattle.tree_diff.proofs.Prelude.{and_right}
-use Rattle.tree_diff.proofs.Prelude.{chars, text_bytes, tree_of, elements_of, members_of, same_text, Elements, member, nat_tests}
-use Rattle.tree_diff.proofs.Prelude.{at_drop_more}
-use Rattle.yaml_data.specs.Seen.{Pair}
+use Rattle.tree_diff.proofs.Prelude.{and_right, chars, text_bytes, tree_of, elements_of, members_of, same_text, Elements, member, nat_tests}
+use Rattle.tree_diff.{proofs.Prelude.at_drop_more, specs.Choices.{count, member_count, drop_elements, same_at_end, before_end, same_within}}
+use Rattle.{tree_diff.specs.Choices.{same_elements, same_members, begins_with, after_first, kept, is_set_whole}, yaml_data.specs.Seen.Pair}
 use Rattle.yaml_data.specs.declared.tree.Tree.{Tree}
-use Rattle.tree_diff.specs.Choices.{count, member_count, drop_elements, same_at_end, before_end, same_within, same_elements}
-use Rattle.tree_diff.specs.Choices.{same_members, begins_with, after_first, kept, is_set_whole}
 
 pub elements-lengths : (limit : ℕ) (ts us : List Tree) → (length ts ≡ length us → ⊥)
     → same_elements limit (elements_of ts) (elements_of us) ≡ false

@@ -1,20 +1,17 @@
 -- The differences of two trees make the second of the first, and equal trees have none.
 use Rattle.std.proofs.Common.{◌≡◌, ℕ, suc, ◌+◌, ◌-◌, ◌==◌, nat_lt, arith, Bool, true, false, not, ◌&&◌, List, [], ◌∷◌, ◌++◌, map, codes}
-use Rattle.std.proofs.Common.{Some, None, Ok, Err}
-use Rattle.std.proofs.Common.{option_map, if◌then◌else◌, refl, sym, ap, ap₂, subst, ◌∙◌}
+use Rattle.std.proofs.Common.{Some, None, Ok, Err, option_map, if◌then◌else◌, refl, sym, ap, ap₂, subst, ◌∙◌}
 use Rattle.tree_diff.proofs.Prelude.{nat_tests, not-true, and_right, same_text, Tree, text, sequence, mapping, Elements, no_element}
-use Rattle.tree_diff.proofs.Prelude.{element, Members, no_member}
-use Rattle.tree_diff.proofs.Prelude.{member, has_key, distinct, elements_distinct, members_distinct, join_elements, join_members, and_parts}
-use Rattle.tree_diff.proofs.Prelude.{same_text-true, same_text-self, at_index, present, element_at, put_element, cut_element}
-use Rattle.tree_diff.proofs.Prelude.{push_element, child, put, cut, at_step, Absent}
-use Rattle.tree_diff.specs.Differences.{below, here, index_token, new_elements, new_members, differences, element_differences}
-use Rattle.tree_diff.specs.{Differences.member_differences, Choices.before_end, Choices.count, Choices.is_set_whole}
-use Rattle.tree_diff.specs.Choices.{kept, member_count}
-use Rattle.tree_diff.proofs.{Indices.index_of-index_token, Performing.made, Performing.ArePlaces, Performing.ArePlaces-append}
-use Rattle.tree_diff.proofs.Performing.{ArePlaces-below, made-append, made-first, made-below}
-use Rattle.tree_diff.proofs.Joins.{count-join, join_elements-none, join_elements-next, element_at-join, put_element-join, cut_element-join}
-use Rattle.tree_diff.proofs.Joins.{push_element-join, join_members-none, join_members-next, value_of-join, put_member-join, put_member-new}
-use Rattle.tree_diff.proofs.Joins.{cut_member-join, Free, Free-none, Free-next}
+use Rattle.tree_diff.proofs.Prelude.{element, Members, no_member, member, has_key, distinct, elements_distinct, members_distinct}
+use Rattle.tree_diff.proofs.Prelude.{join_elements, join_members, and_parts, same_text-true, same_text-self, at_index, present, element_at}
+use Rattle.tree_diff.proofs.Prelude.{put_element, cut_element, push_element, child, put, cut, at_step, Absent}
+use Rattle.tree_diff.proofs.{Indices.index_of-index_token, Performing.{made, ArePlaces, ArePlaces-append, ArePlaces-below, made-append}}
+use Rattle.tree_diff.proofs.{Performing.{made-first, made-below}, Joins.{count-join, join_elements-none, join_elements-next}}
+use Rattle.tree_diff.proofs.Joins.{element_at-join, put_element-join, cut_element-join, push_element-join, join_members-none}
+use Rattle.tree_diff.proofs.Joins.{join_members-next, value_of-join, put_member-join, put_member-new, cut_member-join, Free, Free-none}
+use Rattle.tree_diff.{proofs.Joins.Free-next, specs.Differences.{below, here, index_token, new_elements, new_members, differences}}
+use Rattle.tree_diff.specs.{Differences.{element_differences, member_differences}, Choices.{before_end, count, is_set_whole, kept}}
+use Rattle.tree_diff.specs.Choices.{member_count}
 
 -- ---- one step in a sequence
 
@@ -129,7 +126,7 @@ members-places (member k t ms) (member l u ns) =
       | false ↦ (tt, members-places ms (member l u ns))
     ]
 
-places : (t u : Tree) → ArePlaces (differences t u)
+pub places : (t u : Tree) → ArePlaces (differences t u)
 places (text value) (text other) =
     let P : Bool → Type 0 = λ b. ArePlaces (if b then [] else here (Some (text other))) in
     elim (same_text value other) as P [ true ↦ tt | false ↦ (tt, tt) ]

@@ -1,12 +1,10 @@
 -- The token of an index leads to the element at it.
 use Rattle.std.proofs.Common.{◌≡◌, ℕ, zero, suc, ◌+◌, ◌-◌, ◌*◌, ◌/◌, ◌%◌, ◌^◌, ◌<◌, ◌≤◌, Bool, true, false, ◌&&◌, ◌==◌, nat_lt}
-use Rattle.std.proofs.Common.{if◌then◌else◌}
-use Rattle.std.proofs.Common.{List, [], ◌∷◌, ◌++◌, length, length-append, get_or, decimal, refl, ap, ap₂, ◌∙◌, arith}
+use Rattle.std.proofs.Common.{if◌then◌else◌, List, [], ◌∷◌, ◌++◌, length, length-append, get_or, decimal, refl, ap, ap₂, ◌∙◌, arith}
 use Rattle.tree_diff.proofs.Prelude.{get_or_append_left, decimal_is_IsNumeral, decimal_digit, first_decimal, digits_value_push}
-use Rattle.tree_diff.proofs.Prelude.{digit_value_digit, digit_from_value}
-use Rattle.tree_diff.proofs.Prelude.{digit_value, list_all, AllDigits, digits_value, digits_value_after, nat_tests, number, after_last}
-use Rattle.tree_diff.proofs.Prelude.{no_index, digit, number_after, index_of, same_text, is_empty}
-use Rattle.tree_diff.specs.Differences.{digits_within, index_token}
+use Rattle.tree_diff.proofs.Prelude.{digit_value_digit, digit_from_value, digit_value, list_all, AllDigits, digits_value}
+use Rattle.tree_diff.proofs.Prelude.{digits_value_after, nat_tests, number, after_last, no_index, digit, number_after, index_of, same_text}
+use Rattle.tree_diff.{proofs.Prelude.is_empty, specs.Differences.{digits_within, index_token}}
 
 digit-true : (c : ℕ) → digit_value c < 10 → digit c ≡ true
 digit-true c small = let k = digit_from_value c small in grind (arith, nat_tests)

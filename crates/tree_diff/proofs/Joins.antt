@@ -1,10 +1,8 @@
 -- Elements and members, one list after another: what a step leads to between them, and what an edit there leaves.
-use Rattle.std.proofs.Common.{◌≡◌, ℕ, ◌+◌, Bool, true, false, cond, List, Some, option_map}
-use Rattle.std.proofs.Common.{refl, sym, ap, subst, ◌∙◌, arith}
+use Rattle.std.proofs.Common.{◌≡◌, ℕ, ◌+◌, Bool, true, false, cond, List, Some, option_map, refl, sym, ap, subst, ◌∙◌, arith}
 use Rattle.tree_diff.proofs.Prelude.{same_text, Tree, Elements, no_element, element, Members, no_member, member, has_key, join_elements}
 use Rattle.tree_diff.proofs.Prelude.{join_members, element_at, put_element, cut_element, push_element, value_of, put_member, cut_member}
-use Rattle.tree_diff.proofs.Prelude.{same_text-true, same_text-self, or_parts, or_from}
-use Rattle.tree_diff.specs.Choices.{count}
+use Rattle.tree_diff.{proofs.Prelude.{same_text-true, same_text-self, or_parts, or_from}, specs.Choices.count}
 
 -- ---- elements
 

@@ -1,8 +1,6 @@
 -- What the levels of a walk have left, from the innermost one on.
 use Rattle.std.proofs.Common.{◌≡◌, ℕ, ◌+◌, ◌*◌, List, [], ◌∷◌, ◌++◌, map, refl, sym, ap, ap₂, ◌∙◌, append_assoc, arith}
-use Rattle.tree_diff.proofs.Prelude.{append-nil, map-append}
-use Rattle.tree_diff.specs.declared.level.Level.{Level}
-use Rattle.tree_diff.specs.Differences.{Difference, below}
+use Rattle.tree_diff.{proofs.Prelude.{append-nil, map-append}, specs.{declared.level.Level.Level, Differences.{Difference, below}}}
 use Rattle.tree_diff.specs.Walks.{under, token_of, rest_differences, path_of_levels, differences_left, rest_nodes, steps_left}
 
 under-none : (ds : List Difference) → map (under []) ds ≡ ds

@@ -1,9 +1,8 @@
 -- What differences make of a tree, one after another, and what they make of one that has it at a step.
 use Rattle.std.proofs.Common.{◌≡◌, ℕ, suc, List, [], ◌∷◌, ◌++◌, map, Option, Some, None, Result, Ok, Err, refl, ap, subst, ◌∙◌}
 use Rattle.tree_diff.proofs.Prelude.{PathFault, path_of-pointer_text, child-put, put-put, put-child, put-there, Tree, child, put, cut}
-use Rattle.tree_diff.proofs.Prelude.{at_step, and_then, edit_from, Miss}
-use Rattle.tree_diff.specs.Diffs.{edited, along, performed}
-use Rattle.tree_diff.specs.Differences.{Difference, below, written}
+use Rattle.tree_diff.{proofs.Prelude.{at_step, and_then, edit_from, Miss}, specs.{Diffs.{edited, along, performed}, Differences.Difference}}
+use Rattle.tree_diff.specs.Differences.{below, written}
 
 -- ---- what a result comes from
 

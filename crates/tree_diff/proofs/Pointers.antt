@@ -1,9 +1,7 @@
 -- A pointer that grows by characters, tokens and steps.
-use Rattle.std.proofs.Common.{◌≡◌, ℕ, true, List, [], ◌∷◌, ◌++◌, Result, Ok, Err, refl, sym, ap, ◌∙◌, if◌then◌else◌}
-use Rattle.std.proofs.Common.{append_assoc}
+use Rattle.std.proofs.Common.{◌≡◌, ℕ, true, List, [], ◌∷◌, ◌++◌, Result, Ok, Err, refl, sym, ap, ◌∙◌, if◌then◌else◌, append_assoc}
 use Rattle.tree_diff.proofs.Prelude.{append-nil, chars-append, chars-encodes, chars, IsUtf8, OnOk, is_ok, pointer_text, token_text}
-use Rattle.tree_diff.proofs.Prelude.{char_text}
-use Rattle.tree_diff.proofs.Prelude.{slash}
+use Rattle.tree_diff.proofs.Prelude.{char_text, slash}
 use lib.Utf8.{encode, encodes, scalars}
 
 -- what is appended to a text comes after its characters

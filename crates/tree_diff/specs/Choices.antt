@@ -1,7 +1,6 @@
 -- What a difference chooses. Each choice makes the second tree of the first: these are made so that the edits are few.
 use Rattle.std.specs.Prelude.{ℕ, zero, suc, ◌+◌, ◌-◌, nat_lt, ◌&&◌, Bool, true, false, if◌then◌else◌, List}
-use Rattle.tree_diff.specs.Prelude.{Tree, text, sequence, mapping, Elements, no_element, element, Members, no_member}
-use Rattle.tree_diff.specs.Prelude.{member, same_text}
+use Rattle.tree_diff.specs.Prelude.{Tree, text, sequence, mapping, Elements, no_element, element, Members, no_member, member, same_text}
 
 -- ---- where a longer sequence loses elements: before those at its end that a shorter one has too
 

@@ -1,11 +1,8 @@
 -- The differences of two trees, as they are found: place by place, in the order of the first tree.
-use Rattle.std.specs.Prelude.{ℕ, zero, suc, ◌+◌, ◌-◌, ◌/◌, ◌%◌, ◌^◌, nat_lt, ◌==◌, ◌&&◌, if◌then◌else◌, List, [], ◌∷◌, ◌++◌, map}
-use Rattle.std.specs.Prelude.{Option, Some, None}
-use Rattle.std.specs.Prelude.{codes, decimal}
-use Rattle.tree_diff.specs.Prelude.{Tree, text, sequence, mapping, Elements, no_element, element, Members, no_member}
-use Rattle.tree_diff.specs.Prelude.{member, same_text, pointer_text}
-use Rattle.tree_diff.specs.Choices.{count, before_end, is_set_whole}
-use Rattle.tree_diff.specs.Diffs.{Change}
+use Rattle.std.specs.Prelude.{ℕ, zero, suc, ◌+◌, ◌-◌, ◌/◌, ◌%◌, ◌^◌, nat_lt, ◌==◌, ◌&&◌, if◌then◌else◌, List, [], ◌∷◌, ◌++◌, map, Option}
+use Rattle.std.specs.Prelude.{Some, None, codes, decimal}
+use Rattle.tree_diff.specs.Prelude.{Tree, text, sequence, mapping, Elements, no_element, element, Members, no_member, member, same_text}
+use Rattle.tree_diff.specs.{Prelude.pointer_text, Choices.{count, before_end, is_set_whole}, Diffs.Change}
 
 -- a difference: the path to its place, and the value there in the second tree; none if there is none
 pub record Difference : Type 0 where

@@ -1,8 +1,7 @@
 -- What edits are, and what they make of a tree when they are performed in order.
 use Rattle.std.specs.Prelude.{ℕ, List, [], ◌∷◌, map, Option, Some, None, Result, Ok, Err, string_bytes}
-use Rattle.json_pointer.specs.declared.fault.PathFault.{PathFault}
-use Rattle.tree_diff.specs.Prelude.{Tree, tree_of, chars, path_of, set, delete, and_then}
-use Rattle.tree_diff.specs.declared.edit.Edit.{Edit}
+use Rattle.{json_pointer.specs.declared.fault.PathFault.PathFault, tree_diff.specs.Prelude.{Tree, tree_of, chars, path_of, set, delete}}
+use Rattle.tree_diff.specs.{Prelude.and_then, declared.edit.Edit.Edit}
 use Rattle.tree_diff.specs.declared.edit.Edit.TheVariants as edits
 
 -- an edit: the pointer to its place, and the value that is set there; none where what is there is deleted

@@ -1,13 +1,10 @@
 -- What a walk over two trees has still to find, and how much of them is left.
 use Rattle.std.specs.Prelude.{ℕ, ◌+◌, ◌*◌, List, [], ◌∷◌, ◌++◌, map, None, Some, codes}
-use Rattle.tree_diff.specs.Prelude.{chars, tree_of, elements_of, members_of, element_nodes, member_nodes}
-use Rattle.tree_diff.specs.Differences.{Difference, here, below, index_token, element_differences, member_differences}
-use Rattle.tree_diff.specs.declared.level.Level.{Level}
-use Rattle.tree_diff.specs.declared.level.Rest.{Rest}
+use Rattle.tree_diff.specs.{Prelude.{chars, tree_of, elements_of, members_of, element_nodes, member_nodes}, Differences.{Difference, here}}
+use Rattle.tree_diff.specs.{Differences.{below, index_token, element_differences, member_differences}, declared.level.Level.Level}
+use Rattle.tree_diff.specs.declared.level.{Rest.Rest, Step.Step, Task.Task}
 use Rattle.tree_diff.specs.declared.level.Rest.TheVariants as rests
-use Rattle.tree_diff.specs.declared.level.Step.{Step}
 use Rattle.tree_diff.specs.declared.level.Step.TheVariants as steps
-use Rattle.tree_diff.specs.declared.level.Task.{Task}
 use Rattle.tree_diff.specs.declared.level.Task.TheVariants as tasks
 
 -- a difference at the end of a path

@@ -1,6 +1,5 @@
 use Rattle.std.proofs.Common.{◌≡◌, ◌==◌, ◌&&◌, true, sym, ap₂, arith}
-use Rattle.tree_diff.proofs.Prelude.{nat_tests}
-use Rattle.tree_diff.proofs.ChoiceLemmas.{longer-count}
+use Rattle.tree_diff.proofs.{Prelude.nat_tests, ChoiceLemmas.longer-count}
 use Rattle.tree_diff.proofs.level.is_left_over.Goals as goal
 
 pub returns-then-ahead-eq0 : goal.returns-then-ahead-eq0

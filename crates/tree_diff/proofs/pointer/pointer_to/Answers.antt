@@ -1,7 +1,6 @@
 use Rattle.std.proofs.Common.{◌≡◌, ◌+◌, ◌++◌, ◌∷◌, [], take, sym, ap, ◌∙◌, arith}
-use Rattle.tree_diff.proofs.Prelude.{chars, chars-nil, pointer_text, token_text, slash, take_more, take_all}
-use Rattle.tree_diff.specs.Walks.{path_of_levels, token_of}
-use Rattle.tree_diff.proofs.{Levels.path_of_levels-push, Pointers.pointer_text-push}
+use Rattle.tree_diff.proofs.{Prelude.{chars, chars-nil, pointer_text, token_text, slash, take_more, take_all}, Levels.path_of_levels-push}
+use Rattle.tree_diff.{proofs.Pointers.pointer_text-push, specs.Walks.{path_of_levels, token_of}}
 use Rattle.tree_diff.proofs.pointer.pointer_to.Goals as goal
 
 pub loop-level-init : goal.loop-level-init

@@ -1,6 +1,5 @@
 use Rattle.std.proofs.Common.{◌≡◌, take, string_bytes}
-use Rattle.tree_diff.proofs.Prelude.{chars, pointer_text}
-use Rattle.tree_diff.specs.Walks.{path_of_levels}
+use Rattle.tree_diff.{proofs.Prelude.{chars, pointer_text}, specs.Walks.path_of_levels}
 use Rattle.tree_diff.proofs.pointer.pointer_to.Given as goal
 
 abbrev pub invariant-loop-level : goal.invariant-loop-level

@@ -1,6 +1,5 @@
-use Rattle.std.proofs.Common.{◌≡◌, ◌==◌, ◌&&◌, true, false, ◌++◌, ◌∷◌, [], refl, sym, ap, subst, string_bytes}
+use Rattle.std.proofs.Common.{◌≡◌, ◌==◌, ◌&&◌, true, false, ◌++◌, ◌∷◌, [], refl, sym, ap, subst, string_bytes, arith}
 use Rattle.tree_diff.proofs.Prelude.{append-nil, IsUtf8-string_bytes, chars, char_text, nat_tests, OnOk}
-use Rattle.std.proofs.Common.{arith}
 use lib.Utf8.{encode}
 use Rattle.tree_diff.proofs.Pointers.{grown_on_ok}
 use Rattle.tree_diff.proofs.pointer.push_char.Goals as goal

@@ -1,6 +1,5 @@
 use Rattle.std.proofs.Common.{◌<◌, ◌^◌, ◌++◌, sym, ap, ◌∙◌, string_bytes, arith}
-use Rattle.tree_diff.proofs.Prelude.{chars, chars-IsAscii, token_text, on_ok_weaker}
-use Rattle.tree_diff.proofs.Indices.{index_token-decimal}
+use Rattle.tree_diff.proofs.{Prelude.{chars, chars-IsAscii, token_text, on_ok_weaker}, Indices.index_token-decimal}
 use Rattle.tree_diff.proofs.pointer.push_index.Goals as goal
 
 pub returns : goal.returns

@@ -1,8 +1,7 @@
 use Rattle.std.proofs.Common.{◌++◌, ◌∷◌, [], refl, sym, ap, ◌∙◌, string_bytes}
 use Rattle.tree_diff.proofs.Prelude.{chars, chars-encodes, token_text, slash, on_ok_weaker, IsUtf8-string_bytes}
 use lib.Utf8.{encode}
-use Rattle.tree_diff.specs.{Differences.index_token, Walks.token_of}
-use Rattle.tree_diff.proofs.Pointers.{stepped}
+use Rattle.tree_diff.{specs.{Differences.index_token, Walks.token_of}, proofs.Pointers.stepped}
 use Rattle.tree_diff.proofs.pointer.push_step.Goals as goal
 
 pub returns-in-Key : goal.returns-in-Key

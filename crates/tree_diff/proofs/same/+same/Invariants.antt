@@ -1,6 +1,5 @@
 use Rattle.std.proofs.Common.{◌≡◌, drop}
-use Rattle.tree_diff.proofs.Prelude.{elements_of, members_of}
-use Rattle.tree_diff.specs.Choices.{same_elements, same_members}
+use Rattle.tree_diff.{proofs.Prelude.{elements_of, members_of}, specs.Choices.{same_elements, same_members}}
 use Rattle.tree_diff.proofs.same.+same.Given as goal
 
 -- those before are equal

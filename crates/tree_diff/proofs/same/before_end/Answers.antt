@@ -1,7 +1,5 @@
 use Rattle.std.proofs.Common.{◌-◌, length, length-drop, drop, sym, ap, ◌∙◌, arith}
-use Rattle.tree_diff.proofs.Prelude.{elements_of, take_all}
-use Rattle.tree_diff.specs.Choices.{same_at_end}
-use Rattle.tree_diff.proofs.ChoiceLemmas.{before_end-none, before_end-some}
+use Rattle.tree_diff.{proofs.{Prelude.{elements_of, take_all}, ChoiceLemmas.{before_end-none, before_end-some}}, specs.Choices.same_at_end}
 use Rattle.tree_diff.proofs.same.before_end.Goals as goal
 
 pub returns-then-first-second : goal.returns-then-first-second

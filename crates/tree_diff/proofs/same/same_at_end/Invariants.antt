@@ -1,6 +1,5 @@
 use Rattle.std.proofs.Common.{◌≡◌, ◌≤◌, drop}
-use Rattle.tree_diff.proofs.Prelude.{elements_of}
-use Rattle.tree_diff.specs.Choices.{same_at_end}
+use Rattle.tree_diff.{proofs.Prelude.elements_of, specs.Choices.same_at_end}
 use Rattle.tree_diff.proofs.same.same_at_end.Given as goal
 
 abbrev pub invariant-loop-place : goal.invariant-loop-place

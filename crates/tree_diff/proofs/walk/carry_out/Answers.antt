@@ -1,8 +1,6 @@
 use Rattle.std.proofs.Common.{◌+◌, ◌++◌, map, sym, ap, ◌∙◌}
-use Rattle.tree_diff.specs.Diffs.{changes_of}
-use Rattle.tree_diff.specs.{Differences.written}
-use Rattle.tree_diff.specs.Walks.{differences_left, path_of_levels, steps_left, task_differences, task_steps, under}
-use Rattle.tree_diff.proofs.Levels.{differences_left-push, steps_left-push}
+use Rattle.tree_diff.specs.{Diffs.changes_of, Differences.written, Walks.{differences_left, path_of_levels, steps_left, task_differences}}
+use Rattle.tree_diff.{specs.Walks.{task_steps, under}, proofs.Levels.{differences_left-push, steps_left-push}}
 use Rattle.tree_diff.proofs.walk.carry_out.Goals as goal
 
 pub returns-in_ok-push-in-Enter-clause-differences : goal.returns-in_ok-push-in-Enter-clause-differences

@@ -1,12 +1,8 @@
 use Rattle.std.proofs.Common.{◌≡◌, ℕ, ◌<◌, ◌-◌, ◌++◌, List, [], ◌∷◌, map, take, refl, sym, ap, ap₂, ◌∙◌, arith}
-use Rattle.tree_diff.proofs.Prelude.{append-nil, tree_of}
-use Rattle.tree_diff.specs.declared.edit.Edit.{Edit}
-use Rattle.tree_diff.specs.declared.level.Level.{Level}
-use Rattle.tree_diff.specs.Diffs.{Change, changes_of, performed}
-use Rattle.tree_diff.specs.Differences.{differences, written}
-use Rattle.tree_diff.specs.Walks.{differences_left, path_of_levels, steps_left, task_differences, under}
-use Rattle.tree_diff.proofs.{DiffLaws.differences-made, DiffLaws.differences-same, Performing.performed-written}
+use Rattle.tree_diff.proofs.{Prelude.{append-nil, tree_of}, DiffLaws.{differences-made, differences-same}, Performing.performed-written}
 use Rattle.tree_diff.proofs.Levels.{differences_left-start, differences_left-end, differences_left-next, steps_left-push}
+use Rattle.tree_diff.specs.{declared.{edit.Edit.Edit, level.Level.Level}, Diffs.{Change, changes_of, performed}, Differences.differences}
+use Rattle.tree_diff.specs.{Differences.written, Walks.{differences_left, path_of_levels, steps_left, task_differences, under}}
 use Rattle.tree_diff.proofs.walk.diff.Goals as goal
 
 pub loop-level-init : goal.loop-level-init

@@ -1,6 +1,6 @@
 use Rattle.std.proofs.Common.{◌≡◌, ◌++◌, map}
-use Rattle.tree_diff.proofs.Prelude.{tree_of}
-use Rattle.tree_diff.specs.{Diffs.changes_of, Differences.differences, Differences.written, Walks.differences_left, Walks.steps_left}
+use Rattle.tree_diff.{proofs.Prelude.tree_of, specs.{Diffs.changes_of, Differences.{differences, written}, Walks.differences_left}}
+use Rattle.tree_diff.specs.Walks.{steps_left}
 use Rattle.tree_diff.proofs.walk.diff.Given as goal
 
 -- the edits so far, and the differences that are left, are all differences

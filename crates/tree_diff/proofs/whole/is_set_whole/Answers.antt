@@ -1,6 +1,5 @@
 use Rattle.std.proofs.Common.{◌≡◌, nat_lt, ◌&&◌, true, false, length, sym, ap, ◌∙◌, arith}
-use Rattle.tree_diff.proofs.Prelude.{nat_tests}
-use Rattle.tree_diff.proofs.ChoiceLemmas.{whole-lengths}
+use Rattle.tree_diff.proofs.{Prelude.nat_tests, ChoiceLemmas.whole-lengths}
 use Rattle.tree_diff.proofs.whole.is_set_whole.Goals as goal
 
 pub returns-then-kept-saturating_sub : goal.returns-then-kept-saturating_sub

@@ -1,6 +1,5 @@
 use Rattle.std.proofs.Common.{◌≡◌, ◌+◌, drop}
-use Rattle.tree_diff.proofs.Prelude.{members_of}
-use Rattle.tree_diff.specs.Choices.{kept}
+use Rattle.tree_diff.{proofs.Prelude.members_of, specs.Choices.kept}
 use Rattle.tree_diff.proofs.whole.kept.Given as goal
 
 abbrev pub invariant-loop-key : goal.invariant-loop-key

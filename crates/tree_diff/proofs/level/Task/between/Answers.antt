@@ -1,6 +1,5 @@
 use Rattle.std.proofs.Common.{◌≡◌, true, Some, if◌then◌else◌, sym, ap, ap₂, ◌∙◌}
-use Rattle.tree_diff.proofs.Prelude.{mapping, tree_of, members_of, tree_of-Map}
-use Rattle.tree_diff.specs.Differences.{differences, here, member_differences}
+use Rattle.tree_diff.{proofs.Prelude.{mapping, tree_of, members_of, tree_of-Map}, specs.Differences.{differences, here, member_differences}}
 use Rattle.tree_diff.specs.Choices.{is_set_whole}
 use Rattle.tree_diff.proofs.level.Task.between.Goals as goal
 

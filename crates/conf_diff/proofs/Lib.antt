@@ -1,0 +1,7 @@
+pub mod Prelude
+pub mod Joined
+pub mod Performing
+pub mod Limits
+pub mod Named
+pub mod Parts
+pub mod Lines

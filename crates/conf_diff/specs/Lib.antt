@@ -1,0 +1,5 @@
+pub mod Prelude
+pub mod StateEdits
+pub mod EditTexts
+pub mod Freely
+pub mod NamedEdits
