@@ -1,27 +1,15 @@
 -- A new file under the name itself: which calls leave that so, and what it means.
-use Rattle.std.specs.Prelude.{option_map}
-use Rattle.std.proofs.Common.{◌≡◌, ◌⊎◌, ℕ, List, [], ◌∷◌, ◌++◌, take, drop, Option, Some, None, Contains, Bool, true, false}
-use Rattle.std.proofs.Common.{refl, sym, ◌∙◌, ap, subst, inl, inr, ⊎_elim, take-append-drop}
-use Rattle.std.proofs.lemmas.List.{append-nil}
+use Rattle.std.{specs.Prelude.option_map, proofs.Common.{◌≡◌, ◌⊎◌, ℕ, List, [], ◌∷◌, ◌++◌, take, drop, Option, Some, None, Contains, Bool}}
+use Rattle.std.proofs.{Common.{true, false, refl, sym, ◌∙◌, ap, subst, inl, inr, ⊎_elim, take-append-drop}, lemmas.List.append-nil}
 use Rattle.std.proofs.lemmas.List.Elements.{Contains-append_cases, Contains-append_right}
-use Rattle.conf_disk.specs.Image.{IsWorn}
-use Rattle.conf_disk.proofs.Worn.{IsWorn-behind, IsWorn-more}
-use Rattle.conf_system.specs.Machine.{Version, version_bytes, with_pending, synced, failed_sync}
-use Rattle.conf_system.specs.Crash.{IsTorn}
-use Rattle.conf_system.proofs.Torn.{the_only}
-use Rattle.file_calls.specs.declared.calls.Rights.{Rights}
-use Rattle.file_calls.specs.Machine.{File, Leads, Names, Machine, Write, SyncNew, CreateGiven, UnlinkGiven, SyncFolder, after, failing}
-use Rattle.file_calls.specs.Machine.{file_at, file_bytes, given_bytes, stages, with_names, with_new, with_version, empty_file}
-use Rattle.file_calls.specs.Machine.Leads.{Nothing, Old, New}
-use Rattle.file_calls.specs.Crash.{IsLeft}
-use Rattle.file_calls.specs.Models.{FileModel, Passes, Wrote, IsPrivate}
-use Rattle.conf_files.specs.Modes.{NewIsPrivate}
-use Rattle.conf_files.specs.Standing.{IsNotNew, MightLead}
-use Rattle.conf_files.specs.Replacing.{LeavesBefore}
-use Rattle.conf_files.specs.Creating.{IsUnmade, IsPart, HasPart, ReadsPart, LeavesPart, IsNoneOrPart}
-use Rattle.conf_files.specs.Steps.{IsEmpty, IsFilling, Fills}
-use Rattle.conf_files.proofs.Moving.{Passes-joined, Passes-weaker}
-use Rattle.conf_files.proofs.Standing.{OnlyNew-new}
+use Rattle.{conf_disk.{specs.Image.IsWorn, proofs.Worn.{IsWorn-behind, IsWorn-more}}, conf_system.specs.Machine.{Version, version_bytes}}
+use Rattle.conf_system.{specs.{Machine.{with_pending, synced, failed_sync}, Crash.IsTorn}, proofs.Torn.the_only}
+use Rattle.file_calls.specs.{declared.calls.Rights.Rights, Machine.{File, Leads, Names, Machine, Write, SyncNew, CreateGiven, UnlinkGiven}}
+use Rattle.file_calls.specs.Machine.{SyncFolder, after, failing, file_at, file_bytes, given_bytes, stages, with_names, with_new}
+use Rattle.file_calls.specs.{Machine.{with_version, empty_file, Leads.{Nothing, Old, New}}, Crash.IsLeft, Models.{FileModel, Passes, Wrote}}
+use Rattle.{file_calls.specs.Models.IsPrivate, conf_files.specs.{Modes.NewIsPrivate, Standing.{IsNotNew, MightLead}}}
+use Rattle.conf_files.specs.{Replacing.LeavesBefore, Creating.{IsUnmade, IsPart, HasPart, ReadsPart, LeavesPart, IsNoneOrPart}}
+use Rattle.conf_files.{specs.Steps.{IsEmpty, IsFilling, Fills}, proofs.{Moving.{Passes-joined, Passes-weaker}, Standing.OnlyNew-new}}
 use Rattle.conf_files.proofs.Replaced.{now-among, might-left}
 
 -- ---- the bytes of the new file

@@ -1,15 +1,9 @@
 -- The new file, once it is written, and once it has the rights of the other.
-use Rattle.std.specs.Prelude.{option_map, IsSome, OnOk, Result, Ok, Err}
-use Rattle.std.proofs.Common.{◌≡◌, ℕ, List, [], length, take, Option, Some, None, true, false}
-use Rattle.std.proofs.Common.{refl, sym, ◌∙◌, ap, subst, arith}
-use Rattle.std.proofs.lemmas.List.{take_all}
-use Rattle.conf_system.specs.Machine.{Version, with_pending, synced}
-use Rattle.file_calls.specs.declared.calls.Rights.{Rights}
-use Rattle.file_calls.specs.Machine.{File, Machine, Write, SyncNew, GiveOwner, SetMode, after, with_version, with_rights, rights_at}
-use Rattle.file_calls.specs.Machine.Leads.{New}
-use Rattle.file_calls.specs.Models.{FileModel, Goes}
-use Rattle.conf_files.specs.Modes.{NewIsPrivate, TakesAfter, mode_after}
-use Rattle.conf_files.specs.Standing.{HasAll}
+use Rattle.std.{specs.Prelude.{option_map, IsSome, OnOk, Result, Ok, Err}, proofs.Common.{◌≡◌, ℕ, List, [], length, take, Option, Some}}
+use Rattle.std.proofs.{Common.{None, true, false, refl, sym, ◌∙◌, ap, subst, arith}, lemmas.List.take_all}
+use Rattle.{conf_system.specs.Machine.{Version, with_pending, synced}, file_calls.specs.{declared.calls.Rights.Rights, Machine.File}}
+use Rattle.file_calls.specs.Machine.{Machine, Write, SyncNew, GiveOwner, SetMode, after, with_version, with_rights, rights_at, Leads.New}
+use Rattle.{file_calls.specs.Models.{FileModel, Goes}, conf_files.specs.{Modes.{NewIsPrivate, TakesAfter, mode_after}, Standing.HasAll}}
 use Rattle.conf_files.specs.Steps.{IsEmpty, IsFilled, IsGiven}
 
 -- the device lacks these bytes, which are all

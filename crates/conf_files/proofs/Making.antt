@@ -1,17 +1,12 @@
 -- The calls that make a file, one after the other.
-use Rattle.std.specs.Prelude.{Result, Ok, Err, IsErr, MatchResult}
-use Rattle.std.proofs.Common.{◌≡◌, ◌⊎◌, ℕ, zero, suc, List, true, refl, sym, ◌∙◌, ap, subst, inl, inr}
-use Rattle.file_calls.specs.declared.calls.Rights.{Rights}
-use Rattle.file_calls.specs.Machine.{Machine, CreateGiven, UnlinkGiven, SyncFolder, IsNamed, after, failing, given_bytes}
-use Rattle.file_calls.specs.Machine.Leads.{Nothing, New}
-use Rattle.file_calls.specs.Models.{FileModel, Passes, Goes, CreatesGiven, IsPrivate}
-use Rattle.conf_files.specs.Standing.{HasAll}
-use Rattle.conf_files.specs.Creating.{IsUnmade, IsNoneOrPart, IsCreated, IsUnchanged, Creates}
-use Rattle.conf_files.specs.Steps.{Fills}
-use Rattle.conf_files.proofs.Moving.{Passes-joined, Passes-weaker, Passes-call}
-use Rattle.conf_files.proofs.Replaced.{new-bytes}
-use Rattle.conf_files.proofs.Created.{IsMaking, IsMaking-begun, IsMaking-created, IsMaking-filling, IsMaking-unlinked, IsMaking-left}
-use Rattle.conf_files.proofs.Created.{IsMaking-settled, IsNoneOrPart-making, same-given}
+use Rattle.std.{specs.Prelude.{Result, Ok, Err, IsErr, MatchResult}, proofs.Common.{◌≡◌, ◌⊎◌, ℕ, zero, suc, List, true, refl, sym, ◌∙◌, ap}}
+use Rattle.std.proofs.Common.{subst, inl, inr}
+use Rattle.file_calls.specs.{declared.calls.Rights.Rights, Machine.{Machine, CreateGiven, UnlinkGiven, SyncFolder, IsNamed, after, failing}}
+use Rattle.file_calls.specs.{Machine.{given_bytes, Leads.{Nothing, New}}, Models.{FileModel, Passes, Goes, CreatesGiven, IsPrivate}}
+use Rattle.conf_files.specs.{Standing.HasAll, Creating.{IsUnmade, IsNoneOrPart, IsCreated, IsUnchanged, Creates}, Steps.Fills}
+use Rattle.conf_files.proofs.{Moving.{Passes-joined, Passes-weaker, Passes-call}, Replaced.new-bytes, Created.{IsMaking, IsMaking-begun}}
+use Rattle.conf_files.proofs.Created.{IsMaking-created, IsMaking-filling, IsMaking-unlinked, IsMaking-left, IsMaking-settled}
+use Rattle.conf_files.proofs.Created.{IsNoneOrPart-making, same-given}
 
 -- at each moment, and now, the new file is on its way
 abbrev pub Making : {S : Type 0} → FileModel S → List ℕ → S → S → Type 0

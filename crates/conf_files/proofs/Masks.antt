@@ -1,7 +1,5 @@
 -- What is left of a mode under a mask.
-use Rattle.std.proofs.Common.{ℕ, ◌≡◌, sym, ap, ◌∙◌, bit_and}
-use Rattle.std.proofs.lemmas.Nat.{and_comm, and_assoc}
-use Rattle.std.specs.Int.Bits.{and_self}
+use Rattle.std.{proofs.{Common.{ℕ, ◌≡◌, sym, ap, ◌∙◌, bit_and}, lemmas.Nat.{and_comm, and_assoc}}, specs.Int.Bits.and_self}
 
 pub masked_is_within : (mode mask : ℕ) → bit_and (bit_and mode mask) mode ≡ bit_and mode mask
 masked_is_within mode mask =

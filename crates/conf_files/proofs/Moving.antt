@@ -1,11 +1,7 @@
 -- Calls one after the other.
-use Rattle.std.specs.Prelude.{option_map}
-use Rattle.std.proofs.Common.{◌≡◌, ℕ, ◌+◌, ◌≤◌, List, [], ◌++◌, length, take, drop, Option, Some, None}
-use Rattle.std.proofs.Common.{refl, sym, ◌∙◌, ap, subst, arith, inl, inr, ⊎_elim, append_assoc}
-use Rattle.std.proofs.Math.Seq.{take-add}
-use Rattle.std.proofs.lemmas.List.{append-nil}
-use Rattle.conf_system.specs.Machine.{with_pending}
-use Rattle.file_calls.specs.Machine.{File, Machine, Write, after, with_version}
+use Rattle.std.{specs.Prelude.option_map, proofs.Common.{◌≡◌, ℕ, ◌+◌, ◌≤◌, List, [], ◌++◌, length, take, drop, Option, Some, None, refl}}
+use Rattle.std.proofs.{Common.{sym, ◌∙◌, ap, subst, arith, inl, inr, ⊎_elim, append_assoc}, Math.Seq.take-add, lemmas.List.append-nil}
+use Rattle.{conf_system.specs.Machine.with_pending, file_calls.specs.Machine.{File, Machine, Write, after, with_version}}
 use Rattle.file_calls.specs.Models.{FileModel, Passes, Wrote}
 
 pub Passes-joined : {S : Type 0} (model : FileModel S) (old mid new : S) (P Q R : Machine → Type 0)

@@ -1,18 +1,12 @@
 -- The name leads to the old file, or to the new one: which calls leave that so, and what it means.
-use Rattle.std.specs.Prelude.{option_map}
-use Rattle.std.proofs.Common.{◌≡◌, ◌⊎◌, ℕ, List, [], ◌∷◌, Option, Some, None, Contains, Bool, true, false}
-use Rattle.std.proofs.Common.{refl, sym, ◌∙◌, ap, subst, arith, inl, inr, ⊎_elim}
-use Rattle.std.proofs.lemmas.List.{append-nil}
-use Rattle.std.proofs.lemmas.List.Elements.{Contains-append_cases, Contains-append_right}
-use Rattle.conf_system.specs.Machine.{Version, version_bytes}
-use Rattle.conf_system.specs.Crash.{IsTorn}
-use Rattle.conf_system.proofs.Torn.{IsTorn-device, the_only}
+use Rattle.std.{specs.Prelude.option_map, proofs.Common.{◌≡◌, ◌⊎◌, ℕ, List, [], ◌∷◌, Option, Some, None, Contains, Bool, true, false, refl}}
+use Rattle.std.proofs.{Common.{sym, ◌∙◌, ap, subst, arith, inl, inr, ⊎_elim}, lemmas.List.{append-nil, Elements.Contains-append_cases}}
+use Rattle.std.proofs.lemmas.List.Elements.{Contains-append_right}
+use Rattle.conf_system.{specs.{Machine.{Version, version_bytes}, Crash.IsTorn}, proofs.Torn.{IsTorn-device, the_only}}
 use Rattle.file_calls.specs.Machine.{File, Leads, Names, Machine, Rename, UnlinkBeside, SyncFolder, after, failing, file_at, file_bytes}
-use Rattle.file_calls.specs.Machine.{given_bytes, stages, with_names}
-use Rattle.file_calls.specs.Machine.Leads.{Nothing, Old, New}
-use Rattle.file_calls.specs.Crash.{IsLeft}
-use Rattle.conf_files.specs.Standing.{HasAll, IsNotNew, MightLead, Stands, IsHere, Holds}
-use Rattle.conf_files.specs.Replacing.{IsFresh, LeavesBefore, IsOldOrNew, IsKept}
+use Rattle.file_calls.specs.{Machine.{given_bytes, stages, with_names, Leads.{Nothing, Old, New}}, Crash.IsLeft}
+use Rattle.conf_files.specs.{Standing.{HasAll, IsNotNew, MightLead, Stands, IsHere, Holds}, Replacing.{IsFresh, LeavesBefore, IsOldOrNew}}
+use Rattle.conf_files.specs.Replacing.{IsKept}
 
 pub now-among : (m : Machine) → Contains (stages m) m.now
 now-among m = Contains-append_right m.earlier (m.now ∷ []) m.now (0, omega arith, refl)

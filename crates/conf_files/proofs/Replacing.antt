@@ -1,17 +1,11 @@
 -- The calls of a replacement, one after the other.
-use Rattle.std.specs.Prelude.{Result, Ok, Err, IsErr, IfOk, OnOk, MatchResult}
-use Rattle.std.proofs.Common.{◌≡◌, ◌⊎◌, ℕ, zero, suc, List, Some, true, refl, sym, ◌∙◌, ap, subst, inl, inr, ⊎_elim}
-use Rattle.file_calls.specs.declared.calls.Rights.{Rights}
-use Rattle.file_calls.specs.Machine.{Machine, CreateBeside, Rename, UnlinkBeside, SyncFolder, after, failing, rights_at}
-use Rattle.file_calls.specs.Machine.Leads.{Nothing, Old, New}
-use Rattle.file_calls.specs.Models.{FileModel, Passes, Goes, IsPrivate}
-use Rattle.conf_files.specs.Modes.{TakesAfter}
-use Rattle.conf_files.specs.Standing.{HasAll, Stands, Holds, KeepsStanding, KeepsHolding}
-use Rattle.conf_files.specs.Replacing.{IsFresh, IsOldOrNew, IsReplaced, Replaces}
-use Rattle.conf_files.specs.Steps.{CreatesStaged, IsSwapped}
-use Rattle.conf_files.proofs.Moving.{Passes-joined, Passes-weaker, Passes-call}
-use Rattle.conf_files.proofs.Filled.{TakesAfter-same}
-use Rattle.conf_files.proofs.Standing.{Stands-fresh, Stands-created}
+use Rattle.std.{specs.Prelude.{Result, Ok, Err, IsErr, IfOk, OnOk, MatchResult}, proofs.Common.{◌≡◌, ◌⊎◌, ℕ, zero, suc, List, Some, true}}
+use Rattle.std.proofs.Common.{refl, sym, ◌∙◌, ap, subst, inl, inr, ⊎_elim}
+use Rattle.file_calls.specs.{declared.calls.Rights.Rights, Machine.{Machine, CreateBeside, Rename, UnlinkBeside, SyncFolder, after}}
+use Rattle.file_calls.specs.{Machine.{failing, rights_at, Leads.{Nothing, Old, New}}, Models.{FileModel, Passes, Goes, IsPrivate}}
+use Rattle.conf_files.specs.{Modes.TakesAfter, Standing.{HasAll, Stands, Holds, KeepsStanding, KeepsHolding}, Replacing.IsFresh}
+use Rattle.conf_files.{specs.{Replacing.{IsOldOrNew, IsReplaced, Replaces}, Steps.{CreatesStaged, IsSwapped}}, proofs.Moving.Passes-joined}
+use Rattle.conf_files.proofs.{Moving.{Passes-weaker, Passes-call}, Filled.TakesAfter-same, Standing.{Stands-fresh, Stands-created}}
 use Rattle.conf_files.proofs.Replaced.{Holds-stands, Holds-unlinked, Holds-left, Holds-renamed, Holds-settled, IsOldOrNew-holds}
 use Rattle.conf_files.proofs.Replaced.{IsKept-holds}
 

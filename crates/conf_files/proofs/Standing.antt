@@ -1,19 +1,13 @@
 -- The new file stands beside the old one: which calls leave that so.
-use Rattle.std.specs.Prelude.{option_map, Result, Ok, Err}
-use Rattle.std.proofs.Common.{◌≡◌, ℕ, zero, suc, List, [], ◌∷◌, ◌++◌, take, Option, Some, None, Contains, Bool}
-use Rattle.std.proofs.Common.{refl, sym, ◌∙◌, ap, subst, arith, inl, inr, ⊎_elim}
+use Rattle.std.{specs.Prelude.{option_map, Result, Ok, Err}, proofs.Common.{◌≡◌, ℕ, zero, suc, List, [], ◌∷◌, ◌++◌, take, Option, Some}}
+use Rattle.std.proofs.Common.{None, Contains, Bool, refl, sym, ◌∙◌, ap, subst, arith, inl, inr, ⊎_elim}
 use Rattle.std.proofs.lemmas.List.Elements.{Contains-append_cases, Contains-append_right}
-use Rattle.conf_system.specs.Machine.{Version, with_pending, synced, failed_sync}
-use Rattle.conf_system.proofs.Torn.{the_only}
-use Rattle.file_calls.specs.declared.calls.Rights.{Rights}
-use Rattle.file_calls.specs.Machine.{File, Leads, Names, Machine, Call, Write, GiveOwner, GiveGroup, SetMode, SyncNew, CreateBeside}
-use Rattle.file_calls.specs.Machine.{after, failing, stages, with_version, with_rights, rights_at}
-use Rattle.file_calls.specs.Machine.Leads.{Old, New}
-use Rattle.file_calls.specs.Models.{FileModel, Passes, Goes, Wrote, IsPrivate}
-use Rattle.conf_files.specs.Modes.{IsNarrow, NewIsPrivate, mode_after}
-use Rattle.conf_files.specs.Replacing.{IsFresh}
-use Rattle.conf_files.specs.Standing.{MightLead, IsNotNew, Stands, OnlyNew, KeepsStanding}
-use Rattle.conf_files.proofs.Moving.{Passes-joined, Passes-weaker, Passes-call, Passes-none}
+use Rattle.conf_system.{specs.Machine.{Version, with_pending, synced, failed_sync}, proofs.Torn.the_only}
+use Rattle.file_calls.specs.{declared.calls.Rights.Rights, Machine.{File, Leads, Names, Machine, Call, Write, GiveOwner, GiveGroup}}
+use Rattle.file_calls.specs.Machine.{SetMode, SyncNew, CreateBeside, after, failing, stages, with_version, with_rights, rights_at}
+use Rattle.file_calls.specs.{Machine.Leads.{Old, New}, Models.{FileModel, Passes, Goes, Wrote, IsPrivate}}
+use Rattle.conf_files.specs.{Modes.{IsNarrow, NewIsPrivate, mode_after}, Replacing.IsFresh, Standing.{MightLead, IsNotNew, Stands, OnlyNew}}
+use Rattle.conf_files.{specs.Standing.KeepsStanding, proofs.Moving.{Passes-joined, Passes-weaker, Passes-call, Passes-none}}
 
 -- ---- only the new file changes
 

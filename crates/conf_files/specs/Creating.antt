@@ -1,13 +1,8 @@
 -- A new file, where nothing is yet.
 use Rattle.std.specs.Prelude.{◌≡◌, ◌⊎◌, ℕ, List, [], take, Option, Some, None, Contains, true, Result, OnOk, OnErr}
-use Rattle.conf_disk.specs.Image.{IsWorn}
-use Rattle.file_calls.specs.Machine.{File, Names, Machine, file_bytes, given_bytes, stages}
-use Rattle.file_calls.specs.Machine.Leads.{Nothing, New}
-use Rattle.file_calls.specs.Crash.{Image, CrashLeaves}
-use Rattle.file_calls.specs.Models.{FileModel, Passes}
-use Rattle.conf_files.specs.Modes.{NewIsPrivate}
-use Rattle.conf_files.specs.Standing.{HasAll, IsNotNew}
-use Rattle.conf_files.specs.Replacing.{LeavesBefore}
+use Rattle.{conf_disk.specs.Image.IsWorn, file_calls.specs.Machine.{File, Names, Machine, file_bytes, given_bytes, stages, Leads.Nothing}}
+use Rattle.file_calls.specs.{Machine.Leads.New, Crash.{Image, CrashLeaves}, Models.{FileModel, Passes}}
+use Rattle.conf_files.specs.{Modes.NewIsPrivate, Standing.{HasAll, IsNotNew}, Replacing.LeavesBefore}
 
 -- no new file was made yet
 pub record IsUnmade (m : Machine) : Type 0 where

@@ -1,9 +1,6 @@
 -- Who may use a file that takes the place of another.
 use Rattle.std.specs.Prelude.{◌≡◌, ◌⊎◌, ℕ, ◌*◌, ◌/◌, Bool, true, false, ◌==◌, Option, Some, None, bit_and, bit_or}
-use Rattle.file_calls.specs.declared.calls.Rights.{Rights}
-use Rattle.file_calls.specs.Machine.{File, Machine, rights_at}
-use Rattle.file_calls.specs.Machine.Leads.{New}
-use Rattle.file_calls.specs.Models.{IsPrivate}
+use Rattle.file_calls.specs.{declared.calls.Rights.Rights, Machine.{File, Machine, rights_at, Leads.New}, Models.IsPrivate}
 
 -- What the group, and all others, may keep, as bits of both classes. If the file has another group, who was in it may be
 -- one of the others now, and the other way round: both keep what both had.

@@ -1,11 +1,8 @@
 -- A file of other bytes in the place of one that is there.
 use Rattle.std.specs.Prelude.{◌≡◌, ◌⊎◌, ℕ, List, [], Option, Some, None, Contains, true, false, Result, OnOk, OnErr}
-use Rattle.file_calls.specs.Machine.{Names, Machine, file_at, given_bytes, stages}
-use Rattle.file_calls.specs.Machine.Leads.{Nothing, Old, New}
-use Rattle.file_calls.specs.Crash.{Image, CrashLeaves, IsLeft}
-use Rattle.file_calls.specs.Models.{FileModel, Passes}
-use Rattle.conf_files.specs.Modes.{IsNarrow, TakesAfter}
-use Rattle.conf_files.specs.Standing.{HasAll, IsNotNew}
+use Rattle.file_calls.specs.{Machine.{Names, Machine, file_at, given_bytes, stages, Leads.{Nothing, Old, New}}, Crash.{Image, CrashLeaves}}
+use Rattle.{file_calls.specs.{Crash.IsLeft, Models.{FileModel, Passes}}, conf_files.specs.{Modes.{IsNarrow, TakesAfter}, Standing.HasAll}}
+use Rattle.conf_files.specs.Standing.{IsNotNew}
 
 -- the name leads to a file that is to be replaced, and no new one was made yet
 pub record IsFresh (m : Machine) : Type 0 where

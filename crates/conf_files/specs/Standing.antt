@@ -1,10 +1,7 @@
 -- A name on the way from the old file to the new one.
 use Rattle.std.specs.Prelude.{◌≡◌, ◌⊎◌, ℕ, List, [], Option, Some, None, Contains, false, option_map}
-use Rattle.file_calls.specs.declared.calls.Rights.{Rights}
-use Rattle.file_calls.specs.Machine.{File, Leads, Names, Machine, stages}
-use Rattle.file_calls.specs.Machine.Leads.{Old, New}
-use Rattle.file_calls.specs.Models.{FileModel, Passes}
-use Rattle.conf_files.specs.Modes.{IsNarrow}
+use Rattle.file_calls.specs.{declared.calls.Rights.Rights, Machine.{File, Leads, Names, Machine, stages, Leads.{Old, New}}}
+use Rattle.{file_calls.specs.Models.{FileModel, Passes}, conf_files.specs.Modes.IsNarrow}
 
 -- the device has these bytes of the file, and there are no others
 abbrev pub HasAll : List ℕ → Option File → Type 0

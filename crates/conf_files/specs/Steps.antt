@@ -1,13 +1,8 @@
 -- How the parts of a replacement go.
 use Rattle.std.specs.Prelude.{◌≡◌, ◌⊎◌, ℕ, List, Option, Some, None, false, Result, MatchResult}
-use Rattle.conf_system.specs.Machine.{empty_version}
-use Rattle.file_calls.specs.declared.calls.Rights.{Rights}
-use Rattle.file_calls.specs.Machine.{File, Machine, CreateBeside, after, failing, rights_at}
-use Rattle.file_calls.specs.Machine.Leads.{Nothing, Old, New}
-use Rattle.file_calls.specs.Models.{FileModel, Passes, IsPrivate}
-use Rattle.conf_files.specs.Creating.{HasPart}
-use Rattle.conf_files.specs.Modes.{NewIsPrivate, TakesAfter}
-use Rattle.conf_files.specs.Standing.{HasAll, OnlyNew}
+use Rattle.{conf_system.specs.Machine.empty_version, file_calls.specs.{declared.calls.Rights.Rights, Machine.{File, Machine, CreateBeside}}}
+use Rattle.file_calls.specs.{Machine.{after, failing, rights_at, Leads.{Nothing, Old, New}}, Models.{FileModel, Passes, IsPrivate}}
+use Rattle.conf_files.specs.{Creating.HasPart, Modes.{NewIsPrivate, TakesAfter}, Standing.{HasAll, OnlyNew}}
 
 -- a new file was made beside the other, or why not
 pub record CreatesStaged {S E : Type 0} (model : FileModel S) (old : S) (result : Result (Unit {0}) E) (new : S) : Type 0 where

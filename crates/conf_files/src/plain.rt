@@ -129,6 +129,18 @@ pub fn open_to_read<R: Files<File = File>>(rt: &R, path: &str) -> io::Result<Fil
     Err(elsewhere_by_now())
 }
 
+/// Makes an empty file at a path that a user names, where nothing may be, for those whom the umask allows. What is
+/// there already, also a link, is neither followed nor changed.
+///
+/// # Errors
+/// If something is there, or the system refuses.
+pub fn create_empty<R: Files<File = File>>(rt: &R, path: &str) -> Result<(), Cause> {
+    let mut how = OpenOptions::new();
+    how.write(true).create_new(true);
+    Subject::Given.blame(how.open(rt, path))?;
+    Ok(())
+}
+
 /// Opens what is at a path that a user names, to be read. A link is followed, and a FIFO or a device is opened.
 ///
 /// # Errors

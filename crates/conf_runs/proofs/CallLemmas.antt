@@ -1,19 +1,12 @@
 -- What a world keeps of files that are replaced by single calls.
-use Rattle.std.specs.Prelude.{option_map, Contains, Result, Ok, Err, IsErr}
-use Rattle.std.proofs.Common.{◌≡◌, ◌⊎◌, inl, inr, ⊎_elim, ℕ, ◌≤◌, List, [], ◌∷◌, ◌++◌, Option, Some, None, refl, sym, ◌∙◌, ap, subst, arith}
-use Rattle.conf_files.specs.Replacing.{IsOldOrNew, IsReplaced, LeavesBefore, Replaces}
-use Rattle.conf_files.specs.declared.replace.ReplaceFault.{ReplaceFault}
-use Rattle.conf_files.specs.Standing.{HasAll}
-use Rattle.conf_system.proofs.Torn.{IsTorn-whole, IsTorn-device, the_only}
-use Rattle.conf_system.specs.Crash.{IsTorn}
-use Rattle.conf_system.specs.Machine.{Version}
-use Rattle.file_calls.specs.Crash.{Image, IsLeft, CrashLeaves}
-use Rattle.file_calls.specs.Machine.{File, Names, Machine, file_at, file_bytes}
-use Rattle.file_calls.specs.Machine.Leads.{New}
-use Rattle.file_calls.specs.Models.{FileModel}
-use Rattle.conf_tools.specs.Worlds.{WorldModel}
-use Rattle.conf_runs.specs.Files.{FileAt, FilesModel, KeepsFiles, Passes, leaves}
-use Rattle.conf_runs.specs.ByCalls.{IsLeftUnder, GoesBy, ReplacedBy, ReplacesByCalls}
+use Rattle.std.{specs.Prelude.{option_map, Contains, Result, Ok, Err, IsErr}, proofs.Common.{◌≡◌, ◌⊎◌, inl, inr, ⊎_elim, ℕ, ◌≤◌, List, []}}
+use Rattle.std.proofs.Common.{◌∷◌, ◌++◌, Option, Some, None, refl, sym, ◌∙◌, ap, subst, arith}
+use Rattle.conf_files.specs.{Replacing.{IsOldOrNew, IsReplaced, LeavesBefore, Replaces}, declared.replace.ReplaceFault.ReplaceFault}
+use Rattle.{conf_files.specs.Standing.HasAll, conf_system.{proofs.Torn.{IsTorn-whole, IsTorn-device, the_only}, specs.Crash.IsTorn}}
+use Rattle.{conf_system.specs.Machine.Version, file_calls.specs.{Crash.{Image, IsLeft, CrashLeaves}, Machine.{File, Names, Machine}}}
+use Rattle.{file_calls.specs.{Machine.{file_at, file_bytes, Leads.New}, Models.FileModel}, conf_tools.specs.Worlds.WorldModel}
+use Rattle.conf_runs.specs.{Files.{FileAt, FilesModel, KeepsFiles, Passes, leaves}, ByCalls.{IsLeftUnder, GoesBy, ReplacedBy}}
+use Rattle.conf_runs.specs.ByCalls.{ReplacesByCalls}
 
 -- a file may be left as it reads
 left-whole : (file : Option File) → IsLeft file (option_map file_bytes file)

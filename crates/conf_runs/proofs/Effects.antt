@@ -1,75 +1,40 @@
 -- What each word does to the folders of a world.
-use Rattle.std.proofs.Common.{◌≡◌, ◌≢◌, inl, inr, ℕ, Bool, true, false, List, [], ◌∷◌, Option, None, Some, Result, Ok}
-use Rattle.std.proofs.Common.{Err, IfOk, drop, map, refl, sym, ap, ◌∙◌, subst, codes}
-use Rattle.std.specs.Borrow.{Bor}
-use Rattle.conf_disk.specs.Image.{Image}
-use Rattle.conf_disk.specs.Models.{DiskModel}
-use Rattle.conf_files.specs.declared.create.NewFileFault.{NewFileFault}
-use Rattle.conf_files.specs.declared.replace.ReplaceFault.{ReplaceFault}
-use Rattle.conf_history.specs.Copies.{BacksUp, LeavesOldOrCopy}
-use Rattle.conf_history.specs.Copies.{disk_handed_back as copied_disk}
-use Rattle.conf_history.specs.Salvages.{LeavesOldOrSaved, Saves}
-use Rattle.conf_history.specs.Salvages.{disk_of as saved_disk}
+use Rattle.std.proofs.Common.{◌≡◌, ◌≢◌, inl, inr, ℕ, Bool, true, false, List, [], ◌∷◌, Option, None, Some, Result, Ok, Err, IfOk, drop, map}
+use Rattle.std.{proofs.Common.{refl, sym, ap, ◌∙◌, subst, codes}, specs.Borrow.Bor}
+use Rattle.{conf_disk.specs.{Image.Image, Models.DiskModel}, conf_files.specs.declared.create.NewFileFault.NewFileFault}
+use Rattle.{conf_files.specs.declared.replace.ReplaceFault.ReplaceFault, conf_history.specs.Copies.{BacksUp, LeavesOldOrCopy}}
+use Rattle.conf_history.specs.{Copies.disk_handed_back as copied_disk, Salvages.{LeavesOldOrSaved, Saves, disk_of as saved_disk}}
+use Rattle.conf_history.specs.declared.{fault.SalvageFault.SalvageFault, survey.Findings.Findings as Surveyed}
+use Rattle.conf_words.specs.declared.invocation.{Conditions.Conditions, Invocation.{Invocation, TheVariants.{Init, Import, Set, Alter}}}
+use Rattle.conf_words.specs.declared.invocation.Invocation.TheVariants.{Batch, Checkpoint, Run, Export, Names, Get, Exists, Log, Verify}
+use Rattle.conf_words.specs.declared.invocation.Invocation.TheVariants.{Diff, DiffFiles, Salvage, Backup, Format, Check, ExportAll}
+use Rattle.conf_words.specs.declared.invocation.{Root.Root, TreeForm.TreeForm, Comments.Comments, Formatting.Formatting}
+use Rattle.conf_words.specs.declared.invocation.{LogForm.LogForm as AskedLog, Style.Style, Value.{Value, TheVariants.{Text, Yaml, File}}}
+use Rattle.{conf_words.specs.declared.invocation.Target.Target, conf_tools.specs.Backups.{BacksUpFound, BacksUpInFolder, BacksUpStore}}
+use Rattle.conf_tools.specs.{Asking.AskedConditions, LogWords.{Logs, LogsValues}, Keeping.{CannotKeep, KeepsDropped, PutsFile, SalvagesTo}}
+use Rattle.conf_tools.specs.{Keeping.Verifies, Batches.counted_alone, OnStores.{DoesOnStores, GoesOnByFiles, ReadsInFolder}}
+use Rattle.conf_tools.specs.{Performs.{BatchesRead, ChangesAt, ChangesAtTarget, ImportsRead, access_of, grouping_of}, Edits.placed_or_not}
+use Rattle.conf_tools.specs.{Exports.disk_back, Tools.Taken, ProgramCalls.{Call, changing, disk_before, disk_behind, exporting, running}}
+use Rattle.conf_tools.specs.StoreWords.{Condition, conditions_of, ChangesInFolder, Inits, MakesChange, MakesInFolder, OpensFile, OpensNew}
+use Rattle.conf_tools.specs.{StoreWords.{RunsOnFolder, Salvages, SavesFound, SavesInFolder, WritesFindings}, Endings.EndsTold}
+use Rattle.conf_tools.specs.{Endings.{ending_after_backup, ending_at_end, told_of}, Outcomes.status_of_ending, TextWords.{IfSo, IsSet}}
+use Rattle.conf_tools.specs.TextWords.{ReplacesAt, ReplacesRead, ReportsOnAll, RestylesAll, RestylesOpened, TakesText, stops_all}
+use Rattle.conf_tools.specs.{TextWords.status_of_report, Statuses.worst, Worlds.{Around, WorldModel}, declared.changes.Change.Change}
+use Rattle.conf_tools.specs.declared.{file_texts.Restyled.{Restyled, TheVariants.{Same, Changed}}, file_words.Report.Report}
+use Rattle.conf_tools.specs.declared.{file_words.Report.TheVariants.{Findings, Name}, program.Status.{Status, TheVariants.Done}}
+use Rattle.conf_tools.specs.declared.{reading_fault.ReadingFault.ReadingFault, stores.Grouping.Grouping, texts.ToolFault.ToolFault}
+use Rattle.conf_tools.specs.{declared.world.Access.{Access, TheVariants.{Changing, New}}, EndOfRun.EndOfRun as Ended}
+use Rattle.conf_tools.proofs.{EndingLemmas.imported-status, StoreLemmas.{goes-to-keep, goes-to-open, goes-to-text, goes-unkept}}
+use Rattle.conf_runs.specs.{Folders.{IsDiskOf, KeepsFolders, LeavesNoMore}, Runs.{Deed, asked_at, asked_for, batched, call_of, changed_if}}
+use Rattle.conf_runs.specs.Runs.{changed_in, copied_in, copied_of, copies, folder_of, imported, initialised, made_in, makes_new, ran_in}
+use Rattle.conf_runs.specs.Runs.{read_from, saved_in, saved_of, saved_to, saves}
 use Rattle.conf_history.specs.declared.fault.HistoryFault.TheVariants as history
-use Rattle.conf_history.specs.declared.fault.SalvageFault.{SalvageFault}
 use Rattle.conf_history.specs.declared.fault.SalvageFault.TheVariants as salvage
-use Rattle.conf_history.specs.declared.survey.Findings.{Findings as Surveyed}
-use Rattle.conf_words.specs.declared.invocation.Conditions.{Conditions}
-use Rattle.conf_words.specs.declared.invocation.{Invocation.Invocation, Root.Root}
-use Rattle.conf_words.specs.declared.invocation.TreeForm.{TreeForm}
-use Rattle.conf_words.specs.declared.invocation.Invocation.TheVariants.{Init, Import, Set, Delete, Copy, Rename, Move}
-use Rattle.conf_words.specs.declared.invocation.Invocation.TheVariants.{Batch, Checkpoint, Run, Export, Names, Get, Exists}
-use Rattle.conf_words.specs.declared.invocation.Invocation.TheVariants.{Log, Verify, Salvage, Backup, Format, Check}
-use Rattle.conf_words.specs.declared.invocation.Comments.{Comments}
-use Rattle.conf_words.specs.declared.invocation.Formatting.{Formatting}
 use Rattle.conf_words.specs.declared.invocation.Formatting.TheVariants as formatting
-use Rattle.conf_words.specs.declared.invocation.LogForm.{LogForm as AskedLog}
-use Rattle.conf_words.specs.declared.invocation.Style.{Style}
 use Rattle.conf_words.specs.declared.invocation.LogForm.TheVariants as asked
-use Rattle.conf_words.specs.declared.invocation.Value.{Value}
-use Rattle.conf_words.specs.declared.invocation.Value.TheVariants.{Text, Yaml, File}
-use Rattle.conf_tools.specs.Backups.{BacksUpFound, BacksUpInFolder, BacksUpStore}
-use Rattle.conf_tools.specs.Asking.{AskedConditions}
-use Rattle.conf_tools.specs.LogWords.{Logs, LogsValues, commands_of}
-use Rattle.conf_tools.specs.Keeping.{CannotKeep, KeepsDropped, PutsFile, SalvagesTo, Verifies}
-use Rattle.conf_tools.specs.Batches.{counted_alone}
-use Rattle.conf_tools.specs.OnStores.{DoesOnStores, GoesOnByFiles, ReadsInFolder}
 use Rattle.conf_tools.specs.OnStores as on
-use Rattle.conf_tools.specs.Performs.{BatchesRead, ChangesAt, ImportsRead, access_of, grouping_of}
-use Rattle.conf_tools.specs.Edits.{placed_or_not}
-use Rattle.conf_tools.specs.Exports.{disk_back}
-use Rattle.conf_tools.specs.Tools.{Taken}
-use Rattle.conf_tools.specs.ProgramCalls.{Call, changing, disk_before, disk_behind, exporting, running}
-use Rattle.conf_tools.specs.StoreWords.{Condition, conditions_of, ChangesInFolder, Inits, MakesChange, MakesInFolder}
-use Rattle.conf_tools.specs.StoreWords.{OpensFile, OpensNew, RunsOnFolder, Salvages, SavesFound, SavesInFolder}
-use Rattle.conf_tools.specs.StoreWords.{WritesFindings}
-use Rattle.conf_tools.specs.Endings.{EndsTold, ending_after_backup, ending_at_end, told_of}
-use Rattle.conf_tools.specs.Outcomes.{status_of_ending}
-use Rattle.conf_tools.specs.TextWords.{IfSo, IsSet, ReplacesAt, ReplacesRead, ReportsOnAll, RestylesAll}
-use Rattle.conf_tools.specs.TextWords.{RestylesOpened, TakesText, stops_all, status_of_report}
-use Rattle.conf_tools.specs.Statuses.{worst}
-use Rattle.conf_tools.specs.Worlds.{Around, WorldModel}
-use Rattle.conf_tools.specs.declared.changes.Change.{Change}
 use Rattle.conf_tools.specs.declared.changes.Change.TheVariants as change
-use Rattle.conf_tools.specs.declared.file_texts.Restyled.{Restyled}
-use Rattle.conf_tools.specs.declared.file_texts.Restyled.TheVariants.{Same, Changed}
-use Rattle.conf_tools.specs.declared.file_words.Report.{Report}
-use Rattle.conf_tools.specs.declared.file_words.Report.TheVariants.{Findings, Name}
-use Rattle.conf_tools.specs.EndOfRun.{EndOfRun as Ended}
-use Rattle.conf_tools.specs.declared.program.Status.{Status}
-use Rattle.conf_tools.specs.declared.program.Status.TheVariants.{Done}
-use Rattle.conf_tools.specs.declared.reading_fault.ReadingFault.{ReadingFault}
 use Rattle.conf_tools.specs.declared.reading_fault.ReadingFault.TheVariants as reading
-use Rattle.conf_tools.specs.declared.stores.Grouping.{Grouping}
-use Rattle.conf_tools.specs.declared.texts.ToolFault.{ToolFault}
-use Rattle.conf_tools.specs.declared.world.Access.{Access}
-use Rattle.conf_tools.specs.declared.world.Access.TheVariants.{Changing, New}
-use Rattle.conf_runs.specs.Folders.{IsDiskOf, KeepsFolders, LeavesNoMore}
-use Rattle.conf_runs.specs.Runs.{Deed, asked_for, batched, call_of, changed_if, changed_in, copied_in, copied_of, copies}
-use Rattle.conf_runs.specs.Runs.{folder_of, imported, initialised, made_in, makes_new, ran_in, read_from}
-use Rattle.conf_runs.specs.Runs.{saved_in, saved_of, saved_to, saves}
-use Rattle.conf_tools.proofs.EndingLemmas.{imported-status}
-use Rattle.conf_tools.proofs.StoreLemmas.{goes-to-keep, goes-to-open, goes-to-text, goes-unkept}
 
 module _ {W D F P : Type 0} (world : WorldModel W D F P) (disk : DiskModel D) (remaining : F → Option (List ℕ))
     (honest : disk.honest) (leaves : W → List ℕ → Image → Type 0) (keeps : KeepsFolders world disk leaves) where
@@ -89,6 +54,7 @@ module _ {W D F P : Type 0} (world : WorldModel W D F P) (disk : DiskModel D) (r
   -- a world that goes on by files alone
   steady : (old new : W) → GoesOnByFiles world old new → Steady old new
   steady old new (on.stays _) = λ path image is. is
+  steady old new (on.folds folder _ result _ makes) = keeps.made folder old new result makes
   steady old new (on.looks folder _ result _ opens) = keeps.stores folder old new result opens
   steady old new (on.reads path _ file _ opens) = keeps.files path old new file opens
   steady old new (on.makes path bytes _ result _ made) = keeps.new_files path bytes old new result made
@@ -161,6 +127,12 @@ module _ {W D F P : Type 0} (world : WorldModel W D F P) (disk : DiskModel D) (r
   of-asked wanted access folder name path (Ok change) old new end does =
       of-conditional access folder does.conditions change old new end does.makes
   of-asked wanted access folder name path (Err fault) old new end does = nothing (Some folder) (same old new does.0)
+
+  of-target : (target : Target) (change : Result Change ToolFault) (old new : W) (end : Ended)
+      (does : ChangesAtTarget world disk target change old new end)
+      → Effect old new (status_of_ending end) (Some target.folder.now) (asked_at world disk honest target change old new end does)
+  of-target target change old new end does =
+      of-asked target.conditions Changing target.folder.now target.name.now target.pointer.now change old new end does
 
   of-import : (wanted : Conditions) (root : Root) (access : Access) (folder name : List ℕ) (read : Taken) (old new : W) (end : Ended)
       (does : ImportsRead world disk wanted root access folder name read old new end)
@@ -287,34 +259,31 @@ module _ {W D F P : Type 0} (world : WorldModel W D F P) (disk : DiskModel D) (r
       → Effect old.world new.world (status_of_ending end) (folder_of invocation)
       (call_of world disk remaining honest invocation old new end does)
   effect (Init folder) old new end does not_new = of-init folder.now old.world new.world end does.0
-  effect (Import folder name file root absent conditions reporting) old new end does not_new =
-      after old.world does.seen new.world (of-text file.now does.read old.world does.seen old.input new.input does.takes)
-      (of-import conditions root (access_of absent) folder.now name.now does.read does.seen new.world end does.imports)
-  effect (Set folder name pointer value placing conditions reporting) old new end does not_new =
-      after old.world does.0.seen new.world (of-value name.now pointer.now value does.0.change old.world does.0.seen
+  effect (Import asked reporting) old new end does not_new =
+      after old.world does.seen new.world (of-text asked.file.now does.read old.world does.seen old.input new.input does.takes)
+      (of-import asked.conditions asked.root (access_of asked.missing) asked.folder.now asked.name.now does.read does.seen new.world
+      end does.imports)
+  effect (Set target put reporting) old new end does not_new =
+      after old.world does.0.seen new.world (of-value target.name.now target.pointer.now put.value does.0.change old.world does.0.seen
       old.input new.input does.0.is)
-      (of-asked conditions Changing folder.now name.now pointer.now (placed_or_not placing does.0.change) does.0.seen new.world end
-      does.0.changes)
-  effect (Delete folder name pointer conditions) old new end does not_new =
-      of-asked conditions Changing folder.now name.now pointer.now does.0.change old.world new.world end does.0.changes
-  effect (Copy folder name to conditions) old new end does not_new =
-      of-asked conditions Changing folder.now to.now [] does.0.change old.world new.world end does.0.changes
-  effect (Rename folder name to conditions) old new end does not_new =
-      of-asked conditions Changing folder.now to.now [] does.0.change old.world new.world end does.0.changes
-  effect (Move folder name from to conditions) old new end does not_new =
-      of-asked conditions Changing folder.now name.now to.now does.0.change old.world new.world end does.0.changes
-  effect (Batch folder file count reporting) old new end does not_new =
-      after old.world does.seen new.world (of-text file.now does.read old.world does.seen old.input new.input does.takes)
-      (of-batch folder.now count does.read does.seen new.world end does.makes)
+      (of-target target (placed_or_not put.placing does.0.change) does.0.seen new.world end does.0.changes)
+  effect (Alter target alteration) old new end does not_new =
+      of-target target does.0.change old.world new.world end does.0.changes
+  effect (Batch asked reporting) old new end does not_new =
+      after old.world does.seen new.world (of-text asked.file.now does.read old.world does.seen old.input new.input does.takes)
+      (of-batch asked.folder.now asked.count does.read does.seen new.world end does.makes)
   effect (Checkpoint folder) old new end does not_new =
       of-change Changing folder.now [] change.Checkpoint old.world new.world end does.0
   effect (Run folder grouping) old new end does not_new = of-run folder.now (grouping_of grouping) old new end does
   effect (Export folder name form) old new end does not_new =
       of-export folder.now old.world new.world (status_of_ending end) does
   effect (Names folder at form) old new end does not_new = nothing None (steady old.world new.world does)
-  effect (Get folder name pointers at missing form) old new end does not_new = nothing None (steady old.world new.world does)
-  effect (Exists folder name pointer at) old new end does not_new = nothing None (steady old.world new.world does)
-  effect (Log folder name from at form) old new end does not_new = nothing None (steady old.world new.world does)
+  effect (ExportAll folder into form) old new end does not_new = nothing None (steady old.world new.world does)
+  effect (Get folder places missing form) old new end does not_new = nothing None (steady old.world new.world does)
+  effect (Exists folder place) old new end does not_new = nothing None (steady old.world new.world does)
+  effect (Log folder commands form) old new end does not_new = nothing None (steady old.world new.world does)
+  effect (Diff folder name span) old new end does not_new = nothing None (steady old.world new.world does)
+  effect (DiffFiles first second) old new end does not_new = nothing None (steady old.world new.world does)
   effect (Verify folder keep_dropped) old new end does not_new = nothing None (steady old.world new.world does)
   effect (Format formatting files reporting) old new end does not_new = nothing None (steady old.world new.world does)
   effect (Salvage folder new_folder keep_dropped) old new end does not_new = cc
@@ -342,22 +311,14 @@ module _ {W D F P : Type 0} (world : WorldModel W D F P) (disk : DiskModel D) (r
       (λ same. is_other (ap Some (sym same))) is)
   spares path (Init folder) old new end does is_other image is =
       beside path old.world new.world (effect (Init folder) old new end does refl) is_other image is
-  spares path (Import folder name file root absent conditions reporting) old new end does is_other image is =
-      beside path old.world new.world (effect (Import folder name file root absent conditions reporting) old new end
-      does refl) is_other image is
-  spares path (Set folder name pointer value placing conditions reporting) old new end does is_other image is =
-      beside path old.world new.world (effect (Set folder name pointer value placing conditions reporting) old new end does
-      refl) is_other image is
-  spares path (Delete folder name pointer conditions) old new end does is_other image is =
-      beside path old.world new.world (effect (Delete folder name pointer conditions) old new end does refl) is_other image is
-  spares path (Copy folder name to conditions) old new end does is_other image is =
-      beside path old.world new.world (effect (Copy folder name to conditions) old new end does refl) is_other image is
-  spares path (Rename folder name to conditions) old new end does is_other image is =
-      beside path old.world new.world (effect (Rename folder name to conditions) old new end does refl) is_other image is
-  spares path (Move folder name from to conditions) old new end does is_other image is =
-      beside path old.world new.world (effect (Move folder name from to conditions) old new end does refl) is_other image is
-  spares path (Batch folder file count reporting) old new end does is_other image is =
-      beside path old.world new.world (effect (Batch folder file count reporting) old new end does refl) is_other image is
+  spares path (Import asked reporting) old new end does is_other image is =
+      beside path old.world new.world (effect (Import asked reporting) old new end does refl) is_other image is
+  spares path (Set target put reporting) old new end does is_other image is =
+      beside path old.world new.world (effect (Set target put reporting) old new end does refl) is_other image is
+  spares path (Alter target alteration) old new end does is_other image is =
+      beside path old.world new.world (effect (Alter target alteration) old new end does refl) is_other image is
+  spares path (Batch asked reporting) old new end does is_other image is =
+      beside path old.world new.world (effect (Batch asked reporting) old new end does refl) is_other image is
   spares path (Checkpoint folder) old new end does is_other image is =
       beside path old.world new.world (effect (Checkpoint folder) old new end does refl) is_other image is
   spares path (Run folder grouping) old new end does is_other image is =
@@ -366,12 +327,18 @@ module _ {W D F P : Type 0} (world : WorldModel W D F P) (disk : DiskModel D) (r
       beside path old.world new.world (effect (Export folder name form) old new end does refl) is_other image is
   spares path (Names folder at form) old new end does is_other image is =
       beside path old.world new.world (effect (Names folder at form) old new end does refl) is_other image is
-  spares path (Get folder name pointers at missing form) old new end does is_other image is =
-      beside path old.world new.world (effect (Get folder name pointers at missing form) old new end does refl) is_other image is
-  spares path (Exists folder name pointer at) old new end does is_other image is =
-      beside path old.world new.world (effect (Exists folder name pointer at) old new end does refl) is_other image is
-  spares path (Log folder name from at form) old new end does is_other image is =
-      beside path old.world new.world (effect (Log folder name from at form) old new end does refl) is_other image is
+  spares path (ExportAll folder into form) old new end does is_other image is =
+      beside path old.world new.world (effect (ExportAll folder into form) old new end does refl) is_other image is
+  spares path (Get folder places missing form) old new end does is_other image is =
+      beside path old.world new.world (effect (Get folder places missing form) old new end does refl) is_other image is
+  spares path (Exists folder place) old new end does is_other image is =
+      beside path old.world new.world (effect (Exists folder place) old new end does refl) is_other image is
+  spares path (Log folder commands form) old new end does is_other image is =
+      beside path old.world new.world (effect (Log folder commands form) old new end does refl) is_other image is
+  spares path (Diff folder name span) old new end does is_other image is =
+      beside path old.world new.world (effect (Diff folder name span) old new end does refl) is_other image is
+  spares path (DiffFiles first second) old new end does is_other image is =
+      beside path old.world new.world (effect (DiffFiles first second) old new end does refl) is_other image is
   spares path (Verify folder keep_dropped) old new end does is_other image is =
       beside path old.world new.world (effect (Verify folder keep_dropped) old new end does refl) is_other image is
   spares path (Format formatting files reporting) old new end does is_other image is =

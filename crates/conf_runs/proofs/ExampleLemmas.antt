@@ -1,19 +1,10 @@
 -- The bytes and trees of README's first example.
-use Rattle.std.proofs.Common.{◌≡◌, ℕ, false, List, [], ◌∷◌, None, Some, refl, sym, subst, codes, arith}
-use Rattle.std.specs.Str.{IsUtf8, chars}
-use Rattle.conf_tools.specs.Prelude.{IsRead}
-use Rattle.json_pointer.specs.Pointers.{path_of}
+use Rattle.std.{proofs.Common.{◌≡◌, ℕ, false, List, [], ◌∷◌, None, Some, refl, sym, subst, codes, arith}, specs.Str.{IsUtf8, chars}}
 use Rattle.std.specs.Prelude.{Ok}
-use Rattle.tree_path.specs.Paths.{set, put}
-use Rattle.yaml_config.specs.Limits.{config_limits}
-use Rattle.yaml_grammar.specs.BlockNodes.{flow, keyed, pair, pairs}
-use Rattle.yaml_grammar.specs.FlowNodes.{scalar}
-use Rattle.yaml_grammar.specs.FlowScalars.{plain}
-use Rattle.yaml_grammar.specs.Reads.{Gives, Good, Presents}
-use Rattle.yaml_grammar.specs.Separation.{inline, lf}
-use Rattle.yaml_grammar.specs.Streams.{Stream, bare, stream_events}
-use Rattle.yaml_grammar.specs.Texts.{spaces}
-use Rattle.yaml_grammar.specs.Trees.{Tree, mapping, member, no_member, text}
+use Rattle.{conf_tools.specs.Prelude.IsRead, json_pointer.specs.Pointers.path_of, tree_path.specs.Paths.{set, put}}
+use Rattle.{yaml_config.specs.Limits.config_limits, yaml_grammar.specs.{BlockNodes.{flow, keyed, pair, pairs}, FlowNodes.scalar}}
+use Rattle.yaml_grammar.specs.{FlowScalars.plain, Reads.{Gives, Good, Presents}, Separation.{inline, lf}, Streams.{Stream, bare}}
+use Rattle.yaml_grammar.specs.{Streams.stream_events, Texts.spaces, Trees.{Tree, mapping, member, no_member, text}}
 
 abbrev pub port_is : List ℕ → Tree
 port_is value = mapping (member (codes "port") (text value) no_member)

@@ -1,64 +1,31 @@
 -- The runs of README's first example.
-use Rattle.std.proofs.Common.{◌≡◌, ◌≤◌, ◌<◌, inl, inr, ℕ, suc, zero, List, [], ◌∷◌, ◌++◌, length, take, Option}
-use Rattle.std.proofs.Common.{None, Some, Result, Ok, Err, IfOk, codes, refl, sym, ap, ◌∙◌, subst, arith}
-use Rattle.std.proofs.lemmas.List.{append-nil, length-append}
-use Rattle.std.proofs.lemmas.Str.{chars-nil}
+use Rattle.std.proofs.Common.{◌≡◌, ◌≤◌, ◌<◌, inl, inr, ℕ, suc, zero, List, [], ◌∷◌, ◌++◌, length, take, Option, None, Some, Result, Ok, Err}
+use Rattle.std.proofs.{Common.{IfOk, codes, refl, sym, ap, ◌∙◌, subst, arith}, lemmas.{List.{append-nil, length-append}, Str.chars-nil}}
 use Rattle.std.specs.Str.{chars}
-use Rattle.conf_disk.specs.Image.{Image, IsImage}
-use Rattle.conf_disk.specs.Laws.{ReadingIsAnImage}
-use Rattle.conf_disk.specs.Models.{DiskModel}
-use Rattle.conf_record.specs.Documents.{BasesAreRead, BasesClose, BasesFit, OneRecord}
-use Rattle.conf_session.specs.Answers.{value_at_path}
-use Rattle.conf_state.proofs.RunLaws.{and_then-Ok}
-use Rattle.conf_state.specs.Commands.{Command, set_at, single}
-use Rattle.conf_state.specs.States.{Contents}
-use Rattle.conf_state.specs.Steps.{after, step}
-use Rattle.conf_state.specs.declared.fault.StoreFault.{StoreFault}
-use Rattle.conf_state.specs.declared.room.Room.TheVariants.{Enough}
-use Rattle.conf_store.specs.Opens.{OneMeaning, RefusedMeansNothing}
-use Rattle.conf_words.specs.declared.invocation.Conditions.{Conditions}
-use Rattle.conf_words.specs.declared.invocation.Invocation.{Invocation}
-use Rattle.conf_words.specs.declared.invocation.Invocation.TheVariants.{Get, Import, Set}
-use Rattle.conf_words.specs.declared.invocation.Placing.TheVariants.{AtPlace}
-use Rattle.conf_words.specs.declared.invocation.TreeForm.TheVariants.{Styled}
-use Rattle.conf_words.specs.declared.invocation.Value.TheVariants.{Text}
-use Rattle.conf_words.specs.declared.invocation.ValueForm.TheVariants.{Whole}
-use Rattle.conf_tools.specs.Asking.{AskedConditions}
-use Rattle.conf_tools.specs.Changes.{ChangeSurvives, Performs as ChangePerforms}
-use Rattle.conf_tools.specs.{Endings.ending_at_end, Outcomes.status_of_ending}
-use Rattle.conf_tools.specs.OnStores.{DoesOnStores, PerformsOnStores}
-use Rattle.conf_tools.specs.Performs.{ChangesAt, Performs}
-use Rattle.conf_tools.specs.Prelude.{IsRead}
-use Rattle.conf_tools.specs.ProgramCalls.{CallHolds, changing}
-use Rattle.conf_tools.specs.Reads.{ShowsTree}
-use Rattle.conf_tools.specs.StoreWords.{ChangesInFolder, Condition, MakesChange, conditions_of}
-use Rattle.conf_tools.specs.TextWords.{SetsAt, SetsText, TakesText}
-use Rattle.conf_tools.specs.Tools.{IsTaken, Taken, most_input}
-use Rattle.conf_tools.specs.Worlds.{Around, WorldModel}
-use Rattle.conf_tools.specs.declared.changes.Change.{Change}
+use Rattle.{conf_disk.specs.{Image.{Image, IsImage}, Laws.ReadingIsAnImage, Models.DiskModel}, conf_record.specs.Documents.BasesAreRead}
+use Rattle.{conf_record.specs.Documents.{BasesClose, BasesFit, OneRecord}, conf_session.specs.Answers.value_at_path}
+use Rattle.conf_state.{proofs.RunLaws.and_then-Ok, specs.{Commands.{Command, set_at, single}, States.Contents, Steps.{after, step}}}
+use Rattle.{conf_state.specs.declared.{fault.StoreFault.StoreFault, room.Room.TheVariants.Enough}, conf_store.specs.Opens.OneMeaning}
+use Rattle.{conf_store.specs.Opens.RefusedMeansNothing, conf_words.specs.declared.invocation.{Conditions.Conditions, Invocation.Invocation}}
+use Rattle.conf_words.specs.declared.invocation.{Invocation.TheVariants.{Get, Import, Set}, Placing.TheVariants.AtPlace}
+use Rattle.conf_words.specs.declared.invocation.{TreeForm.TheVariants.Styled, Value.{Value, TheVariants.{Text, Yaml, File}}}
+use Rattle.{conf_words.specs.declared.invocation.ValueForm.TheVariants.Whole, conf_tools.specs.Asking.AskedConditions}
+use Rattle.conf_tools.specs.{Edits.placed_or_not, Changes.{ChangeSurvives, Performs as ChangePerforms}, Endings.ending_at_end}
+use Rattle.conf_tools.specs.{Outcomes.status_of_ending, OnStores.{DoesOnStores, PerformsOnStores}, Performs.{ChangesAt, Performs}}
+use Rattle.conf_tools.specs.{Prelude.IsRead, ProgramCalls.{CallHolds, changing}, Reads.ShowsTree, StoreWords.{ChangesInFolder, Condition}}
+use Rattle.conf_tools.specs.{StoreWords.{MakesChange, conditions_of}, TextWords.{IsSet, SetsAt, SetsText, TakesText}, Tools.IsTaken}
+use Rattle.conf_tools.specs.{Tools.{Taken, most_input}, Worlds.{Around, WorldModel}, declared.changes.Change.Change}
+use Rattle.conf_tools.specs.declared.{program.Status.{Status, TheVariants.Done}, stores.StoreToolFault.StoreToolFault}
+use Rattle.conf_tools.specs.declared.{stores.StoreToolFault.TheVariants.Folder as InFolder, texts.ToolFault.ToolFault, world.Access.Access}
+use Rattle.conf_tools.{specs.{declared.world.Access.TheVariants.Changing, EndOfRun.EndOfRun as Ended}, proofs.EndingLemmas.not-with}
+use Rattle.conf_runs.specs.{Example.{IsDone, IsText, SaysGet, SaysImport, SaysInit, SaysSet}, Folders.KeepsFolders}
+use Rattle.conf_runs.specs.{FoldersRead.ShowsFolders, Reads.{Asks, Puts, Shows, Turn}, Runs.{AreRuns, Deed, Ending, Event, IsMade}}
+use Rattle.conf_runs.specs.Runs.{KeepsCommands, Where, accepted_in, acknowledged, anew, asked_for, calls, changed_if, changed_in, cut_off}
+use Rattle.conf_runs.specs.Runs.{deed_at, deed_in, elsewhere, here, if_done, not_begun, own, returned}
+use Rattle.conf_runs.proofs.{ExampleLemmas.{AreUnambiguous, path-so, port-read, port_is, set-so, word-so}, StateLemmas.set-turns}
+use Rattle.conf_runs.proofs.{StatusLemmas.not-done, WriteLemmas.{OneTree, plainly-placed, reads-see-writes}}
+use Rattle.{yaml_config.specs.Limits.config_limits, yaml_grammar.specs.Trees.{Tree, text}}
 use Rattle.conf_tools.specs.declared.changes.Change.TheVariants as change
-use Rattle.conf_tools.specs.EndOfRun.{EndOfRun as Ended}
-use Rattle.conf_tools.specs.declared.program.Status.{Status}
-use Rattle.conf_tools.specs.declared.program.Status.TheVariants.{Done}
-use Rattle.conf_tools.specs.declared.stores.StoreToolFault.{StoreToolFault}
-use Rattle.conf_tools.specs.declared.stores.StoreToolFault.TheVariants.{Folder as InFolder}
-use Rattle.conf_tools.specs.declared.texts.ToolFault.{ToolFault}
-use Rattle.conf_tools.specs.declared.world.Access.{Access}
-use Rattle.conf_tools.specs.declared.world.Access.TheVariants.{Changing}
-use Rattle.conf_runs.specs.Example.{IsDone, SaysGet, SaysImport, SaysInit, SaysSet}
-use Rattle.conf_runs.specs.Folders.{KeepsFolders}
-use Rattle.conf_runs.specs.FoldersRead.{ShowsFolders}
-use Rattle.conf_runs.specs.Reads.{Asks, Puts, Shows, Turn}
-use Rattle.conf_runs.specs.Runs.{AreRuns, Deed, Ending, Event, IsMade, KeepsCommands, Where, accepted_in, acknowledged, anew, asked_for}
-use Rattle.conf_runs.specs.Runs.{calls, changed_if, changed_in, cut_off, deed_at, deed_in, elsewhere, here, if_done}
-use Rattle.conf_runs.specs.Runs.{not_begun, own, returned}
-use Rattle.conf_runs.proofs.ExampleLemmas.{AreUnambiguous, path-so, port-read, port_is, set-so, word-so}
-use Rattle.conf_runs.proofs.StateLemmas.{set-turns}
-use Rattle.conf_runs.proofs.StatusLemmas.{not-done}
-use Rattle.conf_tools.proofs.EndingLemmas.{not-with}
-use Rattle.conf_runs.proofs.WriteLemmas.{OneTree, reads-see-writes}
-use Rattle.yaml_config.specs.Limits.{config_limits}
-use Rattle.yaml_grammar.specs.Trees.{Tree, text}
 
 -- ---- what is kept of a set that was done
 
@@ -138,8 +105,9 @@ module _ {W D F P : Type 0} (world : WorldModel W D F P) (disk : DiskModel D) (r
   module _ (name pointer : List ℕ) (value : Tree) where
     abbrev Put : (invocation : Invocation) (old new : Around W) (end : Ended)
         → DoesOnStores world disk remaining invocation old new end → Type 0
-    Put (Set folder named place given AtPlace conditions reporting) old new end does =
-        (folder.now ≡ path) × (named.now ≡ name) × (place.now ≡ pointer) × IfOk does.0.change (SetsAt name pointer value)
+    Put (Set target put reporting) old new end does =
+        (target.folder.now ≡ path) × (target.name.now ≡ name) × (target.pointer.now ≡ pointer) × (put.placing ≡ AtPlace)
+        × IfOk does.0.change (SetsAt name pointer value)
     Put invocation old new end does = ⊥
 
     set-one : (invocation : Invocation) (place : Where world disk path invocation) (ending : Ending) → ending ≡ returned
@@ -150,22 +118,24 @@ module _ {W D F P : Type 0} (world : WorldModel W D F P) (disk : DiskModel D) (r
         (single (set_at (chars name) (chars pointer) value))
     set-one invocation place (cut_off noted) ended old new end done does put made = cc
     set-one invocation place not_begun ended old new end done does put made = cc
-    set-one (Set folder named pointed given AtPlace conditions reporting) (elsewhere is_other) returned ended old new end done does
-        (of_path, of_name, of_pointer, sets) made = absurd (is_other (ap Some of_path))
-    set-one (Set folder named pointed given AtPlace conditions reporting) (anew is is_new empty) returned ended old new end done does
-        (of_path, of_name, of_pointer, sets) made = cc
-    set-one (Set folder named pointed given AtPlace conditions reporting) (here is not_new) returned ended old new end done does
-        (of_path, of_name, of_pointer, sets) made =
-        let one = asked-one end done named.now pointed.now value conditions Changing folder.now does.0.change
-        (subst (λ (n : List ℕ). IfOk does.0.change (SetsAt n pointed.now value)) (sym of_name)
-        (subst (λ (q : List ℕ). IfOk does.0.change (SetsAt name q value)) (sym of_pointer) sets))
+    set-one (Set target put reporting) (elsewhere is_other) returned ended old new end done does
+        (of_path, of_name, of_pointer, plain, sets) made = absurd (is_other (ap Some of_path))
+    set-one (Set target put reporting) (anew is is_new empty) returned ended old new end done does
+        (of_path, of_name, of_pointer, plain, sets) made = cc
+    set-one (Set target put reporting) (here is not_new) returned ended old new end done does
+        (of_path, of_name, of_pointer, plain, sets) made =
+        let change = placed_or_not put.placing does.0.change in
+        let one = asked-one end done target.name.now target.pointer.now value target.conditions Changing target.folder.now change
+        (subst (λ (n : List ℕ). IfOk change (SetsAt n target.pointer.now value)) (sym of_name)
+        (subst (λ (q : List ℕ). IfOk change (SetsAt name q value)) (sym of_pointer)
+        (plainly-placed put.placing does.0.change (SetsAt name pointer value) plain sets)))
         does.0.seen new.world does.0.changes made in
         subst (λ (n : List ℕ). AcceptsOne (status_of_ending end)
-        (deed_at world disk remaining honest leaves path (Set folder named pointed given AtPlace conditions reporting) (here is not_new)
+        (deed_at world disk remaining honest leaves path (Set target put reporting) (here is not_new)
         returned old new end does) (single (set_at (chars n) (chars pointer) value))) of_name
         (subst (λ (q : List ℕ). AcceptsOne (status_of_ending end)
-        (deed_at world disk remaining honest leaves path (Set folder named pointed given AtPlace conditions reporting) (here is not_new)
-        returned old new end does) (single (set_at (chars named.now) (chars q) value))) of_pointer one)
+        (deed_at world disk remaining honest leaves path (Set target put reporting) (here is not_new)
+        returned old new end does) (single (set_at (chars target.name.now) (chars q) value))) of_pointer one)
     set-one invocation place ending ended old new end done does put made = absurd put
 
     -- its command is kept
@@ -214,7 +184,7 @@ module _ {W D F P : Type 0} (world : WorldModel W D F P) (disk : DiskModel D) (r
   says-import : (invocation : Invocation) → SaysImport invocation → (old new : Around W) (status : Status)
       (does : PerformsOnStores world disk remaining invocation old new status) → old.input ≡ Some (codes "port: 80\n")
       → Puts world disk remaining honest leaves (codes "shop") (codes "web") [] (port_is (codes "80")) invocation old new status does
-  says-import (Import folder named file root absent conditions reporting) (of_folder, of_name, of_file) old new status does given =
+  says-import (Import asked reporting) (of_folder, of_name, of_file) old new status does given =
       (of_folder, of_name, refl, by does.does.takes)
     where
       gives : (read : Taken) → IfOk read (λ taken. taken.items ≡ codes "port: 80\n")
@@ -222,7 +192,7 @@ module _ {W D F P : Type 0} (world : WorldModel W D F P) (disk : DiskModel D) (r
       gives (Ok taken) is = subst (λ (b : List ℕ). IsRead b config_limits (port_is (codes "80"))) (sym is) (port-read unambiguous)
       gives (Err fault) is = tt
 
-      by : TakesText world remaining file.now does.does.read old.world does.does.seen old.input new.input
+      by : TakesText world remaining asked.file.now does.does.read old.world does.does.seen old.input new.input
           → IfOk does.does.read (λ taken. IsRead taken.items config_limits (port_is (codes "80")))
       by (inl input) =
           gives does.does.read (input-read (codes "port: 80\n") (omega arith) does.does.read old.input new.input given input.2)
@@ -233,22 +203,30 @@ module _ {W D F P : Type 0} (world : WorldModel W D F P) (disk : DiskModel D) (r
       (does : DoesOnStores world disk remaining invocation old new end)
       → Put world disk remaining honest leaves (codes "shop") (codes "web") (codes "/port") (text (codes "81")) invocation old new
       end does
-  says-set (Set folder named place (Text word) AtPlace conditions reporting) (of_folder, of_name, of_place, of_word) old new end does =
-      (of_folder, of_name, of_place, by does.0.change does.0.is.2)
+  says-set (Set target put reporting) (of_folder, of_name, of_place, plain, of_word) old new end does =
+      (of_folder, of_name, of_place, plain, by put.value of_word does.0.change does.0.is)
     where
-      by : (change : Result Change ToolFault) → SetsText named.now place.now (chars word.now) change
+      sets-so : (word : List ℕ) → word ≡ codes "81" → (change : Result Change ToolFault)
+          → SetsText target.name.now target.pointer.now (chars word) change
           → IfOk change (SetsAt (codes "web") (codes "/port") (text (codes "81")))
-      by (Ok change) sets =
+      sets-so word is (Ok change) sets =
           subst (λ (n : List ℕ). SetsAt n (codes "/port") (text (codes "81")) change) of_name
-          (subst (λ (q : List ℕ). SetsAt named.now q (text (codes "81")) change) of_place
-          (subst (λ (w : List ℕ). SetsAt named.now place.now (text w) change) (ap chars of_word ∙ word-so) sets))
-      by (Err fault) sets = tt
+          (subst (λ (q : List ℕ). SetsAt target.name.now q (text (codes "81")) change) of_place
+          (subst (λ (w : List ℕ). SetsAt target.name.now target.pointer.now (text w) change) (ap chars is ∙ word-so) sets))
+      sets-so word is (Err fault) sets = tt
+
+      by : (value : Value) → IsText value (codes "81") → (change : Result Change ToolFault)
+          → IsSet world remaining target.name.now target.pointer.now value change old.world does.0.seen old.input new.input
+          → IfOk change (SetsAt (codes "web") (codes "/port") (text (codes "81")))
+      by (Text word) is change sets = sets-so word.now is change sets.2
+      by (Yaml word) is change sets = absurd is
+      by (File path) is change sets = absurd is
   says-set invocation says old new end does = absurd says
 
   says-get : (invocation : Invocation) → SaysGet invocation
       → Asks world disk remaining honest leaves (codes "shop") (codes "web") [] invocation (Whole Styled)
-  says-get (Get folder named pointers None missing (Whole Styled)) (of_folder, of_name, of_place) =
-      (of_folder, of_name, of_place ∙ ap (λ (q : List ℕ). q ∷ []) (sym chars-nil), refl)
+  says-get (Get folder places missing (Whole Styled)) (of_folder, of_name, of_now, of_place) =
+      (of_folder, of_name, of_now, of_place ∙ ap (λ (q : List ℕ). q ∷ []) (sym chars-nil), refl)
   says-get invocation says = absurd says
 
   module _ (keeps : KeepsFolders world disk leaves) (gives_one : OneTree) (one : OneMeaning) (reads_one : ReadingIsAnImage)

@@ -1,24 +1,15 @@
 -- What a crash leaves of files that a run of `format -i` replaced.
-use Rattle.std.proofs.Common.{◌≡◌, ◌⊎◌, inl, inr, ℕ, zero, suc, List, [], ◌∷◌, Option, Some, Result, Ok, Err, refl, sym, subst}
-use Rattle.std.proofs.Common.{arith, string_bytes, Bool, true, false, if◌then◌else◌, nat_lt}
-use Rattle.std.specs.Prelude.{Contains}
-use Rattle.conf_files.specs.declared.replace.ReplaceFault.{ReplaceFault}
+use Rattle.std.proofs.Common.{◌≡◌, ◌⊎◌, inl, inr, ℕ, zero, suc, List, [], ◌∷◌, Option, Some, Result, Ok, Err, refl, sym, subst, arith}
+use Rattle.std.{proofs.Common.{string_bytes, Bool, true, false, if◌then◌else◌, nat_lt}, specs.Prelude.Contains}
+use Rattle.{conf_files.specs.declared.replace.ReplaceFault.ReplaceFault, conf_words.specs.declared.invocation.Comments.Comments}
+use Rattle.conf_tools.specs.{FileTexts.Restyles, Statuses.{code_of, status_of, worst}, Styles.{IsStyled, style_of}, TextWords.RestylesAll}
+use Rattle.conf_tools.specs.{TextWords.{RestylesFile, RestylesOpened, status_after, unopened}, Prelude.OutOfMemory, Worlds.WorldModel}
+use Rattle.conf_tools.specs.declared.{file_texts.Restyled.TheVariants.{Same, Changed}, program.Status.{Status, TheVariants.{Done, Found}}}
+use Rattle.conf_tools.specs.declared.{program.Status.TheVariants.{Absent, Differs, Refused, WrongWords, Device}, texts.ToolFault.ToolFault}
+use Rattle.conf_runs.specs.{Files.{FileAt, FilesModel, KeepsFiles, Nothing, Passes, leaves}, Restyled.{FilesHold, IsElsewhere, IsInStyle}}
+use Rattle.conf_runs.specs.Restyled.{IsRestyled, ReadAt, ReadBy}
 use Rattle.conf_files.specs.declared.replace.ReplaceFault.TheVariants as replacing
-use Rattle.conf_words.specs.declared.invocation.Comments.{Comments}
-use Rattle.conf_tools.specs.FileTexts.{Restyles}
-use Rattle.conf_tools.specs.Statuses.{code_of, status_of, worst}
-use Rattle.conf_tools.specs.Styles.{IsStyled, style_of}
-use Rattle.conf_tools.specs.TextWords.{RestylesAll, RestylesFile, RestylesOpened}
-use Rattle.conf_tools.specs.TextWords.{status_after, unopened}
-use Rattle.conf_tools.specs.Prelude.{OutOfMemory}
-use Rattle.conf_tools.specs.Worlds.{WorldModel}
-use Rattle.conf_tools.specs.declared.file_texts.Restyled.TheVariants.{Same, Changed}
-use Rattle.conf_tools.specs.declared.program.Status.{Status}
-use Rattle.conf_tools.specs.declared.program.Status.TheVariants.{Done, Found, Absent, Refused, WrongWords, Device}
-use Rattle.conf_tools.specs.declared.texts.ToolFault.{ToolFault}
 use Rattle.conf_tools.specs.declared.texts.ToolFault.TheVariants as tool
-use Rattle.conf_runs.specs.Files.{FileAt, FilesModel, KeepsFiles, Nothing, Passes, leaves}
-use Rattle.conf_runs.specs.Restyled.{FilesHold, IsElsewhere, IsInStyle, IsRestyled, ReadAt, ReadBy}
 
 -- ---- statuses
 
@@ -39,6 +30,7 @@ worst-first : (other : Status) → worst Done other ≡ Done → other ≡ Done
 worst-first Done is = is
 worst-first Found is = is
 worst-first Absent is = is
+worst-first Differs is = is
 worst-first Refused is = is
 worst-first WrongWords is = is
 worst-first Device is = is
@@ -47,6 +39,7 @@ worst-other : (one : Status) → worst one Done ≡ Done → one ≡ Done
 worst-other Done is = is
 worst-other Found is = is
 worst-other Absent is = is
+worst-other Differs is = is
 worst-other Refused is = is
 worst-other WrongWords is = is
 worst-other Device is = is

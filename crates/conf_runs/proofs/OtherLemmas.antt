@@ -1,23 +1,14 @@
 -- Commands that change other configurations leave what is under a name.
-use Rattle.std.proofs.Common.{◌≡◌, ◌≢◌, ℕ, Bool, true, false, if◌then◌else◌, List, [], ◌∷◌, Option, Ok, Err}
-use Rattle.std.proofs.Common.{refl, sym, ap, ◌∙◌, subst, suc, take, zero}
-use Rattle.conf_session.specs.Answers.{value_at_path}
-use Rattle.conf_state.proofs.DraftLemmas.{named-cut-other, named-put-other}
-use Rattle.conf_state.proofs.Prelude.{same_text-true}
-use Rattle.conf_state.proofs.RunLaws.{and_then-Ok}
-use Rattle.conf_state.specs.Commands.{Command, Edit, batch, delete_at, import_as, name_of, set_at, single}
-use Rattle.conf_state.specs.Names.{good_name}
-use Rattle.conf_state.specs.States.{Contents, Entry, config_named, cut_config, put_config}
-use Rattle.conf_state.specs.Steps.{after, all_edited, and_then, by_path, checked_tree, configs_after, configs_after_delete, edited}
-use Rattle.conf_state.specs.Steps.{found, next_state, performed, step, with_checked_config}
-use Rattle.conf_state.specs.declared.fault.StoreFault.TheVariants.{BadName, EmptyBatch}
-use Rattle.conf_state.specs.declared.room.Room.TheVariants.{Enough}
-use Rattle.conf_runs.specs.Others.{AllSpare, AreElsewhere, Spares}
-use Rattle.conf_runs.proofs.StateLemmas.{both-Ok, next-configs}
-use Rattle.json_pointer.specs.Pointers.{path_of}
-use Rattle.tree_path.specs.Paths.{at, delete, set}
-use Rattle.yaml_grammar.specs.Texts.{same_text}
-use Rattle.yaml_grammar.specs.Trees.{Tree}
+use Rattle.std.proofs.Common.{◌≡◌, ◌≢◌, ℕ, Bool, true, false, if◌then◌else◌, List, [], ◌∷◌, Option, Ok, Err, refl, sym, ap, ◌∙◌, subst, suc}
+use Rattle.std.proofs.Common.{take, zero}
+use Rattle.{conf_session.specs.Answers.value_at_path, conf_state.proofs.DraftLemmas.{named-cut-other, named-put-other}}
+use Rattle.conf_state.{proofs.{Prelude.same_text-true, RunLaws.and_then-Ok}, specs.Commands.{Command, Edit, batch, delete_at, import_as}}
+use Rattle.conf_state.specs.{Commands.{name_of, set_at, single}, Names.good_name, States.{Contents, Entry, config_named, cut_config}}
+use Rattle.conf_state.specs.{States.put_config, Steps.{after, all_edited, and_then, by_path, checked_tree, configs_after}}
+use Rattle.conf_state.specs.Steps.{configs_after_delete, edited, found, next_state, performed, step, with_checked_config}
+use Rattle.conf_state.specs.declared.{fault.StoreFault.TheVariants.{BadName, EmptyBatch}, room.Room.TheVariants.Enough}
+use Rattle.conf_runs.{specs.Others.{AllSpare, AreElsewhere, Spares}, proofs.StateLemmas.{both-Ok, next-configs}}
+use Rattle.{json_pointer.specs.Pointers.path_of, tree_path.specs.Paths.{at, delete, set}, yaml_grammar.specs.{Texts.same_text, Trees.Tree}}
 
 -- the configurations have the same tree under a name, or both none
 abbrev Same : List ℕ → List Entry → List Entry → Type 0

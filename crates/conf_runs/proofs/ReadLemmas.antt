@@ -1,71 +1,38 @@
 -- What a run that reads a value writes of a folder that has it in whatever state a crash leaves.
-use Rattle.std.proofs.Common.{◌≡◌, ◌≤◌, ◌⊎◌, inl, inr, ℕ, ◌+◌, Bool, List, [], ◌∷◌, ◌++◌, length, Option, None, Some}
-use Rattle.std.proofs.Common.{Result, Ok, Err, OnOk, IfOk, IfErr, IsErrAnd, option_map, refl, sym, ap, ◌∙◌, subst, arith}
-use Rattle.std.proofs.lemmas.List.{append-nil}
-use Rattle.std.proofs.lemmas.Str.{chars-nil}
-use Rattle.std.specs.Io.KnownBytes.{Appends, Keeps}
-use Rattle.std.specs.Prelude.{String, encode_utf8_all, string_bytes}
-use Rattle.std.specs.Str.{chars}
-use Rattle.std.specs.declared.alloc.Global.{Global}
-use Rattle.conf_disk.specs.Folder.{bytes_under, several_waited}
-use Rattle.conf_disk.specs.Image.{Image, IsImage, image_now}
-use Rattle.conf_disk.specs.Laws.{ReadingIsAnImage}
-use Rattle.conf_disk.specs.Models.{DiskModel}
-use Rattle.conf_disk.specs.Moments.{LeavesOnly}
-use Rattle.conf_disk.specs.declared.disk.Name.TheVariants.{Store}
-use Rattle.conf_folder.specs.declared.fault.FolderFault.{FolderFault}
+use Rattle.std.proofs.Common.{◌≡◌, ◌≤◌, ◌⊎◌, inl, inr, ℕ, ◌+◌, Bool, List, [], ◌∷◌, ◌++◌, length, Option, None, Some, Result, Ok, Err, OnOk}
+use Rattle.std.proofs.{Common.{IfOk, IfErr, IsErrAnd, option_map, refl, sym, ap, ◌∙◌, subst, arith}, lemmas.List.append-nil}
+use Rattle.std.{proofs.lemmas.Str.chars-nil, specs.{Io.KnownBytes.{Appends, Keeps}, Prelude.{String, encode_utf8_all, string_bytes}}}
+use Rattle.std.specs.{Str.chars, declared.alloc.Global.Global}
+use Rattle.conf_disk.specs.{Folder.{bytes_under, several_waited}, Image.{Image, IsImage, image_now}, Laws.ReadingIsAnImage}
+use Rattle.conf_disk.specs.{Models.DiskModel, Moments.LeavesOnly, declared.disk.Name.TheVariants.Store}
+use Rattle.{conf_folder.specs.declared.fault.FolderFault.FolderFault, conf_history.specs.Histories.{IsBadAt, IsNoStore, RefusesReading}}
+use Rattle.{conf_history.specs.declared.fault.HistoryFault.HistoryFault, conf_record.specs.Documents.OneRecord}
+use Rattle.{conf_session.specs.Answers.value_at_path, conf_state.specs.{States.Contents, Steps.{and_then, by_path}}}
+use Rattle.{conf_state.specs.declared.fault.StoreFault.StoreFault, conf_store.proofs.OpenLemmas.refused-nothing}
+use Rattle.conf_store.{proofs.RecoveryLemmas.{no-next-numbered, no-next-refused}, specs.{Calls.tree_named, Meaning.FileMeans}}
+use Rattle.conf_store.specs.{Meaning.{FolderMeans, ImageMeans, Means, empty_state}, NextRecords.IsWhy, Opens.{IsNoNextRecord, MeantAtEntry}}
+use Rattle.conf_store.specs.{Opens.{OneMeaning, RefusedMeansNothing, RefusesOpening}, declared.fault.OpenFault.OpenFault}
+use Rattle.{conf_store.specs.declared.records.NoRecord.NoRecord, conf_words.specs.declared.invocation.Invocation.Invocation}
+use Rattle.conf_words.specs.declared.invocation.{Invocation.TheVariants.{Export, Get}, MissingValue.MissingValue, TreeForm.TreeForm}
+use Rattle.{conf_words.specs.declared.invocation.ValueForm.{ValueForm, TheVariants.Whole}, conf_tools.specs.Exports.{HasText, LacksText}}
+use Rattle.conf_tools.specs.{Exports.disk_back, Performs.Performs, Reads.{RefusesValues, ShowsAll, ShowsTree, WritesValues, found_or}}
+use Rattle.conf_tools.specs.{Reads.{pointers_of, shown, tree_text, value_or}, Statuses.status_of_store, StoreWords.ExportsFromFolder}
+use Rattle.conf_tools.specs.{StoreWords.{OpensFile, SaysOfFile, SaysValues, WritesFound, WritesWhole}, Endings.ending_after_reading}
+use Rattle.conf_tools.specs.{Outcomes.status_of_ending, ReadingStatuses.status_of_reading, Worlds.{Around, WorldModel}}
+use Rattle.conf_tools.specs.{EndOfRun.EndOfRun as Ended, declared.program.Status.{Status, TheVariants.{Device, Done, Refused}}}
+use Rattle.conf_tools.specs.declared.{reading_fault.ReadingFault.ReadingFault, stores.StoreToolFault.StoreToolFault}
+use Rattle.{conf_tools.specs.declared.world.Access.TheVariants.Reading, conf_runs.specs.{Folders.KeepsFolders, FoldersRead.GivesStore}}
+use Rattle.conf_runs.specs.{FoldersRead.{IsUnread, MayHoldMore, MayLackStore, ShowsFolders}, Reads.{Asks, ExportRanOut, GetRanOut, RanOut}}
+use Rattle.conf_runs.{specs.Reads.{RanOutOn, Shows}, proofs.{RunLemmas.file-one, StateLemmas.empty-lacks}}
+use Rattle.{json_pointer.specs.Pointers.path_of, tree_path.specs.Paths.at, yaml_grammar.specs.Trees.Tree}
 use Rattle.conf_folder.specs.declared.fault.FolderFault.TheVariants as folder_fault
-use Rattle.conf_history.specs.Histories.{IsBadAt, IsNoStore, RefusesReading}
-use Rattle.conf_history.specs.declared.fault.HistoryFault.{HistoryFault}
 use Rattle.conf_history.specs.declared.fault.HistoryFault.TheVariants as history
-use Rattle.conf_record.specs.Documents.{OneRecord}
-use Rattle.conf_session.specs.Answers.{value_at_path}
-use Rattle.conf_state.specs.States.{Contents}
-use Rattle.conf_state.specs.Steps.{and_then, by_path}
-use Rattle.conf_state.specs.declared.fault.StoreFault.{StoreFault}
 use Rattle.conf_state.specs.declared.fault.StoreFault.TheVariants as state_fault
-use Rattle.conf_store.proofs.OpenLemmas.{refused-nothing}
-use Rattle.conf_store.proofs.RecoveryLemmas.{no-next-numbered, no-next-refused}
-use Rattle.conf_store.specs.Calls.{tree_named}
-use Rattle.conf_store.specs.Meaning.{FileMeans, FolderMeans, ImageMeans, Means, empty_state}
-use Rattle.conf_store.specs.NextRecords.{IsWhy}
-use Rattle.conf_store.specs.Opens.{IsNoNextRecord, MeantAtEntry, OneMeaning, RefusedMeansNothing, RefusesOpening}
-use Rattle.conf_store.specs.declared.fault.OpenFault.{OpenFault}
 use Rattle.conf_store.specs.declared.fault.OpenFault.TheVariants as opening
-use Rattle.conf_store.specs.declared.records.NoRecord.{NoRecord}
 use Rattle.conf_store.specs.declared.records.NoRecord.TheVariants as why
-use Rattle.conf_words.specs.declared.invocation.Invocation.{Invocation}
-use Rattle.conf_words.specs.declared.invocation.Invocation.TheVariants.{Export, Get}
-use Rattle.conf_words.specs.declared.invocation.MissingValue.{MissingValue}
 use Rattle.conf_words.specs.declared.invocation.MissingValue.TheVariants as missing_value
-use Rattle.conf_words.specs.declared.invocation.TreeForm.{TreeForm}
-use Rattle.conf_words.specs.declared.invocation.ValueForm.{ValueForm}
-use Rattle.conf_words.specs.declared.invocation.ValueForm.TheVariants.{Whole}
-use Rattle.conf_tools.specs.Exports.{HasText, LacksText, disk_back}
-use Rattle.conf_tools.specs.Performs.{Performs}
-use Rattle.conf_tools.specs.Reads.{RefusesValues, ShowsAll, ShowsTree, WritesValues, found_or, pointers_of, shown, tree_text, value_or}
-use Rattle.conf_tools.specs.Statuses.{status_of_store}
-use Rattle.conf_tools.specs.StoreWords.{ExportsFromFolder, OpensFile, SaysOfFile, SaysValues, WritesFound, WritesWhole}
-use Rattle.conf_tools.specs.Endings.{ending_after_reading}
-use Rattle.conf_tools.specs.Outcomes.{status_of_ending}
-use Rattle.conf_tools.specs.ReadingStatuses.{status_of_reading}
-use Rattle.conf_tools.specs.Worlds.{Around, WorldModel}
-use Rattle.conf_tools.specs.EndOfRun.{EndOfRun as Ended}
-use Rattle.conf_tools.specs.declared.program.Status.{Status}
-use Rattle.conf_tools.specs.declared.program.Status.TheVariants.{Device, Done, Refused}
-use Rattle.conf_tools.specs.declared.reading_fault.ReadingFault.{ReadingFault}
 use Rattle.conf_tools.specs.declared.reading_fault.ReadingFault.TheVariants as reading
-use Rattle.conf_tools.specs.declared.stores.StoreToolFault.{StoreToolFault}
 use Rattle.conf_tools.specs.declared.stores.StoreToolFault.TheVariants as tool
-use Rattle.conf_tools.specs.declared.world.Access.TheVariants.{Reading}
-use Rattle.conf_runs.specs.Folders.{KeepsFolders}
-use Rattle.conf_runs.specs.FoldersRead.{GivesStore, IsUnread, MayHoldMore, MayLackStore, ShowsFolders}
-use Rattle.conf_runs.specs.Reads.{Asks, ExportRanOut, GetRanOut, RanOut, RanOutOn, Shows}
-use Rattle.conf_runs.proofs.RunLemmas.{file-one}
-use Rattle.conf_runs.proofs.StateLemmas.{empty-lacks}
-use Rattle.json_pointer.specs.Pointers.{path_of}
-use Rattle.tree_path.specs.Paths.{at}
-use Rattle.yaml_grammar.specs.Trees.{Tree}
 
 -- ---- what was not written
 
@@ -468,15 +435,23 @@ module _ {W D F P : Type 0} (world : WorldModel W D F P) (disk : DiskModel D) (r
       → Asks world disk remaining honest leaves path name pointer invocation form
       → StandsIn leaves path name pointer value old.world → (text : List ℕ) → ShowsTree form value text
       → Shows world disk remaining honest leaves path name pointer text invocation old new status does
-  asked value (Get folder named pointers None missing form) old new status does wanted (of_path, of_name, of_place, of_form)
+  asked value (Get folder places missing form) old new status does wanted (of_path, of_name, of_now, of_place, of_form)
       stands text shows =
-      subst (λ (s : Status). Outcome (GetRanOut world.several remaining None named.now (pointers_of pointers.items) missing form
+      subst (λ (s : Status). Outcome (GetRanOut world.several remaining places.at places.name.now pointers missing form
       does.does.0.file old.output new.output does.ending does.does.0.does) text old.output new.output s) (sym does.is)
-      (got world disk remaining honest leaves keeps shows_folders folder.now named.now pointer one reads_one nothing one_record counts
-      value old.world
-      (stands-as leaves path name pointer folder.now named.now pointer of_path of_name refl value old.world stands)
+      (subst (λ (at : Option ℕ).
+      (says : SaysOfFile world.several remaining (SaysValues at places.name.now pointers missing form) does.does.0.file old.output
+      new.output does.ending)
+      → Outcome (GetRanOut world.several remaining at places.name.now pointers missing form does.does.0.file old.output new.output
+      does.ending says) text old.output new.output (status_of_ending does.ending)) (sym of_now)
+      (λ says. got world disk remaining honest leaves keeps shows_folders folder.now places.name.now pointer one reads_one nothing
+      one_record counts value old.world
+      (stands-as leaves path name pointer folder.now places.name.now pointer of_path of_name refl value old.world stands)
       missing form text (subst (λ (f : ValueForm). ShowsTree f value text) (sym of_form) shows) new.world old.output new.output
-      does.ending (pointers_of pointers.items) of_place does.does.0.file does.does.0.opens does.does.0.does)
+      does.ending pointers of_place does.does.0.file does.does.0.opens says) does.does.0.does)
+    where
+      pointers : List (List ℕ)
+      pointers = pointers_of places.pointers.items
   asked value (Export folder named form) old new status does wanted (of_path, of_name, whole, of_form) stands text shows =
       subst (λ (s : Status). Outcome (ExportRanOut world disk form folder.now named.now old.world new.world old.output new.output
       does.ending does.does.0) text old.output new.output s) (sym does.is)

@@ -1,46 +1,25 @@
 -- What runs of the program keep, one run after the other.
-use Rattle.std.proofs.Common.{◌≡◌, ◌≢◌, ◌≤◌, ◌⊎◌, inl, inr, ℕ, List, [], ◌∷◌, take, Option, None, Some, Result, Ok}
-use Rattle.std.proofs.Common.{Err, IfOk, Bool, true, refl, sym, ap, ◌∙◌, subst, arith}
-use Rattle.conf_disk.specs.Folder.{bytes_under, several_waited}
-use Rattle.conf_disk.specs.Image.{Image, IsImage, image_now}
-use Rattle.conf_disk.specs.Laws.{ReadingIsAnImage}
-use Rattle.conf_disk.specs.Models.{DiskModel}
-use Rattle.conf_disk.specs.declared.disk.Name.TheVariants.{Store}
-use Rattle.conf_history.specs.Copies.{BacksUp, IsCopied, LeavesOldOrCopy}
-use Rattle.conf_history.specs.Copies.{disk_handed_back as copied_disk}
-use Rattle.conf_history.specs.Salvages.{IsSaved, LeavesOldOrSaved, Saves}
-use Rattle.conf_history.specs.Salvages.{disk_of as saved_disk}
-use Rattle.conf_history.specs.declared.fault.SalvageFault.{SalvageFault}
-use Rattle.conf_history.specs.declared.survey.Findings.{Findings}
-use Rattle.conf_journal.specs.Store.{IsStoreOf}
-use Rattle.conf_state.specs.Commands.{Command}
-use Rattle.conf_state.specs.States.{Contents}
-use Rattle.conf_state.specs.Steps.{after}
-use Rattle.conf_record.specs.Documents.{BasesAreRead, BasesClose, BasesFit}
-use Rattle.conf_state.specs.BaseTexts.{base_bytes}
-use Rattle.conf_store.specs.Meaning.{FileMeans, ImageMeans, empty_state}
-use Rattle.conf_store.proofs.StoreLemmas.{base-file-means, base-of}
-use Rattle.conf_store.specs.Opens.{OneMeaning}
-use Rattle.conf_words.specs.declared.invocation.Invocation.{Invocation}
-use Rattle.conf_words.specs.declared.invocation.Invocation.TheVariants.{Backup, Salvage}
-use Rattle.conf_tools.specs.{Endings.ending_after_backup, Outcomes.status_of_ending}
-use Rattle.conf_tools.specs.OnStores.{DoesOnStores}
-use Rattle.conf_tools.specs.StoreWords.{WritesFindings}
-use Rattle.conf_tools.specs.ProgramCalls.{Call, CallHolds, EachMeans, disk_before, disk_behind, noted_in}
+use Rattle.std.proofs.Common.{◌≡◌, ◌≢◌, ◌≤◌, ◌⊎◌, inl, inr, ℕ, List, [], ◌∷◌, take, Option, None, Some, Result, Ok, Err, IfOk, Bool, true}
+use Rattle.std.proofs.Common.{refl, sym, ap, ◌∙◌, subst, arith}
+use Rattle.conf_disk.specs.{Folder.{bytes_under, several_waited}, Image.{Image, IsImage, image_now}, Laws.ReadingIsAnImage}
+use Rattle.{conf_disk.specs.{Models.DiskModel, declared.disk.Name.TheVariants.Store}, conf_history.specs.Copies.{BacksUp, IsCopied}}
+use Rattle.conf_history.specs.{Copies.{LeavesOldOrCopy, disk_handed_back as copied_disk}, Salvages.{IsSaved, LeavesOldOrSaved, Saves}}
+use Rattle.conf_history.specs.{Salvages.disk_of as saved_disk, declared.{fault.SalvageFault.SalvageFault, survey.Findings.Findings}}
+use Rattle.{conf_journal.specs.Store.IsStoreOf, conf_state.specs.{Commands.Command, States.Contents, Steps.after, BaseTexts.base_bytes}}
+use Rattle.{conf_record.specs.Documents.{BasesAreRead, BasesClose, BasesFit}, conf_store.specs.Meaning.{FileMeans, ImageMeans, empty_state}}
+use Rattle.conf_store.{specs.Opens.OneMeaning, proofs.StoreLemmas.{base-file-means, base-of}}
+use Rattle.conf_words.specs.declared.invocation.Invocation.{Invocation, TheVariants.{Backup, Salvage}}
+use Rattle.conf_tools.specs.{Endings.ending_after_backup, Outcomes.status_of_ending, OnStores.DoesOnStores, StoreWords.WritesFindings}
+use Rattle.conf_tools.specs.{ProgramCalls.{Call, CallHolds, EachMeans, disk_before, disk_behind, noted_in}, Worlds.{Around, WorldModel}}
+use Rattle.conf_tools.specs.{EndOfRun.EndOfRun as Ended, declared.program.Status.{Status, TheVariants.{Done, Found, Absent, Differs}}}
+use Rattle.{conf_tools.specs.declared.program.Status.TheVariants.{Refused, WrongWords, Device}, conf_runs.specs.Folders.HandsOutNone}
+use Rattle.conf_runs.specs.{Folders.{IsDiskOf, KeepsFolders}, Runs.{AreRuns, Deed, EachKept, Ending, Event, Holds, IsMade, Kept, KeptOf}}
+use Rattle.conf_runs.specs.Runs.{Leads, LeavesAfter, MakesStore, MayLeave, MeantBy, Where, accepted_in, acknowledged, anew, makes_new}
+use Rattle.conf_runs.specs.Runs.{calls, commands, copies, cut_off, deed_at, deed_in, elsewhere, ending_of_call, first_disk, folder_of, here}
+use Rattle.conf_runs.{specs.Runs.{last_disk, new_store, not_begun, own, returned, saves}, proofs.StatusLemmas.{not-done, not-backed-up}}
+use Rattle.conf_runs.proofs.Effects.{Backed, Effect, Fits, backed, effect, made_there, none_made, nothing, on_disk, salvaged-to}
+use Rattle.conf_runs.proofs.Effects.{saved_there, spares}
 use Rattle.conf_tools.specs.ProgramCalls as program
-use Rattle.conf_tools.specs.Worlds.{Around, WorldModel}
-use Rattle.conf_tools.specs.EndOfRun.{EndOfRun as Ended}
-use Rattle.conf_tools.specs.declared.program.Status.{Status}
-use Rattle.conf_tools.specs.declared.program.Status.TheVariants.{Done, Found, Absent, Refused, WrongWords, Device}
-use Rattle.conf_runs.specs.Folders.{HandsOutNone, IsDiskOf, KeepsFolders}
-use Rattle.conf_runs.specs.Runs.{AreRuns, Deed, EachKept, Ending, Event, Holds, IsMade, Kept, KeptOf, Leads}
-use Rattle.conf_runs.specs.Runs.{LeavesAfter, MakesStore, MayLeave, MeantBy, Where, accepted_in, acknowledged, anew}
-use Rattle.conf_runs.specs.Runs.{makes_new, calls, commands, copies, cut_off, deed_at, deed_in, elsewhere}
-use Rattle.conf_runs.specs.Runs.{ending_of_call, first_disk, folder_of, here, last_disk, new_store, not_begun, own}
-use Rattle.conf_runs.specs.Runs.{returned, saves}
-use Rattle.conf_runs.proofs.StatusLemmas.{not-done, not-backed-up}
-use Rattle.conf_runs.proofs.Effects.{Backed, Effect, Fits, backed, effect, made_there, none_made, nothing, on_disk}
-use Rattle.conf_runs.proofs.Effects.{salvaged-to, saved_there, spares}
 
 -- a file means one state at most
 pub file-one : OneMeaning → (several : Bool) (file : Option (List ℕ)) (s t : Contents) → FileMeans several file s
@@ -302,6 +281,7 @@ module _ {W D F P : Type 0} (world : WorldModel W D F P) (disk : DiskModel D) (r
   least returned Done (program.changing change old (Ok new) crashes) fits count le = le
   least returned Done (program.changing change old (Err (new, fault)) crashes) fits count le = absurd (not-done fault fits)
   least returned Found (program.changing change old result crashes) fits count le = omega arith
+  least returned Differs (program.changing change old result crashes) fits count le = omega arith
   least returned Absent (program.changing change old result crashes) fits count le = omega arith
   least returned Refused (program.changing change old result crashes) fits count le = omega arith
   least returned WrongWords (program.changing change old result crashes) fits count le = omega arith

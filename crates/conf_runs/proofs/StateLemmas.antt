@@ -1,29 +1,15 @@
 -- What a command leaves at a place of a state.
-use Rattle.std.proofs.Common.{◌≡◌, ◌≢◌, ℕ, ◌+◌, nat_le, nat_lt, Bool, true, false, if◌then◌else◌, List, [], ◌∷◌, ◌++◌, Option}
-use Rattle.std.proofs.Common.{None, Some, Result, Ok, Err, refl, sym, ap, ◌∙◌, subst}
-use Rattle.conf_session.specs.Answers.{value_at_path}
-use Rattle.conf_state.proofs.DraftLemmas.{named-put-same}
-use Rattle.conf_state.proofs.RunLaws.{and_then-Ok}
-use Rattle.conf_state.specs.BaseTexts.{base_length}
-use Rattle.conf_state.specs.Commands.{Edit, import_as, name_of, set_at, single}
-use Rattle.conf_state.specs.Names.{good_name}
-use Rattle.conf_state.specs.States.{Contents, Entry, base_limit, config_named, count_limit, put_config}
-use Rattle.conf_state.specs.Steps.{and_then, by_path, checked_tree, configs_after, edited, found, next_state, performed, step}
-use Rattle.conf_state.specs.Steps.{with_checked_config, with_room}
-use Rattle.conf_state.specs.declared.fault.StoreFault.{StoreFault}
-use Rattle.conf_state.specs.declared.fault.StoreFault.TheVariants.{BadName, ConfigLarge, CountFull, Path, StoreFull, TooDeep}
-use Rattle.conf_state.specs.declared.room.Room.{Room}
-use Rattle.conf_state.specs.declared.room.Room.TheVariants.{Enough, LongRecord, Missing}
-use Rattle.conf_store.specs.Calls.{tree_named}
-use Rattle.conf_store.specs.Meaning.{empty_state}
-use Rattle.json_pointer.specs.Pointers.{path_of}
-use Rattle.json_pointer.specs.declared.fault.PathFault.{PathFault}
-use Rattle.tree_path.proofs.EditLaws.{set-at}
-use Rattle.tree_path.specs.Paths.{at, after_last, index_of, set}
-use Rattle.yaml_config.specs.Limits.{config_limits}
-use Rattle.yaml_grammar.specs.Style.{style_text}
-use Rattle.yaml_grammar.specs.Texts.{byte_len}
-use Rattle.yaml_grammar.specs.Trees.{Tree, depth}
+use Rattle.std.proofs.Common.{◌≡◌, ◌≢◌, ℕ, ◌+◌, nat_le, nat_lt, Bool, true, false, if◌then◌else◌, List, [], ◌∷◌, ◌++◌, Option, None, Some}
+use Rattle.std.proofs.Common.{Result, Ok, Err, refl, sym, ap, ◌∙◌, subst}
+use Rattle.{conf_session.specs.Answers.value_at_path, conf_state.proofs.{DraftLemmas.named-put-same, RunLaws.and_then-Ok}}
+use Rattle.conf_state.specs.{BaseTexts.base_length, Commands.{Edit, import_as, name_of, set_at, single}, Names.good_name, States.Contents}
+use Rattle.conf_state.specs.{States.{Entry, base_limit, config_named, count_limit, put_config}, Steps.{and_then, by_path, checked_tree}}
+use Rattle.conf_state.specs.Steps.{configs_after, edited, found, next_state, performed, step, with_checked_config, with_room}
+use Rattle.conf_state.specs.declared.fault.StoreFault.{StoreFault, TheVariants.{BadName, ConfigLarge, CountFull, Path, StoreFull, TooDeep}}
+use Rattle.{conf_state.specs.declared.room.Room.{Room, TheVariants.{Enough, LongRecord, Missing}}, conf_store.specs.Calls.tree_named}
+use Rattle.{conf_store.specs.Meaning.empty_state, json_pointer.specs.{Pointers.path_of, declared.fault.PathFault.PathFault}}
+use Rattle.{tree_path.{proofs.EditLaws.set-at, specs.Paths.{at, after_last, index_of, set}}, yaml_config.specs.Limits.config_limits}
+use Rattle.yaml_grammar.specs.{Style.style_text, Texts.byte_len, Trees.{Tree, depth}}
 
 -- ---- results that are what they are said to be
 

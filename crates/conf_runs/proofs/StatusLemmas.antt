@@ -1,19 +1,16 @@
 -- The status of a fault is never Done.
 use Rattle.std.proofs.Common.{◌≡◌}
+use Rattle.{conf_history.specs.declared.fault.SalvageFault.SalvageFault, conf_tools.specs.ReadingStatuses.status_of_reading}
+use Rattle.conf_tools.specs.{Statuses.status_of_store, declared.program.Status.TheVariants.Done}
+use Rattle.conf_tools.specs.declared.{reading_fault.ReadingFault.TheVariants.Salvage, stores.StoreToolFault.StoreToolFault}
+use Rattle.conf_tools.specs.declared.stores.StoreToolFault.TheVariants.{Folder as InFolder, Open, Session, Export, Condition, Refused}
+use Rattle.conf_tools.specs.declared.stores.StoreToolFault.TheVariants.{StoreExists}
 use Rattle.conf_history.specs.declared.fault.HistoryFault.TheVariants as history
-use Rattle.conf_history.specs.declared.fault.SalvageFault.{SalvageFault}
 use Rattle.conf_history.specs.declared.fault.SalvageFault.TheVariants as salvage
 use Rattle.conf_folder.specs.declared.fault.FolderFault.TheVariants as folder
 use Rattle.conf_state.specs.declared.fault.StoreFault.TheVariants as store
 use Rattle.conf_store.specs.declared.fault.OpenFault.TheVariants as open_fault
 use Rattle.conf_session.specs.declared.fault.SessionFault.TheVariants as session
-use Rattle.conf_tools.specs.ReadingStatuses.{status_of_reading}
-use Rattle.conf_tools.specs.Statuses.{status_of_store}
-use Rattle.conf_tools.specs.declared.program.Status.TheVariants.{Done}
-use Rattle.conf_tools.specs.declared.reading_fault.ReadingFault.TheVariants.{Salvage}
-use Rattle.conf_tools.specs.declared.stores.StoreToolFault.{StoreToolFault}
-use Rattle.conf_tools.specs.declared.stores.StoreToolFault.TheVariants.{Folder as InFolder, Open, Session, Export}
-use Rattle.conf_tools.specs.declared.stores.StoreToolFault.TheVariants.{Condition, Refused, StoreExists}
 
 pub not-done : (fault : StoreToolFault) → Done ≡ status_of_store fault → ⊥
 not-done (InFolder folder.Device) is = cc

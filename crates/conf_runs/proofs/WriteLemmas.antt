@@ -1,66 +1,34 @@
 -- What stands at a place after runs.
-use Rattle.std.proofs.Common.{◌≡◌, ◌≤◌, inl, inr, ℕ, List, [], ◌∷◌, Option}
-use Rattle.std.proofs.Common.{Result, Ok, Err, IfOk, refl, sym, ap, ◌∙◌, subst}
-use Rattle.std.proofs.lemmas.Str.{chars-nil}
-use Rattle.std.specs.Str.{chars}
-use Rattle.conf_disk.specs.Image.{Image, IsImage}
-use Rattle.conf_disk.specs.Laws.{ReadingIsAnImage}
-use Rattle.conf_disk.specs.Models.{DiskModel}
-use Rattle.conf_record.specs.Documents.{BasesAreRead, BasesClose, BasesFit, OneRecord}
-use Rattle.conf_session.specs.Answers.{value_at_path}
-use Rattle.conf_state.specs.Commands.{Command, import_as, set_at, single, text_of}
-use Rattle.conf_state.specs.States.{Contents}
-use Rattle.conf_store.specs.Calls.{journal_length, outcome, room_for}
-use Rattle.conf_store.specs.Meaning.{ImageMeans}
-use Rattle.conf_store.specs.Opens.{OneMeaning, RefusedMeansNothing}
-use Rattle.conf_store.specs.View.{StoreView}
-use Rattle.conf_words.specs.declared.invocation.Root.{Root}
-use Rattle.conf_words.specs.declared.invocation.Root.TheVariants.{Any, Collection}
-use Rattle.conf_words.specs.declared.invocation.Conditions.{Conditions}
-use Rattle.conf_words.specs.declared.invocation.Invocation.{Invocation}
-use Rattle.conf_words.specs.declared.invocation.Invocation.TheVariants.{Import, Set}
-use Rattle.conf_words.specs.declared.invocation.Placing.TheVariants.{AtPlace}
-use Rattle.conf_words.specs.declared.invocation.ValueForm.{ValueForm}
-use Rattle.conf_tools.specs.Asking.{AskedConditions}
-use Rattle.conf_tools.specs.Changes.{ChangesOn, Makes}
-use Rattle.conf_tools.specs.OnStores.{PerformsOnStores}
-use Rattle.conf_tools.specs.Performs.{ChangesAt, ImportsRead, Performs, access_of}
-use Rattle.conf_tools.specs.Exports.{disk_handed_back}
-use Rattle.conf_tools.specs.Prelude.{IsRead}
-use Rattle.conf_tools.specs.ProgramCalls.{CallHolds}
-use Rattle.conf_tools.specs.Reads.{ShowsTree}
-use Rattle.conf_tools.specs.{Endings.ending_at_end, Outcomes.status_of_ending}
-use Rattle.conf_tools.specs.StoreWords.{ChangesInFolder, Condition, MakesChange, conditions_of}
-use Rattle.conf_tools.specs.TextWords.{IsImport, SetsAt}
-use Rattle.conf_tools.specs.Tools.{Taken}
-use Rattle.conf_tools.specs.Worlds.{Around, WorldModel}
-use Rattle.conf_tools.specs.declared.changes.Change.{Change}
+use Rattle.std.proofs.Common.{◌≡◌, ◌≤◌, inl, inr, ℕ, List, [], ◌∷◌, Option, Result, Ok, Err, IfOk, refl, sym, ap, ◌∙◌, subst}
+use Rattle.std.{proofs.lemmas.Str.chars-nil, specs.Str.chars}
+use Rattle.{conf_disk.specs.{Image.{Image, IsImage}, Laws.ReadingIsAnImage, Models.DiskModel}, conf_record.specs.Documents.BasesAreRead}
+use Rattle.{conf_record.specs.Documents.{BasesClose, BasesFit, OneRecord}, conf_session.specs.Answers.value_at_path}
+use Rattle.conf_state.specs.{Commands.{Command, import_as, set_at, single, text_of}, States.Contents}
+use Rattle.conf_store.specs.{Calls.{journal_length, outcome, room_for}, Meaning.ImageMeans, Opens.{OneMeaning, RefusedMeansNothing}}
+use Rattle.{conf_store.specs.View.StoreView, conf_words.specs.declared.invocation.Root.{Root, TheVariants.{Any, Collection}}}
+use Rattle.conf_words.specs.declared.invocation.{Conditions.Conditions, Invocation.{Invocation, TheVariants.{Import, Set}}, Placing.Placing}
+use Rattle.conf_words.specs.declared.invocation.{Placing.TheVariants.AtPlace, ValueForm.ValueForm}
+use Rattle.conf_tools.specs.{Asking.AskedConditions, Edits.placed_or_not, Changes.{ChangesOn, Makes}, OnStores.PerformsOnStores}
+use Rattle.conf_tools.specs.{Performs.{ChangesAt, ImportsRead, Performs, access_of}, Exports.disk_handed_back, Prelude.IsRead}
+use Rattle.conf_tools.specs.{ProgramCalls.CallHolds, Reads.ShowsTree, Endings.ending_at_end, Outcomes.status_of_ending}
+use Rattle.conf_tools.specs.{StoreWords.{ChangesInFolder, Condition, MakesChange, conditions_of}, TextWords.{IsImport, SetsAt}, Tools.Taken}
+use Rattle.conf_tools.specs.{Worlds.{Around, WorldModel}, declared.{changes.Change.Change, program.Status.{Status, TheVariants.Done}}}
+use Rattle.conf_tools.specs.declared.{stores.StoreToolFault.{StoreToolFault, TheVariants.Folder as InFolder}, texts.ToolFault.ToolFault}
+use Rattle.conf_tools.specs.{declared.world.Access.{Access, TheVariants.Changing}, EndOfRun.EndOfRun as Ended}
+use Rattle.{conf_tools.proofs.EndingLemmas.{imported-status, not-with}, conf_runs.specs.{Folders.KeepsFolders, FoldersRead.ShowsFolders}}
+use Rattle.conf_runs.specs.{Others.AllSpare, Reads.{Asks, IsSteady, Puts, Shows, Turn, TurnInto, Writes}, Runs.{AreRuns, Ending, Event}}
+use Rattle.conf_runs.specs.Runs.{Kept, KeepsCommands, KeptOf, LeavesAfter, MayLeave, accepted_in, commands, cut_off, deed_in, new_store}
+use Rattle.conf_runs.{specs.Runs.{not_begun, returned}, proofs.{OtherLemmas.{first-spare, value-stays}, ReadLemmas.{StandsIn, There}}}
+use Rattle.conf_runs.proofs.{ReadLemmas.{asked, stands-as}, RunLemmas.{LedBy, kept-run}, StateLemmas.{empty-lacks, import-there, set-there}}
+use Rattle.{conf_runs.proofs.StatusLemmas.not-done, yaml_config.specs.Limits.config_limits, yaml_grammar.specs.Trees.Tree}
 use Rattle.conf_tools.specs.declared.changes.Change.TheVariants as change
-use Rattle.conf_tools.specs.EndOfRun.{EndOfRun as Ended}
-use Rattle.conf_tools.specs.declared.program.Status.{Status}
-use Rattle.conf_tools.specs.declared.program.Status.TheVariants.{Done}
-use Rattle.conf_tools.specs.declared.stores.StoreToolFault.{StoreToolFault}
-use Rattle.conf_tools.specs.declared.stores.StoreToolFault.TheVariants.{Folder as InFolder}
-use Rattle.conf_tools.specs.declared.texts.ToolFault.{ToolFault}
-use Rattle.conf_tools.specs.declared.world.Access.{Access}
-use Rattle.conf_tools.specs.declared.world.Access.TheVariants.{Changing}
-use Rattle.conf_runs.specs.Folders.{KeepsFolders}
-use Rattle.conf_runs.specs.FoldersRead.{ShowsFolders}
-use Rattle.conf_runs.specs.Others.{AllSpare}
-use Rattle.conf_runs.specs.Reads.{Asks, IsSteady, Puts, Shows, Turn, TurnInto, Writes}
-use Rattle.conf_runs.specs.Runs.{AreRuns, Ending, Event, Kept, KeepsCommands, KeptOf, LeavesAfter, MayLeave, accepted_in}
-use Rattle.conf_runs.specs.Runs.{commands, cut_off, deed_in, new_store}
-use Rattle.conf_runs.specs.Runs.{not_begun, returned}
-use Rattle.conf_runs.proofs.OtherLemmas.{first-spare, value-stays}
-use Rattle.conf_runs.proofs.ReadLemmas.{StandsIn, There, asked, stands-as}
-use Rattle.conf_runs.proofs.RunLemmas.{LedBy, kept-run}
-use Rattle.conf_runs.proofs.StateLemmas.{empty-lacks, import-there, set-there}
-use Rattle.conf_runs.proofs.StatusLemmas.{not-done}
-use Rattle.conf_tools.proofs.EndingLemmas.{imported-status, not-with}
-use Rattle.yaml_config.specs.Limits.{config_limits}
-use Rattle.yaml_grammar.specs.Trees.{Tree}
 
 -- ---- a run of commands of other configurations
+
+-- a change of a `set` that puts its value in place of what is there is as it was
+pub plainly-placed : (placing : Placing) (change : Result Change ToolFault) (Such : Change → Type 0) → placing ≡ AtPlace
+    → IfOk change Such → IfOk (placed_or_not placing change) Such
+plainly-placed placing change Such plain such = subst (λ (p : Placing). IfOk (placed_or_not p change) Such) (sym plain) such
 
 module _ {W D F P : Type 0} (world : WorldModel W D F P) (disk : DiskModel D) (remaining : F → Option (List ℕ))
     (honest : disk.honest) (leaves : W → List ℕ → Image → Type 0) (path name pointer : List ℕ) where
@@ -188,21 +156,24 @@ module _ {W D F P : Type 0} (world : WorldModel W D F P) (disk : DiskModel D) (r
       (does : PerformsOnStores world disk remaining invocation old new status)
       → Puts world disk remaining honest leaves path name pointer value invocation old new status does → status ≡ Done
       → StandsIn leaves path name pointer value new.world
-  put-there value (Set folder named place given AtPlace conditions reporting) old new status does
-      (of_path, of_name, of_pointer, steady, sets) done =
-      stands-as leaves folder.now named.now place.now path name pointer (sym of_path) (sym of_name) (sym of_pointer) value new.world
-      (changed-at world disk remaining honest leaves keeps named.now place.now value conditions Changing folder.now named.now place.now
-      does.does.0.change does.does.0.seen new.world does.ending (sym does.is ∙ done)
-      (set-leads-all world disk remaining honest leaves keeps named.now place.now value
-      (subst (λ (q : List ℕ). IsSteady q) (sym of_pointer) steady) does.does.0.change
-      (subst (λ (q : List ℕ). IfOk does.does.0.change (SetsAt named.now q value)) (sym of_pointer)
-      (subst (λ (n : List ℕ). IfOk does.does.0.change (SetsAt n pointer value)) (sym of_name) sets)))
+  put-there value (Set target put reporting) old new status does (of_path, of_name, of_pointer, steady, plain, sets) done =
+      let at = target in
+      let change = placed_or_not put.placing does.does.0.change in
+      stands-as leaves at.folder.now at.name.now at.pointer.now path name pointer (sym of_path) (sym of_name) (sym of_pointer) value
+      new.world
+      (changed-at world disk remaining honest leaves keeps at.name.now at.pointer.now value at.conditions Changing at.folder.now
+      at.name.now at.pointer.now change does.does.0.seen new.world does.ending (sym does.is ∙ done)
+      (set-leads-all world disk remaining honest leaves keeps at.name.now at.pointer.now value
+      (subst (λ (q : List ℕ). IsSteady q) (sym of_pointer) steady) change
+      (subst (λ (q : List ℕ). IfOk change (SetsAt at.name.now q value)) (sym of_pointer)
+      (subst (λ (n : List ℕ). IfOk change (SetsAt n pointer value)) (sym of_name)
+      (plainly-placed put.placing does.does.0.change (SetsAt name pointer value) plain sets))))
       does.does.0.changes)
-  put-there value (Import folder named file root absent conditions reporting) old new status does
-      (of_path, of_name, whole, reads) done =
-      stands-as leaves folder.now named.now pointer path name pointer (sym of_path) (sym of_name) refl value new.world
-      (imported world disk remaining honest leaves keeps named.now pointer value gives_one whole conditions root (access_of absent)
-      folder.now does.does.read does.does.seen new.world does.ending (sym does.is ∙ done) reads does.does.imports)
+  put-there value (Import asked reporting) old new status does (of_path, of_name, whole, reads) done =
+      stands-as leaves asked.folder.now asked.name.now pointer path name pointer (sym of_path) (sym of_name) refl value new.world
+      (imported world disk remaining honest leaves keeps asked.name.now pointer value gives_one whole asked.conditions asked.root
+      (access_of asked.missing) asked.folder.now does.does.read does.does.seen new.world does.ending (sym does.is ∙ done) reads
+      does.does.imports)
   put-there value invocation old new status does puts done = absurd puts
 
   -- ---- what runs leave

@@ -1,12 +1,8 @@
 -- A world whose files are replaced by single calls of systems.
 use Rattle.std.specs.Prelude.{◌≡◌, ◌⊎◌, ◌≤◌, ℕ, List, Option, Result, Ok, IsErr}
-use Rattle.conf_files.specs.Replacing.{Replaces}
-use Rattle.conf_files.specs.declared.replace.ReplaceFault.{ReplaceFault}
-use Rattle.file_calls.specs.Crash.{Image, CrashLeaves}
-use Rattle.file_calls.specs.Machine.{Machine}
-use Rattle.file_calls.specs.Models.{FileModel}
-use Rattle.conf_tools.specs.Worlds.{WorldModel}
-use Rattle.conf_runs.specs.Files.{FilesModel, Passes, Nothing, leaves}
+use Rattle.{conf_files.specs.{Replacing.Replaces, declared.replace.ReplaceFault.ReplaceFault}, file_calls.specs.Crash.{Image, CrashLeaves}}
+use Rattle.{file_calls.specs.{Machine.Machine, Models.FileModel}, conf_tools.specs.Worlds.WorldModel, conf_runs.specs.Files.FilesModel}
+use Rattle.conf_runs.specs.Files.{Passes, Nothing, leaves}
 
 -- a crash leaves this under the name that a person gave
 pub record IsLeftUnder (m : Machine) (bytes : Option (List ℕ)) : Type 0 where

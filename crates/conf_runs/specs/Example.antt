@@ -1,22 +1,11 @@
 -- README's first example: four commands, and what the last one prints.
 use Rattle.std.specs.Prelude.{◌≡◌, ℕ, List, [], ◌∷◌, codes, Option, None, Some}
-use Rattle.conf_disk.specs.Image.{Image}
-use Rattle.conf_disk.specs.Models.{DiskModel}
-use Rattle.conf_words.specs.declared.invocation.Invocation.{Invocation}
-use Rattle.conf_words.specs.declared.invocation.Invocation.TheVariants.{Get, Import, Init, Set}
-use Rattle.conf_words.specs.declared.invocation.Placing.TheVariants.{AtPlace}
-use Rattle.conf_words.specs.declared.invocation.TreeForm.TheVariants.{Styled}
-use Rattle.conf_words.specs.declared.invocation.Value.TheVariants.{Text}
-use Rattle.conf_words.specs.declared.invocation.ValueForm.TheVariants.{Whole}
-use Rattle.conf_tools.specs.Performs.{Performs}
-use Rattle.conf_tools.specs.Reads.{pointers_of}
-use Rattle.conf_tools.specs.Worlds.{Around, WorldModel}
-use Rattle.conf_tools.specs.declared.program.Status.{Status}
-use Rattle.conf_tools.specs.declared.program.Status.TheVariants.{Done}
-use Rattle.conf_runs.specs.Folders.{KeepsFolders}
-use Rattle.conf_runs.specs.FoldersRead.{ShowsFolders}
-use Rattle.conf_runs.specs.Reads.{Shows}
-use Rattle.conf_runs.specs.Runs.{AreRuns, Event, returned}
+use Rattle.{conf_disk.specs.{Image.Image, Models.DiskModel}, conf_words.specs.declared.invocation.Invocation.{Invocation, TheVariants.Get}}
+use Rattle.conf_words.specs.declared.invocation.{Invocation.TheVariants.{Import, Init, Set}, Placing.TheVariants.AtPlace}
+use Rattle.conf_words.specs.declared.invocation.{TreeForm.TheVariants.Styled, Value.{Value, TheVariants.Text}, ValueForm.TheVariants.Whole}
+use Rattle.conf_tools.specs.{Performs.Performs, Reads.pointers_of, Worlds.{Around, WorldModel}, declared.program.Status.Status}
+use Rattle.{conf_tools.specs.declared.program.Status.TheVariants.Done, conf_runs.specs.{Folders.KeepsFolders, FoldersRead.ShowsFolders}}
+use Rattle.conf_runs.specs.{Reads.Shows, Runs.{AreRuns, Event, returned}}
 
 -- confstore init shop
 abbrev pub SaysInit : Invocation → Type 0
@@ -25,20 +14,27 @@ SaysInit invocation = ⊥
 
 -- confstore import shop web
 abbrev pub SaysImport : Invocation → Type 0
-SaysImport (Import folder name file root absent conditions reporting) =
-    (folder.now ≡ codes "shop") × (name.now ≡ codes "web") × (file.now ≡ codes "-")
+SaysImport (Import asked reporting) =
+    (asked.folder.now ≡ codes "shop") × (asked.name.now ≡ codes "web") × (asked.file.now ≡ codes "-")
 SaysImport invocation = ⊥
+
+-- a value that is this text
+abbrev pub IsText : Value → List ℕ → Type 0
+IsText (Text word) bytes = word.now ≡ bytes
+IsText value bytes = ⊥
 
 -- confstore set shop web /port 81
 abbrev pub SaysSet : Invocation → Type 0
-SaysSet (Set folder name pointer (Text word) AtPlace conditions reporting) =
-    (folder.now ≡ codes "shop") × (name.now ≡ codes "web") × (pointer.now ≡ codes "/port") × (word.now ≡ codes "81")
+SaysSet (Set target put reporting) =
+    (target.folder.now ≡ codes "shop") × (target.name.now ≡ codes "web") × (target.pointer.now ≡ codes "/port")
+    × (put.placing ≡ AtPlace) × IsText put.value (codes "81")
 SaysSet invocation = ⊥
 
 -- confstore get shop web
 abbrev pub SaysGet : Invocation → Type 0
-SaysGet (Get folder name pointers None missing (Whole Styled)) =
-    (folder.now ≡ codes "shop") × (name.now ≡ codes "web") × (pointers_of pointers.items ≡ [] ∷ [])
+SaysGet (Get folder places missing (Whole Styled)) =
+    (folder.now ≡ codes "shop") × (places.name.now ≡ codes "web") × (places.at ≡ None)
+    × (pointers_of places.pointers.items ≡ [] ∷ [])
 SaysGet invocation = ⊥
 
 module _ {W D F P : Type 0} (world : WorldModel W D F P) (disk : DiskModel D) (remaining : F → Option (List ℕ))

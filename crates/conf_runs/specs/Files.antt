@@ -1,7 +1,6 @@
 -- What a world promises of the files that are replaced in it.
 use Rattle.std.specs.Prelude.{◌≡◌, ◌⊎◌, ◌≤◌, ℕ, List, Option, Some, Result, Ok}
-use Rattle.conf_files.specs.declared.replace.ReplaceFault.{ReplaceFault}
-use Rattle.conf_tools.specs.Worlds.{WorldModel}
+use Rattle.{conf_files.specs.declared.replace.ReplaceFault.ReplaceFault, conf_tools.specs.Worlds.WorldModel}
 
 -- Worlds W, of which one knows what a crash leaves of their files, and the places P of files that are to be replaced.
 pub record FilesModel (W P : Type 0) : Type 1 where

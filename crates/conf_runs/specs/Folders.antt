@@ -1,14 +1,8 @@
 -- What a world promises of the folders in it.
 use Rattle.std.specs.Prelude.{◌≡◌, ◌≢◌, ℕ, List, Option, None, Result, Ok, Err}
-use Rattle.conf_disk.specs.Folder.{bytes_under}
-use Rattle.conf_disk.specs.Image.{Image, IsImage}
-use Rattle.conf_disk.specs.Models.{DiskModel}
-use Rattle.conf_disk.specs.declared.disk.Name.TheVariants.{Store}
-use Rattle.conf_files.specs.declared.create.NewFileFault.{NewFileFault}
-use Rattle.conf_files.specs.declared.replace.ReplaceFault.{ReplaceFault}
-use Rattle.conf_folder.specs.declared.fault.FolderFault.{FolderFault}
-use Rattle.conf_tools.specs.Worlds.{WorldModel}
-use Rattle.conf_tools.specs.declared.world.Access.{Access}
+use Rattle.conf_disk.specs.{Folder.bytes_under, Image.{Image, IsImage}, Models.DiskModel, declared.disk.Name.TheVariants.Store}
+use Rattle.conf_files.specs.declared.{create.NewFileFault.NewFileFault, replace.ReplaceFault.ReplaceFault}
+use Rattle.{conf_folder.specs.declared.fault.FolderFault.FolderFault, conf_tools.specs.{Worlds.WorldModel, declared.world.Access.Access}}
 use Rattle.conf_tools.specs.declared.world.Access.TheVariants.{New}
 
 -- `leaves` says of a moment what a crash then leaves of the folder at a path.

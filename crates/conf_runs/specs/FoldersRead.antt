@@ -1,11 +1,7 @@
 -- What a world promises of what is read of the folders in it.
 use Rattle.std.specs.Prelude.{◌≡◌, ◌⊎◌, ◌<◌, ℕ, List, length, Option, None, Some, Ok, Err}
-use Rattle.conf_disk.specs.Image.{Image}
-use Rattle.conf_folder.specs.declared.fault.FolderFault.{FolderFault}
-use Rattle.conf_folder.specs.declared.fault.FolderFault.TheVariants.{NotAStore, StoreExists}
-use Rattle.conf_journal.specs.Store.{store_limit}
-use Rattle.conf_tools.specs.Worlds.{WorldModel}
-use Rattle.conf_tools.specs.declared.world.Access.TheVariants.{Reading}
+use Rattle.{conf_disk.specs.Image.Image, conf_folder.specs.declared.fault.FolderFault.{FolderFault, TheVariants.{NotAStore, StoreExists}}}
+use Rattle.{conf_journal.specs.Store.store_limit, conf_tools.specs.{Worlds.WorldModel, declared.world.Access.TheVariants.Reading}}
 
 module _ {W : Type 0} (leaves : W → List ℕ → Image → Type 0) where
   -- a crash may leave the folder at a path without `store.yaml`

@@ -1,46 +1,23 @@
 -- What a run reads of the store in a folder, after runs that wrote.
 use Rattle.std.specs.Prelude.{◌≡◌, ◌≢◌, ◌⊎◌, ℕ, Bool, List, [], ◌∷◌, ◌++◌, Option, None, Result, Ok, Err, IfOk, IsErrAnd}
-use Rattle.std.proofs.Common.{inl, inr}
-use Rattle.std.specs.Io.KnownBytes.{Appends, Keeps}
-use Rattle.std.specs.Str.{chars}
-use Rattle.conf_disk.specs.Image.{Image}
-use Rattle.conf_disk.specs.Models.{DiskModel}
+use Rattle.std.{specs.{Io.KnownBytes.{Appends, Keeps}, Str.chars}, proofs.Common.{inl, inr}}
+use Rattle.{conf_disk.specs.{Image.Image, Models.DiskModel}, conf_session.specs.Answers.value_at_path, conf_state.specs.Commands.Command}
+use Rattle.{conf_state.specs.{States.Contents, Steps.after}, conf_words.specs.declared.invocation.Invocation.Invocation}
+use Rattle.conf_words.specs.declared.invocation.{Invocation.TheVariants.{Export, Get, Import, Set}, MissingValue.MissingValue}
+use Rattle.conf_words.specs.declared.invocation.{Placing.TheVariants.AtPlace, TreeForm.TreeForm, ValueForm.{ValueForm, TheVariants.Whole}}
+use Rattle.conf_tools.specs.{OnStores.PerformsOnStores, Performs.Performs, Prelude.IsRead, Reads.{ShowsTree, pointers_of}}
+use Rattle.conf_tools.specs.{StoreWords.{ExportsFromFolder, SaysOfFile, SaysValues}, TextWords.SetsAt, Worlds.{Around, WorldModel}}
+use Rattle.conf_tools.specs.{EndOfRun.EndOfRun as Ended, declared.program.Status.{Status, TheVariants.{Device, Done, Refused}}}
+use Rattle.conf_tools.specs.declared.{reading_fault.ReadingFault.ReadingFault, stores.StoreToolFault.StoreToolFault}
+use Rattle.conf_runs.specs.{Folders.KeepsFolders, FoldersRead.ShowsFolders, Others.AllSpare, Runs.{AreRuns, Event, KeepsCommands}}
+use Rattle.{conf_runs.specs.Runs.{accepted_in, deed_in, returned}, json_pointer.specs.Pointers.path_of, tree_path.specs.Paths.index_of}
+use Rattle.{tree_path.specs.Paths.after_last, yaml_config.specs.Limits.config_limits, yaml_grammar.specs.Trees.Tree}
 use Rattle.conf_folder.specs.declared.fault.FolderFault.TheVariants as folder_fault
 use Rattle.conf_history.specs.declared.fault.HistoryFault.TheVariants as history
-use Rattle.conf_session.specs.Answers.{value_at_path}
-use Rattle.conf_state.specs.Commands.{Command}
-use Rattle.conf_state.specs.States.{Contents}
-use Rattle.conf_state.specs.Steps.{after}
 use Rattle.conf_state.specs.declared.fault.StoreFault.TheVariants as state_fault
 use Rattle.conf_store.specs.declared.fault.OpenFault.TheVariants as opening
-use Rattle.conf_words.specs.declared.invocation.Invocation.{Invocation}
-use Rattle.conf_words.specs.declared.invocation.Invocation.TheVariants.{Export, Get, Import, Set}
-use Rattle.conf_words.specs.declared.invocation.MissingValue.{MissingValue}
-use Rattle.conf_words.specs.declared.invocation.Placing.TheVariants.{AtPlace}
-use Rattle.conf_words.specs.declared.invocation.TreeForm.{TreeForm}
-use Rattle.conf_words.specs.declared.invocation.ValueForm.{ValueForm}
-use Rattle.conf_words.specs.declared.invocation.ValueForm.TheVariants.{Whole}
-use Rattle.conf_tools.specs.{OnStores.PerformsOnStores, Performs.Performs}
-use Rattle.conf_tools.specs.Prelude.{IsRead}
-use Rattle.conf_tools.specs.Reads.{ShowsTree, pointers_of}
-use Rattle.conf_tools.specs.StoreWords.{ExportsFromFolder, SaysOfFile, SaysValues}
-use Rattle.conf_tools.specs.TextWords.{SetsAt}
-use Rattle.conf_tools.specs.Worlds.{Around, WorldModel}
-use Rattle.conf_tools.specs.EndOfRun.{EndOfRun as Ended}
-use Rattle.conf_tools.specs.declared.program.Status.{Status}
-use Rattle.conf_tools.specs.declared.program.Status.TheVariants.{Device, Done, Refused}
-use Rattle.conf_tools.specs.declared.reading_fault.ReadingFault.{ReadingFault}
 use Rattle.conf_tools.specs.declared.reading_fault.ReadingFault.TheVariants as reading
-use Rattle.conf_tools.specs.declared.stores.StoreToolFault.{StoreToolFault}
 use Rattle.conf_tools.specs.declared.stores.StoreToolFault.TheVariants as tool
-use Rattle.conf_runs.specs.Folders.{KeepsFolders}
-use Rattle.conf_runs.specs.FoldersRead.{ShowsFolders}
-use Rattle.conf_runs.specs.Others.{AllSpare}
-use Rattle.conf_runs.specs.Runs.{AreRuns, Event, KeepsCommands, accepted_in, deed_in, returned}
-use Rattle.json_pointer.specs.Pointers.{path_of}
-use Rattle.tree_path.specs.Paths.{index_of, after_last}
-use Rattle.yaml_config.specs.Limits.{config_limits}
-use Rattle.yaml_grammar.specs.Trees.{Tree}
 
 -- ---- why a run that reads stops where the value is there
 
@@ -95,11 +72,11 @@ module _ {W D F P : Type 0} (world : WorldModel W D F P) (disk : DiskModel D) (r
   -- configuration.
   abbrev pub Puts : Tree → (invocation : Invocation) (old new : Around W) (status : Status)
       → PerformsOnStores world disk remaining invocation old new status → Type 0
-  Puts value (Set folder named place given AtPlace conditions reporting) old new status does =
-      (folder.now ≡ path) × (named.now ≡ name) × (place.now ≡ pointer) × IsSteady pointer
-      × IfOk does.does.0.change (SetsAt name pointer value)
-  Puts value (Import folder named file root absent conditions reporting) old new status does =
-      (folder.now ≡ path) × (named.now ≡ name) × (pointer ≡ [])
+  Puts value (Set target put reporting) old new status does =
+      (target.folder.now ≡ path) × (target.name.now ≡ name) × (target.pointer.now ≡ pointer) × IsSteady pointer
+      × (put.placing ≡ AtPlace) × IfOk does.does.0.change (SetsAt name pointer value)
+  Puts value (Import asked reporting) old new status does =
+      (asked.folder.now ≡ path) × (asked.name.now ≡ name) × (pointer ≡ [])
       × IfOk does.does.read (λ text. IsRead text.items config_limits value)
   Puts value invocation old new status does = ⊥
 
@@ -127,8 +104,9 @@ module _ {W D F P : Type 0} (world : WorldModel W D F P) (disk : DiskModel D) (r
 
   -- The words ask for what is there now, in this form. An export writes a whole configuration.
   abbrev pub Asks : Invocation → ValueForm → Type 0
-  Asks (Get folder named pointers None missing form) wanted =
-      (folder.now ≡ path) × (named.now ≡ name) × (pointers_of pointers.items ≡ chars pointer ∷ []) × (form ≡ wanted)
+  Asks (Get folder places missing form) wanted =
+      (folder.now ≡ path) × (places.name.now ≡ name) × (places.at ≡ None)
+      × (pointers_of places.pointers.items ≡ chars pointer ∷ []) × (form ≡ wanted)
   Asks (Export folder named form) wanted =
       (folder.now ≡ path) × (named.now ≡ name) × (pointer ≡ []) × (Whole form ≡ wanted)
   Asks invocation wanted = ⊥
@@ -136,8 +114,8 @@ module _ {W D F P : Type 0} (world : WorldModel W D F P) (disk : DiskModel D) (r
   -- memory ran out for them
   abbrev pub AskedRanOut : (invocation : Invocation) (old new : Around W) (status : Status)
       → Performs world disk remaining invocation old new status → Type 0
-  AskedRanOut (Get folder named pointers at missing form) old new status does =
-      GetRanOut world.several remaining at named.now (pointers_of pointers.items) missing form does.does.0.file
+  AskedRanOut (Get folder places missing form) old new status does =
+      GetRanOut world.several remaining places.at places.name.now (pointers_of places.pointers.items) missing form does.does.0.file
       old.output new.output does.ending does.does.0.does
   AskedRanOut (Export folder named form) old new status does =
       ExportRanOut world disk form folder.now named.now old.world new.world old.output new.output does.ending

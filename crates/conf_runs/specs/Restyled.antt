@@ -1,23 +1,11 @@
 -- What a crash leaves of the files that a run of `format -i` replaces.
-use Rattle.std.specs.Prelude.{◌≡◌, ◌⊎◌, ℕ, List, [], ◌∷◌, map, Contains, Option, Some, Result, Ok, Err, IsOkAnd, Vec}
-use Rattle.std.specs.Borrow.{Bor}
-use Rattle.conf_disk.specs.Models.{DiskModel}
-use Rattle.conf_files.specs.declared.replace.ReplaceFault.{ReplaceFault}
-use Rattle.conf_words.specs.declared.invocation.Comments.{Comments}
-use Rattle.conf_words.specs.declared.invocation.Formatting.TheVariants.{InPlace}
-use Rattle.conf_words.specs.declared.invocation.Invocation.TheVariants.{Format}
-use Rattle.conf_words.specs.declared.invocation.Reporting.{Reporting}
-use Rattle.conf_tools.specs.FileTexts.{MayLose}
-use Rattle.conf_tools.specs.Endings.{told_of}
-use Rattle.conf_tools.specs.Performs.{Performs, Restyles}
-use Rattle.conf_tools.specs.Prelude.{Global}
-use Rattle.conf_tools.specs.Statuses.{worst}
-use Rattle.conf_tools.specs.Styles.{IsStyled, style_of}
-use Rattle.conf_tools.specs.TextWords.{RestylesAll, RestylesOpened}
-use Rattle.conf_tools.specs.Worlds.{Around, WorldModel}
-use Rattle.conf_tools.specs.declared.program.Status.{Status}
-use Rattle.conf_tools.specs.declared.program.Status.TheVariants.{Done}
-use Rattle.conf_runs.specs.Files.{FilesModel, KeepsFiles, leaves}
+use Rattle.std.specs.{Prelude.{◌≡◌, ◌⊎◌, ℕ, List, [], ◌∷◌, map, Contains, Option, Some, Result, Ok, Err, IsOkAnd, Vec}, Borrow.Bor}
+use Rattle.{conf_disk.specs.Models.DiskModel, conf_files.specs.declared.replace.ReplaceFault.ReplaceFault}
+use Rattle.conf_words.specs.declared.invocation.{Comments.Comments, Formatting.TheVariants.InPlace, Invocation.TheVariants.Format}
+use Rattle.{conf_words.specs.declared.invocation.Reporting.Reporting, conf_tools.specs.{FileTexts.MayLose, Endings.told_of}}
+use Rattle.conf_tools.specs.{Performs.{Performs, Restyles}, Prelude.Global, Statuses.worst, Styles.{IsStyled, style_of}}
+use Rattle.conf_tools.specs.{TextWords.{RestylesAll, RestylesOpened}, Worlds.{Around, WorldModel}, declared.program.Status.Status}
+use Rattle.{conf_tools.specs.declared.program.Status.TheVariants.Done, conf_runs.specs.Files.{FilesModel, KeepsFiles, leaves}}
 
 -- ---- texts in the style
 

@@ -1,67 +1,36 @@
 -- Runs of the program, one after the other, and what the store in one folder keeps of their commands.
 use Rattle.std.specs.Prelude.{◌≡◌, ◌≢◌, ◌≤◌, ℕ, Bool, true, false, List, [], ◌∷◌, length, take, Option, None, Some, Result, Ok, Err, IfOk}
-use Rattle.std.proofs.Common.{inl, inr}
-use Rattle.std.specs.Borrow.{Bor}
-use Rattle.conf_disk.specs.Image.{Image}
-use Rattle.conf_disk.specs.Models.{DiskModel}
-use Rattle.conf_history.specs.Copies.{BacksUp, LeavesOldOrCopy, ReadsCopy}
-use Rattle.conf_history.specs.Copies.{disk_handed_back as copied_disk}
-use Rattle.conf_history.specs.Histories.{ReadsSurvey}
-use Rattle.conf_history.specs.Salvages.{LeavesOldOrSaved, Saves}
-use Rattle.conf_history.specs.Salvages.{disk_of as saved_disk}
-use Rattle.conf_history.specs.declared.fault.SalvageFault.{SalvageFault}
-use Rattle.conf_history.specs.declared.survey.Findings.{Findings}
-use Rattle.conf_state.specs.Commands.{Command}
-use Rattle.conf_state.specs.States.{Contents}
-use Rattle.conf_state.specs.Steps.{after}
-use Rattle.conf_store.specs.Meaning.{ImageMeans, empty_state}
-use Rattle.conf_words.specs.declared.invocation.Conditions.{Conditions}
-use Rattle.conf_words.specs.declared.invocation.{Invocation.Invocation, Root.Root}
-use Rattle.conf_words.specs.declared.invocation.TreeForm.{TreeForm}
-use Rattle.conf_words.specs.declared.invocation.Invocation.TheVariants.{Init, Import, Set, Delete, Copy, Rename, Move}
-use Rattle.conf_words.specs.declared.invocation.Invocation.TheVariants.{Batch, Checkpoint, Run, Export, Salvage, Backup}
-use Rattle.conf_tools.specs.Asking.{AskedConditions}
-use Rattle.conf_tools.specs.Backups.{BacksUpFound, BacksUpInFolder}
-use Rattle.conf_tools.specs.Changes.{Performs as ChangePerforms}
-use Rattle.conf_tools.specs.Edits.{placed_or_not}
-use Rattle.conf_tools.specs.Exports.{disk_back, disk_handed_back}
-use Rattle.conf_tools.specs.Keeping.{SalvagesTo}
-use Rattle.conf_tools.specs.Batches.{counted_alone}
-use Rattle.conf_tools.specs.OnStores.{DoesOnStores, PerformsOnStores, ReadsInFolder}
-use Rattle.conf_tools.specs.Performs.{BatchesRead, ChangesAt, ImportsRead, access_of, grouping_of}
-use Rattle.conf_tools.specs.ProgramCalls.{Call, Ending as CallEnding, accepted, answered, changing, disk_before}
-use Rattle.conf_tools.specs.ProgramCalls.{disk_behind, exporting, noted_in, running}
-use Rattle.conf_tools.specs.ProgramCalls as call
-use Rattle.conf_tools.specs.StoreWords.{Condition, ChangesInFolder, Inits, MakesChange, MakesInFolder}
-use Rattle.conf_tools.specs.StoreWords.{RunsOnFolder, SavesFound, SavesInFolder}
-use Rattle.conf_tools.specs.Tools.{Taken}
-use Rattle.conf_tools.specs.Worlds.{Around, WorldModel}
-use Rattle.conf_tools.specs.declared.changes.Change.{Change}
-use Rattle.conf_tools.specs.declared.changes.Change.TheVariants as change
-use Rattle.conf_tools.specs.EndOfRun.{EndOfRun as Ended}
-use Rattle.conf_tools.specs.declared.program.Status.{Status}
-use Rattle.conf_tools.specs.declared.program.Status.TheVariants.{Done}
-use Rattle.conf_tools.specs.declared.reading_fault.ReadingFault.{ReadingFault}
-use Rattle.conf_tools.specs.declared.stores.Grouping.{Grouping}
-use Rattle.conf_tools.specs.declared.texts.ToolFault.{ToolFault}
-use Rattle.conf_tools.specs.declared.world.Access.{Access}
-use Rattle.conf_tools.specs.declared.world.Access.TheVariants.{Changing}
-use Rattle.conf_runs.specs.Folders.{HandsOutNone, KeepsFolders}
-use Rattle.conf_session.specs.Handings.{Handing, handings_of, moment_after}
+use Rattle.std.{specs.Borrow.Bor, proofs.Common.{inl, inr}}
+use Rattle.{conf_disk.specs.{Image.Image, Models.DiskModel}, conf_history.specs.Copies.{BacksUp, LeavesOldOrCopy, ReadsCopy}}
+use Rattle.conf_history.specs.{Copies.disk_handed_back as copied_disk, Histories.ReadsSurvey, Salvages.{LeavesOldOrSaved, Saves}}
+use Rattle.conf_history.specs.{Salvages.disk_of as saved_disk, declared.{fault.SalvageFault.SalvageFault, survey.Findings.Findings}}
+use Rattle.{conf_state.specs.{Commands.Command, States.Contents, Steps.after}, conf_store.specs.Meaning.{ImageMeans, empty_state}}
+use Rattle.conf_words.specs.declared.invocation.{Conditions.Conditions, Invocation.{Invocation, TheVariants.{Init, Import, Set, Alter}}}
+use Rattle.conf_words.specs.declared.invocation.{Invocation.TheVariants.{Batch, Checkpoint, Run, Export, Salvage, Backup}, Root.Root}
+use Rattle.{conf_words.specs.declared.invocation.{TreeForm.TreeForm, Target.Target}, conf_tools.specs.Asking.AskedConditions}
+use Rattle.conf_tools.specs.{Backups.{BacksUpFound, BacksUpInFolder}, Changes.Performs as ChangePerforms, Edits.placed_or_not}
+use Rattle.conf_tools.specs.{Exports.{disk_back, disk_handed_back}, Keeping.SalvagesTo, Batches.counted_alone, OnStores.DoesOnStores}
+use Rattle.conf_tools.specs.{OnStores.{PerformsOnStores, ReadsInFolder}, Performs.{BatchesRead, ChangesAt, ChangesAtTarget, ImportsRead}}
+use Rattle.conf_tools.specs.{Performs.{access_of, grouping_of}, ProgramCalls.{Call, Ending as CallEnding, accepted, answered, changing}}
+use Rattle.conf_tools.specs.{ProgramCalls.{disk_before, disk_behind, exporting, noted_in, running}, StoreWords.{Condition, ChangesInFolder}}
+use Rattle.conf_tools.specs.{StoreWords.{Inits, MakesChange, MakesInFolder, RunsOnFolder, SavesFound, SavesInFolder}, Tools.Taken}
+use Rattle.conf_tools.specs.{Worlds.{Around, WorldModel}, declared.{changes.Change.Change, program.Status.{Status, TheVariants.Done}}}
+use Rattle.conf_tools.specs.declared.{reading_fault.ReadingFault.ReadingFault, stores.Grouping.Grouping, texts.ToolFault.ToolFault}
+use Rattle.conf_tools.specs.{declared.world.Access.{Access, TheVariants.Changing}, EndOfRun.EndOfRun as Ended}
+use Rattle.{conf_runs.specs.Folders.{HandsOutNone, KeepsFolders}, conf_session.specs.Handings.{Handing, handings_of, moment_after}}
 use Rattle.conf_session.specs.Streams.{streams_of}
+use Rattle.conf_tools.specs.ProgramCalls as call
+use Rattle.conf_tools.specs.declared.changes.Change.TheVariants as change
 
 -- ---- the folder of a run
 
 -- the folder whose disk a run takes, if its words name one
 abbrev pub folder_of : Invocation → Option (List ℕ)
 folder_of (Init folder) = Some folder.now
-folder_of (Import folder name file root absent conditions reporting) = Some folder.now
-folder_of (Set folder name pointer value placing conditions reporting) = Some folder.now
-folder_of (Delete folder name pointer conditions) = Some folder.now
-folder_of (Copy folder name to conditions) = Some folder.now
-folder_of (Rename folder name to conditions) = Some folder.now
-folder_of (Move folder name from to conditions) = Some folder.now
-folder_of (Batch folder file count reporting) = Some folder.now
+folder_of (Import asked reporting) = Some asked.folder.now
+folder_of (Set target put reporting) = Some target.folder.now
+folder_of (Alter target alteration) = Some target.folder.now
+folder_of (Batch asked reporting) = Some asked.folder.now
 folder_of (Checkpoint folder) = Some folder.now
 folder_of (Run folder grouping) = Some folder.now
 folder_of (Export folder name form) = Some folder.now
@@ -114,6 +83,11 @@ module _ {W D F P : Type 0} (world : WorldModel W D F P) (disk : DiskModel D) (h
       changed_if access folder does.conditions change old new end does.makes
   asked_for wanted access folder name path (Err fault) old new end does = None
 
+  abbrev pub asked_at : (target : Target) (change : Result Change ToolFault) (old new : W) (end : Ended)
+      → ChangesAtTarget world disk target change old new end → Option (Call disk)
+  asked_at target change old new end does =
+      asked_for target.conditions Changing target.folder.now target.name.now target.pointer.now change old new end does
+
   abbrev pub imported : (wanted : Conditions) (root : Root) (access : Access) (folder name : List ℕ) (read : Taken) (old new : W)
       (end : Ended) → ImportsRead world disk wanted root access folder name read old new end → Option (Call disk)
   imported wanted root access folder name (Ok bytes) old new end does =
@@ -143,26 +117,15 @@ module _ {W D F P : Type 0} (world : WorldModel W D F P) (disk : DiskModel D) (r
   abbrev pub call_of : (invocation : Invocation) (old new : Around W) (end : Ended)
       → DoesOnStores world disk remaining invocation old new end → Option (Call disk)
   call_of (Init folder) old new end does = initialised world disk honest does.0
-  call_of (Import folder name file root absent conditions reporting) old new end does =
-      imported world disk honest conditions root (access_of absent) folder.now name.now does.read does.seen new.world end
-      does.imports
-  call_of (Set folder name pointer value placing conditions reporting) old new end does =
-      asked_for world disk honest conditions Changing folder.now name.now pointer.now
-      (placed_or_not placing does.0.change) does.0.seen new.world end does.0.changes
-  call_of (Delete folder name pointer conditions) old new end does =
-      asked_for world disk honest conditions Changing folder.now name.now pointer.now does.0.change old.world new.world
-      end does.0.changes
-  call_of (Copy folder name to conditions) old new end does =
-      asked_for world disk honest conditions Changing folder.now to.now [] does.0.change old.world new.world end
-      does.0.changes
-  call_of (Rename folder name to conditions) old new end does =
-      asked_for world disk honest conditions Changing folder.now to.now [] does.0.change old.world new.world end
-      does.0.changes
-  call_of (Move folder name from to conditions) old new end does =
-      asked_for world disk honest conditions Changing folder.now name.now to.now does.0.change old.world new.world
-      end does.0.changes
-  call_of (Batch folder file count reporting) old new end does =
-      batched world disk honest folder.now count does.read does.seen new.world end does.makes
+  call_of (Import asked reporting) old new end does =
+      imported world disk honest asked.conditions asked.root (access_of asked.missing) asked.folder.now asked.name.now
+      does.read does.seen new.world end does.imports
+  call_of (Set target put reporting) old new end does =
+      asked_at world disk honest target (placed_or_not put.placing does.0.change) does.0.seen new.world end does.0.changes
+  call_of (Alter target alteration) old new end does =
+      asked_at world disk honest target does.0.change old.world new.world end does.0.changes
+  call_of (Batch asked reporting) old new end does =
+      batched world disk honest asked.folder.now asked.count does.read does.seen new.world end does.makes
   call_of (Checkpoint folder) old new end does = changed_in world disk honest change.Checkpoint does.0
   call_of (Run folder grouping) old new end does = ran_in world disk honest (grouping_of grouping) old new does
   call_of (Export folder name form) old new end does = read_from world disk honest does

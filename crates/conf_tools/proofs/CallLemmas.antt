@@ -1,47 +1,18 @@
 -- What calls of the program keep, one call after the other.
 use Rattle.std.proofs.Common.{◌≡◌, ◌≤◌, ℕ, Bool, true, false, if◌then◌else◌, List, [], ◌∷◌, ◌++◌, length, take, Option, None, Some, Result}
 use Rattle.std.proofs.Common.{Ok, Err, refl, sym, ap, ◌∙◌, subst, ⊎_elim, arith}
-use Rattle.conf_tools.proofs.Prelude.{
-  bytes_under,
-  several_waited,
-  Image,
-  IsImage,
-  image_now,
-  ReadingIsAnImage,
-  DiskModel,
-  LeavesOnly,
-  Store,
-  Command,
-}
-use Rattle.conf_tools.proofs.Prelude.{
-  Contents,
-  after,
-  and_then,
-  FileMeans,
-  FolderMeans,
-  ImageMeans,
-  MeansPrefix,
-  MeantAtEntry,
-  OneMeaning,
-  SessionFault,
-  Tally,
-}
-use Rattle.conf_tools.proofs.Prelude.{AfterAtLeast, Stored, Streams}
-use Rattle.conf_state.proofs.RunLaws.{after-append}
-use Rattle.conf_store.specs.Lives.{all_commands}
-use Rattle.conf_tools.specs.declared.stores.StoreToolFault.TheVariants.{Folder as InFolder}
-use Rattle.conf_tools.specs.declared.stores.StoreToolFault.TheVariants.{Condition as OnCondition}
-use Rattle.conf_tools.specs.{Changes.KeepsChange, Stores.Answers, Stores.KeepsAnswered, Stores.Work, declared.changes.Change.Change}
-use Rattle.conf_tools.specs.declared.stores.Grouping.{Grouping}
-use Rattle.conf_tools.specs.declared.stores.Grouping.TheVariants.{Single, Grouped}
-use Rattle.conf_session.specs.Handings.{Handings, accepted_within, taken_in}
-use Rattle.conf_session.specs.Groups.{Turn, all_asked, turns_within}
-use Rattle.conf_session.specs.Requests.{Request}
+use Rattle.conf_tools.proofs.Prelude.{bytes_under, several_waited, Image, IsImage, image_now, ReadingIsAnImage, DiskModel, LeavesOnly}
+use Rattle.conf_tools.proofs.Prelude.{Store, Command, Contents, after, and_then, FileMeans, FolderMeans, ImageMeans, MeansPrefix}
+use Rattle.conf_tools.proofs.Prelude.{MeantAtEntry, OneMeaning, SessionFault, Tally, AfterAtLeast, Stored, Streams}
+use Rattle.conf_tools.specs.declared.stores.StoreToolFault.TheVariants.{Folder as InFolder, Condition as OnCondition, Open, Session, Export}
+use Rattle.conf_tools.specs.declared.stores.{StoreToolFault.TheVariants.{Refused, StoreExists}, Grouping.{Grouping, TheVariants.Single}}
+use Rattle.conf_tools.specs.{declared.{stores.Grouping.TheVariants.Grouped, changes.Change.Change}, Changes.KeepsChange, Stores.Answers}
+use Rattle.conf_tools.specs.{Stores.{KeepsAnswered, Work}, ProgramCalls.{AreCalls, Call, CallHolds, CallsHold, EachKept, EachMeans, Ending}}
+use Rattle.conf_tools.specs.ProgramCalls.{Event, KeptOf, MayLeave, MeantBy, accepted, answered, answered_of, changing, cut_off, disk_before}
+use Rattle.conf_tools.specs.ProgramCalls.{disk_behind, exporting, if_returned, noted_in, returned, running}
+use Rattle.{conf_state.proofs.RunLaws.after-append, conf_store.specs.Lives.all_commands, conf_session.specs.Handings.Handings}
+use Rattle.conf_session.specs.{Handings.{accepted_within, taken_in}, Groups.{Turn, all_asked, turns_within}, Requests.Request}
 use Rattle.conf_session.proofs.HandedLemmas.{since-some, since-weaker}
-use Rattle.conf_tools.specs.ProgramCalls.{AreCalls, Call, CallHolds, CallsHold, EachKept, EachMeans, Ending, Event, KeptOf, MayLeave}
-use Rattle.conf_tools.specs.ProgramCalls.{MeantBy, accepted, answered, answered_of, changing, cut_off, disk_before, disk_behind}
-use Rattle.conf_tools.specs.ProgramCalls.{exporting, if_returned, noted_in, returned, running}
-use Rattle.conf_tools.specs.declared.stores.StoreToolFault.TheVariants.{Open, Session, Export, Refused, StoreExists}
 
 -- a file means one state at most
 file-one : OneMeaning → (several : Bool) (file : Option (List ℕ)) (s t : Contents) → FileMeans several file s

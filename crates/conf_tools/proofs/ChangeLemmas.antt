@@ -1,20 +1,15 @@
 -- What a single change leaves of a store.
 use Rattle.std.proofs.Common.{◌≡◌, ◌≢◌, ◌⊎◌, ◌≤◌, ℕ, Bool, true, false, List, [], ◌∷◌, inl, inr, refl, sym, ◌∙◌, ap, subst, arith, length}
-use Rattle.std.proofs.Common.{⊎_elim}
-use Rattle.std.specs.Prelude.{Option, Ok}
+use Rattle.std.{proofs.{Common.⊎_elim, Math.Seq.take-length}, specs.Prelude.{Option, Ok}}
 use Rattle.conf_tools.proofs.Prelude.{false≢true, Folder, Image, IsImage, DiskModel, LeavesOnly, TimeGoesOn, LeavesOnly-joined}
 use Rattle.conf_tools.proofs.Prelude.{LeavesOnly-now, LeavesOnly-weaker, command_of, import_as, single, text_of, Contents, after}
 use Rattle.conf_tools.proofs.Prelude.{StoreFault, EmptyBatch, BadName, NoConfig, Path, Read, TooDeep, ConfigLarge, StoreFull, RecordLong}
 use Rattle.conf_tools.proofs.Prelude.{JournalLong, CountFull, Reopen, Device, OutOfMemory, room_for, journal_length, outcome, MeansPrefix}
-use Rattle.conf_tools.proofs.Prelude.{AllImagesMean, NothingWaits, ImageMeans, StoreView, MeantAtEntry, image-meant}
-use Rattle.std.proofs.Math.Seq.{take-length}
-use Rattle.conf_state.specs.Commands.{Command as GivenCommand}
-use Rattle.conf_store.proofs.FileLemmas.{read-stays}
-use Rattle.conf_store.proofs.MeaningLemmas.{after-done}
-use Rattle.conf_store.proofs.StepLemmas.{StepsNeedRoom, accepted-anyway}
-use Rattle.conf_tools.specs.{Stores.OpensOn, declared.changes.Change.Change}
+use Rattle.conf_tools.{proofs.Prelude.{AllImagesMean, NothingWaits, ImageMeans, StoreView, MeantAtEntry, image-meant}, specs.Stores.OpensOn}
+use Rattle.conf_tools.specs.declared.changes.Change.{Change, TheVariants.{Import, Perform, Copy, Rename, Edit, Checkpoint}}
 use Rattle.conf_tools.specs.Changes.{KeepsChange, Makes, MeansOneOf, Performs, RefusesChange}
-use Rattle.conf_tools.specs.declared.changes.Change.TheVariants.{Import, Perform, Copy, Rename, Edit, Checkpoint}
+use Rattle.{conf_state.specs.Commands.Command as GivenCommand, conf_store.proofs.{FileLemmas.read-stays, MeaningLemmas.after-done}}
+use Rattle.conf_store.proofs.StepLemmas.{StepsNeedRoom, accepted-anyway}
 
 -- ---- which commands a change performs
 

@@ -1,6 +1,5 @@
 -- What was told of bytes that opening dropped.
-use Rattle.std.proofs.Common.{◌≢◌, ℕ, List, refl, inl, inr}
-use Rattle.std.specs.Prelude.{zero, suc}
+use Rattle.std.{proofs.Common.{◌≢◌, ℕ, List, refl, inl, inr}, specs.Prelude.{zero, suc}}
 use Rattle.conf_tools.specs.Dropped.{TellsCount, TellsDropped, dropped_line}
 
 module _ {E : Type 0} (hears : E → List ℕ → E → Type 0) (old new : E) where

@@ -1,10 +1,7 @@
 -- The changes of `set`.
-use Rattle.std.proofs.Common.{◌≡◌, refl}
-use Rattle.std.specs.Prelude.{Ok, Err}
-use Rattle.conf_tools.specs.Prelude.{Placing}
+use Rattle.std.{proofs.Common.{◌≡◌, refl}, specs.Prelude.{Ok, Err}}
+use Rattle.conf_tools.specs.{Prelude.Placing, Edits.{placed, placed_or_not}, declared.{changes.Change.Change, texts.ToolFault.ToolFault}}
 use Rattle.conf_words.specs.declared.invocation.Placing.TheVariants.{AtPlace, BeforeElement, WithParents}
-use Rattle.conf_tools.specs.Edits.{placed, placed_or_not}
-use Rattle.conf_tools.specs.{declared.changes.Change.Change, declared.texts.ToolFault.ToolFault}
 
 pub placed-ok : (placing : Placing) (change : Change) → placed_or_not placing (Ok change) ≡ Ok (placed placing change)
 placed-ok AtPlace change = refl

@@ -1,16 +1,11 @@
 -- The statuses of endings.
 use Rattle.std.proofs.Common.{◌≡◌, refl, sym}
+use Rattle.conf_tools.specs.{Endings.{EndsTold, EndsWith, ending_of_import, told_of}, Outcomes.status_of_ending, Statuses.status_of}
+use Rattle.conf_tools.specs.declared.{outcome.Ending.{Ending, TheVariants.{Of, Told, ToldFault}}, program.Status.{Status, TheVariants.Done}}
+use Rattle.conf_tools.specs.declared.stores.StoreToolFault.TheVariants.{Folder as InFolder, Open, Session, Export, Condition, Refused}
+use Rattle.conf_tools.specs.declared.{stores.StoreToolFault.TheVariants.StoreExists, texts.ToolFault.ToolFault}
 use Rattle.conf_state.specs.declared.fault.StoreFault.TheVariants as store
-use Rattle.conf_tools.specs.Endings.{EndsTold, EndsWith, ending_of_import, told_of}
-use Rattle.conf_tools.specs.{Outcomes.status_of_ending, Statuses.status_of}
-use Rattle.conf_tools.specs.declared.outcome.Ending.{Ending}
-use Rattle.conf_tools.specs.declared.outcome.Ending.TheVariants.{Of, Told, ToldFault}
 use Rattle.conf_tools.specs.declared.outcome.Outcome.TheVariants as outcome
-use Rattle.conf_tools.specs.declared.program.Status.{Status}
-use Rattle.conf_tools.specs.declared.program.Status.TheVariants.{Done}
-use Rattle.conf_tools.specs.declared.stores.StoreToolFault.TheVariants.{Folder as InFolder, Open, Session, Export}
-use Rattle.conf_tools.specs.declared.stores.StoreToolFault.TheVariants.{Condition, Refused, StoreExists}
-use Rattle.conf_tools.specs.declared.texts.ToolFault.{ToolFault}
 use Rattle.conf_tools.specs.declared.texts.ToolFault.TheVariants as tool_fault
 
 -- no fault of a text has the status Done
@@ -30,6 +25,7 @@ not-with fault (Of (outcome.Text other)) ends done = not-read other (sym done)
 not-with fault (ToldFault other) ends done = not-read other (sym done)
 not-with fault (Of outcome.Done) ends done = absurd ends
 not-with fault (Of outcome.Absent) ends done = absurd ends
+not-with fault (Of outcome.Differs) ends done = absurd ends
 not-with fault (Of (outcome.Damaged folder)) ends done = absurd ends
 not-with fault (Of (outcome.Store other)) ends done = absurd ends
 not-with fault (Of (outcome.Reading other)) ends done = absurd ends
@@ -60,6 +56,7 @@ imported-status (Of (outcome.Store (Condition fault))) = refl
 imported-status (Of (outcome.Store StoreExists)) = refl
 imported-status (Of outcome.Done) = refl
 imported-status (Of outcome.Absent) = refl
+imported-status (Of outcome.Differs) = refl
 imported-status (Of (outcome.Damaged folder)) = refl
 imported-status (Of (outcome.Text fault)) = refl
 imported-status (Of (outcome.Reading fault)) = refl

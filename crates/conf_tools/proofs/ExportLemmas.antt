@@ -1,45 +1,18 @@
 -- What an export finds, whether the store was opened or its file was read.
 use Rattle.std.proofs.Common.{◌≡◌, ◌≤◌, ◌⊎◌, ℕ, Bool, true, false, List, Ok, Err, inl, inr, refl, sym, ap, subst, arith, ⊎_elim}
-use Rattle.std.specs.Prelude.{Option, Some, None, Result, IfOk, IfErr, OnErr, OnOk, Vec}
-use Rattle.conf_tools.proofs.Prelude.{
-  Folder,
-  Reads,
-  Tells,
-  bytes_under,
-  several_waited,
-  Image,
-  IsImage,
-  image_now,
-  ReadingIsAnImage,
-  DiskModel,
-  LeavesOnly,
-}
-use Rattle.conf_tools.proofs.Prelude.{Content, Bytes, Missing, Store, LeavesOnly-joined, LeavesOnly-now, LeavesOnly-start}
-use Rattle.conf_tools.proofs.Prelude.{
-  LeavesOnly-weaker,
-  store_limit,
-  Contents,
-  StoreFault,
-  HasFailed,
-  tree_named,
-  FileMeans,
-  FolderMeans,
-  ImageMeans,
-  empty_state,
-  WholeIsMeant,
-}
-use Rattle.conf_tools.proofs.Prelude.{MeantAtEntry, RecoversTo, RefusesBytes, RefusesOpening, StoreView, OpenFault, image-meant, not-read}
-use Rattle.std.specs.declared.alloc.Global.{Global}
-use Rattle.conf_state.specs.declared.fault.StoreFault.TheVariants.{OutOfMemory as OutOfMemoryHere}
-use Rattle.conf_store.specs.Files.{FilesStay, IsNewBase, IsOldOrBase}
-use Rattle.conf_store.proofs.{HoleLemmas.noted-means, RecoveryLemmas.recovers-means}
+use Rattle.std.specs.{Prelude.{Option, Some, None, Result, IfOk, IfErr, OnErr, OnOk, Vec}, declared.alloc.Global.Global}
+use Rattle.conf_tools.proofs.Prelude.{Folder, Reads, Tells, bytes_under, several_waited, Image, IsImage, image_now, ReadingIsAnImage}
+use Rattle.conf_tools.proofs.Prelude.{DiskModel, LeavesOnly, Content, Bytes, Missing, Store, LeavesOnly-joined, LeavesOnly-now}
+use Rattle.conf_tools.proofs.Prelude.{LeavesOnly-start, LeavesOnly-weaker, store_limit, Contents, StoreFault, HasFailed, tree_named}
+use Rattle.conf_tools.proofs.Prelude.{FileMeans, FolderMeans, ImageMeans, empty_state, WholeIsMeant, MeantAtEntry, RecoversTo, RefusesBytes}
+use Rattle.conf_tools.proofs.Prelude.{RefusesOpening, StoreView, OpenFault, image-meant, not-read}
+use Rattle.conf_tools.specs.declared.stores.StoreToolFault.{StoreToolFault, TheVariants.{Folder as InFolder, Condition as OnCondition}}
+use Rattle.conf_tools.specs.{declared.stores.StoreToolFault.TheVariants.{Open, Session, Export, Refused, StoreExists}, Dropped.HasNoRest}
+use Rattle.conf_tools.specs.{Dropped.TellsDroppedOf, Stores.OpensOn, Exports.{Finds, HasNoTextIn, HasText, IsTextIn, IsTextOf}}
+use Rattle.conf_tools.specs.Exports.{IsTextOfFound, LacksText, LastsOrTells, TellsExport, TellsReadAlone, disk_back, read_alone_line}
+use Rattle.{conf_state.specs.declared.fault.StoreFault.TheVariants.OutOfMemory as OutOfMemoryHere, conf_store.specs.Files.FilesStay}
+use Rattle.conf_store.{specs.Files.{IsNewBase, IsOldOrBase}, proofs.{HoleLemmas.noted-means, RecoveryLemmas.recovers-means}}
 use Rattle.conf_words.specs.declared.invocation.TreeForm.{TreeForm}
-use Rattle.conf_tools.specs.declared.stores.StoreToolFault.TheVariants.{Folder as InFolder}
-use Rattle.conf_tools.specs.declared.stores.StoreToolFault.TheVariants.{Condition as OnCondition}
-use Rattle.conf_tools.specs.{Dropped.HasNoRest, Dropped.TellsDroppedOf, Stores.OpensOn, declared.stores.StoreToolFault.StoreToolFault}
-use Rattle.conf_tools.specs.Exports.{Finds, HasNoTextIn, HasText, IsTextIn, IsTextOf, IsTextOfFound, LacksText, LastsOrTells, TellsExport}
-use Rattle.conf_tools.specs.Exports.{TellsReadAlone, disk_back, read_alone_line}
-use Rattle.conf_tools.specs.declared.stores.StoreToolFault.TheVariants.{Open, Session, Export, Refused, StoreExists}
 
 -- a failure is still one after further calls
 failed-on : (before now later : ℕ) → HasFailed before now → now ≤ later → HasFailed before later

@@ -1,20 +1,12 @@
 -- What the text of one file says of the reader and the writer.
-use Rattle.std.proofs.Common.{◌≡◌, inl, ℕ, List, [], ◌∷◌, ◌++◌, sym, ap, ◌∙◌, append_assoc, append-nil, subst, take}
-use Rattle.std.specs.Prelude.{Option}
-use Rattle.conf_tools.proofs.Prelude.{Appends, Appends-trans, Keeps-refl, config_limits}
-use Rattle.yaml_events.specs.declared.read_fault.ReadFault.TheVariants.{TooLong, NotUtf8, Syntax, Documents}
-use Rattle.yaml_events.specs.declared.read_fault.ReadFault.TheVariants.{KeyNotText, KeyTwice, TooDeep, LargeInStyle}
-use Rattle.yaml_events.specs.declared.read_fault.ReadFault.TheVariants.{OutOfMemory}
-use Rattle.yaml_events.specs.declared.read_fault.ReadFault.{ReadFault}
-use Rattle.yaml_style.specs.declared.finding.Finding.{Finding}
-use Rattle.yaml_docs.specs.Reading.{RefusesBytes}
-use Rattle.yaml_tree.specs.Reading.{Refuses}
-use Rattle.conf_tools.specs.Prelude.{Comments}
-use Rattle.conf_tools.specs.FileTexts.{StopsInFile, StopsRestyling, file_line, file_report}
-use Rattle.conf_tools.proofs.PartLemmas.{part_before, part_more}
-use Rattle.conf_tools.specs.{Parts.WritesPart, Styles.HasNoStyle, Tools.Stops, declared.texts.ToolFault.ToolFault}
-use Rattle.conf_tools.specs.declared.texts.ToolFault.TheVariants.{ImportText, Input, NoEdits, OneValue, Output, Read, Unsettled}
-use Rattle.conf_tools.specs.declared.texts.ToolFault.TheVariants.{Comments as HasComments}
+use Rattle.std.{proofs.Common.{◌≡◌, inl, ℕ, List, [], ◌∷◌, ◌++◌, sym, ap, ◌∙◌, append_assoc, append-nil, subst, take}, specs.Prelude.Option}
+use Rattle.conf_tools.proofs.{Prelude.{Appends, Appends-trans, Keeps-refl, config_limits}, PartLemmas.{part_before, part_more}}
+use Rattle.conf_tools.specs.{Prelude.Comments, FileTexts.{StopsInFile, StopsRestyling, file_line, file_report}, Parts.WritesPart}
+use Rattle.conf_tools.specs.{Styles.HasNoStyle, Tools.Stops, declared.texts.ToolFault.{ToolFault, TheVariants.{ImportText, Input, NoEdits}}}
+use Rattle.conf_tools.specs.declared.texts.ToolFault.TheVariants.{OneValue, Output, Read, Unsettled, Comments as HasComments}
+use Rattle.yaml_events.specs.declared.read_fault.ReadFault.{ReadFault, TheVariants.{TooLong, NotUtf8, Syntax, Documents, KeyNotText}}
+use Rattle.yaml_events.specs.declared.read_fault.ReadFault.TheVariants.{KeyTwice, TooDeep, LargeInStyle, OutOfMemory}
+use Rattle.{yaml_style.specs.declared.finding.Finding.Finding, yaml_docs.specs.Reading.RefusesBytes, yaml_tree.specs.Reading.Refuses}
 
 -- ---- one text
 

@@ -1,6 +1,5 @@
 -- What a text that was read and one that was written say of the writer.
-use Rattle.std.proofs.Common.{ℕ, List, ◌∙◌}
-use Rattle.std.specs.Prelude.{Option, Some, None}
+use Rattle.std.{proofs.Common.{ℕ, List, ◌∙◌}, specs.Prelude.{Option, Some, None}}
 use Rattle.conf_tools.proofs.Prelude.{Keeps, Appends}
 
 -- what was written stays written by a flush

@@ -1,10 +1,9 @@
 -- What was found at a place, or what stands for it, where a look may have ended since memory ran out.
-use Rattle.std.proofs.Common.{◌≡◌, ◌⊎◌, inl, inr, refl, sym, ◌∙◌, ap, subst, List, ℕ, Ok, Err}
-use Rattle.std.specs.Prelude.{Result, IfOk, IfErr}
+use Rattle.std.{proofs.Common.{◌≡◌, ◌⊎◌, inl, inr, refl, sym, ◌∙◌, ap, subst, List, ℕ, Ok, Err}, specs.Prelude.{Result, IfOk, IfErr}}
 use Rattle.conf_tools.proofs.Prelude.{Tree, StoreFault, OutOfMemory, MissingValue, ValueForm}
+use Rattle.conf_tools.specs.{declared.{reading_fault.ReadingFault.ReadingFault, reads.Presence.Presence}, Reads.{CannotShow, HidesPresence}}
+use Rattle.conf_tools.specs.Reads.{LacksFound, ShowsFound, ShowsTree, found_or, presence_of}
 use Rattle.conf_words.specs.declared.invocation.MissingValue.TheVariants.{Refused, Default}
-use Rattle.conf_tools.specs.{declared.reading_fault.ReadingFault.ReadingFault, declared.reads.Presence.Presence}
-use Rattle.conf_tools.specs.Reads.{CannotShow, HidesPresence, LacksFound, ShowsFound, ShowsTree, found_or, presence_of}
 use Rattle.conf_tools.specs.declared.reading_fault.ReadingFault.TheVariants as reading
 
 -- a look ended with this fault: memory ran out, or that is what was found

@@ -1,13 +1,10 @@
 -- What is written of one configuration that a file holds.
-use Rattle.std.proofs.Common.{◌≡◌, ap, subst, refl, inl, inr, ℕ, List, [], ◌∷◌}
-use Rattle.std.specs.Prelude.{Bool, Option, Some, None, Result, option_copied, option_map}
+use Rattle.std.{proofs.Common.{◌≡◌, ap, subst, refl, inl, inr, ℕ, List, [], ◌∷◌}, specs.Prelude.{Bool, Option, Some, None, Result}}
+use Rattle.std.specs.{Prelude.{option_copied, option_map}, Borrow.Bor}
 use Rattle.conf_tools.proofs.Prelude.{Appends, Keeps, tree_of, Tree, Contents, StoreFault, config_named, MissingValue, ValueForm}
-use Rattle.std.specs.Borrow.{Bor}
-use Rattle.conf_history.specs.Histories.{ReadsState}
+use Rattle.conf_tools.specs.{Parts.WritesPart, Reads.{LacksOne, RefusesValues, ShowsAll, WritesValues, tree_found, value_or_in}}
+use Rattle.{conf_tools.specs.declared.reading_fault.ReadingFault.ReadingFault, conf_history.specs.Histories.ReadsState}
 use Rattle.conf_history.specs.declared.fault.HistoryFault.{HistoryFault}
-use Rattle.conf_tools.specs.Parts.{WritesPart}
-use Rattle.conf_tools.specs.Reads.{LacksOne, RefusesValues, ShowsAll, WritesValues, tree_found, value_or_in}
-use Rattle.conf_tools.specs.declared.reading_fault.ReadingFault.{ReadingFault}
 use Rattle.yaml_data.specs.declared.tree.Tree as code
 use Rattle.conf_tools.specs.declared.reading_fault.ReadingFault.TheVariants as reading
 

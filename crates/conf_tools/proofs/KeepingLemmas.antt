@@ -1,11 +1,7 @@
 -- How many bytes of a store's file an opening keeps.
-use Rattle.std.proofs.Common.{◌≤◌, ap, arith, length-append}
-use Rattle.std.specs.Prelude.{ℕ, Bool, List, ◌++◌, length}
-use Rattle.std.proofs.lemmas.List.Folds.{concat-append}
-use Rattle.std.specs.List.{concat}
-use Rattle.conf_history.specs.Histories.{IsSurvey}
-use Rattle.conf_history.specs.declared.survey.Findings.{Findings}
-use Rattle.conf_tools.proofs.Prelude.{Contents}
+use Rattle.std.{proofs.{Common.{◌≤◌, ap, arith, length-append}, lemmas.List.Folds.concat-append}, specs.Prelude.{ℕ, Bool, List, ◌++◌}}
+use Rattle.std.specs.{Prelude.length, List.concat}
+use Rattle.{conf_history.specs.{Histories.IsSurvey, declared.survey.Findings.Findings}, conf_tools.proofs.Prelude.Contents}
 
 -- no more than there are
 pub kept-within : (several : Bool) (bytes : List ℕ) (state : Contents) (findings : Findings) → IsSurvey several bytes state findings

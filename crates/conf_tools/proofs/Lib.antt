@@ -7,6 +7,7 @@ pub mod TailLemmas
 pub mod CallLemmas
 pub mod ExportLemmas
 pub mod ChangeLemmas
+mod ConfigFileLemmas
 mod EditLemmas
 pub mod ReadLemmas
 pub mod FoundLemmas
@@ -22,3 +23,4 @@ pub mod StoreLemmas
 pub mod KeepingLemmas
 mod MadeLemmas
 pub mod TellingLemmas
+pub mod NameLemmas

@@ -1,22 +1,8 @@
 -- A store that was opened where there was no file is an empty one.
-use Rattle.std.proofs.Common.{◌≡◌, ℕ, List, refl, sym, ◌∙◌, ap, subst}
-use Rattle.std.specs.Prelude.{Option, Some, None}
-use Rattle.conf_tools.proofs.Prelude.{
-  Folder,
-  Reads,
-  Tells,
-  bytes_under,
-  several_waited,
-  DiskModel,
-  Missing,
-  Store,
-  Contents,
-  AllImagesMean,
-  empty_state,
-}
-use Rattle.conf_tools.proofs.Prelude.{StoreView, stored_of}
+use Rattle.std.{proofs.Common.{◌≡◌, ℕ, List, refl, sym, ◌∙◌, ap, subst}, specs.Prelude.{Option, Some, None}}
+use Rattle.conf_tools.proofs.Prelude.{Folder, Reads, Tells, bytes_under, several_waited, DiskModel, Missing, Store, Contents, AllImagesMean}
+use Rattle.conf_tools.{proofs.Prelude.{empty_state, StoreView, stored_of}, specs.{Changes.MakesStore, Stores.{OpensOn, OpensTo}}}
 use Rattle.conf_state.specs.BaseTexts.{base_bytes}
-use Rattle.conf_tools.specs.{Changes.MakesStore, Stores.OpensOn, Stores.OpensTo}
 
 was-missing : (file : Option (List ℕ)) (max : ℕ) → Tells file max Missing → file ≡ None
 was-missing None max tells = refl

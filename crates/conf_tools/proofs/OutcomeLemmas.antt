@@ -1,32 +1,20 @@
 -- Where the status is 0, nothing was told.
 use Rattle.std.proofs.Common.{◌≡◌, ◌<◌, ◌⊎◌, ℕ, Bool, true, false, List, refl, sym, ◌∙◌, ap, subst, arith, rules, inl, inr, codes}
 use Rattle.std.specs.Prelude.{nat_lt, if◌then◌else◌, None, Option, Result, Ok, Err, IfErr, OnOk}
-use Rattle.conf_tools.proofs.Prelude.{common_steps, Tally}
-use Rattle.conf_tools.specs.{Dropped.TellsDropped, FaultLines.text_fault_name, Listening.fault_line, Statuses.code_of, Statuses.status_of}
-use Rattle.conf_tools.specs.{Refused.TellsFault, Statuses.worst, Tails.end_of_rest, TextWords.ending_after_check}
-use Rattle.conf_tools.specs.TextWords.{ending_after_format}
-use Rattle.conf_tools.specs.{declared.outcome.Ending.Ending, declared.outcome.Ending.TheVariants.Of}
-use Rattle.conf_tools.specs.declared.outcome.Ending.TheVariants.{Told, ToldFault}
-use Rattle.conf_tools.specs.{declared.outcome.Outcome.Outcome, declared.program.Status.Status}
-use Rattle.conf_tools.specs.{Statuses.ShowsText, StoreWords.WritesWhole}
-use Rattle.conf_tools.specs.{declared.program.Status.TheVariants.Done, declared.program.Status.TheVariants.Device, declared.tail.Tail.Tail}
-use Rattle.conf_tools.specs.{declared.texts.ToolFault.ToolFault}
-use Rattle.conf_tools.specs.Endings.{StaysUnlessFault}
-use Rattle.conf_tools.specs.Losses.{SetTells, TellsLoss, TellsLossIfAsked, TellsLossOr, TellsWritten}
-use Rattle.conf_tools.specs.Outcomes.{EndsWriting, LeavesImport, LeavesTold, SilentIfDone}
-use Rattle.conf_tools.specs.Outcomes.{TellsIfDone, TellsOnlyTold, TellsOutcome}
-use Rattle.conf_tools.specs.Outcomes.{TellsSession, TellsUnperformed, status_of_ending, status_of_outcome}
-use Rattle.conf_tools.specs.Styles.{TellsLeftOut, TellsLeftOutOf}
-use Rattle.conf_tools.specs.{Tools.Taken, declared.change_words.Meaning.Meaning, declared.changes.Change.Change}
-use Rattle.conf_tools.specs.{declared.reporter.Origin.Origin, declared.reporter.Origin.TheVariants.Named}
-use Rattle.conf_tools.specs.declared.reporter.Origin.TheVariants.{Input}
+use Rattle.conf_tools.{proofs.Prelude.{common_steps, Tally}, specs.{Dropped.TellsDropped, FaultLines.text_fault_name, Listening.fault_line}}
+use Rattle.conf_tools.specs.{Statuses.{code_of, status_of, worst, ShowsText}, Refused.TellsFault, Tails.end_of_rest}
+use Rattle.conf_tools.specs.{TextWords.{ending_after_check, ending_after_format}, declared.outcome.Ending.{Ending, TheVariants.{Of, Told}}}
+use Rattle.conf_tools.specs.declared.{outcome.{Ending.TheVariants.ToldFault, Outcome.Outcome}, program.Status.{Status, TheVariants.Done}}
+use Rattle.conf_tools.specs.declared.{program.Status.TheVariants.Device, tail.Tail.Tail, texts.ToolFault.{ToolFault, TheVariants.Comments}}
+use Rattle.conf_tools.specs.declared.texts.ToolFault.TheVariants.{ImportText, NoEdits, OneValue, Output, Read, Unsettled, Input as NoInput}
+use Rattle.conf_tools.specs.declared.{change_words.Meaning.Meaning, changes.Change.Change, reporter.Origin.{Origin, TheVariants.Named}}
+use Rattle.conf_tools.specs.{declared.reporter.Origin.TheVariants.Input, StoreWords.WritesWhole, Endings.StaysUnlessFault, Losses.SetTells}
+use Rattle.conf_tools.specs.{Losses.{TellsDash, TellsLoss, TellsLossIfAsked, TellsLossOr, TellsWritten}, Outcomes.EndsWriting}
+use Rattle.conf_tools.specs.Outcomes.{LeavesImport, LeavesTold, SilentIfDone, TellsIfDone, TellsOnlyTold, TellsOutcome, TellsSession}
+use Rattle.conf_tools.specs.{Outcomes.{TellsUnperformed, status_of_ending, status_of_outcome}, Styles.{TellsLeftOut, TellsLeftOutOf}}
+use Rattle.{conf_tools.specs.{Styles.{TellsOfValue, dash_line}, Tools.Taken}, conf_words.specs.declared.invocation.Reporting.Reporting}
+use Rattle.conf_words.specs.declared.invocation.{Reporting.TheVariants.{Brief, Explained}, Style.{Style, TheVariants.{Bare, WithComments}}}
 use Rattle.conf_tools.specs.declared.change_words.Meaning.TheVariants as means
-use Rattle.conf_words.specs.declared.invocation.Reporting.{Reporting}
-use Rattle.conf_words.specs.declared.invocation.Reporting.TheVariants.{Brief, Explained}
-use Rattle.conf_words.specs.declared.invocation.Style.{Style}
-use Rattle.conf_words.specs.declared.invocation.Style.TheVariants.{Bare, WithComments}
-use Rattle.conf_tools.specs.declared.texts.ToolFault.TheVariants.{Comments, ImportText, NoEdits, OneValue, Output, Read, Unsettled}
-use Rattle.conf_tools.specs.declared.texts.ToolFault.TheVariants.{Input as NoInput}
 use Rattle.conf_tools.specs.declared.outcome.Outcome.TheVariants as ends
 
 counts : (fault : ToolFault) → 0 < code_of (status_of fault)
@@ -103,12 +91,23 @@ module _ {E : Type 0} where
         subst (λ before. TellsLeftOut hears before new) same (asked_left_out reporting bytes mid new told)
     set_left_out reporting meaning (Err fault) bytes old mid new same told = tt
 
-    -- nothing is told, or nothing more
-    pub silent_left_out : {T : Type 0} (ended : Result T ToolFault) (old new : E)
-        → OnOk ended (new ≡ old) → OnOk ended (TellsLeftOut hears old new)
-    silent_left_out (Ok done) old new same = inl same
-    silent_left_out (Err fault) old new same = tt
+    -- of a value that is a text nothing is told, or that it is `-`
+    pub dash_told : (reporting : Reporting) (text : List ℕ) (change : Result Change ToolFault) (old mid new : E)
+        → OnOk change (mid ≡ old) → OnOk change (TellsDash hears reporting text mid new)
+        → OnOk change (TellsOfValue hears old new)
+    dash_told Brief text (Ok change) old mid new same told = inl (inl (told ∙ same))
+    dash_told Explained text (Ok change) old mid new same (inl told) =
+        inr (subst (λ before. hears before dash_line new) same told.1)
+    dash_told Explained text (Ok change) old mid new same (inr told) = inl (inl (told.1 ∙ same))
+    dash_told reporting text (Err fault) old mid new same told = tt
 
+    -- of another value, how many comments were left out
+    pub value_told : (change : Result Change ToolFault) (old new : E) → OnOk change (TellsLeftOut hears old new)
+        → OnOk change (TellsOfValue hears old new)
+    value_told (Ok change) old new told = inl told
+    value_told (Err fault) old new told = tt
+
+    -- nothing more is told
     pub left_out_then : {T : Type 0} (ended : Result T ToolFault) (old mid new : E)
         → OnOk ended (TellsLeftOut hears old mid) → OnOk ended (new ≡ mid) → OnOk ended (TellsLeftOut hears old new)
     left_out_then (Ok done) old mid new told same = subst (TellsLeftOut hears old) (sym same) told
@@ -179,6 +178,7 @@ module _ {E : Type 0} where
       subst (λ (f : ToolFault). hears old (fault_line (text_fault_name f)) new) ended tells,
     )
     written_told ends.Absent status old new ended is tells = absurd ended
+    written_told ends.Differs status old new ended is tells = absurd ended
     written_told (ends.Damaged folder) status old new ended is tells = absurd ended
     written_told (ends.Store fault) status old new ended is tells = absurd ended
     written_told (ends.Reading fault) status old new ended is tells = absurd ended

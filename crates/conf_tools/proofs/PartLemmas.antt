@@ -1,10 +1,8 @@
 -- What was written where writing failed.
 use Rattle.std.proofs.Common.{◌≡◌, ◌⊎◌, ℕ, List, [], ◌∷◌, ◌++◌, length, take, drop, refl, sym, ap, ◌∙◌, subst, append_assoc, append-nil}
-use Rattle.std.proofs.Common.{take-append-drop, inl, inr}
-use Rattle.std.specs.Prelude.{Option}
-use Rattle.conf_tools.proofs.Prelude.{Appends, Appends-trans, Keeps}
-use Rattle.conf_tools.specs.{FileTexts.StopsInFile, Parts.WritesPart, Tools.Stops, declared.texts.ToolFault.ToolFault}
-use Rattle.conf_tools.specs.declared.texts.ToolFault.TheVariants.{Output, Read}
+use Rattle.std.{proofs.Common.{take-append-drop, inl, inr}, specs.Prelude.Option}
+use Rattle.conf_tools.{proofs.Prelude.{Appends, Appends-trans, Keeps}, specs.{FileTexts.StopsInFile, Parts.WritesPart, Tools.Stops}}
+use Rattle.conf_tools.specs.declared.texts.ToolFault.{ToolFault, TheVariants.{Output, Read}}
 use Rattle.yaml_events.specs.declared.read_fault.ReadFault.TheVariants.{OutOfMemory}
 
 take-front : (part rest : List ℕ) → take (length part) (part ++ rest) ≡ part

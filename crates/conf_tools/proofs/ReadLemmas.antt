@@ -1,14 +1,11 @@
 -- What the words that read a store write, piece after piece.
 use Rattle.std.proofs.Common.{◌≡◌, ℕ, List, [], ◌∷◌, ◌++◌, refl, sym, ap, ◌∙◌, append_assoc, arith, ◌≤◌, codes, Ok, Err}
-use Rattle.std.specs.Prelude.{Bool, encode_utf8_all, Result, OnOk, is_ok, suc, if◌then◌else◌, Option, Some, None}
-use Rattle.conf_tools.proofs.Prelude.{IsUtf8, chars, Tree, depth, IsKept, own_limits, Contents}
-use Rattle.std.proofs.lemmas.Str.{encodes-chars}
-use Rattle.tree_path.specs.Paths.{at, at_from, at_step, child, refusal}
-use Rattle.tree_path.specs.declared.place.Miss.{Miss}
-use Rattle.yaml_config.proofs.Located.{child-within}
-use Rattle.conf_history.specs.declared.survey.Findings.{Findings}
-use Rattle.conf_tools.specs.Surveys.{CannotWrite, FileIsAs, RefusesWriting, findings_text}
-use Rattle.conf_tools.specs.declared.reading_fault.ReadingFault.{ReadingFault}
+use Rattle.std.{proofs.lemmas.Str.encodes-chars, specs.Prelude.{Bool, encode_utf8_all, Result, OnOk, is_ok, suc, if◌then◌else◌, Option}}
+use Rattle.std.specs.Prelude.{Some, None}
+use Rattle.conf_tools.{proofs.Prelude.{IsUtf8, chars, Tree, depth, IsKept, own_limits, Contents}, specs.Surveys.{CannotWrite, FileIsAs}}
+use Rattle.conf_tools.specs.{Surveys.{RefusesWriting, findings_text}, declared.reading_fault.ReadingFault.ReadingFault}
+use Rattle.tree_path.specs.{Paths.{at, at_from, at_step, child, refusal}, declared.place.Miss.Miss}
+use Rattle.{yaml_config.proofs.Located.child-within, conf_history.specs.declared.survey.Findings.Findings}
 use Rattle.conf_history.specs.declared.fault.HistoryFault.TheVariants as history
 use Rattle.conf_tools.specs.declared.reading_fault.ReadingFault.TheVariants as reading
 

@@ -1,21 +1,15 @@
 -- What a session leaves of the disk of the store that was opened for it.
 use Rattle.std.proofs.Common.{◌≡◌, ◌≢◌, ◌≤◌, ◌⊎◌, ◌↔◌, ℕ, Bool, true, false, List, [], ◌∷◌, ◌++◌, ap, inl, inr, length, refl, sym, ◌∙◌}
-use Rattle.std.proofs.Common.{arith, subst}
-use Rattle.std.specs.Prelude.{Option, None, Result, Ok, Err, IsErrOf}
+use Rattle.std.{proofs.Common.{arith, subst}, specs.Prelude.{Option, None, Result, Ok, Err, IsErrOf}}
 use Rattle.conf_tools.proofs.Prelude.{false≢true, bytes_under, DiskModel, Store, HasFailed, staged_text, StoreView, failed-later}
 use Rattle.conf_tools.proofs.Prelude.{AllAreAcknowledged, Stored, accepted_commands, file_after_all, AfterAtLeast, Runs, stored_of}
-use Rattle.conf_tools.proofs.Prelude.{SessionFault, Tally, Streams}
-use Rattle.conf_session.specs.Handings.{Handings, accepted_within, taken_in}
+use Rattle.conf_tools.{proofs.Prelude.{SessionFault, Tally, Streams}, specs.Stores.{Answers, AnswersOn, BeginsWhenDue, KeepsAnswered}}
+use Rattle.conf_tools.specs.Stores.{OpensOn, RunsOn, SessionRuns, SurvivesCrashes, Work, WasOpened, after_session}
+use Rattle.{conf_tools.specs.declared.stores.Grouping.{Grouping, TheVariants.{Single, Grouped}}, conf_session.specs.Handings.Handings}
+use Rattle.conf_session.specs.{Handings.{accepted_within, taken_in}, Groups.{turns_within, AreDue, RunsGrouped, Turn, acknowledged_turns}}
+use Rattle.conf_session.specs.{Groups.{all_asked, files_after_turns, turns_accepted}, declared.groups.Checkpoints.Checkpoints}
+use Rattle.conf_session.specs.declared.{groups.Checkpoints.TheVariants.{After, Asked}, fault.SessionFault.TheVariants.{Device, Reopen}}
 use Rattle.conf_session.proofs.HandedLemmas.{since-weaker}
-use Rattle.conf_session.specs.Groups.{turns_within, AreDue, RunsGrouped, Turn, acknowledged_turns, all_asked, files_after_turns}
-use Rattle.conf_session.specs.Groups.{turns_accepted}
-use Rattle.conf_session.specs.declared.groups.Checkpoints.{Checkpoints}
-use Rattle.conf_session.specs.declared.groups.Checkpoints.TheVariants.{After, Asked}
-use Rattle.conf_session.specs.declared.fault.SessionFault.TheVariants.{Device, Reopen}
-use Rattle.conf_tools.specs.Stores.{Answers, AnswersOn, BeginsWhenDue, KeepsAnswered, OpensOn, RunsOn, SessionRuns, SurvivesCrashes, Work}
-use Rattle.conf_tools.specs.Stores.{WasOpened, after_session}
-use Rattle.conf_tools.specs.declared.stores.Grouping.{Grouping}
-use Rattle.conf_tools.specs.declared.stores.Grouping.TheVariants.{Single, Grouped}
 
 -- a store that was in order needs to be opened again only after Device
 in-order : (before after : Bool) (result : Result Tally SessionFault) → before ≡ false

@@ -1,10 +1,8 @@
 -- Values that are shown one after the other.
 use Rattle.std.proofs.Common.{◌≡◌, ◌<◌, ◌+◌, inl, inr, sym, subst, refl, ap, ◌∙◌, ℕ, List, ◌++◌, drop, get_or, length, append_assoc}
-use Rattle.std.specs.Prelude.{Result}
-use Rattle.std.specs.Borrow.{Bor}
-use Rattle.conf_tools.proofs.Prelude.{StoreFault, Tree, ValueForm, chars, drop_more}
-use Rattle.conf_tools.specs.Reads.{LacksFound, LacksOne, ShowsAll, ShowsFound, pointers_of}
-use Rattle.conf_tools.specs.declared.reading_fault.ReadingFault.{ReadingFault}
+use Rattle.std.specs.{Prelude.Result, Borrow.Bor}
+use Rattle.conf_tools.{proofs.Prelude.{StoreFault, Tree, ValueForm, chars, drop_more}, specs.Reads.{LacksFound, LacksOne, ShowsAll}}
+use Rattle.conf_tools.specs.{Reads.{ShowsFound, pointers_of}, declared.reading_fault.ReadingFault.ReadingFault}
 
 -- those from one of the pointers on
 module _ (value_at : List ℕ → Result Tree StoreFault) (form : ValueForm) (all : List (Bor (List ℕ))) (i : ℕ)

@@ -1,42 +1,32 @@
 -- What each word does with the stores in folders is a part of what it does.
-use Rattle.std.proofs.Common.{◌≡◌, inl, inr, ℕ, Bool, true, false, List, [], ◌∷◌, Option, None, Some, Result, Ok, Err}
-use Rattle.std.proofs.Common.{drop, map, sym, ap, subst, codes}
-use Rattle.std.specs.Borrow.{Bor}
-use Rattle.conf_disk.specs.Models.{DiskModel}
-use Rattle.conf_files.specs.declared.create.NewFileFault.{NewFileFault}
-use Rattle.conf_files.specs.declared.replace.ReplaceFault.{ReplaceFault}
+use Rattle.std.proofs.Common.{◌≡◌, inl, inr, ℕ, Bool, true, false, List, [], ◌∷◌, Option, None, Some, Result, Ok, Err, drop, map, sym, ap}
+use Rattle.std.{proofs.Common.{subst, codes}, specs.{Borrow.Bor, Prelude.encode_utf8_all}}
+use Rattle.{conf_disk.specs.Models.DiskModel, conf_files.specs.declared.create.NewFileFault.NewFileFault}
+use Rattle.{conf_files.specs.declared.replace.ReplaceFault.ReplaceFault, conf_words.specs.declared.invocation.Commands.Commands}
+use Rattle.conf_words.specs.declared.invocation.{Comments.Comments, Formatting.Formatting, Invocation.{Invocation, TheVariants.Init}}
+use Rattle.conf_words.specs.declared.invocation.Invocation.TheVariants.{Import, Set, Alter, Batch, Checkpoint, Run, ExportAll, Export}
+use Rattle.conf_words.specs.declared.invocation.Invocation.TheVariants.{Names, Get, Exists, Log, Verify, Salvage, Backup, Format, Check}
+use Rattle.conf_words.specs.declared.invocation.{Invocation.TheVariants.{Diff, DiffFiles}, LogForm.LogForm as AskedLog, Style.Style}
+use Rattle.{conf_words.specs.declared.invocation.TreeForm.TreeForm, conf_tools.specs.{Endings.{EndsTold, told_of}, Exports.disk_back}}
+use Rattle.conf_tools.specs.{Keeping.{CannotKeep, KeepsDropped, PutsFile, Verifies}, LogWords.{Logs, LogsValues}, OnStores.DoesOnStores}
+use Rattle.conf_tools.specs.OnStores.{GoesOnByFiles, PerformsOnStores, ReadsInFolder, finds, folds, looks, makes, reads, replaces, stays}
+use Rattle.conf_tools.specs.{OnStores.then, Performs.{ChecksAll, Does, FormatsAll, Performs}, Statuses.worst, StoreWords.ExportsFromFolder}
+use Rattle.conf_tools.specs.{StoreWords.OpensFile, TextWords.{IfSo, ReplacesAt, ReplacesRead, ReportsOnAll, RestylesAll, RestylesOpened}}
+use Rattle.conf_tools.specs.{TextWords.{TakesText, status_of_report, stops_all}, Tools.Taken, Worlds.{Around, WorldModel, around_noting}}
+use Rattle.conf_tools.specs.declared.{file_texts.Restyled.{Restyled, TheVariants.{Same, Changed}}, file_words.Report.Report}
+use Rattle.conf_tools.specs.declared.{file_words.Report.TheVariants.{Findings, Name}, program.Status.{Status, TheVariants.Done}}
+use Rattle.conf_tools.specs.{declared.{reading_fault.ReadingFault.ReadingFault, texts.ToolFault.ToolFault}, EndOfRun.EndOfRun as Ended}
+use Rattle.conf_tools.specs.{DiffWords.{DiffsAfter, DiffsFiles, file_name}, Prelude.{chars, Contents, Entry, Tree, config_named, names_of}}
+use Rattle.conf_tools.specs.ConfigFiles.{ExportsAll, ExportsRead, HasNoStore, IfDone, MayHoldFiles, PutsAll, PutsConfig}
+use Rattle.conf_tools.specs.ConfigFiles.{PutsFile as PutsText, PutsAgain, PutsInto, PutsMade, PutsNew, PutsOver, PutsUnless, PutsUnopened}
+use Rattle.conf_tools.specs.{ConfigFiles.{IfOpened, ReadsWhole, file_path}, Reads.tree_text}
+use Rattle.yaml_data.specs.declared.tree.Tree.{Tree as Node}
 use Rattle.conf_history.specs.declared.fault.HistoryFault.TheVariants as history
-use Rattle.conf_words.specs.declared.invocation.{Comments.Comments, Formatting.Formatting, Invocation.Invocation}
+use Rattle.conf_history.specs.declared.fault.SalvageFault.TheVariants as salvage
+use Rattle.conf_files.specs.declared.replace.ReplaceFault.TheVariants as replacing
 use Rattle.conf_words.specs.declared.invocation.Formatting.TheVariants as formatting
-use Rattle.conf_words.specs.declared.invocation.Invocation.TheVariants.{Init, Import, Set, Delete, Copy, Rename, Move}
-use Rattle.conf_words.specs.declared.invocation.Invocation.TheVariants.{Batch, Checkpoint, Run, Export, Names, Get, Exists}
-use Rattle.conf_words.specs.declared.invocation.Invocation.TheVariants.{Log, Verify, Salvage, Backup, Format, Check}
-use Rattle.conf_words.specs.declared.invocation.LogForm.{LogForm as AskedLog}
 use Rattle.conf_words.specs.declared.invocation.LogForm.TheVariants as asked
-use Rattle.conf_words.specs.declared.invocation.{Style.Style, TreeForm.TreeForm}
-use Rattle.conf_tools.specs.Endings.{EndsTold, told_of}
-use Rattle.conf_tools.specs.Exports.{disk_back}
-use Rattle.conf_tools.specs.Keeping.{CannotKeep, KeepsDropped, PutsFile, Verifies}
-use Rattle.conf_tools.specs.LogWords.{Logs, LogsValues, commands_of}
-use Rattle.conf_tools.specs.OnStores.{DoesOnStores, GoesOnByFiles, PerformsOnStores, ReadsInFolder, finds, looks, makes, reads}
-use Rattle.conf_tools.specs.OnStores.{replaces, stays, then}
-use Rattle.conf_tools.specs.Performs.{ChecksAll, Does, FormatsAll, Performs}
-use Rattle.conf_tools.specs.Statuses.{worst}
-use Rattle.conf_tools.specs.StoreWords.{ExportsFromFolder, OpensFile}
-use Rattle.conf_tools.specs.TextWords.{IfSo, ReplacesAt, ReplacesRead, ReportsOnAll, RestylesAll, RestylesOpened, TakesText}
-use Rattle.conf_tools.specs.TextWords.{status_of_report, stops_all}
-use Rattle.conf_tools.specs.Tools.{Taken}
-use Rattle.conf_tools.specs.Worlds.{Around, WorldModel}
-use Rattle.conf_tools.specs.declared.file_texts.Restyled.{Restyled}
-use Rattle.conf_tools.specs.declared.file_texts.Restyled.TheVariants.{Same, Changed}
-use Rattle.conf_tools.specs.declared.file_words.Report.{Report}
-use Rattle.conf_tools.specs.declared.file_words.Report.TheVariants.{Findings, Name}
-use Rattle.conf_tools.specs.EndOfRun.{EndOfRun as Ended}
-use Rattle.conf_tools.specs.declared.program.Status.{Status}
-use Rattle.conf_tools.specs.declared.program.Status.TheVariants.{Done}
-use Rattle.conf_tools.specs.declared.reading_fault.ReadingFault.{ReadingFault}
 use Rattle.conf_tools.specs.declared.reading_fault.ReadingFault.TheVariants as reading
-use Rattle.conf_tools.specs.declared.texts.ToolFault.{ToolFault}
 
 module _ {W D F P : Type 0} (world : WorldModel W D F P) (disk : DiskModel D) (remaining : F → Option (List ℕ)) where
   abbrev Goes : W → W → Type 0
@@ -63,21 +53,19 @@ module _ {W D F P : Type 0} (world : WorldModel W D F P) (disk : DiskModel D) (r
   goes-to-open folder old (Err (reading.Salvage fault)) new opens = absurd opens
   goes-to-open folder old (Err reading.Output) new opens = absurd opens
 
-  of-values : (folder : List ℕ) (name : Option (Bor (List ℕ))) (from : ℕ) (at : Option ℕ) (hidden : List (List ℕ))
-      (old new : W) (held written : Option (List ℕ)) (end : Ended)
-      → LogsValues world remaining folder (commands_of name from at) hidden old new held written end → Goes old new
-  of-values folder name from at [] old new held written end does = goes-to-open folder old does.file new does.opens
-  of-values folder name from at (pointer ∷ pointers) old new held written end (inl hides) =
+  of-values : (folder : List ℕ) (commands : Commands) (hidden : List (List ℕ)) (old new : W) (held written : Option (List ℕ))
+      (end : Ended) → LogsValues world remaining folder commands hidden old new held written end → Goes old new
+  of-values folder commands [] old new held written end does = goes-to-open folder old does.file new does.opens
+  of-values folder commands (pointer ∷ pointers) old new held written end (inl hides) =
       goes-to-open folder old hides.logs.file new hides.logs.opens
-  of-values folder name from at (pointer ∷ pointers) old new held written end (inr refuses) = same old new refuses.world_stays
+  of-values folder commands (pointer ∷ pointers) old new held written end (inr refuses) = same old new refuses.world_stays
 
-  of-log : (folder : List ℕ) (name : Option (Bor (List ℕ))) (from : ℕ) (at : Option ℕ) (form : AskedLog)
-      (old new : W) (held written : Option (List ℕ)) (end : Ended)
-      → Logs world remaining folder (commands_of name from at) form old new held written end → Goes old new
-  of-log folder name from at asked.Lines old new held written end does = goes-to-open folder old does.file new does.opens
-  of-log folder name from at (asked.Values hidden) old new held written end does =
-      of-values folder name from at (map (λ pointer. pointer.now) hidden.items) old new held written end does
-  of-log folder name from at asked.Records old new held written end does = goes-to-open folder old does.file new does.opens
+  of-log : (folder : List ℕ) (commands : Commands) (form : AskedLog) (old new : W) (held written : Option (List ℕ))
+      (end : Ended) → Logs world remaining folder commands form old new held written end → Goes old new
+  of-log folder commands asked.Lines old new held written end does = goes-to-open folder old does.file new does.opens
+  of-log folder commands (asked.Values hidden) old new held written end does =
+      of-values folder commands (map (λ pointer. pointer.now) hidden.items) old new held written end does
+  of-log folder commands asked.Records old new held written end does = goes-to-open folder old does.file new does.opens
 
   -- ---- words that keep what an opening drops
 
@@ -112,6 +100,20 @@ module _ {W D F P : Type 0} (world : WorldModel W D F P) (disk : DiskModel D) (r
       → TakesText world remaining path read old new given left → Goes old new
   goes-to-text path read old new given left (inl input) = same old new input.1
   goes-to-text path read old new given left (inr file) = reads path old _ new file.2.opens
+
+  -- after the first of two texts, the other
+  of-second : (name path : List ℕ) (first : Result Node ToolFault) (old new : Around W) (end : Ended)
+      → DiffsAfter world remaining name path first old new end → Goes old.world new.world
+  of-second name path (Ok first) old new end does =
+      goes-to-text path does.reads.read old.world new.world old.input new.input does.reads.takes
+  of-second name path (Err fault) old new end does = same old.world new.world (ap (λ (a : Around W). a.world) does.0)
+
+  goes-to-both : (first second : List ℕ) (old new : Around W) (end : Ended)
+      → DiffsFiles world remaining first second old new end → Goes old.world new.world
+  goes-to-both first second old new end (inl cannot) = same old.world new.world (ap (λ (a : Around W). a.world) cannot.stays)
+  goes-to-both first second old new end (inr does) =
+      then old.world does.seen new.world (goes-to-text first does.reads.read old.world does.seen old.input does.left does.reads.takes)
+      (of-second (file_name (chars second)) second does.one (around_noting does.seen does.left old.output old.handings) new end does.diffs)
 
   -- after one report, the others
   of-rest : (old now new : Around W) (stops : Bool) (ends others : Type 0) → (others → Goes now.world new.world)
@@ -188,18 +190,125 @@ module _ {W D F P : Type 0} (world : WorldModel W D F P) (disk : DiskModel D) (r
     survives = exports.survives;
   })
 
+  -- ---- the files of configurations
+
+  of-put-unless : (is_there : Bool) (place : P) (bytes : List ℕ) (old : W) (result : Result (Unit {0}) ToolFault) (new : W)
+      → PutsUnless world remaining is_there place bytes old result new → Goes old new
+  of-put-unless true place bytes old result new puts = same old new puts.0
+  of-put-unless false place bytes old result new puts = replaces place bytes old puts.0 new puts.1
+
+  of-opened : (found : Result (F × P) ReplaceFault) (bytes : List ℕ) (old : W) (result : Result (Unit {0}) ToolFault) (new : W)
+      (Unopened : ReplaceFault → Type 0) → ((fault : ReplaceFault) → Unopened fault → Goes old new)
+      → IfOpened found (λ file place. PutsOver world remaining file place bytes old result new) Unopened → Goes old new
+  of-opened (Ok (file, place)) bytes old result new Unopened goes puts =
+      of-put-unless _ place bytes old result new puts.puts
+  of-opened (Err fault) bytes old result new Unopened goes puts = goes fault puts
+
+  of-put-again : (path bytes : List ℕ) (old : W) (result : Result (Unit {0}) ToolFault) (new : W)
+      → PutsAgain world remaining path bytes old result new → Goes old new
+  of-put-again path bytes old result new puts =
+      then old puts.seen new (finds path old puts.found puts.seen puts.opens)
+      (of-opened puts.found bytes puts.seen result new _ (λ fault ends. same puts.seen new ends.0) puts.puts)
+
+  of-put-made : (made : Result (Unit {0}) NewFileFault) (path bytes : List ℕ) (old : W) (result : Result (Unit {0}) ToolFault)
+      (new : W) → PutsMade world remaining made path bytes old result new → Goes old new
+  of-put-made (Ok done) path bytes old result new puts = of-put-again path bytes old result new puts
+  of-put-made (Err fault) path bytes old result new puts = same old new puts.0
+
+  of-put-new : (path bytes : List ℕ) (old : W) (result : Result (Unit {0}) ToolFault) (new : W)
+      → PutsNew world remaining path bytes old result new → Goes old new
+  of-put-new path bytes old result new puts =
+      then old puts.tried new (makes path [] old puts.made puts.tried puts.makes)
+      (of-put-made puts.made path bytes puts.tried result new puts.puts)
+
+  of-unopened : (fault : ReplaceFault) (path bytes : List ℕ) (old : W) (result : Result (Unit {0}) ToolFault) (new : W)
+      → PutsUnopened world remaining fault path bytes old result new → Goes old new
+  of-unopened replacing.OutOfMemory path bytes old result new ends = same old new ends.0
+  of-unopened replacing.Device path bytes old result new makes_one = of-put-new path bytes old result new makes_one
+
+  of-put-file : (path bytes : List ℕ) (old : W) (result : Result (Unit {0}) ToolFault) (new : W)
+      → PutsText world remaining path bytes old result new → Goes old new
+  of-put-file path bytes old result new puts =
+      then old puts.seen new (finds path old puts.found puts.seen puts.opens)
+      (of-opened puts.found bytes puts.seen result new _
+      (λ fault ends. of-unopened fault path bytes puts.seen result new ends) puts.puts)
+
+  of-put-config : (form : TreeForm) (into name : List ℕ) (found : Option Tree) (old : W) (result : Result (Unit {0}) ToolFault)
+      (new : W) → PutsConfig world remaining form into name found old result new → Goes old new
+  of-put-config form into name None old result new puts = same old new puts.0
+  of-put-config form into name (Some tree) old result new (inl puts) =
+      of-put-file (file_path form into name) (encode_utf8_all (tree_text form tree)) old result new puts
+  of-put-config form into name (Some tree) old result new (inr none) = same old new none.0
+
+  of-next : (first : Result (Unit {0}) ToolFault) (now new : W) (result : Result (Unit {0}) ToolFault) (more : Type 0)
+      → (more → Goes now new) → IfDone first more ((new ≡ now) × (result ≡ first)) → Goes now new
+  of-next (Ok done) now new result more goes puts = goes puts
+  of-next (Err fault) now new result more goes ends = same now new ends.0
+
+  of-puts : (form : TreeForm) (into : List ℕ) (configs : List Entry) (names : List (List ℕ)) (old : W)
+      (result : Result (Unit {0}) ToolFault) (new : W)
+      → PutsAll world remaining form into configs names old result new → Goes old new
+  of-puts form into configs [] old result new puts = same old new puts.0
+  of-puts form into configs (name ∷ names) old result new (now, first, puts, more) =
+      then old now new (of-put-config form into name (config_named configs name) old first now puts)
+      (of-next first now new result _ (of-puts form into configs names now result new) more)
+
+  of-whole : (folder : List ℕ) (old : W) (read : Result Contents ReadingFault) (new : W)
+      → ReadsWhole world remaining folder old read new → Goes old new
+  of-whole folder old (Ok state) new (file, opens, holds) = goes-to-open folder old (Ok file) new opens
+  of-whole folder old (Err fault) new (inl opens) = goes-to-open folder old (Err fault) new opens
+  of-whole folder old (Err fault) new (inr (file, opens, refuses)) = goes-to-open folder old (Ok file) new opens
+
+  of-no-store : (into : List ℕ) (old new : W) → HasNoStore world remaining into old new → Goes old new
+  of-no-store into old new (inl opens) = looks into old _ new opens
+  of-no-store into old new (inr (file, opens, refuses)) = looks into old _ new opens
+
+  of-folder : (into : List ℕ) (old : W) (ready : Result (Unit {0}) ReadingFault) (new : W)
+      → MayHoldFiles world remaining into old ready new → Goes old new
+  of-folder into old (Ok done) new (made, folded, none) = then old made new (folds into old _ made folded) (of-no-store into made new none)
+  of-folder into old (Err (reading.Folder fault)) new (inl folded) = folds into old _ new folded
+  of-folder into old (Err (reading.Folder fault)) new (inr (made, folded, opens)) =
+      then old made new (folds into old _ made folded) (looks into made _ new opens)
+  of-folder into old (Err (reading.Salvage salvage.StoreExists)) new (made, file, folded, opens, there) =
+      then old made new (folds into old _ made folded) (looks into made _ new opens)
+  of-folder into old (Err (reading.History fault)) new (made, file, folded, opens, silent, refuses) =
+      then old made new (folds into old _ made folded) (looks into made _ new opens)
+  of-folder into old (Err (reading.Salvage (salvage.History fault))) new holds = absurd holds
+  of-folder into old (Err (reading.Salvage salvage.Device)) new holds = absurd holds
+  of-folder into old (Err (reading.Salvage salvage.OutOfMemory)) new holds = absurd holds
+  of-folder into old (Err (reading.Value fault)) new holds = absurd holds
+  of-folder into old (Err reading.NotText) new holds = absurd holds
+  of-folder into old (Err reading.NotCollection) new holds = absurd holds
+  of-folder into old (Err reading.Output) new holds = absurd holds
+
+  of-into : (form : TreeForm) (into : List ℕ) (configs : List Entry) (ready : Result (Unit {0}) ReadingFault) (old : W)
+      (end : Ended) (new : W) → PutsInto world remaining form into configs ready old end new → Goes old new
+  of-into form into configs (Ok done) old end new (result, puts, ends) =
+      of-puts form into configs (names_of configs) old result new puts
+  of-into form into configs (Err fault) old end new puts = same old new puts.0
+
+  of-export-read : (form : TreeForm) (into : List ℕ) (read : Result Contents ReadingFault) (old : W) (end : Ended) (new : W)
+      → ExportsRead world remaining form into read old end new → Goes old new
+  of-export-read form into (Ok state) old end new (ready, prepared, holds, puts) =
+      then old prepared new (of-folder into old ready prepared holds)
+      (of-into form into state.configs ready prepared end new puts)
+  of-export-read form into (Err fault) old end new exports = same old new exports.0
+
+  goes-to-files : (form : TreeForm) (folder into : List ℕ) (old new : W) (end : Ended)
+      → ExportsAll world remaining form folder into old new end → Goes old new
+  goes-to-files form folder into old new end does =
+      then old does.seen new (of-whole folder old does.read does.seen does.reads)
+      (of-export-read form into does.read does.seen end new does.exports)
+
   -- ---- all words
 
   on-stores : (invocation : Invocation) (old new : Around W) (end : Ended) → Does world disk remaining invocation old new end
       → DoesOnStores world disk remaining invocation old new end
   on-stores (Init folder) old new end does = does
-  on-stores (Import folder name file root absent conditions reporting) old new end does = does
-  on-stores (Set folder name pointer value placing conditions reporting) old new end does = does
-  on-stores (Delete folder name pointer conditions) old new end does = does
-  on-stores (Copy folder name to conditions) old new end does = does
-  on-stores (Rename folder name to conditions) old new end does = does
-  on-stores (Move folder name from to conditions) old new end does = does
-  on-stores (Batch folder file count reporting) old new end does = does
+  on-stores (Import asked reporting) old new end does = does
+  on-stores (Set target put reporting) old new end does = does
+  on-stores (Alter target alteration) old new end does = does
+  on-stores (Batch asked reporting) old new end does = does
   on-stores (Checkpoint folder) old new end does = does
   on-stores (Run folder grouping) old new end does = does
   on-stores (Export folder name form) old new end does =
@@ -207,12 +316,16 @@ module _ {W D F P : Type 0} (world : WorldModel W D F P) (disk : DiskModel D) (r
   on-stores (Salvage folder new_folder keep_dropped) old new end does = does
   on-stores (Backup folder new_folder) old new end does = does
   on-stores (Names folder at form) old new end does = goes-to-open folder.now old.world does.0.file new.world does.0.opens
-  on-stores (Get folder name pointers at missing form) old new end does =
+  on-stores (ExportAll folder into form) old new end does =
+      goes-to-files form folder.now into.now old.world new.world end does.0
+  on-stores (Get folder places missing form) old new end does =
       goes-to-open folder.now old.world does.0.file new.world does.0.opens
-  on-stores (Exists folder name pointer at) old new end does =
+  on-stores (Exists folder place) old new end does =
       goes-to-open folder.now old.world does.0.file new.world does.0.opens
-  on-stores (Log folder name from at form) old new end does =
-      of-log folder.now name from at form old.world new.world old.output new.output end does.0
+  on-stores (Log folder commands form) old new end does =
+      of-log folder.now commands form old.world new.world old.output new.output end does.0
+  on-stores (Diff folder name span) old new end does = goes-to-open folder.now old.world does.0.file new.world does.0.opens
+  on-stores (DiffFiles first second) old new end does = goes-to-both first.now second.now old new end does
   on-stores (Verify folder keep_dropped) old new end does =
       of-verify folder.now keep_dropped old.world new.world old.output new.output end does.0
   on-stores (Format formatting files reporting) old new end does = of-formatting formatting _ old new end does

@@ -1,12 +1,8 @@
 -- What a text is in a style.
-use Rattle.std.proofs.Common.{◌≡◌, ℕ, List, [], ◌∷◌, length, refl, ap}
-use Rattle.std.specs.Prelude.{suc, Ok, Err, Result, IfOk, OnOk}
-use Rattle.conf_words.specs.declared.invocation.Style.{Style}
-use Rattle.conf_words.specs.declared.invocation.Style.TheVariants.{Bare, WithComments}
-use Rattle.yaml_comments.specs.Found.{places_of}
-use Rattle.yaml_comments.specs.declared.find.Comment.{Comment}
-use Rattle.yaml_style.specs.declared.finding.Finding.{Finding}
-use Rattle.conf_tools.specs.{Styles.IsCheckedIn, Styles.IsStyled, Tools.GivesTree}
+use Rattle.std.{proofs.Common.{◌≡◌, ℕ, List, [], ◌∷◌, length, refl, ap}, specs.Prelude.{suc, Ok, Err, Result, IfOk, OnOk}}
+use Rattle.{conf_words.specs.declared.invocation.Style.{Style, TheVariants.{Bare, WithComments}}, yaml_comments.specs.Found.places_of}
+use Rattle.{yaml_comments.specs.declared.find.Comment.Comment, yaml_style.specs.declared.finding.Finding.Finding}
+use Rattle.conf_tools.specs.{Styles.{IsCheckedIn, IsStyled}, Tools.GivesTree}
 
 -- what is in a style gives a tree
 style_gives : (style : Style) (bytes text : List ℕ) → IsStyled style bytes text → GivesTree bytes

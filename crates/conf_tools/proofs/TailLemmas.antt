@@ -1,9 +1,7 @@
 -- A part that stands in the bytes.
 use Rattle.std.proofs.Common.{◌≡◌, ℕ, ◌+◌, ◌-◌, ◌^◌, ◌<◌, ◌≤◌, false, ◌||◌, ◌==◌, List, [], ◌∷◌, ◌++◌, length, take, drop, get_or, ap, refl}
-use Rattle.std.proofs.Common.{sym, ◌∙◌, subst, arith, take-append-drop}
-use Rattle.std.specs.Prelude.{if◌then◌else◌, min}
-use Rattle.conf_tools.proofs.Prelude.{drop_more, starts_with}
-use Rattle.conf_tools.specs.Tails.{blanks_after, has_part, is_blank}
+use Rattle.std.{proofs.Common.{sym, ◌∙◌, subst, arith, take-append-drop}, specs.Prelude.{if◌then◌else◌, min}}
+use Rattle.conf_tools.{proofs.Prelude.{drop_more, starts_with}, specs.Tails.{blanks_after, has_part, is_blank}}
 
 without-first : (part : List ℕ) (byte : ℕ) (bytes : List ℕ) → starts_with ◌==◌ (byte ∷ bytes) part ≡ false
     → has_part part bytes ≡ has_part part (byte ∷ bytes)

@@ -1,20 +1,15 @@
 -- What is told of a fault, and of files one after the other.
 use Rattle.std.proofs.Common.{◌≡◌, ◌⊎◌, ℕ, true, false, List, [], ◌∷◌, refl, sym, ◌∙◌, ap, subst, arith, inl, inr, codes}
 use Rattle.std.specs.Prelude.{None, Some, Option, Result, Ok, Err, IfErr, IfOk, OnErr, OnOk}
-use Rattle.conf_tools.specs.Prelude.{Comments, ReplaceFault, Reporting}
-use Rattle.conf_words.specs.declared.invocation.Reporting.TheVariants.{Brief}
-use Rattle.conf_words.specs.declared.invocation.Style.TheVariants.{Bare, WithComments}
-use Rattle.conf_tools.specs.{FaultLines.text_fault_name, Outcomes.SilentIfDone, Refused.IsPlaceOf, Refused.TellsCalled}
-use Rattle.conf_tools.specs.{Refused.TellsFault, Refused.TellsFaultOf, Refused.blamed, Refused.refusal_line}
-use Rattle.conf_tools.specs.{Statuses.code_of, Statuses.status_of, Statuses.worst, Tools.Taken, Worlds.Around, Worlds.WorldModel}
-use Rattle.conf_tools.specs.Telling.{TellsCause, TellsEnded, TellsNote, TellsReport, TellsReportOn, TellsReportOnRead, TellsReports}
-use Rattle.conf_tools.specs.Telling.{TellsRestyled, TellsRestyledAll, ended_of_opened, ended_of_read}
-use Rattle.conf_tools.specs.TextWords.{IfSo, ReplacesRead, ReportsOnRead, RestylesOpened, status_of_report, stops_all, unopened}
-use Rattle.conf_tools.specs.{declared.file_words.Report.Report, declared.program.Status.Status}
-use Rattle.conf_tools.specs.declared.file_words.Report.TheVariants.{Findings, Name}
-use Rattle.conf_tools.specs.declared.program.Status.TheVariants.{Done, Found, Device}
-use Rattle.conf_tools.specs.declared.texts.ToolFault.{ToolFault}
-use Rattle.conf_tools.proofs.OutcomeLemmas.{never_done}
+use Rattle.conf_tools.specs.{Prelude.{Comments, ReplaceFault, Reporting}, FaultLines.text_fault_name, Outcomes.SilentIfDone}
+use Rattle.conf_tools.specs.{Refused.{IsPlaceOf, TellsCalled, TellsFault, TellsFaultOf, blamed, refusal_line}, Statuses.code_of}
+use Rattle.conf_tools.specs.{Statuses.{status_of, worst}, Tools.Taken, Worlds.{Around, WorldModel}, Telling.{TellsCause, TellsEnded}}
+use Rattle.conf_tools.specs.Telling.{TellsNote, TellsReport, TellsReportOn, TellsReportOnRead, TellsReports, TellsRestyled}
+use Rattle.conf_tools.specs.{Telling.{TellsRestyledAll, ended_of_opened, ended_of_read}, TextWords.{IfSo, ReplacesRead, ReportsOnRead}}
+use Rattle.conf_tools.specs.{TextWords.{RestylesOpened, status_of_report, stops_all, unopened}, declared.file_words.Report.Report}
+use Rattle.conf_tools.specs.declared.{file_words.Report.TheVariants.{Findings, Name}, program.Status.{Status, TheVariants.{Done, Found}}}
+use Rattle.conf_tools.{specs.declared.{program.Status.TheVariants.Device, texts.ToolFault.ToolFault}, proofs.OutcomeLemmas.never_done}
+use Rattle.conf_words.specs.declared.invocation.{Reporting.TheVariants.Brief, Style.TheVariants.{Bare, WithComments}}
 
 module _ {E : Type 0} (hears : E → List ℕ → E → Type 0) (reporting : Reporting) where
   -- a fault that has no place, and that nothing explains

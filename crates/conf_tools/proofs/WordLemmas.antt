@@ -1,11 +1,9 @@
 -- Files that are tried or replaced one after the other.
-use Rattle.std.proofs.Common.{◌≡◌, ℕ, true, false, List, ◌∷◌, refl, sym, subst}
-use Rattle.std.specs.Prelude.{Option, Result}
-use Rattle.conf_words.specs.declared.invocation.Comments.{Comments}
-use Rattle.conf_tools.specs.{Statuses.worst, Worlds.Around, Worlds.WorldModel, declared.file_words.Report.Report}
-use Rattle.conf_tools.specs.{declared.program.Status.Status, declared.program.Status.TheVariants.Done}
-use Rattle.conf_tools.specs.{declared.program.Status.TheVariants.Device, declared.texts.ToolFault.ToolFault}
-use Rattle.conf_tools.specs.TextWords.{IfSo, ReportsOn, ReportsOnAll, RestylesAll, RestylesFile, status_of_report, stops_all}
+use Rattle.std.{proofs.Common.{◌≡◌, ℕ, true, false, List, ◌∷◌, refl, sym, subst}, specs.Prelude.{Option, Result}}
+use Rattle.{conf_words.specs.declared.invocation.Comments.Comments, conf_tools.specs.{Statuses.worst, Worlds.{Around, WorldModel}}}
+use Rattle.conf_tools.specs.declared.{file_words.Report.Report, program.Status.{Status, TheVariants.{Done, Device}}}
+use Rattle.conf_tools.specs.{declared.texts.ToolFault.ToolFault, TextWords.{IfSo, ReportsOn, ReportsOnAll, RestylesAll, RestylesFile}}
+use Rattle.conf_tools.specs.TextWords.{status_of_report, stops_all}
 
 module _ {W D F P : Type 0} (world : WorldModel W D F P) (remaining : F → Option (List ℕ)) where
   -- ---- reports

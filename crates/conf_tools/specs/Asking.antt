@@ -1,11 +1,8 @@
 -- The conditions that words give, on the place that they change.
 use Rattle.std.specs.Prelude.{◌≡◌, ℕ, List, [], ◌∷◌, ◌++◌, Option, Some, None, Result, Ok, Err, Vec}
-use Rattle.conf_tools.specs.Prelude.{Global, chars, OutOfMemory, text, Condition, absent_at, condition_of}
-use Rattle.conf_tools.specs.Prelude.{conditions_of, count_is, test_at, Conditions}
-use Rattle.conf_words.specs.declared.invocation.Wanted.{Wanted}
-use Rattle.conf_words.specs.declared.invocation.Wanted.TheVariants.{Anything, Nothing, Text}
-use Rattle.conf_tools.specs.{TextWords.RefusesText, declared.texts.ToolFault.ToolFault}
-use Rattle.conf_tools.specs.{declared.texts.ToolFault.TheVariants.Read}
+use Rattle.conf_tools.specs.Prelude.{Global, chars, OutOfMemory, text, Condition, absent_at, condition_of, conditions_of, count_is, test_at}
+use Rattle.conf_tools.specs.{Prelude.Conditions, TextWords.RefusesText, declared.texts.ToolFault.{ToolFault, TheVariants.Read}}
+use Rattle.conf_words.specs.declared.invocation.Wanted.{Wanted, TheVariants.{Anything, Nothing, Text}}
 use Rattle.conf_conditions.specs.declared.condition.Condition as code
 
 -- the conditions of the code that words gave, or why there are none

@@ -2,10 +2,9 @@
 -- back.
 use Rattle.std.specs.Prelude.{◌≡◌, ◌⊎◌, ℕ, Bool, List, Option, Result, Ok, Err, IfOk, IfErr}
 use Rattle.conf_tools.specs.Prelude.{DiskModel, BacksUp, LeavesOldOrCopy, RefusesBackup, disk_handed_back, SalvageFault}
-use Rattle.conf_tools.specs.{Endings.ending_after_backup, Worlds.WorldModel, declared.outcome.Ending.Ending}
-use Rattle.conf_tools.specs.{declared.outcome.Ending.TheVariants.Of, declared.reading_fault.ReadingFault.ReadingFault}
-use Rattle.conf_tools.specs.declared.outcome.Outcome.TheVariants.{Reading}
-use Rattle.conf_tools.specs.StoreWords.{OpensFile, OpensNew}
+use Rattle.conf_tools.specs.{Endings.ending_after_backup, Worlds.WorldModel, declared.outcome.Ending.{Ending, TheVariants.Of}}
+use Rattle.conf_tools.specs.{declared.{outcome.Outcome.TheVariants.Reading, reading_fault.ReadingFault.ReadingFault}, StoreWords.OpensFile}
+use Rattle.conf_tools.specs.StoreWords.{OpensNew}
 
 module _ {W D F P : Type 0} (world : WorldModel W D F P) (disk : DiskModel D) where
   -- A store was made on the disk of the new folder, with the base and the records that the file gives, or why not; and

@@ -1,15 +1,10 @@
 -- The change that `batch` makes ready of the text that it is given.
 use Rattle.std.specs.Prelude.{◌≡◌, ℕ, List, Option, Result, Ok, Err}
-use Rattle.conf_tools.specs.Prelude.{Conditions, batch, command_of}
-use Rattle.conf_session.specs.Edits.{GivesEdits, RefusesEdits}
-use Rattle.conf_session.specs.declared.edits.EditsFault.{EditsFault}
-use Rattle.conf_session.specs.declared.edits.EditsFault.TheVariants as why
-use Rattle.conf_state.specs.Commands.{Edit}
+use Rattle.conf_tools.specs.{Prelude.{Conditions, batch, command_of}, declared.changes.Change.{Change, TheVariants.Perform}}
+use Rattle.conf_tools.specs.declared.texts.ToolFault.{ToolFault, TheVariants.{ImportText, NoEdits, Read}}
+use Rattle.{conf_session.specs.{Edits.{GivesEdits, RefusesEdits}, declared.edits.EditsFault.EditsFault}, conf_state.specs.Commands.Edit}
 use Rattle.conf_words.specs.declared.invocation.Wanted.TheVariants.{Anything}
-use Rattle.conf_tools.specs.declared.changes.Change.{Change}
-use Rattle.conf_tools.specs.declared.changes.Change.TheVariants.{Perform}
-use Rattle.conf_tools.specs.{declared.texts.ToolFault.ToolFault}
-use Rattle.conf_tools.specs.declared.texts.ToolFault.TheVariants.{ImportText, NoEdits, Read}
+use Rattle.conf_session.specs.declared.edits.EditsFault.TheVariants as why
 
 -- the change makes these edits, all or none
 abbrev pub MakesEdits : List Edit → Change → Type 0

@@ -1,24 +1,18 @@
 -- What a change of a store that was asked for by itself makes of it, and what a crash leaves.
-use Rattle.std.specs.Prelude.{◌≡◌, ◌≢◌, ◌⊎◌, ℕ, Bool, true, false, if◌then◌else◌, List, [], ◌∷◌, length, Option, None}
-use Rattle.std.specs.Prelude.{Some, Result, Ok, Err}
-use Rattle.conf_tools.specs.Prelude.{Tree, IsRead, config_limits, Condition, first_fault, ConditionFault, Folder}
-use Rattle.conf_tools.specs.Prelude.{bytes_under, several_waited, Image, IsImage, DiskModel, LeavesOnly, Store, batch, command_of}
-use Rattle.conf_tools.specs.Prelude.{delete_at, import_as, single, text_of, Contents, StoreFault, Reopen, Device}
-use Rattle.conf_tools.specs.Prelude.{Accepts, HasFailed, RefusesCommand, tree_named, AppendsRecord, store_file}
-use Rattle.conf_tools.specs.Prelude.{MeansPrefix, AllImagesMean, IsOldOrBase, FolderMeans, ImageMeans, empty_state, MeantAtEntry}
-use Rattle.conf_tools.specs.Prelude.{StoreView, AfterAtLeast, OpenFault}
-use Rattle.conf_conditions.specs.declared.fault.ConditionFault.TheVariants.{OutOfMemory as NoMemory}
-use Rattle.conf_state.specs.BaseTexts.{base_bytes}
-use Rattle.conf_state.specs.Commands.{Command as GivenCommand}
-use Rattle.conf_state.specs.declared.fault.StoreFault.TheVariants.{OutOfMemory}
-use Rattle.yaml_grammar.specs.Texts.{same_text}
-use Rattle.conf_store.specs.Imports.{AppendsImport, Imports, RefusesImport}
-use Rattle.conf_tools.specs.declared.stores.StoreToolFault.TheVariants.{Condition as OnCondition}
-use Rattle.conf_tools.specs.{declared.changes.Change.Change, declared.stores.StoreToolFault.StoreToolFault}
-use Rattle.conf_tools.specs.Stores.{CannotOpen, OpensOn}
-use Rattle.conf_tools.specs.{Edits.LacksEdit, Edits.edits, declared.edits.TreeEdit.TreeEdit}
-use Rattle.conf_tools.specs.declared.changes.Change.TheVariants.{Import, Perform, Copy, Rename, Edit, Checkpoint}
-use Rattle.conf_tools.specs.declared.stores.StoreToolFault.TheVariants.{Open, Refused, StoreExists}
+use Rattle.std.specs.Prelude.{◌≡◌, ◌≢◌, ◌⊎◌, ℕ, Bool, true, false, if◌then◌else◌, List, [], ◌∷◌, length, Option, None, Some, Result, Ok}
+use Rattle.std.specs.Prelude.{Err}
+use Rattle.conf_tools.specs.Prelude.{Tree, IsRead, config_limits, Condition, first_fault, ConditionFault, Folder, bytes_under}
+use Rattle.conf_tools.specs.Prelude.{several_waited, Image, IsImage, DiskModel, LeavesOnly, Store, batch, command_of, delete_at, import_as}
+use Rattle.conf_tools.specs.Prelude.{single, text_of, Contents, StoreFault, Reopen, Device, Accepts, HasFailed, RefusesCommand, tree_named}
+use Rattle.conf_tools.specs.Prelude.{AppendsRecord, store_file, MeansPrefix, AllImagesMean, IsOldOrBase, FolderMeans, ImageMeans}
+use Rattle.conf_tools.specs.Prelude.{empty_state, MeantAtEntry, StoreView, AfterAtLeast, OpenFault}
+use Rattle.conf_tools.specs.declared.stores.StoreToolFault.{StoreToolFault, TheVariants.{Condition as OnCondition, Open, Refused}}
+use Rattle.conf_tools.specs.declared.{stores.StoreToolFault.TheVariants.StoreExists, changes.Change.{Change, TheVariants.{Import, Perform}}}
+use Rattle.conf_tools.specs.declared.{changes.Change.TheVariants.{Copy, Rename, Edit, Checkpoint}, edits.TreeEdit.TreeEdit}
+use Rattle.conf_tools.specs.{Stores.{CannotOpen, OpensOn}, Edits.{LacksEdit, edits}}
+use Rattle.{conf_conditions.specs.declared.fault.ConditionFault.TheVariants.OutOfMemory as NoMemory, conf_state.specs.BaseTexts.base_bytes}
+use Rattle.conf_state.specs.{Commands.Command as GivenCommand, declared.fault.StoreFault.TheVariants.OutOfMemory}
+use Rattle.{yaml_grammar.specs.Texts.same_text, conf_store.specs.Imports.{AppendsImport, Imports, RefusesImport}}
 use Rattle.conf_store.specs.declared.fault.OpenFault.TheVariants as OpenFaults
 
 -- ---- commands that are made of a state

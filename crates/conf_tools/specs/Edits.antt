@@ -1,22 +1,14 @@
 -- Edits of a configuration whose tree says which sets and deletes they are.
 use Rattle.std.specs.Prelude.{◌≡◌, ◌⊎◌, ℕ, List, [], ◌∷◌, Result, Ok, Err}
-use Rattle.conf_tools.specs.Prelude.{Tree, batch, delete_at, set_at, single, text_of, tree_of, Contents, StoreFault, tree_named}
-use Rattle.conf_tools.specs.Prelude.{Placing}
-use Rattle.conf_state.specs.Commands.{Command}
-use Rattle.conf_state.specs.declared.fault.StoreFault.TheVariants.{ConfigLarge, OutOfMemory, TooDeep}
+use Rattle.conf_tools.specs.Prelude.{Tree, batch, delete_at, set_at, single, text_of, tree_of, Contents, StoreFault, tree_named, Placing}
+use Rattle.conf_tools.specs.declared.{changes.Change.{Change, TheVariants.{Edit, Perform}}, edits.TreeEdit.TreeEdit}
+use Rattle.{conf_tools.specs.declared.texts.ToolFault.ToolFault, conf_state.specs.Commands.Command}
+use Rattle.conf_state.specs.declared.{fault.StoreFault.TheVariants.{ConfigLarge, OutOfMemory, TooDeep}, command.Command.TheVariants.Set}
 use Rattle.conf_words.specs.declared.invocation.Placing.TheVariants.{AtPlace, BeforeElement, WithParents}
-use Rattle.tree_edits.specs.Changes.{IsRefused, SetAt}
-use Rattle.tree_edits.specs.Insertions.{inserted}
-use Rattle.tree_edits.specs.Moves.{Move, goes, missing, moved, stays}
-use Rattle.tree_edits.specs.Parents.{with_parents}
-use Rattle.tree_edits.specs.declared.fault.EditFault.{EditFault}
+use Rattle.tree_edits.specs.{Changes.{IsRefused, SetAt}, Insertions.inserted, Moves.{Move, goes, missing, moved, stays}}
+use Rattle.tree_edits.specs.{Parents.with_parents, declared.fault.EditFault.EditFault}
 use Rattle.tree_edits.specs.declared.fault.EditFault.TheVariants as value_fault
-use Rattle.conf_state.specs.declared.command.Command.TheVariants.{Set}
-use Rattle.conf_tools.specs.declared.changes.Change.{Change}
-use Rattle.conf_tools.specs.declared.changes.Change.TheVariants.{Edit, Perform}
-use Rattle.conf_tools.specs.declared.edits.TreeEdit.{TreeEdit}
 use Rattle.conf_tools.specs.declared.edits.TreeEdit.TheVariants as tree_edit
-use Rattle.conf_tools.specs.declared.texts.ToolFault.{ToolFault}
 
 -- ---- the command of an edit
 

@@ -1,19 +1,13 @@
 -- How a run ends by what a word did.
 use Rattle.std.specs.Prelude.{◌≡◌, Result, Ok, Err}
-use Rattle.conf_tools.specs.Prelude.{HistoryFault, SalvageFault}
-use Rattle.conf_tools.specs.declared.outcome.Ending.{Ending}
-use Rattle.conf_tools.specs.declared.outcome.Ending.TheVariants.{Of, Told, ToldFault}
-use Rattle.conf_tools.specs.declared.outcome.Outcome.TheVariants as outcome
-use Rattle.conf_tools.specs.{declared.program.Status.Status, declared.reading_fault.ReadingFault.ReadingFault}
-use Rattle.conf_tools.specs.declared.reading_fault.ReadingFault.TheVariants.{History, Salvage}
-use Rattle.conf_tools.specs.{declared.reads.Presence.Presence, declared.reads.Presence.TheVariants.Present}
-use Rattle.conf_tools.specs.declared.reads.Presence.TheVariants.{Absent as NothingThere}
-use Rattle.conf_tools.specs.declared.stores.StoreToolFault.{StoreToolFault}
-use Rattle.conf_tools.specs.declared.stores.StoreToolFault.TheVariants.{Refused as RefusedChange}
-use Rattle.conf_tools.specs.{declared.surveys.Soundness.Soundness, declared.texts.ToolFault.ToolFault}
-use Rattle.conf_tools.specs.declared.surveys.Soundness.TheVariants.{Whole, Damaged}
-use Rattle.conf_tools.specs.declared.texts.ToolFault.TheVariants.{Read}
+use Rattle.conf_tools.specs.{Prelude.{HistoryFault, SalvageFault}, declared.outcome.Ending.{Ending, TheVariants.{Of, Told, ToldFault}}}
+use Rattle.conf_tools.specs.declared.{program.Status.Status, reading_fault.ReadingFault.{ReadingFault, TheVariants.{History, Salvage}}}
+use Rattle.conf_tools.specs.declared.{diffs.Sameness.{Sameness, TheVariants.{Same, Different}}, reads.Presence.Presence}
+use Rattle.conf_tools.specs.declared.{reads.Presence.TheVariants.{Present, Absent as NothingThere}, stores.StoreToolFault.StoreToolFault}
+use Rattle.conf_tools.specs.declared.{stores.StoreToolFault.TheVariants.Refused as RefusedChange, surveys.Soundness.Soundness}
+use Rattle.conf_tools.specs.declared.{surveys.Soundness.TheVariants.{Whole, Damaged}, texts.ToolFault.{ToolFault, TheVariants.Read}}
 use Rattle.conf_state.specs.declared.fault.StoreFault.TheVariants.{Read as TextRefused}
+use Rattle.conf_tools.specs.declared.outcome.Outcome.TheVariants as outcome
 
 -- what was done on a disk
 abbrev pub ending_at_end : {A D : Type 0} → Result A (D × StoreToolFault) → Ending
@@ -35,6 +29,12 @@ abbrev pub ending_after_presence : Result Presence ReadingFault → Ending
 ending_after_presence (Ok Present) = Of outcome.Done
 ending_after_presence (Ok NothingThere) = Of outcome.Absent
 ending_after_presence (Err fault) = Of (outcome.Reading fault)
+
+-- `diff`
+abbrev pub ending_after_diff : Result Sameness ReadingFault → Ending
+ending_after_diff (Ok Same) = Of outcome.Done
+ending_after_diff (Ok Different) = Of outcome.Differs
+ending_after_diff (Err fault) = Of (outcome.Reading fault)
 
 -- a new store
 abbrev pub ending_after_backup : {D : Type 0} → Result D (D × SalvageFault) → Ending

@@ -1,13 +1,10 @@
 -- What an export finds, and in which state.
 use Rattle.std.specs.Prelude.{◌≡◌, ◌≢◌, ◌⊎◌, ℕ, Bool, true, List, Option, Result, Ok, Err, codes, encode_utf8_all}
-use Rattle.conf_tools.specs.Prelude.{Tree, Folder, Tells, bytes_under, several_waited, Image, IsImage, DiskModel, Store}
-use Rattle.conf_tools.specs.Prelude.{Contents, StoreFault, AllImagesMean, HasFailed, tree_named, IsNewBase, FileMeans, FolderMeans}
-use Rattle.conf_tools.specs.Prelude.{RefusesOpening, TreeForm, store_limit}
-use Rattle.conf_disk.specs.declared.disk.Content.{Content}
-use Rattle.conf_state.specs.declared.fault.StoreFault.TheVariants.{OutOfMemory}
-use Rattle.conf_tools.specs.Dropped.{TellsDropped, TellsDroppedOf}
-use Rattle.conf_tools.specs.{Reads.tree_text, declared.stores.StoreToolFault.StoreToolFault}
-use Rattle.conf_tools.specs.declared.stores.StoreToolFault.TheVariants.{Open, Export}
+use Rattle.conf_tools.specs.Prelude.{Tree, Folder, Tells, bytes_under, several_waited, Image, IsImage, DiskModel, Store, Contents}
+use Rattle.conf_tools.specs.Prelude.{StoreFault, AllImagesMean, HasFailed, tree_named, IsNewBase, FileMeans, FolderMeans, RefusesOpening}
+use Rattle.conf_tools.specs.{Prelude.{TreeForm, store_limit}, Dropped.{TellsDropped, TellsDroppedOf}, Reads.tree_text}
+use Rattle.conf_tools.specs.declared.stores.StoreToolFault.{StoreToolFault, TheVariants.{Open, Export}}
+use Rattle.{conf_disk.specs.declared.disk.Content.Content, conf_state.specs.declared.fault.StoreFault.TheVariants.OutOfMemory}
 use Rattle.conf_store.specs.declared.fault.OpenFault.TheVariants as OpenFaults
 
 -- the disk that a call hands back, with a value or a fault

@@ -1,9 +1,8 @@
 -- The names of faults, as lines on standard error have them: that of the innermost fault.
 use Rattle.std.specs.Prelude.{ℕ, List, codes}
-use Rattle.conf_tools.specs.Prelude.{ConditionFault, FolderFault, HistoryFault, SalvageFault, SessionFault, fault_name}
-use Rattle.conf_tools.specs.Prelude.{path_name, read_name, OpenFault}
-use Rattle.conf_tools.specs.{declared.reading_fault.ReadingFault.ReadingFault}
-use Rattle.conf_tools.specs.{declared.stores.StoreToolFault.StoreToolFault, declared.texts.ToolFault.ToolFault}
+use Rattle.conf_tools.specs.Prelude.{ConditionFault, FolderFault, HistoryFault, SalvageFault, SessionFault, fault_name, path_name}
+use Rattle.conf_tools.specs.{Prelude.{read_name, OpenFault}, declared.reading_fault.ReadingFault.ReadingFault}
+use Rattle.conf_tools.specs.declared.{stores.StoreToolFault.StoreToolFault, texts.ToolFault.ToolFault}
 use Rattle.conf_conditions.specs.declared.fault.ConditionFault.TheVariants as condition
 use Rattle.conf_folder.specs.declared.fault.FolderFault.TheVariants as folder
 use Rattle.conf_history.specs.declared.fault.HistoryFault.TheVariants as history

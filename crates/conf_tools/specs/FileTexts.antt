@@ -1,19 +1,12 @@
 -- What a tool has written for the text of a file that was named.
-use Rattle.std.specs.Prelude.{◌≡◌, ◌≢◌, ◌⊎◌, ℕ, Bool, true, false, List, [], ◌∷◌, ◌++◌, Option, length, codes, decimal}
-use Rattle.std.specs.Prelude.{string_bytes}
-use Rattle.conf_tools.specs.Prelude.{Appends, Keeps, Refuses, config_limits, HasComment, HasNoComment, name_of, Finding}
-use Rattle.conf_tools.specs.Prelude.{Comments, Style}
-use Rattle.yaml_events.specs.declared.read_fault.ReadFault.{ReadFault}
-use Rattle.yaml_style.specs.declared.finding.Rule.{Rule}
+use Rattle.std.specs.Prelude.{◌≡◌, ◌≢◌, ◌⊎◌, ℕ, Bool, true, false, List, [], ◌∷◌, ◌++◌, Option, length, codes, decimal, string_bytes}
+use Rattle.conf_tools.specs.Prelude.{Appends, Keeps, Refuses, config_limits, HasComment, HasNoComment, name_of, Finding, Comments, Style}
+use Rattle.conf_tools.specs.{Styles.{IsCheckedIn, IsStyled, style_of}, declared.texts.ToolFault.ToolFault}
+use Rattle.conf_tools.specs.declared.texts.ToolFault.TheVariants.{Comments as HasComments, Input, Output, Read, Unsettled, OneValue}
+use Rattle.conf_tools.specs.{declared.file_texts.Restyled.{Restyled, TheVariants.{Same, Changed}}, Parts.WritesPart, Tools.Stops}
+use Rattle.{yaml_events.specs.declared.read_fault.ReadFault.ReadFault, yaml_style.specs.declared.finding.Rule.Rule}
 use Rattle.yaml_style.specs.declared.finding.Rule.TheVariants.{TrailingWhitespace, LineEnd, LongLine, NotInStyle}
-use Rattle.conf_words.specs.declared.invocation.Comments.TheVariants.{Refused, Dropped, Kept}
-use Rattle.comments_kept.specs.Keeping.{GivesUnsettled}
-use Rattle.conf_tools.specs.Styles.{IsCheckedIn, IsStyled, style_of}
-use Rattle.conf_tools.specs.declared.texts.ToolFault.TheVariants.{Comments as HasComments}
-use Rattle.conf_tools.specs.{Parts.WritesPart, Tools.Stops, declared.file_texts.Restyled.Restyled}
-use Rattle.conf_tools.specs.declared.texts.ToolFault.{ToolFault}
-use Rattle.conf_tools.specs.declared.file_texts.Restyled.TheVariants.{Same, Changed}
-use Rattle.conf_tools.specs.declared.texts.ToolFault.TheVariants.{Input, Output, Read, Unsettled, OneValue}
+use Rattle.{conf_words.specs.declared.invocation.Comments.TheVariants.{Refused, Dropped, Kept}, comments_kept.specs.Keeping.GivesUnsettled}
 
 -- ---- the text in a style
 

@@ -1,14 +1,11 @@
 -- What `verify` and `salvage` keep in a new file: the bytes that an opening drops of a store's file, or is refused for. And
 -- what they do then, which is what they do without.
-use Rattle.std.specs.Prelude.{◌≡◌, ◌⊎◌, ℕ, Bool, List, [], ◌∷◌, drop, Option, Some, None, Result, Ok, Err, IfSome}
-use Rattle.std.specs.Borrow.{Bor}
-use Rattle.conf_files.specs.declared.create.NewFileFault.{NewFileFault}
-use Rattle.conf_tools.specs.Prelude.{Contents, DiskModel, Findings, HistoryFault, IsSurvey, RefusesSurvey}
-use Rattle.conf_tools.specs.{Worlds.WorldModel, declared.outcome.Ending.Ending, declared.outcome.Ending.TheVariants.Of}
-use Rattle.conf_tools.specs.declared.outcome.Outcome.TheVariants as outcome
-use Rattle.conf_tools.specs.{declared.reading_fault.ReadingFault.ReadingFault}
-use Rattle.conf_tools.specs.{declared.reading_fault.ReadingFault.TheVariants.History}
+use Rattle.std.specs.{Prelude.{◌≡◌, ◌⊎◌, ℕ, Bool, List, [], ◌∷◌, drop, Option, Some, None, Result, Ok, Err, IfSome}, Borrow.Bor}
+use Rattle.{conf_files.specs.declared.create.NewFileFault.NewFileFault, conf_tools.specs.Prelude.{Contents, DiskModel, Findings}}
+use Rattle.conf_tools.specs.{Prelude.{HistoryFault, IsSurvey, RefusesSurvey}, Worlds.WorldModel, declared.outcome.Ending.Ending}
+use Rattle.conf_tools.specs.declared.{outcome.Ending.TheVariants.Of, reading_fault.ReadingFault.{ReadingFault, TheVariants.History}}
 use Rattle.conf_tools.specs.StoreWords.{OpensFile, Reads, Salvages, SavesInFolder, SaysSurvey}
+use Rattle.conf_tools.specs.declared.outcome.Outcome.TheVariants as outcome
 
 -- What a store's file gives, where that is known, are these bytes, and an opening keeps so many of them.
 pub record KeepsOf (several : Bool) (given : Option (List ℕ)) (bytes : List ℕ) (kept : ℕ) : Type 0 where

@@ -19,7 +19,9 @@ pub mod Worlds
 pub mod Parts
 pub mod Endings
 pub mod EndOfRun
+pub mod Diffs
 pub mod StoreWords
+pub mod DiffWords
 pub mod TextWords
 pub mod Batches
 pub mod LogWords
@@ -30,6 +32,7 @@ pub mod Listening
 pub mod NewFiles
 pub mod Keeping
 pub mod Refused
+pub mod ConfigFiles
 pub mod Sentences
 pub mod Outcomes
 pub mod OnStores

@@ -1,10 +1,7 @@
 -- What a listener was told.
-use Rattle.std.specs.Prelude.{◌≡◌, ◌⊎◌, ℕ, List, ◌++◌, true, false, Option, codes}
-use Rattle.std.proofs.Common.{inl, inr, sym, ◌∙◌}
-use Rattle.conf_tools.specs.Prelude.{Appends}
-use Rattle.std.proofs.lemmas.Bool.{false≢true}
-use Rattle.std.proofs.KnownBytes.{Appends-trans}
-use Rattle.conf_tools.specs.declared.listener.Told.{Told}
+use Rattle.std.{specs.Prelude.{◌≡◌, ◌⊎◌, ℕ, List, ◌++◌, true, false, Option, codes}, proofs.Common.{inl, inr, sym, ◌∙◌}}
+use Rattle.std.proofs.{lemmas.Bool.false≢true, KnownBytes.Appends-trans}
+use Rattle.conf_tools.specs.{Prelude.Appends, declared.listener.Told.Told}
 
 -- the line that names a fault
 abbrev pub fault_line : List ℕ → List ℕ

@@ -1,21 +1,14 @@
 -- What `log` writes, and what it hides.
-use Rattle.std.specs.Prelude.{◌≡◌, ◌⊎◌, ℕ, List, [], ◌∷◌, map, Option, Ok, Err}
-use Rattle.std.specs.Borrow.{Bor}
-use Rattle.json_pointer.specs.declared.fault.PathFault.{PathFault}
-use Rattle.json_pointer.specs.declared.fault.PathFault.TheVariants.{OutOfMemory as NoMemory}
+use Rattle.std.specs.{Prelude.{◌≡◌, ◌⊎◌, ℕ, List, [], ◌∷◌, map, Option, Ok, Err}, Borrow.Bor}
+use Rattle.json_pointer.specs.declared.fault.PathFault.{PathFault, TheVariants.OutOfMemory as NoMemory}
 use Rattle.conf_state.specs.declared.fault.StoreFault.TheVariants.{OutOfMemory}
+use Rattle.conf_words.specs.declared.invocation.{Commands.Commands, LogForm.{LogForm as AskedLog, TheVariants.{Lines, Values, Records}}}
+use Rattle.{tree_hidden.specs.{Pointers.paths_or, Tokens.paths_of}, yaml_data.specs.declared.text.Text.Text}
+use Rattle.conf_tools.specs.{Prelude.{LogForm, LogRequest, Path, StoreFault}, declared.outcome.Ending.Ending}
+use Rattle.conf_tools.specs.declared.outcome.{Ending.TheVariants.Of, Outcome.TheVariants.Reading}
+use Rattle.conf_tools.specs.{declared.reading_fault.ReadingFault.TheVariants.Value, StoreWords.{Reads, SaysLog}, Worlds.WorldModel}
 use Rattle.conf_history.specs.declared.line.LineForm.TheVariants as lines
 use Rattle.conf_history.specs.declared.log.LogForm.TheVariants as history
-use Rattle.conf_words.specs.declared.invocation.LogForm.{LogForm as AskedLog}
-use Rattle.conf_words.specs.declared.invocation.LogForm.TheVariants.{Lines, Values, Records}
-use Rattle.tree_hidden.specs.{Pointers.paths_or, Tokens.paths_of}
-use Rattle.yaml_data.specs.declared.text.Text.{Text}
-use Rattle.conf_tools.specs.Prelude.{LogForm, LogRequest, Path, StoreFault}
-use Rattle.conf_tools.specs.{declared.logs.Commands.Commands, declared.outcome.Ending.Ending}
-use Rattle.conf_tools.specs.declared.outcome.Ending.TheVariants.{Of}
-use Rattle.conf_tools.specs.declared.outcome.Outcome.TheVariants.{Reading}
-use Rattle.conf_tools.specs.{StoreWords.Reads, StoreWords.SaysLog, Worlds.WorldModel}
-use Rattle.conf_tools.specs.declared.reading_fault.ReadingFault.TheVariants.{Value}
 
 -- the fault of a pointer that is to be hidden
 abbrev pub fault_of_pointer : PathFault → StoreFault
@@ -26,10 +19,6 @@ fault_of_pointer fault = Path fault
 abbrev pub CannotHide : List (List ℕ) → StoreFault → Type 0
 CannotHide pointers fault =
     (fault ≡ OutOfMemory) ⊎ ((bad : PathFault) × (paths_or pointers ≡ Err bad) × (fault ≡ fault_of_pointer bad))
-
--- the commands of a name or of all, from a number on, and up to one or to the last
-abbrev pub commands_of : Option (Bor (List ℕ)) → ℕ → Option ℕ → Commands
-commands_of name from at = record { name = name; from = from; at = at }
 
 -- what a log of these commands in a form is asked for
 abbrev pub request_of : LogForm → Commands → LogRequest

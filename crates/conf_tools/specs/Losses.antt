@@ -1,15 +1,10 @@
 -- What is told of the comments of a text that are left out.
-use Rattle.std.specs.Prelude.{◌≡◌, ℕ, List, Result, Ok, Err}
-use Rattle.conf_tools.specs.Prelude.{Reporting, Style}
-use Rattle.conf_words.specs.declared.invocation.Reporting.TheVariants.{Brief, Explained}
-use Rattle.conf_words.specs.declared.invocation.Style.TheVariants.{Bare, WithComments}
-use Rattle.conf_tools.specs.{Refused.TellsFault, Styles.TellsLeftOutOf, Tools.Taken, declared.changes.Change.Change}
-use Rattle.conf_tools.specs.{declared.change_words.Meaning.Meaning, declared.outcome.Outcome.Outcome}
-use Rattle.conf_tools.specs.declared.outcome.Ending.{Ending}
-use Rattle.conf_tools.specs.declared.outcome.Ending.TheVariants.{Of, Told, ToldFault}
-use Rattle.conf_tools.specs.declared.reporter.Origin.{Origin}
-use Rattle.conf_tools.specs.{declared.reporter.Origin.TheVariants.Input, declared.reporter.Origin.TheVariants.Named}
-use Rattle.conf_tools.specs.declared.texts.ToolFault.{ToolFault}
+use Rattle.std.specs.Prelude.{◌≡◌, ◌≢◌, ◌⊎◌, codes, ℕ, List, Result, Ok, Err}
+use Rattle.conf_tools.specs.{Prelude.{Reporting, Style}, Refused.TellsFault, Styles.{TellsLeftOutOf, dash_line}, Tools.Taken}
+use Rattle.conf_tools.specs.declared.{changes.Change.Change, change_words.Meaning.Meaning, outcome.{Outcome.Outcome, Ending.Ending}}
+use Rattle.conf_tools.specs.declared.{outcome.Ending.TheVariants.{Of, Told, ToldFault}, reporter.Origin.{Origin, TheVariants.Input}}
+use Rattle.conf_tools.specs.declared.{reporter.Origin.TheVariants.Named, texts.ToolFault.ToolFault}
+use Rattle.conf_words.specs.declared.invocation.{Reporting.TheVariants.{Brief, Explained}, Style.TheVariants.{Bare, WithComments}}
 use Rattle.conf_tools.specs.declared.change_words.Meaning.TheVariants as means
 use Rattle.conf_tools.specs.declared.outcome.Outcome.TheVariants as ends
 
@@ -45,6 +40,12 @@ module _ {E : Type 0} (hears : E → List ℕ → E → Type 0) where
   abbrev pub ImportTells : Reporting → Outcome → List ℕ → E → E → Type 0
   ImportTells reporting ends.Done bytes old new = TellsLossIfAsked reporting bytes old new
   ImportTells reporting outcome bytes old new = Unit {0}
+
+  -- where reports explain, it is told of a text that it is `-` itself
+  abbrev pub TellsDash : Reporting → List ℕ → E → E → Type 0
+  TellsDash Brief text old new = new ≡ old
+  TellsDash Explained text old new =
+      ((text ≡ codes "-") × hears old dash_line new) ⊎ ((text ≢ codes "-") × (new ≡ old))
 
   -- the same of a change that sets what the bytes are, if they give one
   abbrev pub SetTells : Reporting → Meaning → Result Change ToolFault → List ℕ → E → E → Type 0

@@ -1,9 +1,8 @@
 -- The faults of a file that is made where nothing is: their names, and the statuses after them.
 use Rattle.std.specs.Prelude.{ℕ, List, codes}
-use Rattle.conf_files.specs.declared.create.NewFileFault.{NewFileFault}
+use Rattle.{conf_files.specs.declared.create.NewFileFault.NewFileFault, conf_tools.specs.declared.program.Status.Status}
+use Rattle.conf_tools.specs.declared.program.Status.TheVariants.{Refused, Device}
 use Rattle.conf_files.specs.declared.create.NewFileFault.TheVariants as new_file
-use Rattle.conf_tools.specs.{declared.program.Status.Status, declared.program.Status.TheVariants.Refused}
-use Rattle.conf_tools.specs.{declared.program.Status.TheVariants.Device}
 
 abbrev pub new_file_fault_name : NewFileFault → List ℕ
 new_file_fault_name new_file.FileExists = codes "FileExists"

@@ -1,22 +1,20 @@
 -- What is done for an invocation with the stores in folders: all of `Does` that has to be known to judge what a store
 -- keeps. Words that take no disk are not told apart.
 use Rattle.std.specs.Prelude.{◌≡◌, ◌⊎◌, ℕ, List, [], Option, Result, Ok, Err}
-use Rattle.conf_files.specs.declared.create.NewFileFault.{NewFileFault}
-use Rattle.conf_tools.specs.Prelude.{DiskModel, LeavesOnly, MeantAtEntry, FolderFault, Invocation, ReplaceFault}
-use Rattle.conf_tools.specs.Prelude.{Init, Import, Set, Delete, Copy, Rename, Move, Batch, Checkpoint, Run, Export}
-use Rattle.conf_tools.specs.Prelude.{Salvage, Backup}
-use Rattle.conf_tools.specs.{Backups.BacksUpStore, EndOfRun.EndOfRun, Keeping.SalvagesTo, Outcomes.status_of_ending}
-use Rattle.conf_tools.specs.Performs.{Batches, ChangesByWords, Imports, Sets, access_of, grouping_of}
-use Rattle.conf_tools.specs.StoreWords.{ChangesInFolder, Inits, RunsOnFolder}
-use Rattle.conf_tools.specs.TextWords.{IsCopy, IsDelete, IsMove, IsRename}
-use Rattle.conf_tools.specs.{Worlds.Around, Worlds.LeavesStreams, Worlds.WorldModel, declared.program.Status.Status}
+use Rattle.{conf_files.specs.declared.create.NewFileFault.NewFileFault, conf_tools.specs.Prelude.{DiskModel, LeavesOnly, MeantAtEntry}}
+use Rattle.conf_tools.specs.Prelude.{FolderFault, Invocation, ReplaceFault, Init, Import, Set, Alter, Batch, Checkpoint, Run, Export}
+use Rattle.conf_tools.specs.{Prelude.{Salvage, Backup}, Backups.BacksUpStore, EndOfRun.EndOfRun, Keeping.SalvagesTo}
+use Rattle.conf_tools.specs.{Outcomes.status_of_ending, Performs.{Alters, Batches, Imports, Sets, grouping_of}, StoreWords.ChangesInFolder}
+use Rattle.conf_tools.specs.{StoreWords.{Inits, RunsOnFolder}, Worlds.{Around, LeavesStreams, WorldModel}, declared.program.Status.Status}
 use Rattle.conf_tools.specs.declared.world.Access.TheVariants.{Changing, Reading}
 use Rattle.conf_tools.specs.declared.changes.Change.TheVariants as change
 
 module _ {W D F P : Type 0} (world : WorldModel W D F P) where
-  -- The world went on by calls on files alone: it made no folder, and handed out no disk.
+  -- The world went on by calls on files, and on folders that it made: it handed out no disk.
   pub data GoesOnByFiles : W → W → Type 0 where
     stays : (now : W) → GoesOnByFiles now now
+    folds : (folder : List ℕ) (old : W) (result : Result (Unit {0}) FolderFault) (new : W)
+        → world.made_folder folder old result new → GoesOnByFiles old new
     looks : (folder : List ℕ) (old : W) (result : Result (Option F) FolderFault) (new : W)
         → world.opened_store folder old result new → GoesOnByFiles old new
     reads : (path : List ℕ) (old : W) (file : Option F) (new : W) → world.opened_file path old file new
@@ -49,25 +47,12 @@ module _ {W D F P : Type 0} (world : WorldModel W D F P) (disk : DiskModel D) (r
   abbrev pub DoesOnStores : Invocation → Around W → Around W → EndOfRun → Type 0
   DoesOnStores (Init folder) old new ending =
       Inits world disk folder.now old.world new.world ending × LeavesStreams old new
-  DoesOnStores (Import folder name file root absent conditions reporting) old new ending =
-      Imports world disk remaining root (access_of absent) folder.now name.now file.now conditions old new ending
-  DoesOnStores (Set folder name pointer value placing conditions reporting) old new ending =
-      Sets world disk remaining folder.now name.now pointer.now value placing conditions old.world new.world
-      old.input new.input ending × (new.output ≡ old.output)
-  DoesOnStores (Delete folder name pointer conditions) old new ending =
-      ChangesByWords world disk (IsDelete name.now pointer.now) conditions folder.now name.now pointer.now
-      old.world new.world ending × LeavesStreams old new
-  DoesOnStores (Copy folder name to conditions) old new ending =
-      ChangesByWords world disk (IsCopy name.now to.now) conditions folder.now to.now [] old.world new.world ending
-      × LeavesStreams old new
-  DoesOnStores (Rename folder name to conditions) old new ending =
-      ChangesByWords world disk (IsRename name.now to.now) conditions folder.now to.now [] old.world new.world ending
-      × LeavesStreams old new
-  DoesOnStores (Move folder name from to conditions) old new ending =
-      ChangesByWords world disk (IsMove name.now from.now to.now) conditions folder.now name.now to.now
-      old.world new.world ending × LeavesStreams old new
-  DoesOnStores (Batch folder file count reporting) old new ending =
-      Batches world disk remaining folder.now file.now count old new ending
+  DoesOnStores (Import asked reporting) old new ending = Imports world disk remaining asked old new ending
+  DoesOnStores (Set target put reporting) old new ending =
+      Sets world disk remaining target put old.world new.world old.input new.input ending × (new.output ≡ old.output)
+  DoesOnStores (Alter target alteration) old new ending =
+      Alters world disk target alteration old.world new.world ending × LeavesStreams old new
+  DoesOnStores (Batch asked reporting) old new ending = Batches world disk remaining asked old new ending
   DoesOnStores (Checkpoint folder) old new ending =
       ChangesInFolder world disk Changing folder.now [] change.Checkpoint old.world new.world ending
       × LeavesStreams old new

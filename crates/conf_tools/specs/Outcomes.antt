@@ -1,19 +1,15 @@
 -- How a run of the program ends, and what is told of it.
 use Rattle.std.specs.Prelude.{◌≡◌, ◌⊎◌, ℕ, List, Option, Result, Ok, Err, codes, string_bytes}
-use Rattle.conf_tools.specs.Prelude.{Tally, Invocation, Init, Import, Set, Delete, Copy, Rename, Move, Batch}
-use Rattle.conf_tools.specs.Prelude.{Checkpoint, Run, Export, Names, Get, Exists, Log, Verify, Salvage, Backup, Format}
-use Rattle.conf_tools.specs.Prelude.{Check, Unparsed, Shown, Wrong}
+use Rattle.conf_tools.specs.Prelude.{Tally, Invocation, Init, Import, Set, Alter, Batch, Checkpoint, Run, Export, ExportAll, Names, Get}
+use Rattle.conf_tools.specs.Prelude.{Exists, Log, Diff, DiffFiles, Verify, Salvage, Backup, Format, Check, Unparsed, Shown, Wrong}
+use Rattle.conf_tools.specs.{Dropped.TellsDropped, Exports.TellsExport, Listening.fault_line, ReadingStatuses.status_of_reading}
+use Rattle.conf_tools.specs.{Refused.TellsFault, Styles.{TellsLeftOut, TellsOfValue}, Tails.{TellsRest, end_of_rest}}
+use Rattle.conf_tools.specs.declared.{outcome.{Ending.{Ending, TheVariants.{Of, Told, ToldFault}}, Outcome.Outcome}, program.Status.Status}
+use Rattle.conf_tools.specs.declared.{program.Status.TheVariants.{Done, Absent, Differs, Refused, WrongWords, Device}, tail.Tail.Tail}
+use Rattle.conf_tools.specs.{declared.texts.ToolFault.TheVariants.Output, FaultLines.{reading_fault_name, store_fault_name}}
+use Rattle.conf_tools.specs.{FaultLines.text_fault_name, NewFiles.{new_file_fault_name, status_of_new_file}, Sentences.HasSentence}
+use Rattle.conf_tools.specs.Statuses.{code_of, status_of, status_of_store}
 use Rattle.conf_words.specs.declared.unparsed.Unparsed.TheVariants.{OutOfMemory as NoMemory}
-use Rattle.conf_tools.specs.{Dropped.TellsDropped, Exports.TellsExport, Listening.fault_line}
-use Rattle.conf_tools.specs.{ReadingStatuses.status_of_reading, Refused.TellsFault, Styles.TellsLeftOut}
-use Rattle.conf_tools.specs.{Tails.TellsRest, Tails.end_of_rest, declared.outcome.Ending.Ending}
-use Rattle.conf_tools.specs.declared.outcome.Ending.TheVariants.{Of, Told, ToldFault}
-use Rattle.conf_tools.specs.{declared.outcome.Outcome.Outcome, declared.program.Status.Status, declared.tail.Tail.Tail}
-use Rattle.conf_tools.specs.declared.texts.ToolFault.TheVariants.{Output}
-use Rattle.conf_tools.specs.FaultLines.{reading_fault_name, store_fault_name, text_fault_name}
-use Rattle.conf_tools.specs.NewFiles.{new_file_fault_name, status_of_new_file}
-use Rattle.conf_tools.specs.{Sentences.HasSentence, Statuses.code_of, Statuses.status_of, Statuses.status_of_store}
-use Rattle.conf_tools.specs.declared.program.Status.TheVariants.{Done, Absent, Refused, WrongWords, Device}
 use Rattle.conf_tools.specs.declared.outcome.Outcome.TheVariants as ends
 
 -- ---- statuses
@@ -22,6 +18,7 @@ use Rattle.conf_tools.specs.declared.outcome.Outcome.TheVariants as ends
 abbrev pub status_of_outcome : Outcome → Status
 status_of_outcome ends.Done = Done
 status_of_outcome ends.Absent = Absent
+status_of_outcome ends.Differs = Differs
 status_of_outcome (ends.Damaged folder) = Refused
 status_of_outcome (ends.Text fault) = status_of fault
 status_of_outcome (ends.Store fault) = status_of_store fault
@@ -48,11 +45,12 @@ module _ {E : Type 0} (hears : E → List ℕ → E → Type 0) where
     pub named : E
     pub tells : hears old (fault_line (codes "Damaged")) named
 
-  -- Why a word on a store ended early is told in a line, by the name of the fault. Where all was done, or nothing is at
-  -- a place, nothing is told.
+  -- Why a word on a store ended early is told in a line, by the name of the fault. Where all was done, nothing is at a
+  -- place, or what was compared differs, nothing is told.
   abbrev pub TellsOutcome : Outcome → E → E → Type 0
   TellsOutcome ends.Done old new = new ≡ old
   TellsOutcome ends.Absent old new = new ≡ old
+  TellsOutcome ends.Differs old new = new ≡ old
   TellsOutcome (ends.Damaged folder) old new = TellsDamage old new
   TellsOutcome (ends.Text fault) old new = hears old (fault_line (text_fault_name fault)) new
   TellsOutcome (ends.Store fault) old new = hears old (fault_line (store_fault_name fault)) new
@@ -113,9 +111,9 @@ module _ {E : Type 0} (hears : E → List ℕ → E → Type 0) where
   LeavesImport old (ToldFault fault) new = (opened : E) × TellsDropped hears old opened × TellsFault hears opened fault
   LeavesImport old (Told status) new = ⊥
 
-  -- the same, first of the comments; or what is wrong with the text was told
+  -- the same, first of the comments or of a value that is `-`; or what is wrong with the text was told
   abbrev pub LeavesSet : E → Ending → E → Type 0
-  LeavesSet old (Of outcome) new = (read : E) × TellsLeftOut hears old read × TellsDropped hears read new
+  LeavesSet old (Of outcome) new = (read : E) × TellsOfValue hears old read × TellsDropped hears read new
   LeavesSet old (ToldFault fault) new = TellsFault hears old fault
   LeavesSet old (Told status) new = ⊥
 
@@ -124,6 +122,12 @@ module _ {E : Type 0} (hears : E → List ℕ → E → Type 0) where
   LeavesBatch old (Of outcome) new = TellsDropped hears old new
   LeavesBatch old (ToldFault fault) new = TellsFault hears old fault
   LeavesBatch old (Told status) new = ⊥
+
+  -- nothing was told so far, or why a file was not read or written was
+  abbrev pub LeavesFiles : E → Ending → E → Type 0
+  LeavesFiles old (Of outcome) new = new ≡ old
+  LeavesFiles old (ToldFault fault) new = TellsFault hears old fault
+  LeavesFiles old (Told status) new = ⊥
 
   -- What is wrong with texts was told: of one text its fault, and of several files what `tells` says of the status.
   abbrev pub LeavesTold : (Status → E → E → Type 0) → E → Ending → E → Type 0
@@ -137,20 +141,20 @@ module _ {E : Type 0} (hears : E → List ℕ → E → Type 0) where
   -- told how many, and nothing else is told.
   abbrev pub Leaves : Invocation → E → Ending → E → Type 0
   Leaves (Init folder) old ending new = LeavesOpened old ending new
-  Leaves (Import folder name file root absent conditions reporting) old ending new = LeavesImport old ending new
-  Leaves (Set folder name pointer value placing conditions reporting) old ending new = LeavesSet old ending new
-  Leaves (Delete folder name pointer conditions) old ending new = LeavesOpened old ending new
-  Leaves (Copy folder name to conditions) old ending new = LeavesOpened old ending new
-  Leaves (Rename folder name to conditions) old ending new = LeavesOpened old ending new
-  Leaves (Move folder name from to conditions) old ending new = LeavesOpened old ending new
-  Leaves (Batch folder file count reporting) old ending new = LeavesBatch old ending new
+  Leaves (Import asked reporting) old ending new = LeavesImport old ending new
+  Leaves (Set target put reporting) old ending new = LeavesSet old ending new
+  Leaves (Alter target alteration) old ending new = LeavesOpened old ending new
+  Leaves (Batch asked reporting) old ending new = LeavesBatch old ending new
   Leaves (Checkpoint folder) old ending new = LeavesOpened old ending new
   Leaves (Run folder grouping) old ending new = IsUntold ending × TellsSession hears old new
   Leaves (Export folder name form) old ending new = IsUntold ending × TellsExport hears old new
+  Leaves (ExportAll folder into form) old ending new = LeavesFiles old ending new
   Leaves (Names folder at form) old ending new = LeavesAll old ending new
-  Leaves (Get folder name pointers at absent form) old ending new = LeavesAll old ending new
-  Leaves (Exists folder name pointer at) old ending new = LeavesAll old ending new
-  Leaves (Log folder name from at form) old ending new = LeavesAll old ending new
+  Leaves (Get folder places absent form) old ending new = LeavesAll old ending new
+  Leaves (Exists folder place) old ending new = LeavesAll old ending new
+  Leaves (Log folder commands form) old ending new = LeavesAll old ending new
+  Leaves (Diff folder name span) old ending new = LeavesAll old ending new
+  Leaves (DiffFiles first second) old ending new = LeavesFiles old ending new
   Leaves (Verify folder keep_dropped) old ending new = LeavesAll old ending new
   Leaves (Salvage folder new_folder keep_dropped) old ending new = LeavesAll old ending new
   Leaves (Backup folder new_folder) old ending new = LeavesAll old ending new

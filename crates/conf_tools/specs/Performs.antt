@@ -1,32 +1,21 @@
 -- What the program does for an invocation, with the world around it, its input and its output, and how it ends.
 use Rattle.std.specs.Prelude.{◌≡◌, ℕ, Bool, List, [], ◌∷◌, map, Option, Some, None, Result, Ok, Err, codes}
-use Rattle.conf_session.specs.Handings.{Handing}
-use Rattle.conf_tools.specs.Prelude.{chars, DiskModel, After, Asked, Comments, Conditions, Invocation}
-use Rattle.conf_tools.specs.Prelude.{Init, Import, Set, Delete, Copy, Rename, Move, Batch, Checkpoint, Run, Export, Names}
-use Rattle.conf_tools.specs.Prelude.{Get, Exists, Log, Verify, Salvage, Backup, Format, Check, Placing, Style, Unparsed}
-use Rattle.conf_tools.specs.Prelude.{Value}
-use Rattle.conf_words.specs.declared.invocation.Grouping.{Grouping as AskedGrouping}
-use Rattle.conf_words.specs.declared.invocation.{MissingStore.MissingStore, Root.Root}
+use Rattle.{conf_session.specs.Handings.Handing, conf_tools.specs.Prelude.{chars, DiskModel, After, Alteration, Asked, Comments}}
+use Rattle.conf_tools.specs.Prelude.{Conditions, Put, Target, Invocation, Init, Import, Set, Alter, Batch, Checkpoint, Run, Export}
+use Rattle.conf_tools.specs.Prelude.{ExportAll, Names, Get, AskedBatch, AskedImport, Exists, Log, Diff, DiffFiles, Verify, Salvage, Backup}
+use Rattle.conf_tools.specs.{Prelude.{Format, Check, Style, Unparsed}, Batches.{IsBatch, counted_alone}, Asking.{AskedConditions, AsksFor}}
+use Rattle.conf_tools.specs.{Backups.BacksUpStore, Keeping.{SalvagesTo, Verifies}, ConfigFiles.ExportsAll, LogWords.Logs, Tools.IsTaken}
+use Rattle.conf_tools.specs.{Tools.Taken, Edits.placed_or_not, Endings.{EndsTold, EndsWith, ending_of_import}, Outcomes.Tells}
+use Rattle.conf_tools.specs.{Outcomes.{TellsUnparsed, status_of_ending}, Statuses.{ShowsUnparsed, code_of}, declared.outcome.Ending.Ending}
+use Rattle.conf_tools.specs.declared.{changes.Change.Change, file_words.Report.TheVariants.{Findings, Name}, program.Status.Status}
+use Rattle.conf_tools.specs.declared.{program.Status.TheVariants.Done, stores.Grouping.{Grouping, TheVariants.{Single, Grouped}}}
+use Rattle.conf_tools.specs.{declared.{texts.ToolFault.ToolFault, world.Access.{Access, TheVariants.{Changing, Making}}}, Worlds.Around}
+use Rattle.conf_tools.specs.{Worlds.{LeavesStreams, WorldModel}, StoreWords.{ChangesInFolder, ExportsFromFolder, Inits, MakesChange, Reads}}
+use Rattle.conf_tools.specs.{StoreWords.{RunsOnFolder, SaysDiff, SaysNames, SaysPresence, SaysValues}, DiffWords.DiffsFiles}
+use Rattle.conf_tools.specs.{Reads.pointers_of, TextWords.{ChecksRead, FormatsFile, FormatsRead, IsAlteration, IsImport, IsSet}}
+use Rattle.conf_tools.specs.TextWords.{ReportsOnAll, RestylesAll, TakesText}
+use Rattle.conf_words.specs.declared.invocation.{Grouping.Grouping as AskedGrouping, MissingStore.MissingStore, Root.Root}
 use Rattle.conf_words.specs.declared.invocation.Formatting.{Formatting}
-use Rattle.conf_tools.specs.Batches.{IsBatch, counted_alone}
-use Rattle.conf_tools.specs.{Asking.AskedConditions, Asking.AsksFor, Backups.BacksUpStore, Keeping.SalvagesTo}
-use Rattle.conf_tools.specs.{Keeping.Verifies, LogWords.Logs, LogWords.commands_of, Tools.IsTaken}
-use Rattle.conf_tools.specs.Edits.{placed_or_not}
-use Rattle.conf_tools.specs.{Endings.EndsTold, Endings.EndsWith, Endings.ending_of_import, Outcomes.Tells}
-use Rattle.conf_tools.specs.{Outcomes.TellsUnparsed, Outcomes.status_of_ending, Statuses.ShowsUnparsed, Statuses.code_of}
-use Rattle.conf_tools.specs.declared.outcome.Ending.{Ending}
-use Rattle.conf_tools.specs.{Tools.Taken, Worlds.Around, Worlds.LeavesStreams, Worlds.WorldModel}
-use Rattle.conf_tools.specs.{declared.changes.Change.Change, declared.file_words.Report.TheVariants.Findings}
-use Rattle.conf_tools.specs.{declared.file_words.Report.TheVariants.Name, declared.program.Status.Status}
-use Rattle.conf_tools.specs.{declared.program.Status.TheVariants.Done, declared.stores.Grouping.Grouping}
-use Rattle.conf_tools.specs.{declared.stores.Grouping.TheVariants.Single, declared.stores.Grouping.TheVariants.Grouped}
-use Rattle.conf_tools.specs.{declared.texts.ToolFault.ToolFault, declared.world.Access.Access}
-use Rattle.conf_tools.specs.{declared.world.Access.TheVariants.Changing, declared.world.Access.TheVariants.Making}
-use Rattle.conf_tools.specs.StoreWords.{ChangesInFolder, ExportsFromFolder, Inits, MakesChange, Reads, RunsOnFolder}
-use Rattle.conf_tools.specs.StoreWords.{SaysNames, SaysPresence, SaysValues}
-use Rattle.conf_tools.specs.Reads.{pointers_of}
-use Rattle.conf_tools.specs.TextWords.{ChecksRead, FormatsFile, FormatsRead, IsCopy, IsDelete, IsImport, IsMove}
-use Rattle.conf_tools.specs.TextWords.{IsRename, IsSet, ReportsOnAll, RestylesAll, TakesText}
 use Rattle.conf_words.specs.declared.invocation.Formatting.TheVariants as formatting
 use Rattle.conf_words.specs.declared.invocation.Grouping.TheVariants as asked
 use Rattle.conf_words.specs.declared.invocation.MissingStore.TheVariants as missing
@@ -109,31 +98,37 @@ module _ {W D F P : Type 0} (world : WorldModel W D F P) (disk : DiskModel D) (w
       ImportsBytes root access folder name bytes.items old new ending
   ImportsRead root access folder name (Err fault) old new ending = (new ≡ old) × EndsWith fault ending
 
+module _ {W D F P : Type 0} (world : WorldModel W D F P) (disk : DiskModel D) where
+  -- the change was made at a place that the words give, or there was none to make
+  abbrev pub ChangesAtTarget : Target → Result Change ToolFault → W → W → Ending → Type 0
+  ChangesAtTarget target change old new ending =
+      ChangesAt world disk target.conditions Changing target.folder.now target.name.now target.pointer.now change old new
+      ending
+
 module _ {W D F P : Type 0} (world : WorldModel W D F P) (disk : DiskModel D) (remaining : F → Option (List ℕ)) where
   -- `import`: a text is read, of a file or of the input for `-`, and then the change is made
-  pub record Imports (root : Root) (access : Access) (folder name file : List ℕ) (wanted : Conditions)
-      (old new : Around W) (ending : Ending) : Type 0 where
+  pub record Imports (asked : AskedImport) (old new : Around W) (ending : Ending) : Type 0 where
     pub read : Taken
     pub seen : W
-    pub takes : TakesText world remaining file read old.world seen old.input new.input
-    pub imports : ImportsRead world disk wanted root access folder name read seen new.world ending
+    pub takes : TakesText world remaining asked.file.now read old.world seen old.input new.input
+    pub imports : ImportsRead world disk asked.conditions asked.root (access_of asked.missing) asked.folder.now
+        asked.name.now read seen new.world ending
     pub output : new.output ≡ old.output
 
   -- `set`: the value is read of a file or of the input, if the words say so, and then the change is made that puts it so
-  pub record Sets (folder name pointer : List ℕ) (value : Value) (placing : Placing) (wanted : Conditions) (old new : W)
-      (given left : Option (List ℕ)) (ending : Ending) : Type 0 where
+  pub record Sets (target : Target) (put : Put) (old new : W) (given left : Option (List ℕ)) (ending : Ending)
+      : Type 0 where
     pub change : Result Change ToolFault
     pub seen : W
-    pub is : IsSet world remaining name pointer value change old seen given left
-    pub changes : ChangesAt world disk wanted Changing folder name pointer (placed_or_not placing change) seen new ending
+    pub is : IsSet world remaining target.name.now target.pointer.now put.value change old seen given left
+    pub changes : ChangesAtTarget world disk target (placed_or_not put.placing change) seen new ending
 
 module _ {W D F P : Type 0} (world : WorldModel W D F P) (disk : DiskModel D) where
-  -- `delete`, `copy`, `rename` and `move`: the change is as `Is` says
-  pub record ChangesByWords (Is : Result Change ToolFault → Type 0) (wanted : Conditions) (folder name path : List ℕ)
-      (old new : W) (ending : Ending) : Type 0 where
+  -- `delete`, `copy`, `rename` and `move`
+  pub record Alters (target : Target) (alteration : Alteration) (old new : W) (ending : Ending) : Type 0 where
     pub change : Result Change ToolFault
-    pub is : Is change
-    pub changes : ChangesAt world disk wanted Changing folder name path change old new ending
+    pub is : IsAlteration alteration target.name.now target.pointer.now change
+    pub changes : ChangesAtTarget world disk target change old new ending
 
 module _ {W D F P : Type 0} (world : WorldModel W D F P) (disk : DiskModel D) (folder : List ℕ) (count : Option ℕ) where
   -- the edits that these bytes list were made, all or none; where they list none, no folder is looked at
@@ -149,15 +144,15 @@ module _ {W D F P : Type 0} (world : WorldModel W D F P) (disk : DiskModel D) (f
 
 module _ {W D F P : Type 0} (world : WorldModel W D F P) (disk : DiskModel D) (remaining : F → Option (List ℕ)) where
   -- `batch`: a text is read, of a file or of the input for `-`, and then the edits that it lists are made
-  pub record Batches (folder file : List ℕ) (count : Option ℕ) (old new : Around W) (ending : Ending) : Type 0 where
+  pub record Batches (asked : AskedBatch) (old new : Around W) (ending : Ending) : Type 0 where
     pub read : Taken
     pub seen : W
-    pub takes : TakesText world remaining file read old.world seen old.input new.input
-    pub makes : BatchesRead world disk folder count read seen new.world ending
+    pub takes : TakesText world remaining asked.file.now read old.world seen old.input new.input
+    pub makes : BatchesRead world disk asked.folder.now asked.count read seen new.world ending
     pub output : new.output ≡ old.output
 
 module _ {W D F P : Type 0} (world : WorldModel W D F P) (remaining : F → Option (List ℕ)) where
-  -- `names`, `get` and `exists`
+  -- `names`, `get`, `exists` and `diff`
   abbrev pub Asks : List ℕ → (Bool → Option (List ℕ) → Option (List ℕ) → Option (List ℕ) → Ending → Type 0)
       → Around W → Around W → Ending → Type 0
   Asks folder says old new ending =
@@ -195,25 +190,12 @@ module _ {W D F P : Type 0} (world : WorldModel W D F P) (disk : DiskModel D) (r
   abbrev pub Does : Invocation → Around W → Around W → Ending → Type 0
   Does (Init folder) old new ending =
       Inits world disk folder.now old.world new.world ending × LeavesStreams old new
-  Does (Import folder name file root absent conditions reporting) old new ending =
-      Imports world disk remaining root (access_of absent) folder.now name.now file.now conditions old new ending
-  Does (Set folder name pointer value placing conditions reporting) old new ending =
-      Sets world disk remaining folder.now name.now pointer.now value placing conditions old.world new.world
-      old.input new.input ending × (new.output ≡ old.output)
-  Does (Delete folder name pointer conditions) old new ending =
-      ChangesByWords world disk (IsDelete name.now pointer.now) conditions folder.now name.now pointer.now
-      old.world new.world ending × LeavesStreams old new
-  Does (Copy folder name to conditions) old new ending =
-      ChangesByWords world disk (IsCopy name.now to.now) conditions folder.now to.now [] old.world new.world ending
-      × LeavesStreams old new
-  Does (Rename folder name to conditions) old new ending =
-      ChangesByWords world disk (IsRename name.now to.now) conditions folder.now to.now [] old.world new.world ending
-      × LeavesStreams old new
-  Does (Move folder name from to conditions) old new ending =
-      ChangesByWords world disk (IsMove name.now from.now to.now) conditions folder.now name.now to.now
-      old.world new.world ending × LeavesStreams old new
-  Does (Batch folder file count reporting) old new ending =
-      Batches world disk remaining folder.now file.now count old new ending
+  Does (Import asked reporting) old new ending = Imports world disk remaining asked old new ending
+  Does (Set target put reporting) old new ending =
+      Sets world disk remaining target put old.world new.world old.input new.input ending × (new.output ≡ old.output)
+  Does (Alter target alteration) old new ending =
+      Alters world disk target alteration old.world new.world ending × LeavesStreams old new
+  Does (Batch asked reporting) old new ending = Batches world disk remaining asked old new ending
   Does (Checkpoint folder) old new ending =
       ChangesInFolder world disk Changing folder.now [] change.Checkpoint old.world new.world ending
       × LeavesStreams old new
@@ -222,14 +204,19 @@ module _ {W D F P : Type 0} (world : WorldModel W D F P) (disk : DiskModel D) (r
   Does (Export folder name form) old new ending =
       ExportsFromFolder world disk form folder.now name.now old.world new.world old.output new.output ending
       × (new.input ≡ old.input)
+  Does (ExportAll folder into form) old new ending =
+      ExportsAll world remaining form folder.now into.now old.world new.world ending × LeavesStreams old new
   Does (Names folder at form) old new ending = Asks world remaining folder.now (SaysNames at form) old new ending
-  Does (Get folder name pointers at absent form) old new ending =
-      Asks world remaining folder.now (SaysValues at name.now (pointers_of pointers.items) absent form) old new ending
-  Does (Exists folder name pointer at) old new ending =
-      Asks world remaining folder.now (SaysPresence at name.now pointer.now) old new ending
-  Does (Log folder name from at form) old new ending =
-      Logs world remaining folder.now (commands_of name from at) form old.world new.world old.output new.output ending
+  Does (Get folder places absent form) old new ending =
+      Asks world remaining folder.now
+      (SaysValues places.at places.name.now (pointers_of places.pointers.items) absent form) old new ending
+  Does (Exists folder place) old new ending =
+      Asks world remaining folder.now (SaysPresence place.at place.name.now place.pointer.now) old new ending
+  Does (Log folder commands form) old new ending =
+      Logs world remaining folder.now commands form old.world new.world old.output new.output ending
       × (new.input ≡ old.input)
+  Does (Diff folder name span) old new ending = Asks world remaining folder.now (SaysDiff name span) old new ending
+  Does (DiffFiles first second) old new ending = DiffsFiles world remaining first.now second.now old new ending
   Does (Verify folder keep_dropped) old new ending =
       Verifies world remaining folder.now keep_dropped old.world new.world old.output new.output ending
       × (new.input ≡ old.input)

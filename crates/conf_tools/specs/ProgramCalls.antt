@@ -1,13 +1,10 @@
 -- Calls of the program on the store of one folder, one after the other, and what the folder keeps of their commands.
 use Rattle.std.specs.Prelude.{◌≡◌, ◌≤◌, ℕ, List, [], ◌∷◌, length, take, Result, Ok, Err}
-use Rattle.conf_tools.specs.Prelude.{Image, IsImage, DiskModel, LeavesOnly, Command, Contents, after, ImageMeans}
-use Rattle.conf_tools.specs.Prelude.{MeantAtEntry, Tally, Streams}
-use Rattle.conf_store.specs.Lives.{all_commands}
+use Rattle.conf_tools.specs.Prelude.{Image, IsImage, DiskModel, LeavesOnly, Command, Contents, after, ImageMeans, MeantAtEntry, Tally}
+use Rattle.conf_tools.specs.{Prelude.Streams, Changes.ChangeSurvives, Stores.{SurvivesCrashes, Work}, declared.changes.Change.Change}
+use Rattle.conf_tools.specs.declared.stores.{Grouping.Grouping, StoreToolFault.{StoreToolFault, TheVariants.{Session, Refused}}}
+use Rattle.{conf_tools.specs.Exports.{disk_back, disk_handed_back}, conf_store.specs.Lives.all_commands}
 use Rattle.conf_session.specs.Handings.{Handing, Handings, handed_bytes, moment_after, taken_in}
-use Rattle.conf_tools.specs.{Changes.ChangeSurvives, Stores.SurvivesCrashes, Stores.Work, declared.changes.Change.Change}
-use Rattle.conf_tools.specs.{declared.stores.Grouping.Grouping, declared.stores.StoreToolFault.StoreToolFault}
-use Rattle.conf_tools.specs.Exports.{disk_back, disk_handed_back}
-use Rattle.conf_tools.specs.declared.stores.StoreToolFault.TheVariants.{Session, Refused}
 
 -- ---- one call
 

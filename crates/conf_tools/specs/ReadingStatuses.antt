@@ -1,10 +1,8 @@
 -- The statuses of the words that read a store.
+use Rattle.conf_tools.specs.{Prelude.HistoryFault, declared.program.Status.{Status, TheVariants.{Refused, Device}}}
+use Rattle.conf_tools.specs.declared.reading_fault.ReadingFault.{ReadingFault, TheVariants.{Folder, History, Value, NotText, NotCollection}}
+use Rattle.conf_tools.specs.declared.reading_fault.ReadingFault.TheVariants.{Salvage, Output}
 use Rattle.conf_folder.specs.declared.fault.FolderFault.TheVariants as FolderFault
-use Rattle.conf_tools.specs.Prelude.{HistoryFault}
-use Rattle.conf_tools.specs.{declared.program.Status.Status, declared.reading_fault.ReadingFault.ReadingFault}
-use Rattle.conf_tools.specs.declared.program.Status.TheVariants.{Refused, Device}
-use Rattle.conf_tools.specs.declared.reading_fault.ReadingFault.TheVariants.{Folder, History, Value, NotText}
-use Rattle.conf_tools.specs.declared.reading_fault.ReadingFault.TheVariants.{NotCollection, Salvage, Output}
 use Rattle.conf_history.specs.declared.fault.HistoryFault.TheVariants as HistoryFaults
 use Rattle.conf_history.specs.declared.fault.SalvageFault.TheVariants as SalvageFault
 

@@ -1,27 +1,16 @@
 -- What is written of a store's file by the words that only read it: names, and a value. And whether something is there.
-use Rattle.std.specs.Prelude.{◌≡◌, ◌⊎◌, ℕ, Bool, true, false, if◌then◌else◌, List, [], ◌∷◌, ◌++◌, Option, Some, None}
-use Rattle.std.specs.Prelude.{IfSome, Result, Ok, Err, map, option_map, codes, encode_utf8_all}
-use Rattle.conf_tools.specs.Prelude.{Keeps, Appends, chars, style_text, Tree, text, sequence, mapping, tree_of}
-use Rattle.conf_tools.specs.Prelude.{json_line, json_texts, Contents, names_of, and_then, by_path, found, StoreFault}
-use Rattle.conf_tools.specs.Prelude.{BadName, NoConfig, Path, HoldsAt, RefusesReading, value_at_path, MissingValue}
-use Rattle.conf_tools.specs.Prelude.{NamesForm, TreeForm, ValueForm}
-use Rattle.std.specs.Borrow.{Bor}
-use Rattle.yaml_forms.specs.KeyLines.{index_lines, member_lines}
-use Rattle.yaml_forms.specs.PlainForm.{plain_text}
-use Rattle.json_pointer.specs.Pointers.{path_of}
-use Rattle.json_pointer.specs.declared.fault.PathFault.TheVariants.{NoSuchPlace, NotIndex}
-use Rattle.tree_path.specs.Paths.{at}
-use Rattle.conf_state.specs.Names.{good_name}
-use Rattle.conf_state.specs.declared.fault.StoreFault.TheVariants.{OutOfMemory}
-use Rattle.conf_words.specs.declared.invocation.MissingValue.TheVariants.{Default}
-use Rattle.conf_words.specs.declared.invocation.RawEnd.TheVariants.{LineFeed, Nothing}
-use Rattle.conf_words.specs.declared.invocation.TreeForm.TheVariants.{Styled, Json, Plain}
-use Rattle.conf_words.specs.declared.invocation.ValueForm.TheVariants.{Whole, Raw, Keys}
-use Rattle.conf_tools.specs.{Parts.WritesPart, declared.reading_fault.ReadingFault.ReadingFault}
-use Rattle.conf_tools.specs.declared.reads.Presence.{Presence}
-use Rattle.conf_tools.specs.declared.reading_fault.ReadingFault.TheVariants.{History, Value, NotText, NotCollection}
-use Rattle.conf_tools.specs.declared.reading_fault.ReadingFault.TheVariants.{Output}
-use Rattle.conf_tools.specs.declared.reads.Presence.TheVariants.{Present, Absent}
+use Rattle.std.specs.Prelude.{◌≡◌, ◌⊎◌, ℕ, Bool, true, false, if◌then◌else◌, List, [], ◌∷◌, ◌++◌, Option, Some, None, IfSome, Result, Ok}
+use Rattle.std.specs.{Prelude.{Err, map, option_map, codes, encode_utf8_all}, Borrow.Bor}
+use Rattle.conf_tools.specs.Prelude.{Keeps, Appends, chars, style_text, Tree, text, sequence, mapping, tree_of, json_line, json_texts}
+use Rattle.conf_tools.specs.Prelude.{Contents, names_of, and_then, by_path, found, StoreFault, BadName, NoConfig, Path, HoldsAt}
+use Rattle.conf_tools.specs.{Prelude.{RefusesReading, value_at_path, MissingValue, NamesForm, TreeForm, ValueForm}, Parts.WritesPart}
+use Rattle.conf_tools.specs.declared.reading_fault.ReadingFault.{ReadingFault, TheVariants.{History, Value, NotText, NotCollection, Output}}
+use Rattle.{conf_tools.specs.declared.reads.Presence.{Presence, TheVariants.{Present, Absent}}, yaml_forms.specs.KeyLines.index_lines}
+use Rattle.{yaml_forms.specs.{KeyLines.member_lines, PlainForm.plain_text}, json_pointer.specs.Pointers.path_of}
+use Rattle.{json_pointer.specs.declared.fault.PathFault.TheVariants.{NoSuchPlace, NotIndex}, tree_path.specs.Paths.at}
+use Rattle.conf_state.specs.{Names.good_name, declared.fault.StoreFault.TheVariants.OutOfMemory}
+use Rattle.conf_words.specs.declared.invocation.{MissingValue.TheVariants.Default, RawEnd.TheVariants.{LineFeed, Nothing}}
+use Rattle.conf_words.specs.declared.invocation.{TreeForm.TheVariants.{Styled, Json, Plain}, ValueForm.TheVariants.{Whole, Raw, Keys}}
 use Rattle.yaml_data.specs.declared.tree.Tree as code
 use Rattle.conf_words.specs.declared.invocation.NamesForm.TheVariants as names
 

@@ -1,15 +1,10 @@
 -- What is told of a text that came to nothing.
 use Rattle.std.specs.Prelude.{◌≡◌, ◌⊎◌, ℕ, List, ◌++◌, Option, Some, None, codes, decimal, encode_utf8_all}
-use Rattle.conf_tools.specs.Prelude.{Reporting, chars}
-use Rattle.conf_words.specs.Escapes.{escaped}
-use Rattle.conf_words.specs.declared.invocation.Reporting.TheVariants.{Brief, Explained}
-use Rattle.yaml_docs.specs.declared.place.Place.{Place}
-use Rattle.yaml_events.specs.declared.read_fault.ReadFault.{ReadFault}
-use Rattle.yaml_events.specs.declared.read_fault.ReadFault.TheVariants.{Syntax}
-use Rattle.conf_tools.specs.{FaultLines.text_fault_name, declared.texts.ToolFault.ToolFault}
-use Rattle.conf_tools.specs.declared.texts.ToolFault.TheVariants.{Comments, Output, Read}
-use Rattle.conf_tools.specs.declared.reporter.Origin.{Origin}
-use Rattle.conf_tools.specs.{declared.reporter.Origin.TheVariants.Input, declared.reporter.Origin.TheVariants.Named}
+use Rattle.conf_tools.specs.{Prelude.{Reporting, chars}, FaultLines.text_fault_name, declared.texts.ToolFault.ToolFault}
+use Rattle.conf_tools.specs.declared.{texts.ToolFault.TheVariants.{Comments, Output, Read}, reporter.Origin.{Origin, TheVariants.Input}}
+use Rattle.{conf_tools.specs.declared.reporter.Origin.TheVariants.Named, conf_words.specs.Escapes.escaped}
+use Rattle.{conf_words.specs.declared.invocation.Reporting.TheVariants.{Brief, Explained}, yaml_docs.specs.declared.place.Place.Place}
+use Rattle.yaml_events.specs.declared.read_fault.ReadFault.{ReadFault, TheVariants.Syntax}
 
 -- the name of a fault, what more is known of it, and the end of the line
 abbrev pub fault_and_more : List ℕ → List ℕ → List ℕ

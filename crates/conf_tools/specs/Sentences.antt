@@ -1,13 +1,11 @@
 -- The faults of words behind which a sentence may say what was looked for.
-use Rattle.conf_tools.specs.Prelude.{StoreFault}
-use Rattle.conf_tools.specs.{declared.reading_fault.ReadingFault.ReadingFault, declared.stores.StoreToolFault.StoreToolFault}
+use Rattle.conf_tools.specs.{Prelude.StoreFault, declared.{reading_fault.ReadingFault.ReadingFault, stores.StoreToolFault.StoreToolFault}}
+use Rattle.conf_tools.specs.declared.outcome.Ending.{Ending, TheVariants.Of}
 use Rattle.conf_folder.specs.declared.fault.FolderFault.TheVariants as folder
 use Rattle.conf_history.specs.declared.fault.HistoryFault.TheVariants as history
 use Rattle.conf_state.specs.declared.fault.StoreFault.TheVariants as state
 use Rattle.conf_tools.specs.declared.reading_fault.ReadingFault.TheVariants as reading
 use Rattle.conf_tools.specs.declared.stores.StoreToolFault.TheVariants as store
-use Rattle.conf_tools.specs.declared.outcome.Ending.{Ending}
-use Rattle.conf_tools.specs.declared.outcome.Ending.TheVariants.{Of}
 use Rattle.conf_tools.specs.declared.outcome.Outcome.TheVariants as ends
 
 -- the fault is one of the state, behind which a sentence says what was looked for

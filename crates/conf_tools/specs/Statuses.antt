@@ -1,15 +1,11 @@
 -- The program's statuses.
 use Rattle.std.specs.Prelude.{◌≡◌, ◌⊎◌, ℕ, nat_lt, if◌then◌else◌, List, Option, string_bytes}
-use Rattle.conf_tools.specs.Prelude.{Appends, Keeps, Unparsed, Shown, Wrong}
+use Rattle.conf_tools.specs.{Prelude.{Appends, Keeps, Unparsed, Shown, Wrong}, declared.stores.StoreToolFault.StoreToolFault}
+use Rattle.conf_tools.specs.declared.stores.StoreToolFault.TheVariants.{Folder as InFolder, Condition as OnCondition}
+use Rattle.conf_tools.specs.declared.stores.StoreToolFault.TheVariants.{Refused as RefusedChange, Open, Session, Export, StoreExists}
+use Rattle.conf_tools.specs.declared.program.Status.{Status, TheVariants.{Done, Found, Absent, Differs, Refused, WrongWords, Device}}
+use Rattle.conf_tools.specs.{declared.texts.ToolFault.{ToolFault, TheVariants.{Input, Output}}, Parts.WritesPart}
 use Rattle.conf_words.specs.declared.unparsed.Unparsed.TheVariants.{OutOfMemory as UnparsedOutOfMemory}
-use Rattle.conf_tools.specs.declared.stores.StoreToolFault.TheVariants.{Folder as InFolder}
-use Rattle.conf_tools.specs.declared.stores.StoreToolFault.TheVariants.{Condition as OnCondition}
-use Rattle.conf_tools.specs.declared.stores.StoreToolFault.TheVariants.{Refused as RefusedChange}
-use Rattle.conf_tools.specs.{declared.stores.StoreToolFault.StoreToolFault, declared.program.Status.Status}
-use Rattle.conf_tools.specs.{Parts.WritesPart, declared.texts.ToolFault.ToolFault}
-use Rattle.conf_tools.specs.declared.stores.StoreToolFault.TheVariants.{Open, Session, Export, StoreExists}
-use Rattle.conf_tools.specs.declared.program.Status.TheVariants.{Done, Found, Absent, Refused, WrongWords, Device}
-use Rattle.conf_tools.specs.declared.texts.ToolFault.TheVariants.{Input, Output}
 use Rattle.conf_folder.specs.declared.fault.FolderFault.TheVariants as FolderFault
 use Rattle.conf_state.specs.declared.fault.StoreFault.TheVariants as StoreFault
 use Rattle.conf_store.specs.declared.fault.OpenFault.TheVariants as OpenFault
@@ -20,6 +16,7 @@ abbrev pub code_of : Status → ℕ
 code_of Done = 0
 code_of Found = 1
 code_of Absent = 1
+code_of Differs = 1
 code_of Refused = 1
 code_of WrongWords = 2
 code_of Device = 3

@@ -1,36 +1,26 @@
 -- What the words on a store do: which disk or file the world hands out, what is done with it, and that it is given back.
-use Rattle.std.specs.Prelude.{◌≡◌, ◌⊎◌, ℕ, Bool, List, Option, Some, None, Result, Ok, Err, IfOk, IfErr, OnOk, String}
-use Rattle.std.specs.Prelude.{string_bytes}
-use Rattle.conf_tools.specs.Prelude.{Global, chars, Appends, DiskModel, LeavesOnly, FolderFault, HistoryFault}
-use Rattle.conf_tools.specs.Prelude.{NotAStore, SalvageFault, LogRequest, Findings, Tally, MeantAtEntry, MissingValue}
-use Rattle.conf_session.specs.Handings.{handings_of}
-use Rattle.conf_tools.specs.Prelude.{NamesForm, TreeForm, ValueForm, streams_of}
-use Rattle.conf_history.specs.Logs.{FailsToLog, LogsAll}
-use Rattle.conf_history.specs.Salvages.{LeavesOldOrSaved, RefusesSalvage, Saves, disk_of}
+use Rattle.std.specs.Prelude.{◌≡◌, ◌⊎◌, ℕ, Bool, List, Option, Some, None, Result, Ok, Err, IfOk, IfErr, OnOk, String, string_bytes}
+use Rattle.std.specs.Borrow.{Bor}
+use Rattle.conf_tools.specs.Prelude.{Global, chars, Appends, DiskModel, LeavesOnly, FolderFault, HistoryFault, NotAStore, SalvageFault}
+use Rattle.conf_tools.specs.Prelude.{LogRequest, Findings, Tally, MeantAtEntry, MissingValue, NamesForm, Span, TreeForm, ValueForm}
+use Rattle.conf_tools.specs.{Prelude.streams_of, declared.reading_fault.ReadingFault.{ReadingFault, TheVariants.Folder as ReadingFolder}}
+use Rattle.conf_tools.specs.declared.{reading_fault.ReadingFault.TheVariants.{History, Salvage}, stores.StoreToolFault.StoreToolFault}
+use Rattle.conf_tools.specs.declared.{stores.{StoreToolFault.TheVariants.Folder as InFolder, Grouping.Grouping}, diffs.Sameness.Sameness}
+use Rattle.conf_tools.specs.declared.{changes.Change.Change, outcome.Ending.{Ending, TheVariants.Of}, reads.Presence.Presence}
+use Rattle.conf_tools.specs.declared.{surveys.Soundness.Soundness, world.Access.{Access, TheVariants.{Making, New, Reading}}}
+use Rattle.conf_tools.specs.{declared.{read_words.Question.Question, texts.ToolFault.TheVariants.Output}, Diffs.{RefusesDiff, WritesDiff}}
+use Rattle.conf_tools.specs.{Diffs.name_asked, Asking.AskedConditions, Changes.{CannotChange, CannotMake, ChangeSurvives, ChangesOn}}
+use Rattle.conf_tools.specs.{Changes.MakesStore, Endings.{EndsSurvey, EndsWith, ending_after_diff, ending_after_log, ending_after_presence}}
+use Rattle.conf_tools.specs.{Endings.{ending_after_reading, ending_at_end}, Exports.{HasText, LacksText, disk_back, disk_handed_back}}
+use Rattle.conf_tools.specs.{Parts.WritesPart, Reads.{FindsPresence, RefusesNames, RefusesPresence, RefusesValues, WritesNames}}
+use Rattle.conf_tools.specs.{Reads.{WritesValues, pointers_of}, Stores.{RunsOn, SurvivesCrashes}, Surveys.{CannotWrite, RefusesWriting}}
+use Rattle.conf_tools.specs.{Surveys.{WritesSurvey, findings_text}, Worlds.{Around, LeavesStreams, WorldModel}}
+use Rattle.{conf_session.specs.Handings.handings_of, conf_history.specs.{Logs.{FailsToLog, LogsAll}, Salvages.LeavesOldOrSaved}}
+use Rattle.conf_history.specs.Salvages.{RefusesSalvage, Saves, disk_of}
 use Rattle.conf_history.specs.declared.fault.SalvageFault.TheVariants.{StoreExists as NewStoreExists}
 use Rattle.conf_folder.specs.declared.fault.FolderFault.TheVariants.{NotAStore as TooLongForStore}
-use Rattle.conf_tools.specs.declared.reading_fault.ReadingFault.TheVariants.{Folder as ReadingFolder}
-use Rattle.conf_tools.specs.declared.stores.StoreToolFault.TheVariants.{Folder as InFolder}
-use Rattle.conf_tools.specs.{Asking.AskedConditions, declared.changes.Change.Change, declared.outcome.Ending.Ending}
-use Rattle.conf_tools.specs.{declared.outcome.Ending.TheVariants.Of, declared.reading_fault.ReadingFault.ReadingFault}
 use Rattle.conf_tools.specs.declared.outcome.Outcome.TheVariants as outcome
-use Rattle.conf_tools.specs.declared.reads.Presence.{Presence}
-use Rattle.conf_tools.specs.{declared.stores.Grouping.Grouping, declared.stores.StoreToolFault.StoreToolFault}
-use Rattle.conf_tools.specs.{declared.surveys.Soundness.Soundness, declared.world.Access.Access}
-use Rattle.conf_tools.specs.declared.read_words.Question.{Question}
 use Rattle.conf_tools.specs.declared.read_words.Question.TheVariants as asks
-use Rattle.conf_tools.specs.Changes.{CannotChange, CannotMake, ChangeSurvives, ChangesOn, MakesStore}
-use Rattle.conf_tools.specs.Endings.{EndsSurvey, EndsWith, ending_after_log, ending_after_presence, ending_after_reading}
-use Rattle.conf_tools.specs.Endings.{ending_at_end}
-use Rattle.conf_tools.specs.Exports.{HasText, LacksText, disk_back, disk_handed_back}
-use Rattle.conf_tools.specs.Parts.{WritesPart}
-use Rattle.conf_tools.specs.Reads.{FindsPresence, RefusesNames, RefusesPresence, RefusesValues, WritesNames, WritesValues, pointers_of}
-use Rattle.conf_tools.specs.Stores.{RunsOn, SurvivesCrashes}
-use Rattle.conf_tools.specs.Surveys.{CannotWrite, RefusesWriting, WritesSurvey, findings_text}
-use Rattle.conf_tools.specs.Worlds.{Around, LeavesStreams, WorldModel}
-use Rattle.conf_tools.specs.declared.reading_fault.ReadingFault.TheVariants.{History, Salvage}
-use Rattle.conf_tools.specs.declared.texts.ToolFault.TheVariants.{Output}
-use Rattle.conf_tools.specs.declared.world.Access.TheVariants.{Making, New, Reading}
 pub use Rattle.conf_conditions.specs.Conditions.{Condition, conditions_of}
 
 -- the bytes were written whole, or the first of them, and the writer failed
@@ -232,6 +222,14 @@ pub record SaysLog (at : Option ℕ) (request : LogRequest) (several : Bool) (gi
   pub done : OnOk result (LogsAll several at request given left held written)
   pub refused : IfErr result (FailsToLog several at request given held written)
 
+-- what changed between two states of it
+pub record SaysDiff (name : Option (Bor (List ℕ))) (span : Span) (several : Bool) (given held written : Option (List ℕ))
+    (ending : Ending) : Type 0 where
+  pub result : Result Sameness ReadingFault
+  pub ends : ending ≡ ending_after_diff result
+  pub done : IfOk result (WritesDiff several given (name_asked name) span held written)
+  pub refused : IfErr result (RefusesDiff several given (name_asked name) span held written)
+
 -- what an opening would find in it
 pub record SaysSurvey (several : Bool) (given held written : Option (List ℕ)) (ending : Ending) : Type 0 where
   pub result : Result Soundness ReadingFault
@@ -243,9 +241,10 @@ pub record SaysSurvey (several : Bool) (given held written : Option (List ℕ)) 
 abbrev pub Says : Question → Bool → Option (List ℕ) → Option (List ℕ) → Option (List ℕ) → Ending → Type 0
 Says (asks.Names at form) = SaysNames at form
 Says (asks.Values places missing form) =
-    SaysValues places.at places.name.now (pointers_of places.pointers.now) missing form
+    SaysValues places.now.at places.now.name.now (pointers_of places.now.pointers.items) missing form
 Says (asks.Presence place) = SaysPresence place.at place.name.now place.pointer.now
 Says (asks.Log at request) = SaysLog at request
+Says (asks.Diff request) = SaysDiff request.name request.span
 Says asks.Survey = SaysSurvey
 
 -- ---- a store of what stands before the damage

@@ -1,18 +1,13 @@
 -- What a tool on a store has read, answered and written, and what it leaves on its disk.
 use Rattle.std.specs.Prelude.{◌≡◌, ◌≢◌, ◌≤◌, ℕ, Bool, false, List, [], ◌++◌, length, Option, None, Result, Ok, Err}
-use Rattle.conf_tools.specs.Prelude.{Keeps, bytes_under, several_waited, Image, IsImage, DiskModel, LeavesOnly, Store, Command}
-use Rattle.conf_tools.specs.Prelude.{HasFailed, FileMeans, MeansPrefix, AllImagesMean, HasFlushed, FilesStay, HasLength}
-use Rattle.conf_tools.specs.Prelude.{IsOldOrBase, FileRecoversTo, MeantAtEntry, ReadsAfterOpening, RefusalMeans}
-use Rattle.conf_tools.specs.Prelude.{RefusesOpening, StoreView, OpenFault, SessionFault, Stored, accepted_commands}
-use Rattle.conf_tools.specs.Prelude.{file_after_all, AfterAtLeast, Ends, Runs, stored_of, Checkpoints, After, Asked}
-use Rattle.conf_tools.specs.Prelude.{Tally, Streams}
-use Rattle.conf_session.specs.Requests.{Request}
-use Rattle.conf_session.specs.Groups.{AreDue, GroupedEnds, RunsGrouped, Turn, all_asked, files_after_turns, requests_of, turns_accepted}
-use Rattle.conf_session.specs.Groups.{turns_within}
-use Rattle.conf_session.specs.Handings.{Handings, HoldsSince, accepted_within, taken_in}
-use Rattle.conf_tools.specs.{declared.stores.Grouping.Grouping, declared.stores.StoreToolFault.StoreToolFault}
-use Rattle.conf_tools.specs.declared.stores.Grouping.TheVariants.{Single, Grouped}
-use Rattle.conf_tools.specs.declared.stores.StoreToolFault.TheVariants.{Open, Session}
+use Rattle.conf_tools.specs.Prelude.{Keeps, bytes_under, several_waited, Image, IsImage, DiskModel, LeavesOnly, Store, Command, HasFailed}
+use Rattle.conf_tools.specs.Prelude.{FileMeans, MeansPrefix, AllImagesMean, HasFlushed, FilesStay, HasLength, IsOldOrBase, FileRecoversTo}
+use Rattle.conf_tools.specs.Prelude.{MeantAtEntry, ReadsAfterOpening, RefusalMeans, RefusesOpening, StoreView, OpenFault, SessionFault}
+use Rattle.conf_tools.specs.Prelude.{Stored, accepted_commands, file_after_all, AfterAtLeast, Ends, Runs, stored_of, Checkpoints, After}
+use Rattle.conf_tools.specs.{Prelude.{Asked, Tally, Streams}, declared.stores.Grouping.{Grouping, TheVariants.{Single, Grouped}}}
+use Rattle.conf_tools.specs.declared.stores.StoreToolFault.{StoreToolFault, TheVariants.{Open, Session}}
+use Rattle.conf_session.specs.{Requests.Request, Groups.{AreDue, GroupedEnds, RunsGrouped, Turn, all_asked, files_after_turns, requests_of}}
+use Rattle.conf_session.specs.{Groups.{turns_accepted, turns_within}, Handings.{Handings, HoldsSince, accepted_within, taken_in}}
 use Rattle.conf_store.specs.declared.fault.OpenFault.TheVariants as OpenFaults
 use Rattle.conf_session.specs.declared.fault.SessionFault.TheVariants as SessionFaults
 

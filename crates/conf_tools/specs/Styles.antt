@@ -1,16 +1,11 @@
 -- What a text is in a style, and what is told of comments that are left out.
 use Rattle.std.specs.Prelude.{◌≡◌, ◌⊎◌, ℕ, List, ◌++◌, codes, decimal, encode_utf8_all, length}
 use Rattle.conf_tools.specs.Prelude.{chars, config_limits, Tree, IsRead, Refuses, style_text, IsChecked, Finding, Style, Comments}
-use Rattle.conf_tools.specs.declared.texts.ToolFault.{ToolFault}
-use Rattle.conf_tools.specs.declared.texts.ToolFault.TheVariants.{Read, Unsettled}
-use Rattle.conf_words.specs.declared.invocation.Style.TheVariants.{Bare, WithComments}
-use Rattle.conf_words.specs.declared.invocation.Comments.TheVariants.{Refused, Dropped, Kept}
-use Rattle.comments_kept.specs.Keeping.{GivesSameTree, HasSameComments, IsStyledIfBare, IsStyledWithComments}
-use Rattle.comments_kept.specs.Keeping.{GivesUnsettled, IsSettled, Keeps}
-use Rattle.yaml_comments.specs.Comments.{AreComments, Place}
-use Rattle.yaml_grammar.specs.Events.{Event}
-use Rattle.yaml_grammar.specs.Reads.{Reads}
-use Rattle.yaml_style.specs.Findings.{findings}
+use Rattle.conf_tools.specs.declared.texts.ToolFault.{ToolFault, TheVariants.{Read, Unsettled}}
+use Rattle.conf_words.specs.declared.invocation.{Style.TheVariants.{Bare, WithComments}, Comments.TheVariants.{Refused, Dropped, Kept}}
+use Rattle.comments_kept.specs.Keeping.{GivesSameTree, HasSameComments, IsStyledIfBare, IsStyledWithComments, GivesUnsettled, IsSettled}
+use Rattle.{comments_kept.specs.Keeping.Keeps, yaml_comments.specs.Comments.{AreComments, Place}, yaml_grammar.specs.Events.Event}
+use Rattle.{yaml_grammar.specs.Reads.Reads, yaml_style.specs.Findings.findings}
 
 -- The text has the tree of the bytes and their comments, at the places of the rule, and is in the one style but for these.
 -- Formatted once more it stays as it is.
@@ -65,10 +60,18 @@ pub record CountsComments (bytes : List ℕ) (count : ℕ) : Type 0 where
 abbrev pub left_out_line : ℕ → List ℕ
 left_out_line count = codes "confstore: comments left out: " ++ decimal count ++ codes "\n"
 
+-- the line where the value of a `set` is the text `-`
+abbrev pub dash_line : List ℕ
+dash_line = codes "confstore: the value is the text \"-\"; --file - takes what standard input has\n"
+
 module _ {E : Type 0} (hears : E → List ℕ → E → Type 0) where
   -- at most how many comments were left out was told
   abbrev pub TellsLeftOut : E → E → Type 0
   TellsLeftOut old new = (new ≡ old) ⊎ ((count : ℕ) × hears old (left_out_line count) new)
+
+  -- the same, or that a value is the text `-` itself
+  abbrev pub TellsOfValue : E → E → Type 0
+  TellsOfValue old new = TellsLeftOut old new ⊎ hears old dash_line new
 
   -- the same of the comments of these bytes
   abbrev pub TellsLeftOutOf : List ℕ → E → E → Type 0

@@ -1,15 +1,11 @@
 -- What is written of a store's file by `verify`: what an opening would find in it.
 use Rattle.std.specs.Prelude.{◌≡◌, ℕ, Bool, List, [], ◌++◌, Option, Some, None, IfSome, codes, decimal}
-use Rattle.conf_tools.specs.Prelude.{Keeps, Appends, Contents, fault_name, IsSurvey, RefusesSurvey, Findings}
-use Rattle.conf_history.specs.declared.fault.HistoryFault.TheVariants.{OutOfMemory}
-use Rattle.conf_store.specs.declared.records.NoRecord.{NoRecord}
-use Rattle.conf_store.specs.declared.records.NoRecord.TheVariants.{NotARecord, WrongNumber, Refused}
-use Rattle.conf_history.specs.{declared.place.Zeros.Zeros, declared.survey.Bad.Bad}
-use Rattle.conf_history.specs.declared.following.{BadKind.BadKind, BadKind.TheVariants.Torn, BadKind.TheVariants.Unexpected}
-use Rattle.conf_tools.specs.{Parts.WritesPart, declared.reading_fault.ReadingFault.ReadingFault}
-use Rattle.conf_tools.specs.declared.surveys.Soundness.{Soundness}
-use Rattle.conf_tools.specs.declared.reading_fault.ReadingFault.TheVariants.{History, Output}
+use Rattle.conf_tools.specs.{Prelude.{Keeps, Appends, Contents, fault_name, IsSurvey, RefusesSurvey, Findings}, Parts.WritesPart}
+use Rattle.conf_tools.specs.declared.{reading_fault.ReadingFault.{ReadingFault, TheVariants.{History, Output}}, surveys.Soundness.Soundness}
 use Rattle.conf_tools.specs.declared.surveys.Soundness.TheVariants.{Whole, Damaged}
+use Rattle.conf_history.specs.declared.{fault.HistoryFault.TheVariants.OutOfMemory, place.Zeros.Zeros, survey.Bad.Bad}
+use Rattle.conf_history.specs.declared.following.BadKind.{BadKind, TheVariants.{Torn, Unexpected}}
+use Rattle.conf_store.specs.declared.records.NoRecord.{NoRecord, TheVariants.{NotARecord, WrongNumber, Refused}}
 
 -- why a piece is not the next record: the name of the innermost fault, if its command is refused
 abbrev pub why_word : NoRecord → List ℕ

@@ -1,9 +1,7 @@
 -- The end of what a reader gave, and why its rest has no closing line.
-use Rattle.std.specs.Prelude.{◌≡◌, ℕ, ◌+◌, ◌-◌, ◌^◌, min, nat_le, Bool, false, ◌||◌, ◌==◌, if◌then◌else◌, List, [], ◌∷◌}
-use Rattle.std.specs.Prelude.{◌++◌, length, drop, codes, decimal, Option, Some, None}
-use Rattle.std.specs.List.{list_any, starts_with, ends_with}
-use Rattle.conf_tools.specs.{declared.tail.Tail.Tail, declared.rest.Cause.Cause}
-use Rattle.conf_tools.specs.declared.rest.Cause.TheVariants.{NulBytes, CrLf, NoLineFeed, Dashes, NoClosingLine}
+use Rattle.std.specs.Prelude.{◌≡◌, ℕ, ◌+◌, ◌-◌, ◌^◌, min, nat_le, Bool, false, ◌||◌, ◌==◌, if◌then◌else◌, List, [], ◌∷◌, ◌++◌, length, drop}
+use Rattle.std.specs.{Prelude.{codes, decimal, Option, Some, None}, List.{list_any, starts_with, ends_with}}
+use Rattle.conf_tools.specs.declared.{tail.Tail.Tail, rest.Cause.{Cause, TheVariants.{NulBytes, CrLf, NoLineFeed, Dashes, NoClosingLine}}}
 
 -- whether a byte is a space, a TAB, a CR or an LF
 abbrev pub is_blank : ℕ → Bool

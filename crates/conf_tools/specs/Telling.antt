@@ -1,24 +1,17 @@
 -- What a run tells of what it did: of each of several files, of what opening dropped, and of the rest of an input.
 use Rattle.std.specs.Prelude.{◌≡◌, ◌⊎◌, ℕ, List, [], ◌∷◌, map, Option, Some, Result, Ok, Err, codes}
-use Rattle.conf_tools.specs.Prelude.{Check, Comments, DiskModel, Format, HasComment, Invocation, ReplaceFault, Reporting, Run}
-use Rattle.conf_tools.specs.Prelude.{Style, Tally, Unparsed, store_file, store_note}
-use Rattle.conf_words.specs.declared.invocation.Formatting.{Formatting}
-use Rattle.conf_words.specs.declared.invocation.Formatting.TheVariants as formatting
-use Rattle.conf_words.specs.declared.invocation.Style.TheVariants.{Bare}
+use Rattle.conf_tools.specs.Prelude.{Check, Comments, DiskModel, Format, HasComment, Invocation, ReplaceFault, Reporting, Run, Style, Tally}
+use Rattle.conf_tools.specs.{Prelude.{Unparsed, store_file, store_note}, Dropped.TellsDroppedOf, Endings.EndsTold, Outcomes.TellsEnding}
+use Rattle.conf_tools.specs.{Outcomes.{TellsUnperformed, status_of_ending}, Performs.grouping_of, Refused.{IsReporting, TellsFaultOf}}
+use Rattle.conf_tools.specs.{Refused.blamed, Sentences.HasSentence, Statuses.{code_of, worst}, Stores.WasOpened, StoreWords.CannotRun}
+use Rattle.conf_tools.specs.{StoreWords.RunsIn, Tools.Taken, Worlds.{Around, WorldModel}, TextWords.{IfSo, ReplacesRead, ReportsOn}}
+use Rattle.conf_tools.specs.TextWords.{RestylesFile, RestylesOpened, status_of_report, stops_all, unopened}
+use Rattle.conf_tools.specs.declared.{outcome.Ending.Ending, file_words.Report.{Report, TheVariants.{Findings, Name}}}
+use Rattle.conf_tools.specs.declared.{program.Status.{Status, TheVariants.{Done, Found, Device}}, stores.Grouping.Grouping, tail.Tail.Tail}
+use Rattle.conf_tools.specs.declared.texts.ToolFault.{ToolFault, TheVariants.Comments as HasComments}
+use Rattle.conf_words.specs.declared.invocation.{Formatting.Formatting, Style.TheVariants.Bare}
 use Rattle.yaml_docs.specs.declared.place.Place.{Place}
-use Rattle.conf_tools.specs.{Dropped.TellsDroppedOf, Endings.EndsTold, Outcomes.TellsEnding, Outcomes.TellsUnperformed}
-use Rattle.conf_tools.specs.{Outcomes.status_of_ending, Performs.grouping_of, Refused.IsReporting, Refused.TellsFaultOf}
-use Rattle.conf_tools.specs.{Refused.blamed, Sentences.HasSentence, Statuses.code_of, Statuses.worst}
-use Rattle.conf_tools.specs.{Stores.WasOpened, StoreWords.CannotRun}
-use Rattle.conf_tools.specs.{StoreWords.RunsIn, Tools.Taken, Worlds.Around, Worlds.WorldModel}
-use Rattle.conf_tools.specs.TextWords.{IfSo, ReplacesRead, ReportsOn, RestylesFile, RestylesOpened, status_of_report}
-use Rattle.conf_tools.specs.TextWords.{stops_all, unopened}
-use Rattle.conf_tools.specs.declared.outcome.Ending.{Ending}
-use Rattle.conf_tools.specs.{declared.file_words.Report.Report, declared.program.Status.Status}
-use Rattle.conf_tools.specs.declared.file_words.Report.TheVariants.{Findings, Name}
-use Rattle.conf_tools.specs.declared.program.Status.TheVariants.{Done, Found, Device}
-use Rattle.conf_tools.specs.{declared.stores.Grouping.Grouping, declared.tail.Tail.Tail, declared.texts.ToolFault.ToolFault}
-use Rattle.conf_tools.specs.declared.texts.ToolFault.TheVariants.{Comments as HasComments}
+use Rattle.conf_words.specs.declared.invocation.Formatting.TheVariants as formatting
 
 -- Where the status is not that of a device, nothing is told. Else why the device failed may be.
 abbrev pub TellsCause : {E : Type 0} → Status → E → E → Type 0

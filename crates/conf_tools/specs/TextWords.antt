@@ -1,35 +1,22 @@
 -- What the words on texts do, and how a change is made ready of the text that it is given.
-use Rattle.std.specs.Prelude.{◌≡◌, ◌≢◌, ◌⊎◌, ◌<◌, ◌≤◌, ℕ, Bool, true, false, ◌==◌, if◌then◌else◌, List, [], ◌∷◌, length}
-use Rattle.std.specs.Prelude.{Option, Some, None, Result, Ok, Err, IfOk, IfErr, IsErrAnd, OnOk, codes}
-use Rattle.std.specs.Prelude.{string_bytes}
-use Rattle.conf_tools.specs.Prelude.{chars, IsUtf8, ReplaceFault, command_of, delete_at, import_as, set_at, single, text_of}
-use Rattle.conf_tools.specs.Prelude.{Comments, Style, Value, IsFirstFault, own_limits, config_limits, TooLong, NotUtf8}
-use Rattle.conf_tools.specs.Prelude.{OutOfMemory, Tree, text, IsRead, Refuses}
-use Rattle.std.specs.Str.Lossy.{utf8_valid_len}
-use Rattle.conf_words.specs.declared.invocation.{Root.Root, Root.TheVariants.Any, Root.TheVariants.Collection}
-use Rattle.conf_words.specs.declared.invocation.Value.TheVariants.{Text, Yaml, File}
+use Rattle.std.specs.Prelude.{◌≡◌, ◌≢◌, ◌⊎◌, ◌<◌, ◌≤◌, ℕ, Bool, true, false, ◌==◌, if◌then◌else◌, List, [], ◌∷◌, length, Option, Some, None}
+use Rattle.std.specs.{Prelude.{Result, Ok, Err, IfOk, IfErr, IsErrAnd, OnOk, codes, string_bytes}, Str.Lossy.utf8_valid_len}
+use Rattle.conf_tools.specs.Prelude.{chars, IsUtf8, ReplaceFault, command_of, delete_at, import_as, set_at, single, text_of, Comments}
+use Rattle.conf_tools.specs.Prelude.{Style, Value, IsFirstFault, own_limits, config_limits, TooLong, NotUtf8, OutOfMemory, Tree, text}
+use Rattle.conf_tools.specs.{Prelude.{IsRead, Refuses}, declared.{change_words.Meaning.Meaning, changes.Change.Change}}
+use Rattle.conf_tools.specs.declared.{changes.Change.TheVariants.{Import, Perform, Copy, Rename, Edit}, file_texts.Restyled.Restyled}
+use Rattle.conf_tools.specs.declared.{file_texts.Restyled.TheVariants.{Same, Changed}, file_words.Report.{Report, TheVariants.Findings}}
+use Rattle.conf_tools.specs.declared.{file_words.Report.TheVariants.Name, outcome.Ending.{Ending, TheVariants.{Told, ToldFault}}}
+use Rattle.conf_tools.specs.declared.{program.Status.{Status, TheVariants.{Done, Found, Device}}, texts.ToolFault.ToolFault}
+use Rattle.conf_tools.specs.declared.{texts.ToolFault.TheVariants.{Input, OneValue, Output, Read}, edits.TreeEdit.TheVariants.Move}
+use Rattle.conf_tools.specs.FileTexts.{ChecksFile, IsFileReport, IsNameLine, Lists, Restyles, StopsInFile, StopsRestyling}
+use Rattle.conf_tools.specs.{Styles.IsStyled, Statuses.{status_of, worst}, Tools.{Checks, Formats, IsReport, IsTaken, Stops, Taken}}
+use Rattle.{conf_tools.specs.Worlds.{Around, WorldModel}, conf_words.specs.declared.invocation.Root.{Root, TheVariants.{Any, Collection}}}
+use Rattle.conf_words.specs.declared.invocation.{Value.TheVariants.{Text, Yaml, File}, Alteration.Alteration}
 use Rattle.yaml_events.specs.declared.read_fault.ReadFault.{ReadFault}
-use Rattle.conf_tools.specs.{declared.change_words.Alteration.Alteration, declared.changes.Change.Change}
-use Rattle.conf_tools.specs.declared.change_words.Meaning.{Meaning}
 use Rattle.conf_tools.specs.declared.change_words.Meaning.TheVariants as means
-use Rattle.conf_tools.specs.{declared.file_texts.Restyled.Restyled, declared.file_words.Report.Report}
-use Rattle.conf_tools.specs.declared.outcome.Ending.{Ending}
-use Rattle.conf_tools.specs.declared.outcome.Ending.TheVariants.{Told, ToldFault}
-use Rattle.conf_tools.specs.{declared.program.Status.Status, declared.texts.ToolFault.ToolFault}
-use Rattle.conf_tools.specs.FileTexts.{ChecksFile, IsFileReport, IsNameLine, Lists, Restyles, StopsInFile}
-use Rattle.conf_tools.specs.FileTexts.{StopsRestyling}
-use Rattle.conf_tools.specs.Styles.{IsStyled}
-use Rattle.conf_tools.specs.Statuses.{status_of, worst}
-use Rattle.conf_tools.specs.Tools.{Checks, Formats, IsReport, IsTaken, Stops, Taken}
-use Rattle.conf_tools.specs.Worlds.{Around, WorldModel}
-use Rattle.conf_tools.specs.declared.changes.Change.TheVariants.{Import, Perform, Copy, Rename, Edit}
-use Rattle.conf_tools.specs.declared.edits.TreeEdit.TheVariants.{Move}
-use Rattle.conf_tools.specs.declared.file_texts.Restyled.TheVariants.{Same, Changed}
-use Rattle.conf_tools.specs.declared.file_words.Report.TheVariants.{Findings, Name}
-use Rattle.conf_tools.specs.declared.program.Status.TheVariants.{Done, Found, Device}
-use Rattle.conf_tools.specs.declared.texts.ToolFault.TheVariants.{Input, OneValue, Output, Read}
 use Rattle.conf_files.specs.declared.replace.ReplaceFault.TheVariants as replacing
-use Rattle.conf_tools.specs.declared.change_words.Alteration.TheVariants as alteration
+use Rattle.conf_words.specs.declared.invocation.Alteration.TheVariants as alteration
 pub use Rattle.conf_tools.specs.Refused.{shown_name}
 
 -- ---- statuses

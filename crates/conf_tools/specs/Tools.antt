@@ -1,13 +1,10 @@
 -- What a tool has read from its reader, and what it has written to its writer. The bytes of a reader or a writer are
 -- known, or nothing is said of them (`None`).
-use Rattle.std.specs.Prelude.{◌≡◌, ◌⊎◌, ℕ, ◌+◌, ◌<◌, ◌≤◌, List, [], ◌∷◌, ◌++◌, Option, Result, Vec, IfOk, IfErr, length}
-use Rattle.std.specs.Prelude.{codes, decimal}
-use Rattle.conf_tools.specs.Prelude.{Global, Consumes, IsAtEnd, Keeps, Appends, Tree, IsRead, Refuses, OutOfMemory}
-use Rattle.conf_tools.specs.Prelude.{config_limits, name_of, Finding, Style}
-use Rattle.comments_kept.specs.Keeping.{GivesUnsettled}
-use Rattle.conf_tools.specs.{Parts.WritesPart, Styles.IsCheckedIn, Styles.IsStyled}
-use Rattle.conf_tools.specs.declared.texts.ToolFault.{ToolFault}
+use Rattle.std.specs.Prelude.{◌≡◌, ◌⊎◌, ℕ, ◌+◌, ◌<◌, ◌≤◌, List, [], ◌∷◌, ◌++◌, Option, Result, Vec, IfOk, IfErr, length, codes, decimal}
+use Rattle.conf_tools.specs.Prelude.{Global, Consumes, IsAtEnd, Keeps, Appends, Tree, IsRead, Refuses, OutOfMemory, config_limits, name_of}
+use Rattle.conf_tools.specs.{Prelude.{Finding, Style}, Parts.WritesPart, Styles.{IsCheckedIn, IsStyled}, declared.texts.ToolFault.ToolFault}
 use Rattle.conf_tools.specs.declared.texts.ToolFault.TheVariants.{Input, Output, Read, Comments, Unsettled, OneValue}
+use Rattle.comments_kept.specs.Keeping.{GivesUnsettled}
 
 -- ---- what was read
 

@@ -1,9 +1,7 @@
 -- What is around the program, by what contracts see of it.
 use Rattle.std.specs.Prelude.{◌≡◌, ℕ, Bool, List, [], Option, Result}
-use Rattle.conf_files.specs.declared.create.NewFileFault.{NewFileFault}
-use Rattle.conf_session.specs.Handings.{Handing}
-use Rattle.conf_tools.specs.Prelude.{ReplaceFault, FolderFault}
-use Rattle.conf_tools.specs.declared.world.Access.{Access}
+use Rattle.{conf_files.specs.declared.create.NewFileFault.NewFileFault, conf_session.specs.Handings.Handing}
+use Rattle.conf_tools.specs.{Prelude.{ReplaceFault, FolderFault}, declared.world.Access.Access}
 
 -- Worlds W, the disks D of their folders, their open files F, and the places P of files that are to be replaced. Each
 -- field says of one call how the world before it, what it returned, and the world after it go together.

@@ -5,7 +5,7 @@ ghost use Rattle.conf_tools.specs.Batches.{IsBatch, MakesEdits, counted_alone, f
 ghost use Rattle.conf_tools.specs.Outcomes.{LeavesBatch};
 ghost use Rattle.conf_tools.specs.Performs.{BatchesBytes, BatchesRead};
 
-use crate::change_words::{Target, change_if};
+use crate::change_words::change_if;
 use crate::changes::Change;
 use crate::file_words::tell_cause;
 use crate::listener::Listener;
@@ -15,19 +15,8 @@ use crate::texts::ToolFault;
 use crate::world::{Access, World};
 use conf_session::{EditsFault, read_edits};
 use conf_state::{Command, Edit};
-use conf_words::{Conditions, Wanted};
+use conf_words::{Batch, Conditions, Target, Wanted};
 use std::alloc::Global;
-
-/// Which edits are made, and where.
-#[derive(Clone, Copy)]
-pub(crate) struct Batch<'w> {
-    /// The folder of the store.
-    pub(crate) folder: &'w str,
-    /// The file of the text that lists the edits, `-` for standard input.
-    pub(crate) file: &'w str,
-    /// How many commands the store has to have accepted; any number if there is none.
-    pub(crate) count: Option<u64>,
-}
 
 /// The name and the pointer of a change that is at no one place, where anything may be.
 const NOWHERE: &str = "";

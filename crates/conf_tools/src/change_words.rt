@@ -1,16 +1,16 @@
 // The words of the program that change a store.
-ghost use Rattle.std.specs.Prelude.{◌≡◌, ◌≤◌, [], true, false, IfOk, IfErr, Err, OnOk, length};
+ghost use Rattle.std.specs.Prelude.{◌≡◌, ◌≤◌, [], true, false, IfOk, IfErr, Err, OnErr, OnOk, length};
 ghost use Rattle.conf_tools.specs.Prelude.{IsUtf8, chars, config_limits, tree_of, conditions_of};
 ghost use Rattle.yaml_grammar.specs.Trees.{text as one_text};
 ghost use Rattle.conf_tools.specs.Dropped.{TellsDropped};
 ghost use Rattle.conf_tools.specs.Endings.{ending_at_end, ending_of_import};
 ghost use Rattle.conf_tools.specs.Exports.{disk_handed_back};
-ghost use Rattle.conf_tools.specs.Losses.{ImportTells, SetTells, TellsLossIfAsked};
+ghost use Rattle.conf_tools.specs.Losses.{ImportTells, SetTells, TellsDash, TellsLossIfAsked};
 ghost use Rattle.conf_tools.specs.Outcomes.{LeavesImport, LeavesSet, TellsOnlyTold};
-ghost use Rattle.conf_tools.specs.Performs.{ChangesByWords, ChangesIf, ImportsBytes, ImportsRead, Sets, access_of};
+ghost use Rattle.conf_tools.specs.Performs.{Alters, ChangesIf, ImportsBytes, ImportsRead, Sets, access_of};
 ghost use Rattle.conf_tools.specs.StoreWords.{ChangesInFolder, Inits, MakesInFolder};
 ghost use Rattle.conf_tools.specs.Refused.{TellsFault};
-ghost use Rattle.conf_tools.specs.Styles.{TellsLeftOut};
+ghost use Rattle.conf_tools.specs.Styles.{TellsLeftOut, TellsOfValue};
 ghost use Rattle.conf_tools.specs.TextWords.{IsAlteration, IsCollection, IsImport, IsNoText, IsOneValue, IsSet, RefusesText, SetsAt, SetsBytes, SetsMeant, SetsPlain, SetsRead, SetsText, SetsWord};
 ghost use Rattle.conf_tools.specs.declared.outcome.Ending.TheVariants.{Of};
 
@@ -27,7 +27,9 @@ use crate::texts::{MOST_INPUT, ToolFault, read_text};
 use crate::world::{Access, World};
 use conf_conditions::Condition;
 use conf_state::{Command, StoreFault};
-use conf_words::{Conditions, MissingStore, Placing, Reporting, Root, STANDARD_INPUT, Value};
+use conf_words::{
+    Alteration, Import, MissingStore, Put, Reporting, Root, STANDARD_INPUT, Target, Value,
+};
 use std::alloc::{AllocError, Global};
 use std::io::Read;
 use yaml_tree::{Config, Limits, ReadFault, Text, Tree, read_one};
@@ -35,44 +37,9 @@ use yaml_tree::{Config, Limits, ReadFault, Text, Tree, read_one};
 /// What a refused YAML text is named by that the words give as a value.
 const VALUE: &str = "VALUE";
 
-/// Which text is imported, and where.
-#[derive(Clone, Copy)]
-pub(crate) struct Import<'w> {
-    /// The folder of the store.
-    pub(crate) folder: &'w str,
-    /// The name of the configuration.
-    pub(crate) name: &'w str,
-    /// The file of the text, `-` for standard input.
-    pub(crate) file: &'w str,
-    /// What the text may be.
-    pub(crate) root: Root,
-    /// What is done where the folder has no store.
-    pub(crate) missing: MissingStore,
-    /// What has to hold before.
-    pub(crate) conditions: Conditions<'w>,
-}
-
-/// Where a word changes the store in a folder, and what has to hold there before.
-#[derive(Clone, Copy)]
-pub(crate) struct Target<'w> {
-    /// The folder of the store.
-    pub(crate) folder: &'w str,
-    /// The name of the configuration that is changed.
-    pub(crate) name: &'w str,
-    /// The JSON Pointer of what is changed in it.
-    pub(crate) pointer: &'w str,
-    /// What has to hold before.
-    pub(crate) conditions: Conditions<'w>,
-}
-
-/// The value that a word sets at a place, and how.
-#[derive(Clone, Copy)]
-pub(crate) struct Put<'w> {
-    /// The value.
-    pub(crate) value: Value<'w>,
-    /// How it is put at the place.
-    pub(crate) placing: Placing,
-}
+/// What is told of a value that is [`STANDARD_INPUT`] itself.
+const DASH_LINE: &str =
+    "confstore: the value is the text \"-\"; --file - takes what standard input has\n";
 
 /// What the bytes of a value are.
 #[derive(Clone, Copy)]
@@ -92,19 +59,6 @@ struct Source<'w> {
     unread: Origin<'w>,
     /// What they are.
     meaning: Meaning,
-}
-
-/// How a word changes what is at a place, where it takes no text for it.
-#[derive(Clone, Copy)]
-pub(crate) enum Alteration<'w> {
-    /// It is removed.
-    Delete,
-    /// A copy of the configuration under another name is put there.
-    Copy { from: &'w str },
-    /// The configuration under another name gets the name of the place.
-    Rename { from: &'w str },
-    /// What is at another JSON Pointer of the configuration is moved there.
-    Move { from: &'w str },
 }
 
 /// The pointer to a whole configuration.
@@ -311,28 +265,28 @@ fn tell_loss<E: Listener>(reporter: Reporter, errors: &mut E, text: &[u8])
 pub(crate) fn set_at<A: World, R: Read, E: Listener>(
     world: &mut A,
     reporter: Reporter,
-    place: Target<'_>,
+    target: Target<'_>,
     put: Put<'_>,
     input: &mut R,
     errors: &mut E,
 ) -> Ending<'static>
-    ensures sets { Sets A.model A.Disk.model A.File.remaining place.entry.folder.now place.entry.name.now
-        place.entry.pointer.now put.entry.value put.entry.placing place.entry.conditions
+    ensures sets { Sets A.model A.Disk.model A.File.remaining target.entry put.entry
         world.old world.new (R.remaining input.old) (R.remaining input.new) result }
     ensures leaves { LeavesSet E.hears errors.old result errors.new }
 {
-    match set_of(world, reporter, place, put.value, input, errors) {
+    match set_of(world, reporter, target, put.value, input, errors) {
         Ok(set) => {
             let access = Access::Changing;
             let change = placed(put.placing, set);
-            Ending::Of(change_if(world, reporter.alloc, access, place, change, errors))
+            Ending::Of(change_if(world, reporter.alloc, access, target, change, errors))
         }
         Err(fault) => Ending::ToldFault(fault),
     }
 }
 
 /// The change that sets a value, which may be given by a file or by `input`, at a place of a configuration. If there is
-/// none, why is written. If reports explain, how many comments of a YAML text were left out is told.
+/// none, why is written. If reports explain, how many comments of a YAML text were left out is told, and that a
+/// text is `-` itself.
 ///
 /// # Errors
 /// `Input` if the value can't be read, `Read` if it is refused, and memory that runs out.
@@ -346,13 +300,14 @@ fn set_of<A: World, R: Read, E: Listener>(
 ) -> Result<Change<'static>, ToolFault>
     ensures sets { IsSet A.model A.File.remaining place.entry.name.now place.entry.pointer.now value.entry result
         world.old world.new (R.remaining input.old) (R.remaining input.new) }
-    ensures told { OnOk result (TellsLeftOut E.hears errors.old errors.new) }
+    ensures told { OnOk result (TellsOfValue E.hears errors.old errors.new) }
     ensures refused { IfErr result (TellsFault E.hears errors.old) }
 {
     match value {
         Value::Text(text) => {
             let change = set_text(reporter.alloc, place.name, place.pointer, text);
             reporter.tell(errors, Origin::Input, b"", &change);
+            tell_dash_of(reporter, errors, text, &change);
             change
         }
         Value::Yaml(word) => set_word(reporter, place, word, input, errors),
@@ -367,6 +322,31 @@ fn set_of<A: World, R: Read, E: Listener>(
             tell_cause_of(world, reporter.alloc, file, &change, errors);
             change
         }
+    }
+}
+
+/// Tells that a text that is set is the word for standard input itself, if it is and reports explain.
+fn tell_dash_of<E: Listener>(
+    reporter: Reporter,
+    errors: &mut E,
+    text: &str,
+    change: &Result<Change<'static>, ToolFault>,
+)
+    ensures told { OnOk change.now (TellsDash E.hears reporter.reporting text.now errors.old errors.new) }
+    ensures same { OnErr change.now (errors.new ≡ errors.old) }
+{
+    match (change, reporter.reporting) {
+        (Ok(_), Reporting::Explained) => tell_dash(errors, text),
+        _ => {}
+    }
+}
+
+/// Tells that a text is the word for standard input itself, if it is.
+fn tell_dash<E: Listener>(errors: &mut E, text: &str)
+    ensures { TellsDash E.hears Reporting.Explained text.now errors.old errors.new }
+{
+    if text == STANDARD_INPUT {
+        errors.tell(DASH_LINE);
     }
 }
 
@@ -549,18 +529,15 @@ fn set_command(
 pub(crate) fn alter<A: World, E: Listener>(
     world: &mut A,
     alloc: Global,
-    place: Target<'_>,
-    asked: Alteration<'_>,
+    target: Target<'_>,
+    alteration: Alteration<'_>,
     errors: &mut E,
 ) -> Outcome<'static>
-    ensures makes { ChangesByWords A.model A.Disk.model
-        (IsAlteration asked.entry place.entry.name.now place.entry.pointer.now)
-        place.entry.conditions place.entry.folder.now place.entry.name.now place.entry.pointer.now
-        world.old world.new (Of result) }
+    ensures makes { Alters A.model A.Disk.model target.entry alteration.entry world.old world.new (Of result) }
     ensures told { TellsDropped E.hears errors.old errors.new }
 {
-    match alter_change(alloc, place.name, place.pointer, asked) {
-        Ok(change) => change_if(world, alloc, Access::Changing, place, change, errors),
+    match alter_change(alloc, target.name, target.pointer, alteration) {
+        Ok(change) => change_if(world, alloc, Access::Changing, target, change, errors),
         Err(fault) => Outcome::Text(fault),
     }
 }
@@ -570,11 +547,11 @@ fn alter_change(
     alloc: Global,
     name: &str,
     pointer: &str,
-    asked: Alteration<'_>,
+    alteration: Alteration<'_>,
 ) -> Result<Change<'static>, ToolFault>
-    ensures { IsAlteration asked.entry name.now pointer.now result }
+    ensures { IsAlteration alteration.entry name.now pointer.now result }
 {
-    match asked {
+    match alteration {
         Alteration::Delete => Ok(Change::Perform(Command::Delete {
             name: String::from_str(alloc, name)?,
             path: String::from_str(alloc, pointer)?,

@@ -516,7 +516,7 @@ fn unopened(fault: ReplaceFault) -> ToolFault
 }
 
 /// What came of a replacement.
-fn replaced_or_not(ended: Result<(), ReplaceFault>) -> Result<(), ToolFault>
+pub(crate) fn replaced_or_not(ended: Result<(), ReplaceFault>) -> Result<(), ToolFault>
     ensures { result ≡ replaced_or_not ended }
 {
     match ended {

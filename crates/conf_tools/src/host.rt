@@ -2,8 +2,8 @@
 use crate::waiting::Waiting;
 use crate::world::{Access, World};
 use conf_files::{
-    Cause, NewFileFault, Place, ReplaceFault, Subject, create_file, open_input, open_to_replace,
-    replace_file,
+    Cause, NewFileFault, Place, ReplaceFault, Subject, create_empty, create_file, open_input,
+    open_to_replace, replace_file,
 };
 use conf_folder::{
     FolderDisk, FolderError, FolderFault, NewFolder, make_folder, may_several_wait, open_store_file,
@@ -93,6 +93,16 @@ impl<'r, F: Files<File = File> + Clock> Host<'r, F> {
         }
     }
 
+    /// How many records of the store in a folder may have waited for one sync. It is asked for before its file is
+    /// opened, since a run that puts a file in the place of one with a hole takes the note away.
+    fn note_of(&self, alloc: Global, folder: &str) -> Records {
+        if may_several_wait(self.rt, alloc, folder) {
+            Records::Several
+        } else {
+            Records::One
+        }
+    }
+
     /// Begins a call on the folder, or on the new file, at a path.
     fn begin(&mut self, alloc: Global, folder: &str) {
         self.folder = String::from_str(alloc, folder).ok();
@@ -119,6 +129,17 @@ impl<'r, F: Files<File = File> + Clock> Host<'r, F> {
             Err(cause) => {
                 self.file_cause = Some(cause);
                 Err(ReplaceFault::from(cause))
+            }
+        }
+    }
+
+    /// Keeps the cause of a call on a new file, if it failed.
+    fn keep_of_new_file(&mut self, made: Result<(), Cause>) -> Result<(), NewFileFault> {
+        match made {
+            Ok(()) => Ok(()),
+            Err(cause) => {
+                self.cause = Some(cause);
+                Err(NewFileFault::from(cause))
             }
         }
     }
@@ -271,12 +292,7 @@ impl<'r, F: Files<File = File> + Clock> World for Host<'r, F> {
         folder: &str,
     ) -> Result<Option<InputFile<'r>>, FolderFault> {
         self.begin(alloc, folder);
-        // First the note, since a run that puts a file in the place of one with a hole takes the note away.
-        let records = if may_several_wait(self.rt, alloc, folder) {
-            Records::Several
-        } else {
-            Records::One
-        };
+        let records = self.note_of(alloc, folder);
         match open_store_file(self.rt, alloc, folder) {
             Ok(Some(file)) if is_too_long(&file) => {
                 Err(self.refuse(FolderError::from(FolderFault::NotAStore)))
@@ -284,6 +300,14 @@ impl<'r, F: Files<File = File> + Clock> World for Host<'r, F> {
             Ok(Some(file)) => Ok(Some(self.input(file, records))),
             Ok(None) => Ok(None),
             Err(error) => Err(self.refuse(error)),
+        }
+    }
+
+    fn open_again(&self, alloc: Global, folder: &str) -> Option<InputFile<'r>> {
+        let records = self.note_of(alloc, folder);
+        match open_store_file(self.rt, alloc, folder) {
+            Ok(Some(file)) if !is_too_long(&file) => Some(self.input(file, records)),
+            _ => None,
         }
     }
 
@@ -311,13 +335,14 @@ impl<'r, F: Files<File = File> + Clock> World for Host<'r, F> {
 
     fn create_file(&mut self, alloc: Global, path: &str, bytes: &[u8]) -> Result<(), NewFileFault> {
         self.begin(alloc, path);
-        match create_file(self.rt, alloc, path, bytes) {
-            Ok(()) => Ok(()),
-            Err(cause) => {
-                self.cause = Some(cause);
-                Err(NewFileFault::from(cause))
-            }
-        }
+        let made = create_file(self.rt, alloc, path, bytes);
+        self.keep_of_new_file(made)
+    }
+
+    fn create_empty(&mut self, alloc: Global, path: &str) -> Result<(), NewFileFault> {
+        self.begin(alloc, path);
+        let made = create_empty(self.rt, path);
+        self.keep_of_new_file(made)
     }
 
     fn replace(&mut self, alloc: Global, place: Place, bytes: &[u8]) -> Result<(), ReplaceFault> {

@@ -22,7 +22,7 @@ use std::alloc::Global;
 use std::io::{Read, Write};
 
 /// The most bytes of a store's file that are read: one more than it may have, by which one that is too long is found.
-const MOST_OF_STORE: usize = STORE_LIMIT as usize + 1;
+pub(crate) const MOST_OF_STORE: usize = STORE_LIMIT as usize + 1;
 
 /// Writes what an opening of the store in a folder would find. Where `keep_dropped` is a path, what the opening would
 /// drop, or be refused for, is put into a new file there first, and then the bytes that were read for that are

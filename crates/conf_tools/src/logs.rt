@@ -10,22 +10,12 @@ use crate::reading_fault::ReadingFault;
 use crate::world::World;
 use conf_history::{LineForm, LogForm, LogRequest};
 use conf_state::StoreFault;
+use conf_words::Commands;
 use std::alloc::Global;
 use std::io::Write;
 use tree_hidden::{paths_of_pointers, tokens_of_paths};
 use tree_path::PathFault;
 use yaml_tree::Text;
-
-/// Which commands of a store are written.
-#[derive(Clone, Copy)]
-pub(crate) struct Commands<'w> {
-    /// The name of the configuration that they change; any, if there is none.
-    pub(crate) name: Option<&'w str>,
-    /// The number of the first one.
-    pub(crate) from: u64,
-    /// The number of the last one; that of the last command of the store, if there is none.
-    pub(crate) at: Option<u64>,
-}
 
 /// Writes the commands of the store in a folder, beside whoever holds the store. A pointer of what is to be hidden that
 /// is none is a fault: then no folder is looked at.

@@ -24,6 +24,8 @@ pub(crate) enum Outcome<'w> {
     Done,
     /// Nothing is at the place that was looked for.
     Absent,
+    /// What was compared differs.
+    Differs,
     /// The store in this folder is damaged.
     Damaged { folder: &'w str },
     /// A text was refused, or could not be written, or memory ran out.
@@ -67,6 +69,7 @@ pub(crate) fn tell_outcome<E: Listener>(errors: &mut E, outcome: Outcome<'_>) ->
     match outcome {
         Outcome::Done => Status::Done,
         Outcome::Absent => Status::Absent,
+        Outcome::Differs => Status::Differs,
         Outcome::Damaged { folder } => {
             tell_damage(errors, folder);
             Status::Refused

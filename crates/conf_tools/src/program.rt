@@ -14,20 +14,19 @@ ghost use Rattle.conf_tools.specs.Worlds.{around_noting};
 ghost use Rattle.conf_tools.specs.declared.outcome.Ending.TheVariants.{Of};
 
 use crate::backups::back_up_folder;
-use crate::batch_words::{Batch, batch_text};
-use crate::change_words::{
-    Alteration, Import, Put, Target, WHOLE, alter, change_in_folder, import_text, init_folder,
-    set_at,
-};
+use crate::batch_words::batch_text;
+use crate::change_words::{alter, change_in_folder, import_text, init_folder, set_at};
 use crate::changes::Change;
+use crate::config_files::export_all;
+use crate::diff_words::diff_files;
+use crate::diffs::DiffRequest;
 use crate::exports::export_text;
 use crate::file_words::{check_files, format_files, read_named};
 use crate::keeping::{salvage_to, verify_folder};
 use crate::listener::Listener;
-use crate::logs::{Commands, log_folder};
+use crate::logs::log_folder;
 use crate::outcome::{Ending, Outcome, tell_ending, tell_outcome};
 use crate::read_words::{Question, answer_on_folder};
-use crate::reads::{Place, Places};
 use crate::reporter::{Reporter, write_cause};
 use crate::rest::tell_rest;
 use crate::sentences::{Sought, tell_sentence};
@@ -54,6 +53,8 @@ pub enum Status {
     Found,
     /// 1: `exists` found nothing at a place.
     Absent,
+    /// 1: `diff` found that what it compared differs.
+    Differs,
     /// 1: a text or a store was refused, or memory ran out.
     Refused,
     /// 2: the words are none that the program takes.
@@ -69,7 +70,7 @@ impl Status {
     {
         match self {
             Status::Done => 0,
-            Status::Found | Status::Absent | Status::Refused => 1,
+            Status::Found | Status::Absent | Status::Differs | Status::Refused => 1,
             Status::WrongWords => 2,
             Status::Device => 3,
         }
@@ -79,13 +80,13 @@ impl Status {
 /// Does what an invocation asks for, with the folders and files of `world`, and returns the status.
 ///
 /// It is `Done` if all was done. It is `Refused` if a text or a store is refused or memory ran out, `Found` if
-/// something was found in a text, `Absent` if nothing is at a place that was looked for, and `Device` if reading or
-/// writing failed, or a folder is missing or locked. A fault is written to `errors` in one line; if that write fails,
-/// it is ignored. Where a text of a file is refused, the line has the place, and others explain it where the
-/// invocation or the world asks for that. Commands that are refused inside a session leave the status `Done`. So do
-/// bytes after the last closing line of its input; if they are not blank, one line to `errors` says that they were not
-/// performed, and the likely cause. Another line there says how many bytes after the last whole record of a store were
-/// dropped, if there were any.
+/// something was found in a text, `Absent` if nothing is at a place that was looked for, `Differs` if what was compared
+/// differs, and `Device` if reading or writing failed, or a folder is missing or locked. A fault is written to `errors`
+/// in one line; if that write fails, it is ignored. Where a text of a file is refused, the line has the place, and
+/// others explain it where the invocation or the world asks for that. Commands that are refused inside a session leave
+/// the status `Done`. So do bytes after the last closing line of its input; if they are not blank, one line to `errors`
+/// says that they were not performed, and the likely cause. Another line there says how many bytes after the last whole
+/// record of a store were dropped, if there were any.
 ///
 /// A fault of a store is told by its name, as `confstore: NoConfig`. A line after it says what was looked for, where
 /// that is a store, a configuration, a place, a command or what a condition wants; after an export it does if reports
@@ -136,7 +137,7 @@ pub fn perform<A: World, R: Read, W: Write + AnswerSink<A::Disk>, E: Listener>(
     let sought = Sought::of(&invocation, world.reporting());
     let ending = perform_word(world, alloc, invocation, input, output, errors);
     let status = tell_ending(errors, ending);
-    tell_sentence(errors, alloc, sought, ending);
+    tell_sentence(world, alloc, sought, ending, errors);
     tell_cause_at(world, alloc, status, errors);
     status
 }
@@ -247,121 +248,26 @@ fn perform_word<'w, A: World, R: Read, W: Write + AnswerSink<A::Disk>, E: Listen
 {
     match invocation {
         Invocation::Init { folder } => Ending::Of(init_folder(world, alloc, folder, errors)),
-        Invocation::Import {
-            folder,
-            name,
-            file,
-            root,
-            missing,
-            conditions,
-            reporting,
-        } => {
+        Invocation::Import { import, reporting } => {
             let reporter = reporter_of(world, alloc, reporting);
-            let read = read_named(world, alloc, file, input);
-            let asked = Import {
-                folder,
-                name,
-                file,
-                root,
-                missing,
-                conditions,
-            };
-            import_text(world, reporter, asked, read, errors)
+            let read = read_named(world, alloc, import.file, input);
+            import_text(world, reporter, import, read, errors)
         }
         Invocation::Set {
-            folder,
-            name,
-            pointer,
-            value,
-            placing,
-            conditions,
+            target,
+            put,
             reporting,
         } => {
             let reporter = reporter_of(world, alloc, reporting);
-            let place = Target {
-                folder,
-                name,
-                pointer,
-                conditions,
-            };
-            let put = Put { value, placing };
-            set_at(world, reporter, place, put, input, errors)
+            set_at(world, reporter, target, put, input, errors)
         }
-        Invocation::Delete {
-            folder,
-            name,
-            pointer,
-            conditions,
-        } => {
-            let place = Target {
-                folder,
-                name,
-                pointer,
-                conditions,
-            };
-            let asked = Alteration::Delete;
-            Ending::Of(alter(world, alloc, place, asked, errors))
+        Invocation::Alter { target, alteration } => {
+            Ending::Of(alter(world, alloc, target, alteration, errors))
         }
-        Invocation::Copy {
-            folder,
-            name,
-            to,
-            conditions,
-        } => {
-            let place = Target {
-                folder,
-                name: to,
-                pointer: WHOLE,
-                conditions,
-            };
-            let asked = Alteration::Copy { from: name };
-            Ending::Of(alter(world, alloc, place, asked, errors))
-        }
-        Invocation::Rename {
-            folder,
-            name,
-            to,
-            conditions,
-        } => {
-            let place = Target {
-                folder,
-                name: to,
-                pointer: WHOLE,
-                conditions,
-            };
-            let asked = Alteration::Rename { from: name };
-            Ending::Of(alter(world, alloc, place, asked, errors))
-        }
-        Invocation::Move {
-            folder,
-            name,
-            from,
-            to,
-            conditions,
-        } => {
-            let place = Target {
-                folder,
-                name,
-                pointer: to,
-                conditions,
-            };
-            let asked = Alteration::Move { from };
-            Ending::Of(alter(world, alloc, place, asked, errors))
-        }
-        Invocation::Batch {
-            folder,
-            file,
-            count,
-            reporting,
-        } => {
+        Invocation::Batch { batch, reporting } => {
             let reporter = reporter_of(world, alloc, reporting);
-            let read = read_named(world, alloc, file, input);
-            let asked = Batch {
-                folder,
-                file,
-                count,
-            };
-            batch_text(world, reporter, asked, read, errors)
+            let read = read_named(world, alloc, batch.file, input);
+            batch_text(world, reporter, batch, read, errors)
         }
         Invocation::Checkpoint { folder } => {
             let (access, change) = (Access::Changing, Change::Checkpoint);
@@ -374,48 +280,43 @@ fn perform_word<'w, A: World, R: Read, W: Write + AnswerSink<A::Disk>, E: Listen
         Invocation::Export { folder, name, form } => {
             Ending::Of(export_folder(world, alloc, folder, name, form, output, errors))
         }
+        Invocation::ExportAll { folder, into, form } => {
+            let reporter = reporter_of(world, alloc, Reporting::Brief);
+            export_all(world, reporter, folder, into, form, errors)
+        }
         Invocation::Names { folder, at, form } => {
             let asked = Question::Names { at, form };
             Ending::Of(answer_on_folder(world, alloc, folder, asked, output))
         }
         Invocation::Get {
             folder,
-            name,
-            pointers,
-            at,
+            places,
             missing,
             form,
         } => {
-            let places = Places {
-                name,
-                pointers: &pointers,
-                at,
-            };
             let asked = Question::Values {
-                places,
+                places: &places,
                 missing,
                 form,
             };
             Ending::Of(answer_on_folder(world, alloc, folder, asked, output))
         }
-        Invocation::Exists {
-            folder,
-            name,
-            pointer,
-            at,
-        } => {
-            let asked = Question::Presence(Place { name, pointer, at });
+        Invocation::Exists { folder, place } => {
+            let asked = Question::Presence(place);
             Ending::Of(answer_on_folder(world, alloc, folder, asked, output))
         }
         Invocation::Log {
             folder,
-            name,
-            from,
-            at,
+            commands,
             form,
-        } => {
-            let commands = Commands { name, from, at };
-            Ending::Of(log_folder(world, alloc, folder, commands, form, output))
+        } => Ending::Of(log_folder(world, alloc, folder, commands, form, output)),
+        Invocation::Diff { folder, name, span } => {
+            let asked = Question::Diff(DiffRequest { name, span });
+            Ending::Of(answer_on_folder(world, alloc, folder, asked, output))
+        }
+        Invocation::DiffFiles { first, second } => {
+            let reporter = reporter_of(world, alloc, Reporting::Brief);
+            diff_files(world, reporter, first, second, input, output, errors)
         }
         Invocation::Verify {
             folder,

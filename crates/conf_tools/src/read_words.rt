@@ -1,22 +1,23 @@
 // The words of the program that only read a store, and the one that makes a store of what a damaged one still says.
 ghost use Rattle.std.specs.Prelude.{◌≡◌};
-ghost use Rattle.conf_tools.specs.Endings.{EndsSurvey, ending_after_log, ending_after_presence, ending_after_reading};
+ghost use Rattle.conf_tools.specs.Endings.{EndsSurvey, ending_after_diff, ending_after_log, ending_after_presence, ending_after_reading};
 ghost use Rattle.conf_tools.specs.ReadingStatuses.{status_of_history, status_of_reading};
 ghost use Rattle.conf_store.specs.Holes.{is_several};
 ghost use Rattle.conf_tools.specs.Exports.{disk_back};
 ghost use Rattle.conf_tools.specs.StoreWords.{OpensFile, OpensNew, Reads, Salvages, SavesInFolder, Says, WritesFindings};
 ghost use Rattle.conf_tools.specs.declared.outcome.Ending.TheVariants.{Of};
 
+use crate::diffs::{DiffRequest, Sameness, write_diff};
 use crate::outcome::Outcome;
 use crate::program::Status;
 use crate::reading_fault::ReadingFault;
-use crate::reads::{Place, Places, Presence, find_presence, write_names, write_values};
+use crate::reads::{Presence, find_presence, write_names, write_values};
 use crate::surveys::{Soundness, write_findings, write_survey};
 use crate::world::World;
 use conf_folder::FolderFault;
 use conf_history::{Findings, HistoryFault, LogRequest, SalvageFault, salvage, write_log};
 use conf_store::Waiting;
-use conf_words::{MissingValue, NamesForm, ValueForm};
+use conf_words::{MissingValue, NamesForm, Place, Places, ValueForm};
 use std::alloc::Global;
 use std::io::{Read, Write};
 
@@ -30,7 +31,7 @@ pub(crate) enum Question<'w> {
     },
     /// The values at places, or what is written where nothing is.
     Values {
-        places: Places<'w>,
+        places: &'w Places<'w>,
         missing: MissingValue<'w>,
         form: ValueForm,
     },
@@ -41,6 +42,8 @@ pub(crate) enum Question<'w> {
         at: Option<u64>,
         request: LogRequest<'w>,
     },
+    /// What changed between two states of it.
+    Diff(DiffRequest<'w>),
     /// Whether it can be opened.
     Survey,
 }
@@ -98,6 +101,10 @@ pub(crate) fn answer<'w, R: Read, W: Write>(
             let ended = write_log(alloc, file, waiting, at, request, output);
             outcome_of_log(ended)
         }
+        Question::Diff(request) => {
+            let ended = write_diff(alloc, file, waiting, request, output);
+            outcome_of_diff(ended)
+        }
         Question::Survey => {
             let ended = write_survey(alloc, file, waiting, output);
             outcome_of_survey(folder, ended)
@@ -112,6 +119,17 @@ fn outcome_of_presence(found: Result<Presence, ReadingFault>) -> Outcome<'static
     match found {
         Ok(Presence::Present) => Outcome::Done,
         Ok(Presence::Absent) => Outcome::Absent,
+        Err(fault) => Outcome::Reading(fault),
+    }
+}
+
+/// How a comparison ended.
+pub(crate) fn outcome_of_diff(ended: Result<Sameness, ReadingFault>) -> Outcome<'static>
+    ensures { Of result ≡ ending_after_diff ended }
+{
+    match ended {
+        Ok(Sameness::Same) => Outcome::Done,
+        Ok(Sameness::Different) => Outcome::Differs,
         Err(fault) => Outcome::Reading(fault),
     }
 }

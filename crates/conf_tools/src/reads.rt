@@ -11,7 +11,7 @@ use crate::texts::write_whole;
 use conf_history::{HistoryFault, config_at, names_at};
 use conf_state::{StoreFault, good_name};
 use conf_store::Waiting;
-use conf_words::{MissingValue, NamesForm, RawEnd, TreeForm, ValueForm};
+use conf_words::{MissingValue, NamesForm, Place, Places, RawEnd, TreeForm, ValueForm};
 use std::alloc::{AllocError, Global};
 use std::io::{Read, Write};
 use tree_path::{Path, PathFault, at};
@@ -103,28 +103,6 @@ fn push_name(lines: &mut Vec<u8>, name: &str) -> Result<(), AllocError>
     lines.extend_from_slice(b"\n")
 }
 
-/// Which place of a store is meant.
-#[derive(Clone, Copy)]
-pub struct Place<'w> {
-    /// The name of the configuration.
-    pub name: &'w str,
-    /// The JSON Pointer in it. The empty one means the whole configuration.
-    pub pointer: &'w str,
-    /// The number of the command after which the store is read; the last one if there is no number.
-    pub at: Option<u64>,
-}
-
-/// Which places of one configuration are meant.
-#[derive(Clone, Copy)]
-pub struct Places<'w> {
-    /// The name of the configuration.
-    pub name: &'w str,
-    /// The JSON Pointers in it. The empty one means the whole configuration.
-    pub pointers: &'w [&'w str],
-    /// The number of the command after which the store is read; the last one if there is no number.
-    pub at: Option<u64>,
-}
-
 /// Writes the values at places of a store's file, one after the other in the order of the pointers. The file is read
 /// once, as by [`config_at`].
 ///
@@ -142,23 +120,24 @@ pub fn write_values<R: Read, W: Write>(
     alloc: Global,
     reader: &mut R,
     waiting: Waiting,
-    places: Places<'_>,
+    places: &Places<'_>,
     missing: MissingValue<'_>,
     form: ValueForm,
     writer: &mut W,
 ) -> Result<(), ReadingFault>
-    ensures ok { OnOk result (WritesValues (is_several waiting) (R.remaining reader.old) places.entry.at
-        (chars places.entry.name.now) (pointers_of places.entry.pointers.now) missing.entry form
+    ensures ok { OnOk result (WritesValues (is_several waiting) (R.remaining reader.old) places.now.at
+        (chars places.now.name.now) (pointers_of places.now.pointers.items) missing.entry form
         (W.contents writer.old) (W.contents writer.new)) }
     ensures refused { IfErr result (RefusesValues (is_several waiting) (R.remaining reader.old)
-        places.entry.at (chars places.entry.name.now) (pointers_of places.entry.pointers.now)
+        places.now.at (chars places.now.name.now) (pointers_of places.now.pointers.items)
         missing.entry form (W.contents writer.old) (W.contents writer.new)) }
 {
     let config = match config_at(alloc, reader, waiting, places.at, places.name) {
         Ok(config) => config,
         Err(fault) => return Err(ReadingFault::History(fault)),
     };
-    let text = match values_text(alloc, config.as_ref(), places, missing, form) {
+    let found = config.as_ref();
+    let text = match values_text(alloc, found, places.name, &places.pointers, missing, form) {
         Ok(text) => text,
         Err(fault) => return Err(fault),
     };
@@ -168,25 +147,27 @@ pub fn write_values<R: Read, W: Write>(
     }
 }
 
-/// The texts of the values at places, or of what stands for them, where `found` is the configuration under their name.
+/// The texts of the values at the pointers, or of what stands for them, where `found` is the configuration under the
+/// name.
 fn values_text(
     alloc: Global,
     found: Option<&Config>,
-    places: Places<'_>,
+    name: &str,
+    pointers: &[&str],
     missing: MissingValue<'_>,
     form: ValueForm,
 ) -> Result<Vec<u8>, ReadingFault>
     ensures ok { IfOk result (λ text. ShowsAll (value_or_in missing.entry (tree_found found.entry)
-        (chars places.entry.name.now)) form (pointers_of places.entry.pointers.now) text.items) }
+        (chars name.now)) form (pointers_of pointers.now) text.items) }
     ensures refused { IfErr result (LacksOne (value_or_in missing.entry (tree_found found.entry)
-        (chars places.entry.name.now)) form (pointers_of places.entry.pointers.now)) }
+        (chars name.now)) form (pointers_of pointers.now)) }
 {
     let mut text = Vec::new(alloc);
-    for pointer in places.pointers {
+    for pointer in pointers {
         let place = Place {
-            name: places.name,
+            name,
             pointer: *pointer,
-            at: places.at,
+            at: None,
         };
         match value_text(alloc, found, place, missing, form) {
             Ok(value) => text.extend_from_slice(value.as_bytes())?,

@@ -2,14 +2,16 @@
 ghost use Rattle.std.specs.Prelude.{◌≡◌, ◌⊎◌, None};
 ghost use Rattle.conf_tools.specs.Sentences.{HasSentence, IsSought, IsSoughtInFile, IsSoughtInStore};
 
+use crate::likeness::known_names;
 use crate::outcome::{Ending, Outcome};
 use crate::reading_fault::ReadingFault;
 use crate::stores::StoreToolFault;
+use crate::world::World;
 use conf_conditions::ConditionFault;
 use conf_folder::FolderFault;
-use conf_history::HistoryFault;
+use conf_history::{HistoryFault, names_at};
 use conf_state::StoreFault;
-use conf_words::{FolderWord, Invocation, Reporting, escaped};
+use conf_words::{Alteration, FolderWord, Invocation, Reporting, Target, escaped};
 use std::alloc::{AllocError, Global};
 use std::io::Write;
 use tree_path::PathFault;
@@ -22,34 +24,24 @@ pub(crate) struct Sought<'w> {
     name: &'w str,
     /// The JSON Pointer. It is empty for a whole configuration, and where there are several.
     pointer: &'w str,
+    /// The number of the command after which it is looked for; the last one if there is none.
+    at: Option<u64>,
 }
 
 impl<'w> Sought<'w> {
     /// What an invocation looks for, if a sentence is to say it. An export has none unless reports explain.
     pub(crate) fn of(invocation: &Invocation<'w>, reporting: Reporting) -> Option<Self> {
         match *invocation {
-            Invocation::Import { folder, name, .. }
-            | Invocation::Copy { folder, name, .. }
-            | Invocation::Rename { folder, name, .. }
-            | Invocation::Move { folder, name, .. } => Sought::at(folder, name, ""),
-            Invocation::Set {
-                folder,
-                name,
-                pointer,
-                ..
-            }
-            | Invocation::Delete {
-                folder,
-                name,
-                pointer,
-                ..
-            }
-            | Invocation::Exists {
-                folder,
-                name,
-                pointer,
-                ..
-            } => Sought::at(folder, name, pointer),
+            Invocation::Import { import, .. } => Sought::at(import.folder, import.name, ""),
+            Invocation::Set { target, .. } => Sought::at_target(target),
+            Invocation::Alter { target, alteration } => match alteration {
+                Alteration::Delete => Sought::at_target(target),
+                Alteration::Copy { from } | Alteration::Rename { from } => {
+                    Sought::at(target.folder, from, "")
+                }
+                Alteration::Move { .. } => Sought::at(target.folder, target.name, ""),
+            },
+            Invocation::Exists { folder, place } => Sought::at(folder, place.name, place.pointer),
             _ => Sought::of_others(invocation, reporting),
         }
     }
@@ -57,19 +49,21 @@ impl<'w> Sought<'w> {
     /// The same of the words that have no pointer, or several.
     fn of_others(invocation: &Invocation<'w>, reporting: Reporting) -> Option<Self> {
         match invocation {
-            Invocation::Get {
+            Invocation::Get { folder, places, .. } => Some(Sought {
                 folder,
-                name,
-                pointers,
-                ..
-            } => Sought::at(folder, name, only_one(pointers)),
+                name: places.name,
+                pointer: only_one(&places.pointers),
+                at: places.at,
+            }),
             Invocation::Export { folder, name, .. } => match reporting {
                 Reporting::Brief => None,
                 Reporting::Explained => Sought::at(folder, name, ""),
             },
+            Invocation::Diff { folder, name, .. } => Sought::at(folder, name.unwrap_or(""), ""),
+            Invocation::Batch { batch, .. } => Sought::at(batch.folder, "", ""),
             Invocation::Names { folder, .. }
+            | Invocation::ExportAll { folder, .. }
             | Invocation::Log { folder, .. }
-            | Invocation::Batch { folder, .. }
             | Invocation::Checkpoint { folder }
             | Invocation::Verify { folder, .. }
             | Invocation::Salvage { folder, .. }
@@ -78,11 +72,16 @@ impl<'w> Sought<'w> {
         }
     }
 
+    fn at_target(target: Target<'w>) -> Option<Self> {
+        Sought::at(target.folder, target.name, target.pointer)
+    }
+
     fn at(folder: &'w str, name: &'w str, pointer: &'w str) -> Option<Self> {
         Some(Sought {
             folder,
             name,
             pointer,
+            at: None,
         })
     }
 }
@@ -179,30 +178,32 @@ fn up_to_step(alloc: Global, pointer: &str, step: usize) -> Result<String, Alloc
 
 /// Tells in a line what a word looked for that ended so, if a sentence says it. What there is no memory to show is not
 /// told.
-pub(crate) fn tell_sentence<E: Write>(
-    errors: &mut E,
+pub(crate) fn tell_sentence<A: World, E: Write>(
+    world: &A,
     alloc: Global,
     sought: Option<Sought<'_>>,
     ending: Ending<'_>,
+    errors: &mut E,
 )
     ensures { HasSentence ending.entry ⊎ (errors.new ≡ errors.old) }
 {
     if let (Some(sought), Some(sentence)) = (sought, sentence_of(ending)) {
-        let _ = sought.say(errors, alloc, sentence);
+        let _ = sought.say(world, errors, alloc, sentence);
     }
 }
 
 impl Sought<'_> {
     /// Writes a sentence.
-    fn say<E: Write>(
+    fn say<A: World, E: Write>(
         self,
+        world: &A,
         errors: &mut E,
         alloc: Global,
         sentence: Sentence,
     ) -> Result<(), AllocError> {
         match sentence {
             Sentence::NoStore => self.say_no_store(errors),
-            Sentence::NoConfig => self.say_no_config(errors, alloc)?,
+            Sentence::NoConfig => self.say_no_config(world, errors, alloc)?,
             Sentence::Nothing { step } => self.say_nothing(errors, alloc, step)?,
             Sentence::NoIndex { step } => self.say_no_index(errors, alloc, step)?,
             Sentence::NoPointer => self.say_no_pointer(errors, alloc)?,
@@ -224,7 +225,12 @@ impl Sought<'_> {
         );
     }
 
-    fn say_no_config<E: Write>(self, errors: &mut E, alloc: Global) -> Result<(), AllocError> {
+    fn say_no_config<A: World, E: Write>(
+        self,
+        world: &A,
+        errors: &mut E,
+        alloc: Global,
+    ) -> Result<(), AllocError> {
         let folder = FolderWord(self.folder);
         if self.name.is_empty() {
             let _ = writeln!(
@@ -234,11 +240,29 @@ impl Sought<'_> {
             return Ok(());
         }
         let name = escaped(alloc, self.name)?;
-        let _ = writeln!(
-            errors,
-            "the store has no configuration \"{name}\": confstore names {folder} lists those that are there"
-        );
+        match self.names_of_store(world, alloc) {
+            Some(names) => {
+                let known = known_names(alloc, &names, self.name)?;
+                let _ = writeln!(
+                    errors,
+                    "the store has no configuration \"{name}\" (it has {known})"
+                );
+            }
+            None => {
+                let _ = writeln!(
+                    errors,
+                    "the store has no configuration \"{name}\": confstore names {folder} lists those that are there"
+                );
+            }
+        }
         Ok(())
+    }
+
+    /// The names that the store has, or had then, if they can be read.
+    fn names_of_store<A: World>(self, world: &A, alloc: Global) -> Option<Vec<String>> {
+        let mut file = world.open_again(alloc, self.folder)?;
+        let waiting = world.waiting(&file);
+        names_at(alloc, &mut file, waiting, self.at).ok()
     }
 
     fn say_nothing<E: Write>(

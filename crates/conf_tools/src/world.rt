@@ -1,5 +1,5 @@
 // What is around the program besides its three streams.
-ghost use Rattle.std.specs.Prelude.{◌≡◌};
+ghost use Rattle.std.specs.Prelude.{◌≡◌, []};
 ghost use Rattle.conf_store.specs.Holes.{is_several};
 ghost use Rattle.conf_tools.specs.Worlds.{WorldModel};
 
@@ -97,6 +97,10 @@ pub trait World {
     fn open_store(&mut self, alloc: Global, folder: &str) -> Result<Option<Self::File>, FolderFault>
         ensures { model.opened_store folder.now self.old result self.new };
 
+    /// Opens the file of the store in a folder once more, to say behind a fault what is in it. `None` if it can't be
+    /// opened. Nothing is claimed of it.
+    fn open_again(&self, alloc: Global, folder: &str) -> Option<Self::File>;
+
     /// How many records of a store may have waited for one sync when its file was opened, as its folder notes it.
     fn waiting(&self, file: &Self::File) -> Waiting
         ensures { is_several result ≡ model.several file.now };
@@ -122,6 +126,14 @@ pub trait World {
     /// `FileExists` if something is there, which stays as it is. `Device` if the file can't be made, and `OutOfMemory`.
     fn create_file(&mut self, alloc: Global, path: &str, bytes: &[u8]) -> Result<(), NewFileFault>
         ensures { model.created_file path.now bytes.now self.old result self.new };
+
+    /// Makes an empty file at a path, where nothing may be. It has the rights that a new file gets, and not those of
+    /// its owner alone, as [`create_file`](World::create_file) gives.
+    ///
+    /// # Errors
+    /// Those of [`create_file`](World::create_file).
+    fn create_empty(&mut self, alloc: Global, path: &str) -> Result<(), NewFileFault>
+        ensures { model.created_file path.now [] self.old result self.new };
 
     /// Puts a file of these bytes in the place of the file that was opened, whole.
     ///

@@ -1,7 +1,6 @@
 -- Pieces of an escaped text, appended one after the other.
 use Rattle.std.proofs.Common.{◌≡◌, ℕ, ◌+◌, ◌<◌, List, ◌∷◌, ◌++◌, length, drop, get_or, sym, ap, ◌∙◌, append_assoc, encode_utf8_all}
-use Rattle.std.proofs.lemmas.List.{at_drop_more}
-use Rattle.std.proofs.lemmas.Str.{encodes-append}
+use Rattle.std.proofs.lemmas.{List.at_drop_more, Str.encodes-append}
 use Rattle.conf_words.specs.Escapes.{escaped, escaped_char}
 
 -- one more piece of what is left

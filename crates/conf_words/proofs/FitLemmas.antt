@@ -1,11 +1,8 @@
 -- The files of an invocation fit.
-use Rattle.std.proofs.Common.{◌≡◌, false, subst, sym, map}
-use Rattle.command_line.specs.Matches.{Given, texts_of}
-use Rattle.conf_words.specs.Invocations.{FilesAlwaysFit, FilesFit, HasFittingFiles, IsAsked, formatting_in, is_wrong}
-use Rattle.std.specs.Prelude.{codes}
+use Rattle.std.{proofs.Common.{◌≡◌, false, subst, sym, map}, specs.Prelude.codes}
+use Rattle.{command_line.specs.Matches.{Given, texts_of}, conf_words.specs.Invocations.{FilesAlwaysFit, FilesFit, HasFittingFiles, IsAsked}}
+use Rattle.conf_words.specs.{Invocations.{formatting_in, is_wrong}, declared.invocation.Invocation.{Invocation, TheVariants.Format}}
 use Rattle.conf_words.proofs.NameLemmas.{fitting}
-use Rattle.conf_words.specs.declared.invocation.Invocation.{Invocation}
-use Rattle.conf_words.specs.declared.invocation.Invocation.TheVariants.{Format}
 use Rattle.conf_words.specs.declared.subcommand.Subcommand.TheVariants as word
 
 fit_formatted : (given : Given) (invocation : Invocation) → is_wrong word.Format given ≡ false

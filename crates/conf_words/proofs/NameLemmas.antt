@@ -1,18 +1,8 @@
 -- Names of files among which one is sought.
-use Rattle.std.proofs.Common.{◌≡◌, ◌≢◌, ◌≤◌, ℕ, Bool, true, false, ◌||◌, List, [], ◌∷◌}
-use Rattle.std.proofs.Common.{length, map, refl, sym, ap, ◌∙◌, subst, Bor, codes, arith}
-use Rattle.std.specs.Prelude.{All, is_some, nat_eq}
-use Rattle.std.specs.Bool.{then_some, ◌==◌}
-use Rattle.std.specs.List.{list_any}
-use Rattle.std.specs.Str.{bytes_eq}
-use Rattle.std.proofs.lemmas.Bool.{both_ways}
-use Rattle.std.proofs.lemmas.Bool.Decides.{nat_tests}
-use Rattle.std.proofs.lemmas.Cmp.{nat_list_eq_equiv}
-use Rattle.std.proofs.lemmas.List.Elements.{All-nil, All-cons}
-use Rattle.std.specs.Cmp.Lexicographic.{pointwise}
-use Rattle.conf_words.specs.Invocations.{FilesFit, files_are_wrong}
-use Rattle.conf_words.specs.declared.invocation.Comments.{Comments}
-use Rattle.conf_words.specs.declared.invocation.Formatting.{Formatting}
+use Rattle.std.proofs.Common.{◌≡◌, ◌≢◌, ◌≤◌, ℕ, Bool, true, false, ◌||◌, List, [], ◌∷◌, length, map, refl, sym, ap, ◌∙◌, subst, Bor, codes}
+use Rattle.std.proofs.{Common.arith, lemmas.{Bool.{both_ways, Decides.nat_tests}, Cmp.nat_list_eq_equiv, List.Elements.{All-nil, All-cons}}}
+use Rattle.std.specs.{Prelude.{All, is_some, nat_eq}, Bool.{then_some, ◌==◌}, List.list_any, Str.bytes_eq, Cmp.Lexicographic.pointwise}
+use Rattle.conf_words.specs.{Invocations.{FilesFit, files_are_wrong}, declared.invocation.{Comments.Comments, Formatting.Formatting}}
 use Rattle.conf_words.specs.declared.invocation.Formatting.TheVariants.{Write, InPlace, Check}
 
 -- a name among those of files

@@ -1,19 +1,11 @@
 -- Words that come to no invocation.
-use Rattle.std.proofs.Common.{◌≡◌, ◌⊎◌, inl, inr, ◌||◌, Bool, true, false, List, ℕ, drop, refl, sym, ap, subst}
-use Rattle.std.specs.Prelude.{Option, Some, Result, Ok, Err}
-use Rattle.command_line.specs.Matches.{Given}
-use Rattle.command_line.specs.Rows.{Row}
-use Rattle.command_line.specs.Words.{read}
-use Rattle.command_line.specs.declared.refusal.Refusal.{Refusal}
+use Rattle.std.{proofs.Common.{◌≡◌, ◌⊎◌, inl, inr, ◌||◌, Bool, true, false, List, ℕ, drop, refl, sym, ap, subst}, specs.Prelude.Option}
+use Rattle.std.specs.Prelude.{Some, Result, Ok, Err}
+use Rattle.command_line.specs.{Matches.Given, Rows.Row, Words.read, declared.refusal.Refusal.Refusal}
+use Rattle.conf_words.specs.{Invocations.{IsAsked, Makes, is_wrong}, Outcomes.{Comes, Asks, Parses, ParsesBy, ParsesGiven, Tells, is_help}}
+use Rattle.conf_words.specs.{Subcommands.{asked_in, rows_of}, Waits.is_wait_wrong, declared.refusal.Unasked.{Unasked, TheVariants.Because}}
+use Rattle.conf_words.specs.declared.{refusal.Unasked.TheVariants.OutOfMemory, subcommand.Subcommand.Subcommand, unparsed.Unparsed.Unparsed}
 use Rattle.command_line.specs.declared.refusal.Refusal.TheVariants as refusal
-use Rattle.conf_words.specs.Invocations.{IsAsked, Makes, is_wrong}
-use Rattle.conf_words.specs.Outcomes.{Comes, Asks, Parses, ParsesBy, ParsesGiven, Tells, is_help}
-use Rattle.conf_words.specs.Subcommands.{asked_in, rows_of}
-use Rattle.conf_words.specs.Waits.{is_wait_wrong}
-use Rattle.conf_words.specs.declared.refusal.Unasked.{Unasked}
-use Rattle.conf_words.specs.declared.refusal.Unasked.TheVariants.{Because, OutOfMemory}
-use Rattle.conf_words.specs.declared.subcommand.Subcommand.{Subcommand}
-use Rattle.conf_words.specs.declared.unparsed.Unparsed.{Unparsed}
 use Rattle.conf_words.specs.declared.unparsed.Unparsed.TheVariants as unparsed
 
 out_of_memory : (help : Bool) → Tells help unparsed.OutOfMemory

@@ -1,12 +1,8 @@
 -- What is shown of a character can be read back, also before other text.
-use Rattle.std.proofs.Common.{◌≡◌, ◌⊎◌, inl, inr, ℕ, ◌+◌, ◌*◌, ◌/◌, ◌%◌, ◌<◌, ◌≤◌, true, false}
-use Rattle.std.proofs.Common.{List, [], ◌∷◌, ◌++◌, refl, sym, ap, ◌∙◌, subst, arith}
-use Rattle.std.specs.Prelude.{Option, Some, None, ◌==◌, ◌||◌, cond, nat_lt, if◌then◌else◌, drop}
-use Rattle.std.specs.Char.{digit_char, digit_value}
+use Rattle.std.proofs.Common.{◌≡◌, ◌⊎◌, inl, inr, ℕ, ◌+◌, ◌*◌, ◌/◌, ◌%◌, ◌<◌, ◌≤◌, true, false, List, [], ◌∷◌, ◌++◌, refl, sym, ap, ◌∙◌}
+use Rattle.std.proofs.{Common.{subst, arith}, lemmas.{Bool.{cases_eq, cases_lt, cases_Bool, Decides.nat_tests}, Str.digit_value-digit_char}}
+use Rattle.std.specs.{Prelude.{Option, Some, None, ◌==◌, ◌||◌, cond, nat_lt, if◌then◌else◌, drop}, Char.{digit_char, digit_value}}
 use Rattle.std.specs.Char.Escape.{escape_default, escape_unicode, hex_digit_at, short_escape}
-use Rattle.std.proofs.lemmas.Bool.{cases_eq, cases_lt, cases_Bool}
-use Rattle.std.proofs.lemmas.Bool.Decides.{nat_tests}
-use Rattle.std.proofs.lemmas.Str.{digit_value-digit_char}
 use Rattle.conf_words.specs.Escapes.{escaped, escaped_char, is_hidden}
 
 -- the number of hex digits up to a `}`, after those that have this value, and what follows

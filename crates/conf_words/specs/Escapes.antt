@@ -1,6 +1,5 @@
 -- What is shown of a text whose characters may not all be shown as they are.
-use Rattle.std.specs.Prelude.{◌≡◌, ℕ, nat_le, Bool, ◌||◌, ◌&&◌, ◌==◌, if◌then◌else◌, List, [], ◌∷◌, ◌++◌}
-use Rattle.std.specs.Char.Escape.{escape_default}
+use Rattle.std.specs.{Prelude.{◌≡◌, ℕ, nat_le, Bool, ◌||◌, ◌&&◌, ◌==◌, if◌then◌else◌, List, [], ◌∷◌, ◌++◌}, Char.Escape.escape_default}
 
 -- whether a character is one of these, from the first to the last
 abbrev pub is_within : ℕ → ℕ → ℕ → Bool

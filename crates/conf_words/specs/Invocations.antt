@@ -1,51 +1,32 @@
 -- What the words of each subcommand ask for, by what they give its arguments.
-use Rattle.std.specs.Prelude.{◌≡◌, ◌≢◌, ◌≤◌, ℕ, ◌==◌, ◌&&◌, ◌||◌, not, nat_lt, Bool, true, false, if◌then◌else◌}
-use Rattle.std.specs.Prelude.{List, [], ◌∷◌, length, map, All, Option, Some, None, is_some, option_map, unwrap_or}
-use Rattle.std.specs.Option.{option_or}
-use Rattle.std.specs.Prelude.{Result, Ok, Err, codes}
-use Rattle.std.specs.List.{list_any}
-use Rattle.std.specs.Borrow.{Bor}
-use Rattle.std.specs.Str.{bytes_eq}
-use Rattle.command_line.specs.Matches.{Given, has, number_in, text_of, texts_of}
-use Rattle.conf_words.specs.declared.invocation.Comments.{Comments}
+use Rattle.std.specs.Prelude.{◌≡◌, ◌≢◌, ◌≤◌, ℕ, ◌==◌, ◌&&◌, ◌||◌, not, nat_lt, Bool, true, false, if◌then◌else◌, List, [], ◌∷◌, length, map}
+use Rattle.std.specs.{Prelude.{All, Option, Some, None, is_some, option_map, unwrap_or, Result, Ok, Err, codes}, Option.option_or}
+use Rattle.std.specs.{List.list_any, Borrow.Bor, Str.bytes_eq}
+use Rattle.{command_line.specs.Matches.{Given, has, number_in, text_of, texts_of}, conf_words.specs.declared.invocation.Comments.Comments}
+use Rattle.conf_words.specs.declared.invocation.{Conditions.Conditions, Formatting.Formatting, Grouping.Grouping, Invocation.Invocation}
+use Rattle.conf_words.specs.declared.invocation.Invocation.TheVariants.{Init, Import, Set, Alter, Batch, Checkpoint, Run, Export, ExportAll}
+use Rattle.conf_words.specs.declared.invocation.Invocation.TheVariants.{Names, Get, Exists, Log, Diff, DiffFiles, Verify, Salvage, Backup}
+use Rattle.conf_words.specs.declared.invocation.{Invocation.TheVariants.{Format, Check}, LogForm.LogForm, MissingStore.MissingStore}
+use Rattle.conf_words.specs.declared.invocation.{MissingValue.MissingValue, NamesForm.NamesForm, Placing.Placing, Reporting.Reporting}
+use Rattle.conf_words.specs.declared.invocation.{Root.Root, Style.Style, TreeForm.TreeForm, Value.Value, ValueForm.ValueForm, Wanted.Wanted}
+use Rattle.conf_words.specs.declared.{refusal.Unasked.{Unasked, TheVariants.{Because, OutOfMemory}}, subcommand.Subcommand.Subcommand}
+use Rattle.conf_words.specs.declared.invocation.Alteration.TheVariants as alteration
 use Rattle.conf_words.specs.declared.invocation.Comments.TheVariants as comments
-use Rattle.conf_words.specs.declared.invocation.Conditions.{Conditions}
-use Rattle.conf_words.specs.declared.invocation.Formatting.{Formatting}
 use Rattle.conf_words.specs.declared.invocation.Formatting.TheVariants as formatting
-use Rattle.conf_words.specs.declared.invocation.Grouping.{Grouping}
 use Rattle.conf_words.specs.declared.invocation.Grouping.TheVariants as grouping
-use Rattle.conf_words.specs.declared.invocation.Invocation.{Invocation}
-use Rattle.conf_words.specs.declared.invocation.Invocation.TheVariants.{Init, Import, Set, Delete, Copy, Rename, Move}
-use Rattle.conf_words.specs.declared.invocation.Invocation.TheVariants.{Batch, Checkpoint, Run, Export, Names, Get, Exists}
-use Rattle.conf_words.specs.declared.invocation.Invocation.TheVariants.{Log, Verify, Salvage, Backup, Format, Check}
-use Rattle.conf_words.specs.declared.invocation.LogForm.{LogForm}
 use Rattle.conf_words.specs.declared.invocation.LogForm.TheVariants as log_form
-use Rattle.conf_words.specs.declared.invocation.MissingStore.{MissingStore}
 use Rattle.conf_words.specs.declared.invocation.MissingStore.TheVariants as store
-use Rattle.conf_words.specs.declared.invocation.MissingValue.{MissingValue}
 use Rattle.conf_words.specs.declared.invocation.MissingValue.TheVariants as missing_value
-use Rattle.conf_words.specs.declared.invocation.NamesForm.{NamesForm}
 use Rattle.conf_words.specs.declared.invocation.NamesForm.TheVariants as names_form
-use Rattle.conf_words.specs.declared.invocation.Placing.{Placing}
 use Rattle.conf_words.specs.declared.invocation.Placing.TheVariants as placing
 use Rattle.conf_words.specs.declared.invocation.RawEnd.TheVariants as raw_end
-use Rattle.conf_words.specs.declared.invocation.Reporting.{Reporting}
 use Rattle.conf_words.specs.declared.invocation.Reporting.TheVariants as reporting
-use Rattle.conf_words.specs.declared.invocation.Root.{Root}
 use Rattle.conf_words.specs.declared.invocation.Root.TheVariants as root
-use Rattle.conf_words.specs.declared.invocation.Style.{Style}
 use Rattle.conf_words.specs.declared.invocation.Style.TheVariants as style
-use Rattle.conf_words.specs.declared.invocation.TreeForm.{TreeForm}
 use Rattle.conf_words.specs.declared.invocation.TreeForm.TheVariants as tree_form
-use Rattle.conf_words.specs.declared.invocation.Value.{Value}
 use Rattle.conf_words.specs.declared.invocation.Value.TheVariants as value
-use Rattle.conf_words.specs.declared.invocation.ValueForm.{ValueForm}
 use Rattle.conf_words.specs.declared.invocation.ValueForm.TheVariants as value_form
-use Rattle.conf_words.specs.declared.invocation.Wanted.{Wanted}
 use Rattle.conf_words.specs.declared.invocation.Wanted.TheVariants as wanted
-use Rattle.conf_words.specs.declared.refusal.Unasked.{Unasked}
-use Rattle.conf_words.specs.declared.refusal.Unasked.TheVariants.{Because, OutOfMemory}
-use Rattle.conf_words.specs.declared.subcommand.Subcommand.{Subcommand}
 use Rattle.conf_words.specs.declared.subcommand.Subcommand.TheVariants as word
 
 abbrev pub Word : Type 0
@@ -201,9 +182,10 @@ abbrev pub import_is_wrong : Given → Bool
 import_is_wrong given = lacks given (codes "FOLDER" ∷ codes "NAME" ∷ [])
 
 abbrev pub IsImport : Given → Invocation → Type 0
-IsImport given (Import folder name file root missing conditions reporting) =
-    Is given (codes "FOLDER") folder × Is given (codes "NAME") name × IsOr (codes "-") given (codes "FILE") file
-    × (root ≡ root_in given) × (missing ≡ missing_in given) × AreConditions given conditions
+IsImport given (Import import reporting) =
+    Is given (codes "FOLDER") import.folder × Is given (codes "NAME") import.name
+    × IsOr (codes "-") given (codes "FILE") import.file × (import.root ≡ root_in given)
+    × (import.missing ≡ missing_in given) × AreConditions given import.conditions
     × (reporting ≡ reporting_in given)
 IsImport given _ = ⊥
 
@@ -214,9 +196,10 @@ set_is_wrong given =
     || pointer_is_wrong given
 
 abbrev pub IsSet : Given → Invocation → Type 0
-IsSet given (Set folder name pointer v placing conditions reporting) =
-    Is given (codes "FOLDER") folder × Is given (codes "NAME") name × Is given (codes "POINTER") pointer
-    × IsValue given (Some v) × (placing ≡ placing_in given) × AreConditions given conditions
+IsSet given (Set target put reporting) =
+    Is given (codes "FOLDER") target.folder × Is given (codes "NAME") target.name
+    × Is given (codes "POINTER") target.pointer × IsValue given (Some put.value)
+    × (put.placing ≡ placing_in given) × AreConditions given target.conditions
     × (reporting ≡ reporting_in given)
 IsSet given _ = ⊥
 
@@ -224,27 +207,27 @@ abbrev pub delete_is_wrong : Given → Bool
 delete_is_wrong given = lacks given (codes "FOLDER" ∷ codes "NAME" ∷ []) || pointer_is_wrong given
 
 abbrev pub IsDelete : Given → Invocation → Type 0
-IsDelete given (Delete folder name pointer conditions) =
-    Is given (codes "FOLDER") folder × Is given (codes "NAME") name × IsOr [] given (codes "POINTER") pointer
-    × AreConditions given conditions
+IsDelete given (Alter target alteration.Delete) =
+    Is given (codes "FOLDER") target.folder × Is given (codes "NAME") target.name
+    × IsOr [] given (codes "POINTER") target.pointer × AreConditions given target.conditions
 IsDelete given _ = ⊥
 
 abbrev pub copy_is_wrong : Given → Bool
 copy_is_wrong given = lacks given (codes "FOLDER" ∷ codes "NAME" ∷ codes "TO" ∷ [])
 
 abbrev pub IsCopy : Given → Invocation → Type 0
-IsCopy given (Copy folder name to conditions) =
-    Is given (codes "FOLDER") folder × Is given (codes "NAME") name × Is given (codes "TO") to
-    × AreCopyConditions given conditions
+IsCopy given (Alter target (alteration.Copy from)) =
+    Is given (codes "FOLDER") target.folder × Is given (codes "NAME") from × Is given (codes "TO") target.name
+    × (target.pointer.now ≡ []) × AreCopyConditions given target.conditions
 IsCopy given _ = ⊥
 
 abbrev pub rename_is_wrong : Given → Bool
 rename_is_wrong given = lacks given (codes "FOLDER" ∷ codes "NAME" ∷ codes "TO" ∷ [])
 
 abbrev pub IsRename : Given → Invocation → Type 0
-IsRename given (Rename folder name to conditions) =
-    Is given (codes "FOLDER") folder × Is given (codes "NAME") name × Is given (codes "TO") to
-    × AreConditions given conditions
+IsRename given (Alter target (alteration.Rename from)) =
+    Is given (codes "FOLDER") target.folder × Is given (codes "NAME") from × Is given (codes "TO") target.name
+    × (target.pointer.now ≡ []) × AreConditions given target.conditions
 IsRename given _ = ⊥
 
 -- no text of `move` is missing, and neither of its pointers is empty: that one stands for the whole configuration
@@ -258,18 +241,18 @@ move_is_wrong given =
     || (is_empty (text_of given (codes "FROM")) || is_empty (text_of given (codes "TO")))
 
 abbrev pub IsMove : Given → Invocation → Type 0
-IsMove given (Move folder name from to conditions) =
-    Is given (codes "FOLDER") folder × Is given (codes "NAME") name × Is given (codes "FROM") from
-    × Is given (codes "TO") to × AreConditions given conditions
+IsMove given (Alter target (alteration.Move from)) =
+    Is given (codes "FOLDER") target.folder × Is given (codes "NAME") target.name × Is given (codes "FROM") from
+    × Is given (codes "TO") target.pointer × AreConditions given target.conditions
 IsMove given _ = ⊥
 
 abbrev pub batch_is_wrong : Given → Bool
 batch_is_wrong given = lacks given (codes "FOLDER" ∷ [])
 
 abbrev pub IsBatch : Given → Invocation → Type 0
-IsBatch given (Batch folder file count reporting) =
-    Is given (codes "FOLDER") folder × IsOr (codes "-") given (codes "FILE") file
-    × (count ≡ number_in given (codes "if-count")) × (reporting ≡ reporting_in given)
+IsBatch given (Batch batch reporting) =
+    Is given (codes "FOLDER") batch.folder × IsOr (codes "-") given (codes "FILE") batch.file
+    × (batch.count ≡ number_in given (codes "if-count")) × (reporting ≡ reporting_in given)
 IsBatch given _ = ⊥
 
 abbrev pub checkpoint_is_wrong : Given → Bool
@@ -286,12 +269,24 @@ abbrev pub IsRun : Given → Invocation → Type 0
 IsRun given (Run folder grouping) = Is given (codes "FOLDER") folder × (grouping ≡ grouping_in given)
 IsRun given _ = ⊥
 
+-- `export` has either a name or, by `--all`, a folder for all
+abbrev pub export_is_wrong_by : Option (List ℕ) → Option (List ℕ) → Bool
+export_is_wrong_by (Some name) None = false
+export_is_wrong_by None (Some into) = false
+export_is_wrong_by _ _ = true
+
 abbrev pub export_is_wrong : Given → Bool
-export_is_wrong given = lacks given (codes "FOLDER" ∷ codes "NAME" ∷ [])
+export_is_wrong given =
+    lacks given (codes "FOLDER" ∷ [])
+    || export_is_wrong_by (text_of given (codes "NAME")) (text_of given (codes "all"))
 
 abbrev pub IsExport : Given → Invocation → Type 0
 IsExport given (Export folder name form) =
-    Is given (codes "FOLDER") folder × Is given (codes "NAME") name × (form ≡ tree_form_in given)
+    Is given (codes "FOLDER") folder × Is given (codes "NAME") name × (text_of given (codes "all") ≡ None)
+    × (form ≡ tree_form_in given)
+IsExport given (ExportAll folder into form) =
+    Is given (codes "FOLDER") folder × Is given (codes "all") into × (text_of given (codes "NAME") ≡ None)
+    × (form ≡ tree_form_in given)
 IsExport given _ = ⊥
 
 abbrev pub names_is_wrong : Given → Bool
@@ -308,9 +303,9 @@ get_is_wrong given =
     || nat_lt 1 (length (pointers_in given)) && not (writes_lines given)
 
 abbrev pub IsGet : Given → Invocation → Type 0
-IsGet given (Get folder name pointers at missing form) =
-    Is given (codes "FOLDER") folder × Is given (codes "NAME") name
-    × (map (λ p. p.now) pointers.items ≡ pointers_in given) × (at ≡ number_in given (codes "at"))
+IsGet given (Get folder places missing form) =
+    Is given (codes "FOLDER") folder × Is given (codes "NAME") places.name
+    × (map (λ p. p.now) places.pointers.items ≡ pointers_in given) × (places.at ≡ number_in given (codes "at"))
     × IsDefault given missing × (form ≡ value_form_in given)
 IsGet given _ = ⊥
 
@@ -318,30 +313,44 @@ abbrev pub keys_is_wrong : Given → Bool
 keys_is_wrong given = lacks given (codes "FOLDER" ∷ codes "NAME" ∷ [])
 
 abbrev pub IsKeys : Given → Invocation → Type 0
-IsKeys given (Get folder name pointers at missing form) =
-    Is given (codes "FOLDER") folder × Is given (codes "NAME") name
-    × (map (λ p. p.now) pointers.items ≡ unwrap_or (text_of given (codes "POINTER")) [] ∷ [])
-    × (at ≡ number_in given (codes "at")) × (missing ≡ missing_value.Refused) × (form ≡ value_form.Keys)
+IsKeys given (Get folder places missing form) =
+    Is given (codes "FOLDER") folder × Is given (codes "NAME") places.name
+    × (map (λ p. p.now) places.pointers.items ≡ unwrap_or (text_of given (codes "POINTER")) [] ∷ [])
+    × (places.at ≡ number_in given (codes "at")) × (missing ≡ missing_value.Refused) × (form ≡ value_form.Keys)
 IsKeys given _ = ⊥
 
 abbrev pub exists_is_wrong : Given → Bool
 exists_is_wrong given = lacks given (codes "FOLDER" ∷ codes "NAME" ∷ [])
 
 abbrev pub IsExists : Given → Invocation → Type 0
-IsExists given (Exists folder name pointer at) =
-    Is given (codes "FOLDER") folder × Is given (codes "NAME") name × IsOr [] given (codes "POINTER") pointer
-    × (at ≡ number_in given (codes "at"))
+IsExists given (Exists folder place) =
+    Is given (codes "FOLDER") folder × Is given (codes "NAME") place.name
+    × IsOr [] given (codes "POINTER") place.pointer × (place.at ≡ number_in given (codes "at"))
 IsExists given _ = ⊥
 
 abbrev pub log_is_wrong : Given → Bool
 log_is_wrong given = lacks given (codes "FOLDER" ∷ [])
 
 abbrev pub IsLog : Given → Invocation → Type 0
-IsLog given (Log folder name from at form) =
-    Is given (codes "FOLDER") folder × IsMaybe given (codes "NAME") name
-    × (from ≡ unwrap_or (number_in given (codes "from")) 0)
-    × (at ≡ option_or (number_in given (codes "at")) (number_in given (codes "to"))) × IsLogForm given form
+IsLog given (Log folder commands form) =
+    Is given (codes "FOLDER") folder × IsMaybe given (codes "NAME") commands.name
+    × (commands.from ≡ unwrap_or (number_in given (codes "from")) 0)
+    × (commands.at ≡ option_or (number_in given (codes "at")) (number_in given (codes "to")))
+    × IsLogForm given form
 IsLog given _ = ⊥
+
+-- with `--files`, the two files of `diff` stand in the places of its folder and its name
+abbrev pub diff_is_wrong : Given → Bool
+diff_is_wrong given =
+    lacks given (codes "FOLDER" ∷ []) || has given (codes "files") && lacks given (codes "NAME" ∷ [])
+
+abbrev pub IsDiff : Given → Invocation → Type 0
+IsDiff given (Diff folder name span) =
+    (has given (codes "files") ≡ false) × Is given (codes "FOLDER") folder × IsMaybe given (codes "NAME") name
+    × (span.from ≡ number_in given (codes "from")) × (span.to ≡ number_in given (codes "to"))
+IsDiff given (DiffFiles first second) =
+    (has given (codes "files") ≡ true) × Is given (codes "FOLDER") first × Is given (codes "NAME") second
+IsDiff given _ = ⊥
 
 abbrev pub verify_is_wrong : Given → Bool
 verify_is_wrong given = lacks given (codes "FOLDER" ∷ [])
@@ -404,6 +413,7 @@ is_wrong word.Get given = get_is_wrong given
 is_wrong word.Keys given = keys_is_wrong given
 is_wrong word.Exists given = exists_is_wrong given
 is_wrong word.Log given = log_is_wrong given
+is_wrong word.Diff given = diff_is_wrong given
 is_wrong word.Verify given = verify_is_wrong given
 is_wrong word.Salvage given = salvage_is_wrong given
 is_wrong word.Backup given = backup_is_wrong given
@@ -427,6 +437,7 @@ IsAsked word.Get given invocation = IsGet given invocation
 IsAsked word.Keys given invocation = IsKeys given invocation
 IsAsked word.Exists given invocation = IsExists given invocation
 IsAsked word.Log given invocation = IsLog given invocation
+IsAsked word.Diff given invocation = IsDiff given invocation
 IsAsked word.Verify given invocation = IsVerify given invocation
 IsAsked word.Salvage given invocation = IsSalvage given invocation
 IsAsked word.Backup given invocation = IsBackup given invocation

@@ -1,17 +1,9 @@
 -- What the words of the program come to.
 use Rattle.std.specs.Prelude.{◌≡◌, ℕ, ◌||◌, Bool, true, false, List, drop, Option, Some, None, Result, Ok, Err}
-use Rattle.command_line.specs.Matches.{Given}
-use Rattle.command_line.specs.Words.{read}
-use Rattle.command_line.specs.declared.refusal.Refusal.{Refusal}
-use Rattle.command_line.specs.declared.refusal.Refusal.TheVariants.{Help}
-use Rattle.conf_words.specs.Invocations.{IsAsked, is_wrong}
-use Rattle.conf_words.specs.Subcommands.{asked_in, asks_for_help, rows_of}
-use Rattle.conf_words.specs.Waits.{IsWait, is_wait_wrong}
-use Rattle.conf_words.specs.declared.invocation.Invocation.{Invocation}
-use Rattle.conf_words.specs.declared.subcommand.Subcommand.{Subcommand}
-use Rattle.conf_words.specs.declared.unparsed.Unparsed.{Unparsed}
-use Rattle.conf_words.specs.declared.unparsed.Unparsed.TheVariants.{Shown, Wrong, OutOfMemory}
-use Rattle.conf_words.specs.declared.words.Asked.{Asked}
+use Rattle.command_line.specs.{Matches.Given, Words.read, declared.refusal.Refusal.{Refusal, TheVariants.Help}}
+use Rattle.conf_words.specs.{Invocations.{IsAsked, is_wrong}, Subcommands.{asked_in, asks_for_help, rows_of}, Waits.{IsWait, is_wait_wrong}}
+use Rattle.conf_words.specs.declared.{invocation.Invocation.Invocation, subcommand.Subcommand.Subcommand, unparsed.Unparsed.Unparsed}
+use Rattle.conf_words.specs.declared.{unparsed.Unparsed.TheVariants.{Shown, Wrong, OutOfMemory}, words.Asked.Asked}
 
 -- help or the version is shown, or the words are said to be wrong, unless memory runs out
 abbrev pub Tells : Bool → Unparsed → Type 0

@@ -1,14 +1,11 @@
 -- The subcommands: the word and the arguments of each.
-use Rattle.std.specs.Prelude.{ℕ, ◌==◌, ◌&&◌, ◌||◌, Bool, true, false, List, [], ◌∷◌, find, Option, None, is_some}
-use Rattle.std.specs.Prelude.{codes, if◌then◌else◌, length, nat_le, slice_index}
-use Rattle.std.specs.Str.{bytes_eq}
-use Rattle.command_line.specs.Rows.{Kind, Row, Tie, Required, Optional, OptionalText, Several, Flag, ShortFlag, Word, Words}
-use Rattle.command_line.specs.Rows.{Text, Number, Free, Needs, Excludes, Replaces}
-use Rattle.conf_words.specs.declared.subcommand.Subcommand.{Subcommand}
-use Rattle.conf_words.specs.declared.subcommand.Subcommand.TheVariants.{Init, Import, Set, Delete, Copy, Rename, Move}
-use Rattle.conf_words.specs.declared.subcommand.Subcommand.TheVariants.{Batch, Checkpoint, Run, Export, Names, Get, Keys}
-use Rattle.conf_words.specs.declared.subcommand.Subcommand.TheVariants.{Exists, Log, Verify, Salvage, Backup, Format}
-use Rattle.conf_words.specs.declared.subcommand.Subcommand.TheVariants.{Check}
+use Rattle.std.specs.Prelude.{ℕ, ◌==◌, ◌&&◌, ◌||◌, Bool, true, false, List, [], ◌∷◌, find, Option, None, is_some, codes, if◌then◌else◌}
+use Rattle.std.specs.{Prelude.{length, nat_le, slice_index}, Str.bytes_eq}
+use Rattle.command_line.specs.Rows.{Kind, Row, Tie, Required, Optional, OptionalText, Several, Flag, ShortFlag, Word, Words, Text, Number}
+use Rattle.{command_line.specs.Rows.{Free, Needs, Excludes, Replaces}, conf_words.specs.declared.subcommand.Subcommand.Subcommand}
+use Rattle.conf_words.specs.declared.subcommand.Subcommand.TheVariants.{Init, Import, Set, Delete, Copy, Rename, Move, Batch, Checkpoint}
+use Rattle.conf_words.specs.declared.subcommand.Subcommand.TheVariants.{Run, Export, Names, Get, Keys, Exists, Log, Diff, Verify, Salvage}
+use Rattle.conf_words.specs.declared.subcommand.Subcommand.TheVariants.{Backup, Format, Check}
 
 -- the word of a subcommand
 abbrev pub name_of : Subcommand → List ℕ
@@ -28,6 +25,7 @@ name_of Get = codes "get"
 name_of Keys = codes "keys"
 name_of Exists = codes "exists"
 name_of Log = codes "log"
+name_of Diff = codes "diff"
 name_of Verify = codes "verify"
 name_of Salvage = codes "salvage"
 name_of Backup = codes "backup"
@@ -121,7 +119,9 @@ rows_of Batch = explain ∷ if_count ∷ wait ∷ folder ∷ file ∷ []
 rows_of Checkpoint = wait ∷ folder ∷ []
 rows_of Run =
     flag (codes "group") ∷ row (codes "checkpoint-after") (Number 1) (Needs (codes "group")) ∷ wait ∷ folder ∷ []
-rows_of Export = json ∷ plain ∷ wait ∷ folder ∷ name ∷ []
+rows_of Export =
+    row (codes "all") Word Free ∷ json ∷ plain ∷ wait ∷ folder
+    ∷ row (codes "NAME") Optional (Replaces (codes "all")) ∷ []
 rows_of Names = flag (codes "json") ∷ at ∷ folder ∷ []
 rows_of Get =
     row (codes "raw") Flag (Excludes (codes "json" ∷ codes "plain" ∷ []))
@@ -133,6 +133,9 @@ rows_of Log =
     row (codes "values") Flag (Excludes (codes "yaml" ∷ [])) ∷ row (codes "hide") Words (Needs (codes "values"))
     ∷ row (codes "yaml") Flag (Excludes (codes "hide" ∷ [])) ∷ row (codes "from") (Number 0) Free
     ∷ row (codes "to") (Number 0) (Excludes (codes "at" ∷ [])) ∷ at ∷ folder ∷ row (codes "NAME") Optional Free ∷ []
+rows_of Diff =
+    row (codes "from") (Number 0) (Excludes (codes "files" ∷ [])) ∷ row (codes "to") (Number 0) (Excludes (codes "files" ∷ []))
+    ∷ row (codes "files") Flag (Needs (codes "NAME")) ∷ folder ∷ row (codes "NAME") Optional Free ∷ []
 rows_of Verify = keep_dropped ∷ folder ∷ []
 rows_of Salvage = keep_dropped ∷ folder ∷ new ∷ []
 rows_of Backup = folder ∷ new ∷ []
@@ -146,7 +149,7 @@ rows_of Check = flag (codes "keep-comments") ∷ explain ∷ files ∷ []
 abbrev pub all : List Subcommand
 all =
     Init ∷ Import ∷ Set ∷ Delete ∷ Copy ∷ Rename ∷ Move ∷ Batch ∷ Checkpoint ∷ Run ∷ Export ∷ Names ∷ Get ∷ Keys
-    ∷ Exists ∷ Log ∷ Verify ∷ Salvage ∷ Backup ∷ Format ∷ Check ∷ []
+    ∷ Exists ∷ Log ∷ Diff ∷ Verify ∷ Salvage ∷ Backup ∷ Format ∷ Check ∷ []
 
 -- the subcommand of this word
 abbrev pub named_among : List ℕ → List Subcommand → Option Subcommand

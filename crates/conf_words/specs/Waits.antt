@@ -1,19 +1,11 @@
 -- How long words have locks waited for.
-use Rattle.std.specs.Prelude.{◌≡◌, ℕ, ◌+◌, ◌-◌, ◌*◌, ◌^◌, ◌&&◌, nat_le, not, Bool, true, false, if◌then◌else◌}
-use Rattle.std.specs.Prelude.{List, length, Option, Some, None, is_some, option_map, Result, Ok, Err, codes}
-use Rattle.std.specs.Duration.{as_nanos}
-use Rattle.std.specs.List.{list_all}
-use Rattle.std.specs.Option.{option_or}
-use Rattle.std.specs.Str.Parse.{without_leading_plus}
-use Rattle.std.specs.declared.time.Duration.{Duration}
-use Rattle.command_line.specs.Looks.{before_byte, behind_byte}
-use Rattle.command_line.specs.Matches.{Given, text_of}
-use Rattle.command_line.specs.Numbers.{is_digit, number_below}
-use Rattle.conf_words.specs.declared.refusal.Unasked.{Unasked}
-use Rattle.conf_words.specs.declared.refusal.Unasked.TheVariants.{Because, OutOfMemory}
-use Rattle.conf_words.specs.declared.subcommand.Subcommand.{Subcommand}
-use Rattle.conf_words.specs.declared.subcommand.Subcommand.TheVariants.{Init, Import, Set, Delete, Copy, Rename, Move}
-use Rattle.conf_words.specs.declared.subcommand.Subcommand.TheVariants.{Batch, Checkpoint, Run, Export}
+use Rattle.std.specs.Prelude.{◌≡◌, ℕ, ◌+◌, ◌-◌, ◌*◌, ◌^◌, ◌&&◌, nat_le, not, Bool, true, false, if◌then◌else◌, List, length, Option, Some}
+use Rattle.std.specs.{Prelude.{None, is_some, option_map, Result, Ok, Err, codes}, Duration.as_nanos, List.list_all, Option.option_or}
+use Rattle.std.specs.{Str.Parse.without_leading_plus, declared.time.Duration.Duration}
+use Rattle.command_line.specs.{Looks.{before_byte, behind_byte}, Matches.{Given, text_of}, Numbers.{is_digit, number_below}}
+use Rattle.conf_words.specs.declared.{refusal.Unasked.{Unasked, TheVariants.{Because, OutOfMemory}}, subcommand.Subcommand.Subcommand}
+use Rattle.conf_words.specs.declared.subcommand.Subcommand.TheVariants.{Init, Import, Set, Delete, Copy, Rename, Move, Batch, Checkpoint}
+use Rattle.conf_words.specs.declared.subcommand.Subcommand.TheVariants.{Run, Export}
 
 -- the subcommands that take locks, and so `--wait`
 abbrev pub takes_wait : Subcommand → Bool

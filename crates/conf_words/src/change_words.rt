@@ -11,7 +11,8 @@ use crate::conditions::{
     conditions_of,
 };
 use crate::invocation::{
-    Conditions, Grouping, Invocation, MissingStore, Placing, Root, STANDARD_INPUT, Value, Wanted,
+    Alteration, Batch, Conditions, Grouping, Import, Invocation, MissingStore, Placing, Put, Root,
+    STANDARD_INPUT, Target, Value, Wanted,
 };
 use crate::listing::Listing;
 use crate::refusal::Unasked;
@@ -98,13 +99,16 @@ pub(crate) fn import_invocation<'w>(words: &Matches<'w>) -> Result<Invocation<'w
     let Some(name) = words.text(NAME) else {
         return Err(Unasked::OTHER);
     };
-    Ok(Invocation::Import {
+    let import = Import {
         folder,
         name,
         file: words.text(FILE).unwrap_or(STANDARD_INPUT),
         root: root_of(words),
         missing: missing_of(words),
         conditions: conditions_of(words),
+    };
+    Ok(Invocation::Import {
+        import,
         reporting: reporting_of(words),
     })
 }
@@ -245,13 +249,19 @@ pub(crate) fn set_invocation<'w>(words: &Matches<'w>) -> Result<Invocation<'w>, 
     if let Some(why) = why_not_at(words) {
         return Err(Unasked::Because(why));
     }
-    Ok(Invocation::Set {
+    let target = Target {
         folder,
         name,
         pointer,
+        conditions: conditions_of(words),
+    };
+    let put = Put {
         value,
         placing: placing_of(words),
-        conditions: conditions_of(words),
+    };
+    Ok(Invocation::Set {
+        target,
+        put,
         reporting: reporting_of(words),
     })
 }
@@ -330,11 +340,15 @@ pub(crate) fn delete_invocation<'w>(words: &Matches<'w>) -> Result<Invocation<'w
     if let Some(why) = why_not_at(words) {
         return Err(Unasked::Because(why));
     }
-    Ok(Invocation::Delete {
+    let target = Target {
         folder,
         name,
         pointer: words.text(POINTER).unwrap_or(WHOLE),
         conditions: conditions_of(words),
+    };
+    Ok(Invocation::Alter {
+        target,
+        alteration: Alteration::Delete,
     })
 }
 
@@ -390,11 +404,15 @@ pub(crate) fn copy_invocation<'w>(words: &Matches<'w>) -> Result<Invocation<'w>,
     let Some(to) = words.text(TO) else {
         return Err(Unasked::OTHER);
     };
-    Ok(Invocation::Copy {
+    let target = Target {
         folder,
-        name,
-        to,
+        name: to,
+        pointer: WHOLE,
         conditions: copy_conditions(words),
+    };
+    Ok(Invocation::Alter {
+        target,
+        alteration: Alteration::Copy { from: name },
     })
 }
 
@@ -447,11 +465,15 @@ pub(crate) fn rename_invocation<'w>(words: &Matches<'w>) -> Result<Invocation<'w
     let Some(to) = words.text(TO) else {
         return Err(Unasked::OTHER);
     };
-    Ok(Invocation::Rename {
+    let target = Target {
         folder,
-        name,
-        to,
+        name: to,
+        pointer: WHOLE,
         conditions: conditions_of(words),
+    };
+    Ok(Invocation::Alter {
+        target,
+        alteration: Alteration::Rename { from: name },
     })
 }
 
@@ -510,12 +532,15 @@ pub(crate) fn move_invocation<'w>(words: &Matches<'w>) -> Result<Invocation<'w>,
     if from.is_empty() || to.is_empty() {
         return Err(Unasked::Because("FROM and TO may not be empty"));
     }
-    Ok(Invocation::Move {
+    let target = Target {
         folder,
         name,
-        from,
-        to,
+        pointer: to,
         conditions: conditions_of(words),
+    };
+    Ok(Invocation::Alter {
+        target,
+        alteration: Alteration::Move { from },
     })
 }
 
@@ -554,10 +579,13 @@ pub(crate) fn batch_invocation<'w>(words: &Matches<'w>) -> Result<Invocation<'w>
         return Err(Unasked::OTHER);
     };
     let count = words.number(IF_COUNT);
-    Ok(Invocation::Batch {
+    let batch = Batch {
         folder,
         file: words.text(FILE).unwrap_or(STANDARD_INPUT),
         count,
+    };
+    Ok(Invocation::Batch {
+        batch,
         reporting: reporting_of(words),
     })
 }
@@ -610,6 +638,12 @@ has come, and answered by one document. `ok` comes after the change is on the di
   export: NAME                             answers the text of the tree in the one style
   names:                                   answers the names
   checkpoint:                              makes the store file as short as its state
+
+Before the keys of a change `if: [CONDITION, ..]` may stand: it is made only where each of these holds.
+
+  test: NAME     path: POINTER   value: TREE   this value is at the JSON Pointer
+  absent: NAME   path: POINTER                 nothing is there
+  count: N                                     the store has accepted N commands
 
 A refused command changes nothing, and leaves the status 0. The folder must be there; the store in
 it is made on the first run, and locked while a run lasts. What follows the last closing line is not

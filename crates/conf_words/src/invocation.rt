@@ -11,67 +11,26 @@ pub enum Invocation<'w> {
     Init {
         folder: &'w str,
     },
-    /// Reads the YAML text of the file, and puts its tree under the name. The file is [`STANDARD_INPUT`] if the words
-    /// leave it out.
+    /// Reads a YAML text, and puts its tree under a name.
     Import {
-        folder: &'w str,
-        name: &'w str,
-        file: &'w str,
-        root: Root,
-        missing: MissingStore,
-        conditions: Conditions<'w>,
+        import: Import<'w>,
         reporting: Reporting,
     },
-    /// Sets the value at a JSON Pointer of a configuration. The pointer is empty only if the words say that the whole
-    /// configuration is meant.
+    /// Sets a value at a place. The pointer of the place is empty only if the words say that the whole configuration is
+    /// meant.
     Set {
-        folder: &'w str,
-        name: &'w str,
-        pointer: &'w str,
-        value: Value<'w>,
-        placing: Placing,
-        conditions: Conditions<'w>,
+        target: Target<'w>,
+        put: Put<'w>,
         reporting: Reporting,
     },
-    /// Removes what is at a JSON Pointer of a configuration. The pointer is empty if the words leave it out, or say
-    /// that the whole configuration is meant: then the configuration is removed.
-    Delete {
-        folder: &'w str,
-        name: &'w str,
-        pointer: &'w str,
-        conditions: Conditions<'w>,
+    /// Changes what is at a place, and takes no value for it.
+    Alter {
+        target: Target<'w>,
+        alteration: Alteration<'w>,
     },
-    /// Puts a copy of the configuration under `name` under the name `to`, in place of one that is there. Unless the
-    /// words say so, a condition wants none there.
-    Copy {
-        folder: &'w str,
-        name: &'w str,
-        to: &'w str,
-        conditions: Conditions<'w>,
-    },
-    /// Gives the configuration under `name` the name `to`, in place of one that is there.
-    Rename {
-        folder: &'w str,
-        name: &'w str,
-        to: &'w str,
-        conditions: Conditions<'w>,
-    },
-    /// Moves what is at the JSON Pointer `from` of a configuration to the JSON Pointer `to` of it, in place of what is
-    /// there. Neither is empty.
-    Move {
-        folder: &'w str,
-        name: &'w str,
-        from: &'w str,
-        to: &'w str,
-        conditions: Conditions<'w>,
-    },
-    /// Reads the YAML text of the file, a list of edits, and makes all of them or none. The file is
-    /// [`STANDARD_INPUT`] if the words leave it out. The store has to have accepted `count` commands, or any number if
-    /// there is none.
+    /// Reads a YAML text, a list of edits, and makes all of them or none.
     Batch {
-        folder: &'w str,
-        file: &'w str,
-        count: Option<u64>,
+        batch: Batch<'w>,
         reporting: Reporting,
     },
     /// Makes the store file as short as its state.
@@ -89,41 +48,49 @@ pub enum Invocation<'w> {
         name: &'w str,
         form: TreeForm,
     },
+    /// Writes each configuration into a file of its own in the folder `into`.
+    ExportAll {
+        folder: &'w str,
+        into: &'w str,
+        form: TreeForm,
+    },
     /// Writes the names of the configurations, of the store as it was after command `at`, or as it is.
     Names {
         folder: &'w str,
         at: Option<u64>,
         form: NamesForm,
     },
-    /// Writes the values at JSON Pointers of a configuration, one after the other, or the keys of one, of the store as
-    /// it was after command `at`, or as it is. There is at least one pointer: the empty one if the words give none,
-    /// which means the whole configuration. There are several only for texts as they are, each on a line, or for JSON
-    /// texts.
+    /// Writes the values at places of a configuration, one after the other, or the keys of one. There are several
+    /// places only for texts as they are, each on a line, or for JSON texts.
     Get {
         folder: &'w str,
-        name: &'w str,
-        pointers: Vec<&'w str>,
-        at: Option<u64>,
+        places: Places<'w>,
         missing: MissingValue<'w>,
         form: ValueForm,
     },
-    /// Tells by the status whether something is at a JSON Pointer of a configuration, of the store as it was after
-    /// command `at`, or as it is. The pointer is empty if the words leave it out: then the configuration is
-    /// looked for.
+    /// Tells by the status whether something is at a place. The pointer of the place is empty if the words leave it
+    /// out: then the configuration is looked for.
     Exists {
         folder: &'w str,
-        name: &'w str,
-        pointer: &'w str,
-        at: Option<u64>,
+        place: Place<'w>,
     },
-    /// Writes the commands that the store has accepted since its last checkpoint, from number `from` on and up to
-    /// number `at`, or to the last one; only those that change the configuration `name`, if the words give one.
+    /// Writes commands that the store has accepted since its last checkpoint.
     Log {
         folder: &'w str,
-        name: Option<&'w str>,
-        from: u64,
-        at: Option<u64>,
+        commands: Commands<'w>,
         form: LogForm<'w>,
+    },
+    /// Writes the edits that make the second of two states of the store of the first one, or only those of the
+    /// configuration of this name.
+    Diff {
+        folder: &'w str,
+        name: Option<&'w str>,
+        span: Span,
+    },
+    /// Writes the edits that make the tree of the second file of that of the first one.
+    DiffFiles {
+        first: &'w str,
+        second: &'w str,
     },
     /// Reads the whole store, and writes whether it can be opened. What an opening drops of it, or is refused for, is
     /// kept in the new file `keep_dropped`, if the words name one.
@@ -155,6 +122,125 @@ pub enum Invocation<'w> {
         files: Vec<&'w str>,
         reporting: Reporting,
     },
+}
+
+/// A place of the store in a folder that a word changes, and what has to hold for it to do so.
+#[derive(Clone, Copy, Debug, PartialEq, Eq)]
+pub struct Target<'w> {
+    /// The folder of the store.
+    pub folder: &'w str,
+    /// The name of the configuration that is changed.
+    pub name: &'w str,
+    /// The JSON Pointer of the place in it; the empty one stands for the whole configuration.
+    pub pointer: &'w str,
+    /// What has to hold of the store, before its change.
+    pub conditions: Conditions<'w>,
+}
+
+/// A value that a word sets at a place, and how.
+#[derive(Clone, Copy, Debug, PartialEq, Eq)]
+pub struct Put<'w> {
+    /// The value.
+    pub value: Value<'w>,
+    /// How it is put at the place.
+    pub placing: Placing,
+}
+
+/// How a word changes what is at a place, where it takes no value for it.
+#[derive(Clone, Copy, Debug, PartialEq, Eq)]
+pub enum Alteration<'w> {
+    /// It is removed. The pointer of the place is empty if the words leave it out, or say that the whole configuration
+    /// is meant: then the configuration is removed.
+    Delete,
+    /// A copy of the configuration under another name is put there, in place of one that is there. The pointer of the
+    /// place is empty. Unless the words say otherwise, a condition wants none there.
+    Copy {
+        /// That other name.
+        from: &'w str,
+    },
+    /// The configuration under another name gets the name of the place, in place of one that is there. The pointer of
+    /// the place is empty.
+    Rename {
+        /// That other name.
+        from: &'w str,
+    },
+    /// What is at another JSON Pointer of the configuration is moved there, in place of what is there. Neither pointer
+    /// is empty.
+    Move {
+        /// That other pointer.
+        from: &'w str,
+    },
+}
+
+/// Which text is imported, and where.
+#[derive(Clone, Copy, Debug, PartialEq, Eq)]
+pub struct Import<'w> {
+    /// The folder of the store.
+    pub folder: &'w str,
+    /// The name under which the tree of the text is put.
+    pub name: &'w str,
+    /// The file of the text; [`STANDARD_INPUT`] if the words leave it out.
+    pub file: &'w str,
+    /// What the text may be.
+    pub root: Root,
+    /// What is done where the folder has no store.
+    pub missing: MissingStore,
+    /// What has to hold of the store, before its change.
+    pub conditions: Conditions<'w>,
+}
+
+/// Which edits are made as one command, and of which store.
+#[derive(Clone, Copy, Debug, PartialEq, Eq)]
+pub struct Batch<'w> {
+    /// The folder of the store.
+    pub folder: &'w str,
+    /// The file of the text that lists the edits; [`STANDARD_INPUT`] if the words leave it out.
+    pub file: &'w str,
+    /// How many commands the store has to have accepted; any number if there is none.
+    pub count: Option<u64>,
+}
+
+/// A place of a store that a word reads.
+#[derive(Clone, Copy, Debug, PartialEq, Eq)]
+pub struct Place<'w> {
+    /// The name of the configuration.
+    pub name: &'w str,
+    /// The JSON Pointer of the place in it; the empty one stands for the whole configuration.
+    pub pointer: &'w str,
+    /// The store is read as it was after this command, or as it is if there is none.
+    pub at: Option<u64>,
+}
+
+/// The places of one configuration that a word reads.
+#[derive(Debug, Drop)]
+pub struct Places<'w> {
+    /// The name of the configuration.
+    pub name: &'w str,
+    /// The JSON Pointers of the places in it. There is at least one: the empty one if the words give none, which means
+    /// the whole configuration.
+    pub pointers: Vec<&'w str>,
+    /// The store is read as it was after this command, or as it is if there is none.
+    pub at: Option<u64>,
+}
+
+/// Which commands of a store a word reads.
+#[derive(Clone, Copy, Debug, PartialEq, Eq)]
+pub struct Commands<'w> {
+    /// Only those that change the configuration of this name; all if there is none.
+    pub name: Option<&'w str>,
+    /// The number of the first command.
+    pub from: u64,
+    /// The number of the last command, if the words give one; else they end with the last of the store.
+    pub at: Option<u64>,
+}
+
+/// The two states of a store that a word compares. Either may be the older one.
+#[derive(Clone, Copy, Debug, PartialEq, Eq)]
+pub struct Span {
+    /// The first is that after the command of this number; if there is none, the oldest that the store file has.
+    pub from: Option<u64>,
+    /// The second is that after the command of this number; if there is none, that after the last.
+    pub to: Option<u64>,
 }
 
 /// A value that the words give.

@@ -22,9 +22,9 @@ mod words;
 pub use escapes::escaped;
 pub use folder_word::FolderWord;
 pub use invocation::{
-    Comments, Conditions, Formatting, Grouping, Invocation, LogForm, MissingStore, MissingValue,
-    NamesForm, Placing, RawEnd, Reporting, Root, STANDARD_INPUT, Style, TreeForm, Value, ValueForm,
-    Wanted,
+    Alteration, Batch, Commands, Comments, Conditions, Formatting, Grouping, Import, Invocation,
+    LogForm, MissingStore, MissingValue, NamesForm, Place, Places, Placing, Put, RawEnd, Reporting,
+    Root, STANDARD_INPUT, Span, Style, Target, TreeForm, Value, ValueForm, Wanted,
 };
 pub use laws::{files_always_fit, no_two_texts_are_shown_alike};
 pub use subcommand::Subcommand;

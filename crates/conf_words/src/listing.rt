@@ -4,7 +4,7 @@ ghost use Rattle.command_line.specs.Rows.{row_of};
 ghost use Rattle.conf_words.specs.Subcommands.{rows_of};
 
 use crate::change_words::{BATCH, CHECKPOINT, COPY, DELETE, IMPORT, INIT, MOVE, RENAME, RUN, SET};
-use crate::read_words::{BACKUP, EXISTS, EXPORT, GET, KEYS, LOG, NAMES, SALVAGE, VERIFY};
+use crate::read_words::{BACKUP, DIFF, EXISTS, EXPORT, GET, KEYS, LOG, NAMES, SALVAGE, VERIFY};
 use crate::subcommand::Subcommand;
 use crate::text_words::{CHECK, FORMAT};
 use clap::builder::ValueParser;
@@ -63,6 +63,7 @@ fn listing_of(subcommand: Subcommand) -> Listing
         Subcommand::Keys => KEYS,
         Subcommand::Exists => EXISTS,
         Subcommand::Log => LOG,
+        Subcommand::Diff => DIFF,
         Subcommand::Verify => VERIFY,
         Subcommand::Salvage => SALVAGE,
         Subcommand::Backup => BACKUP,

@@ -7,7 +7,8 @@ use crate::arguments::{
     FILE, FOLDER, FOLDER_ARGUMENT, NAME, NAME_ARGUMENT, POINTER, POINTER_ARGUMENT, WHOLE, YAML,
 };
 use crate::invocation::{
-    Invocation, LogForm, MissingValue, NamesForm, RawEnd, TreeForm, ValueForm,
+    Commands, Invocation, LogForm, MissingValue, NamesForm, Place, Places, RawEnd, Span, TreeForm,
+    ValueForm,
 };
 use crate::listing::Listing;
 use crate::refusal::Unasked;
@@ -59,23 +60,42 @@ fn tree_form_of(words: &Matches<'_>) -> TreeForm
 }
 
 pub(crate) const EXPORT: Listing = Listing {
-    about: "Writes a configuration of the store in a folder",
+    about: "Writes a configuration of the store in a folder, or each into a file",
     arguments: &[
+        Argument {
+            name: ALL,
+            help: "Writes each configuration into the file NAME.yaml of the folder DIR, in place of NAME",
+            form: Form::Word("DIR"),
+            relation: Relation::Free,
+        },
         JSON_ARGUMENT,
         PLAIN_ARGUMENT,
         WAIT_ARGUMENT,
         FOLDER_ARGUMENT,
-        NAME_ARGUMENT,
+        Argument {
+            name: NAME,
+            help: "The name of the configuration; after `--` if it begins with `-`",
+            form: Form::Optional,
+            relation: Relation::Replaces(ALL),
+        },
     ],
     help: "\
 The configuration is written in the one style, which quotes `80` and `true`, since they are texts. With
 `--json` it is a JSON text, each text a string. With `--plain` such texts stand without quotes, so that
 readers with types take them for numbers; then they do so with a version 1.10, too.
 
+With `--all` each configuration is written into a file of its own: NAME.yaml, or NAME.json with
+`--json`. DIR is made if it is missing. A file is replaced whole, and only if it changes; other files
+stay. No lock is taken then: all are of one moment.
+
 Examples:
   confstore export store web
-  confstore export store web --json",
+  confstore export store web --json
+  confstore export store --all conf.d",
 };
+
+/// The word of `export` that has each configuration written, in place of the one of a name.
+const ALL: &str = "all";
 
 pub(crate) fn export_invocation<'w>(words: &Matches<'w>) -> Result<Invocation<'w>, Unasked>
     ensures { spec.Makes (spec.export_is_wrong words.now) (spec.IsExport words.now) result }
@@ -83,14 +103,12 @@ pub(crate) fn export_invocation<'w>(words: &Matches<'w>) -> Result<Invocation<'w
     let Some(folder) = words.text(FOLDER) else {
         return Err(Unasked::OTHER);
     };
-    let Some(name) = words.text(NAME) else {
-        return Err(Unasked::OTHER);
-    };
-    Ok(Invocation::Export {
-        folder,
-        name,
-        form: tree_form_of(words),
-    })
+    let form = tree_form_of(words);
+    match (words.text(NAME), words.text(ALL)) {
+        (Some(name), None) => Ok(Invocation::Export { folder, name, form }),
+        (None, Some(into)) => Ok(Invocation::ExportAll { folder, into, form }),
+        _ => Err(Unasked::OTHER),
+    }
 }
 
 pub(crate) const NAMES: Listing = Listing {
@@ -219,11 +237,14 @@ pub(crate) fn get_invocation<'w>(
     if pointers.len() > 1 && !writes_lines(words) {
         return Err(Unasked::Because(SEVERAL));
     }
-    Ok(Invocation::Get {
-        folder,
+    let places = Places {
         name,
         pointers,
         at: words.number(AT),
+    };
+    Ok(Invocation::Get {
+        folder,
+        places,
         missing: missing_value_of(words),
         form: form_of_value(words),
     })
@@ -310,11 +331,14 @@ pub(crate) fn keys_invocation<'w>(
         Ok(pointers) => pointers,
         Err(AllocError) => return Err(Unasked::OutOfMemory),
     };
-    Ok(Invocation::Get {
-        folder,
+    let places = Places {
         name,
         pointers,
         at: words.number(AT),
+    };
+    Ok(Invocation::Get {
+        folder,
+        places,
         missing: MissingValue::Refused,
         form: ValueForm::Keys,
     })
@@ -357,12 +381,12 @@ pub(crate) fn exists_invocation<'w>(words: &Matches<'w>) -> Result<Invocation<'w
     let Some(name) = words.text(NAME) else {
         return Err(Unasked::OTHER);
     };
-    Ok(Invocation::Exists {
-        folder,
+    let place = Place {
         name,
         pointer: words.text(POINTER).unwrap_or(WHOLE),
         at: words.number(AT),
-    })
+    };
+    Ok(Invocation::Exists { folder, place })
 }
 
 pub(crate) const LOG: Listing = Listing {
@@ -430,10 +454,10 @@ Examples:
   confstore log store --at 12",
 };
 
-/// The word of `log` that says with which command it begins.
+/// The word of `log` that says with which command it begins, and of `diff` that says after which.
 const FROM: &str = "from";
 
-/// The word of `log` that says with which command it ends. It means the same as [`AT`].
+/// The word of `log` and `diff` that says with which command it ends. To `log` it means the same as [`AT`].
 const LAST: &str = "to";
 
 /// The word of `log` that has values written.
@@ -455,11 +479,14 @@ pub(crate) fn log_invocation<'w>(
         Ok(form) => form,
         Err(AllocError) => return Err(Unasked::OutOfMemory),
     };
-    Ok(Invocation::Log {
-        folder,
+    let commands = Commands {
         name: words.text(NAME),
         from: words.number(FROM).unwrap_or(0),
         at: words.number(AT).or(words.number(LAST)),
+    };
+    Ok(Invocation::Log {
+        folder,
+        commands,
         form,
     })
 }
@@ -476,6 +503,78 @@ fn form_of_log<'w>(alloc: Global, words: &Matches<'w>) -> Result<LogForm<'w>, Al
     }
     let hidden = words.texts(alloc, HIDE)?;
     Ok(LogForm::Values { hidden })
+}
+
+pub(crate) const DIFF: Listing = Listing {
+    about: "Writes what changed between two commands, or between two files, as edits",
+    arguments: &[
+        Argument {
+            name: FROM,
+            help: "Begins with what the store was after command number N",
+            form: Form::Number("N", 0),
+            relation: Relation::Excludes(&[OF_FILES]),
+        },
+        Argument {
+            name: LAST,
+            help: "Goes to what the store was after command number N",
+            form: Form::Number("N", 0),
+            relation: Relation::Excludes(&[OF_FILES]),
+        },
+        Argument {
+            name: OF_FILES,
+            help: "Compares two files, which stand in the places of FOLDER and NAME",
+            form: Form::Flag,
+            relation: Relation::Needs(NAME),
+        },
+        FOLDER_ARGUMENT,
+        Argument {
+            name: NAME,
+            help: "The configuration of which the edits are written; all if it is left out",
+            form: Form::Optional,
+            relation: Relation::Free,
+        },
+    ],
+    help: "\
+It begins with the oldest state that the file has, which the last checkpoint left, and goes to the last
+command, unless numbers are given. It writes the edits that make the second state of the first, as a
+list that `batch` takes; they are made in their order. The order of keys and of configurations counts.
+If the second number is the smaller one, the edits take the commands between back. A number that the
+file does not have is refused (NoSuchCommand). No lock is taken and nothing is changed, so this runs
+beside a session that holds the store.
+
+With `--files` the trees of two YAML texts are compared. The edits name the configuration as the second
+file, up to the first `.` of its name.
+
+The status is 0 if nothing differs, and 1 if something does, as of diff.
+
+Examples:
+  confstore diff store --from 11
+  confstore diff store web --from 11 --to 12
+  confstore diff store --from 12 --to 11 | confstore batch store
+  confstore diff --files old.yaml new.yaml",
+};
+
+/// The word of `diff` that has two files compared. It excludes [`FROM`] and [`LAST`].
+const OF_FILES: &str = "files";
+
+pub(crate) fn diff_invocation<'w>(words: &Matches<'w>) -> Result<Invocation<'w>, Unasked>
+    ensures { spec.Makes (spec.diff_is_wrong words.now) (spec.IsDiff words.now) result }
+{
+    let Some(folder) = words.text(FOLDER) else {
+        return Err(Unasked::OTHER);
+    };
+    let span = Span {
+        from: words.number(FROM),
+        to: words.number(LAST),
+    };
+    match (words.flag(OF_FILES), words.text(NAME)) {
+        (false, name) => Ok(Invocation::Diff { folder, name, span }),
+        (true, Some(second)) => Ok(Invocation::DiffFiles {
+            first: folder,
+            second,
+        }),
+        (true, None) => Err(Unasked::OTHER),
+    }
 }
 
 /// The word of `verify` and `salvage` that names a new file for the bytes that an opening drops.

@@ -56,12 +56,60 @@ fn refusal(alloc: Global, why: &str) -> Result<String, AllocError> {
 /// Why the words are wrong, in the lines for standard error. The words in them are [`escaped`]. It fails only if memory
 /// runs out.
 pub(crate) fn wrong_words(alloc: Global, words: &[String]) -> Result<String, AllocError> {
+    if let Some((word, meant)) = word_of_others(words) {
+        return tip(alloc, word, meant);
+    }
     let mut shown = Vec::new(alloc);
     for word in words {
         shown.push(escaped(alloc, word)?)?;
     }
     refusal_of(alloc, &shown)
 }
+
+/// The lines for a word of other programs, with the one that may be meant. It fails only if memory runs out.
+fn tip(alloc: Global, word: &str, meant: &str) -> Result<String, AllocError> {
+    format!(in alloc;
+        "error: unrecognized subcommand '{word}'\n\n  tip: '{meant}' may be meant\n\nFor more information, try '--help'.\n"
+    )
+}
+
+/// The word that asks for something, if other programs have it, and the one that may be meant.
+fn word_of_others(words: &[String]) -> Option<(&'static str, &'static str)> {
+    let word = words.get(1)?;
+    for (other, meant) in WORDS_OF_OTHERS {
+        if word.as_str() == other {
+            return Some((other, meant));
+        }
+    }
+    None
+}
+
+/// Words that other programs have, each with the one of this program that may be meant. None is a subcommand.
+const WORDS_OF_OTHERS: [(&str, &str); 23] = [
+    ("list", "names"),
+    ("ls", "names"),
+    ("show", "get"),
+    ("cat", "get"),
+    ("read", "get"),
+    ("rm", "delete"),
+    ("remove", "delete"),
+    ("unset", "delete"),
+    ("del", "delete"),
+    ("cp", "copy"),
+    ("mv", "rename"),
+    ("put", "set"),
+    ("add", "set"),
+    ("write", "set"),
+    ("load", "import"),
+    ("dump", "export"),
+    ("history", "log"),
+    ("compare", "diff"),
+    ("changes", "diff"),
+    ("compact", "checkpoint"),
+    ("create", "init"),
+    ("fsck", "verify"),
+    ("version", "--version"),
+];
 
 /// Why the words, which are shown as they are, are wrong.
 fn refusal_of(alloc: Global, words: &[String]) -> Result<String, AllocError> {

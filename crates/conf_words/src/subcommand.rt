@@ -38,6 +38,8 @@ pub enum Subcommand {
     Exists,
     /// Writes the commands that a store has accepted since its last checkpoint.
     Log,
+    /// Writes the edits that make a later state of a store of an earlier one, or the text of a file of another.
+    Diff,
     /// Reads a whole store, and writes whether it can be opened.
     Verify,
     /// Makes a new store of what a damaged one says before its first bad piece.
@@ -52,7 +54,7 @@ pub enum Subcommand {
 
 impl Subcommand {
     /// All of them, in the order of the help.
-    pub(crate) const ALL: [Subcommand; 21] = [
+    pub(crate) const ALL: [Subcommand; 22] = [
         Subcommand::Init,
         Subcommand::Import,
         Subcommand::Set,
@@ -69,6 +71,7 @@ impl Subcommand {
         Subcommand::Keys,
         Subcommand::Exists,
         Subcommand::Log,
+        Subcommand::Diff,
         Subcommand::Verify,
         Subcommand::Salvage,
         Subcommand::Backup,
@@ -127,6 +130,7 @@ impl Subcommand {
             Subcommand::Keys => "keys",
             Subcommand::Exists => "exists",
             Subcommand::Log => "log",
+            Subcommand::Diff => "diff",
             Subcommand::Verify => "verify",
             Subcommand::Salvage => "salvage",
             Subcommand::Backup => "backup",

@@ -66,6 +66,7 @@ fn waits(subcommand: Subcommand) -> bool
         | Subcommand::Keys
         | Subcommand::Exists
         | Subcommand::Log
+        | Subcommand::Diff
         | Subcommand::Verify
         | Subcommand::Salvage
         | Subcommand::Backup

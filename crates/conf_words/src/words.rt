@@ -13,8 +13,8 @@ use crate::change_words::{
 use crate::invocation::Invocation;
 use crate::listing::{arguments_of, listed};
 use crate::read_words::{
-    backup_invocation, exists_invocation, export_invocation, get_invocation, keys_invocation,
-    log_invocation, names_invocation, salvage_invocation, verify_invocation,
+    backup_invocation, diff_invocation, exists_invocation, export_invocation, get_invocation,
+    keys_invocation, log_invocation, names_invocation, salvage_invocation, verify_invocation,
 };
 use crate::refusal::{Unasked, wrong_words};
 use crate::subcommand::Subcommand;
@@ -27,24 +27,25 @@ use command_line::{Matches, Refusal, read};
 use std::alloc::{AllocError, Global};
 use std::time::Duration;
 
-const VERSION: &str = "0.5.0";
+const VERSION: &str = "0.6.0";
 
 const ABOUT: &str = "A crash-safe store of named configuration trees, and tools for their texts.";
 
 const GROUPS_AND_STATUSES: &str = "\
 The words by what they do:
   change a store  init, import, set, delete, copy, rename, move, batch, checkpoint, run
-  read a store    export, names, get, keys, exists, log, verify, salvage, backup
+  read a store    export, names, get, keys, exists, log, diff, verify, salvage, backup
   read a text     format, check
 
-`names`, `get`, `keys`, `exists`, `log`, `verify` and `backup` take no lock, so they run beside a
-session that holds the store. A word that changes a store, and `export`, end with `Locked` while
+`names`, `get`, `keys`, `exists`, `log`, `diff`, `verify` and `backup` take no lock, so they run beside
+a session that holds the store. A word that changes a store, and `export`, end with `Locked` while
 another run holds it. With --wait SECONDS they try again for so long, or for as long as the
 environment's CONFSTORE_WAIT says.
 
 Statuses:
   0  done
-  1  a text or a store was refused, memory ran out, `check` found something, or `exists` nothing
+  1  a text or a store was refused, memory ran out, `check` or `diff` found something, or `exists`
+     nothing
   2  wrong words
   3  reading or writing failed, or the folder is missing or locked
 
@@ -247,6 +248,7 @@ fn invocation_of<'w>(
         Subcommand::Keys => keys_invocation(alloc, words),
         Subcommand::Exists => exists_invocation(words),
         Subcommand::Log => log_invocation(alloc, words),
+        Subcommand::Diff => diff_invocation(words),
         Subcommand::Verify => verify_invocation(words),
         Subcommand::Salvage => salvage_invocation(words),
         Subcommand::Backup => backup_invocation(words),

@@ -108,6 +108,10 @@ impl<D: NewDisk> World for MemoryWorld<D> {
         self.places.read_store(alloc, folder)
     }
 
+    fn open_again(&self, _alloc: Global, _folder: &str) -> Option<MemoryFile> {
+        None
+    }
+
     fn waiting(&self, file: &MemoryFile) -> Waiting {
         file.waiting()
     }
@@ -144,6 +148,10 @@ impl<D: NewDisk> World for MemoryWorld<D> {
             Ok(()) => Ok(()),
             Err(_) => Err(NewFileFault::OutOfMemory),
         }
+    }
+
+    fn create_empty(&mut self, alloc: Global, path: &str) -> Result<(), NewFileFault> {
+        self.create_file(alloc, path, b"")
     }
 
     fn replace(&mut self, _alloc: Global, place: String, bytes: &[u8]) -> Result<(), ReplaceFault> {

@@ -326,6 +326,10 @@ impl World for MemoryWorld {
         opened
     }
 
+    fn open_again(&self, _alloc: Global, _folder: &str) -> Option<WorldFile> {
+        None
+    }
+
     fn waiting(&self, file: &WorldFile) -> Waiting {
         file.waiting()
     }
@@ -362,6 +366,10 @@ impl World for MemoryWorld {
             Ok(()) => Ok(()),
             Err(_) => Err(NewFileFault::OutOfMemory),
         }
+    }
+
+    fn create_empty(&mut self, alloc: Global, path: &str) -> Result<(), NewFileFault> {
+        self.create_file(alloc, path, b"")
     }
 
     fn replace(&mut self, _alloc: Global, place: String, bytes: &[u8]) -> Result<(), ReplaceFault> {

@@ -1,8 +1,6 @@
 use Rattle.std.proofs.Common.{◌∙◌, ap, refl}
-use Rattle.file_calls.specs.Machine.{Names, Machine}
-use Rattle.conf_files.proofs.Replacing.{from-err}
-use Rattle.conf_files.proofs.Making.{begun, Making-begun, Making-filled, Making-unlinked, Making-not_begun}
-use Rattle.conf_files.proofs.Making.{Creates-failed, Creates-settled}
+use Rattle.{file_calls.specs.Machine.{Names, Machine}, conf_files.proofs.{Replacing.from-err, Making.{begun, Making-begun, Making-filled}}}
+use Rattle.conf_files.proofs.Making.{Making-unlinked, Making-not_begun, Creates-failed, Creates-settled}
 use Rattle.conf_files.proofs.create.create_with.Goals as goal
 
 pub returns-in_err-blame : goal.returns-in_err-blame

@@ -1,7 +1,6 @@
 use Rattle.std.proofs.Common.{◌∙◌, ap}
-use Rattle.file_calls.specs.Machine.{Names}
-use Rattle.conf_files.specs.Steps.{IsFilled}
-use Rattle.conf_files.proofs.Replacing.{KeepsHolding-standing, KeepsHolding-renamed, from-ok}
+use Rattle.{file_calls.specs.Machine.Names, conf_files.{specs.Steps.IsFilled, proofs.Replacing.KeepsHolding-standing}}
+use Rattle.conf_files.proofs.Replacing.{KeepsHolding-renamed, from-ok}
 use Rattle.conf_files.proofs.replace.swap_in.Goals as goal
 
 pub returns-in_err-blame-clause-keeps : goal.returns-in_err-blame-clause-keeps

@@ -1,6 +1,6 @@
 use Rattle.std.proofs.Common.{◌∙◌, length}
-use Rattle.conf_files.proofs.Filled.{wrote-pending, filled-synced}
-use Rattle.conf_files.proofs.Standing.{KeepsStanding-wrote, KeepsStanding-synced, KeepsStanding-joined}
+use Rattle.conf_files.proofs.{Filled.{wrote-pending, filled-synced}, Standing.{KeepsStanding-wrote, KeepsStanding-synced}}
+use Rattle.conf_files.proofs.Standing.{KeepsStanding-joined}
 use Rattle.conf_files.proofs.replace.write_staged.Goals as goal
 
 pub returns-in_err-write_all-clause-keeps : goal.returns-in_err-write_all-clause-keeps

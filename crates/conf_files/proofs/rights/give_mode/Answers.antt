@@ -1,7 +1,5 @@
 use Rattle.std.proofs.Common.{◌≡◌, ◌∙◌, ap}
-use Rattle.file_calls.specs.Machine.{Machine, rights_at}
-use Rattle.file_calls.specs.Machine.Leads.{New}
-use Rattle.conf_files.proofs.Filled.{IsGiven-same, TakesAfter-set}
+use Rattle.{file_calls.specs.Machine.{Machine, rights_at, Leads.New}, conf_files.proofs.Filled.{IsGiven-same, TakesAfter-set}}
 use Rattle.conf_files.proofs.Standing.{KeepsStanding-told, KeepsStanding-mode, KeepsStanding-joined}
 use Rattle.conf_files.proofs.rights.give_mode.Goals as goal
 

@@ -1,6 +1,5 @@
 use Rattle.std.proofs.Common.{ℕ, zero, suc, sym, subst}
-use Rattle.file_calls.specs.Machine.{Machine, GiveOwner, failing}
-use Rattle.conf_files.specs.Modes.{NewIsPrivate}
+use Rattle.{file_calls.specs.Machine.{Machine, GiveOwner, failing}, conf_files.specs.Modes.NewIsPrivate}
 use Rattle.conf_files.proofs.Standing.{KeepsStanding-owner, KeepsStanding-group, KeepsStanding-joined, private-owner}
 use Rattle.conf_files.proofs.rights.give_owner_and_group.Goals as goal
 

@@ -1,6 +1,5 @@
 use Rattle.std.proofs.Common.{sym, subst}
-use Rattle.conf_files.specs.Standing.{KeepsStanding}
-use Rattle.conf_files.proofs.Standing.{KeepsStanding-told, KeepsStanding-none, KeepsStanding-joined}
+use Rattle.conf_files.{specs.Standing.KeepsStanding, proofs.Standing.{KeepsStanding-told, KeepsStanding-none, KeepsStanding-joined}}
 use Rattle.conf_files.proofs.rights.take_after.Goals.{then-made-replaced, else-made-replaced+else-made-replaced-2}
 use Rattle.conf_files.proofs.rights.take_after.Goals as goal
 

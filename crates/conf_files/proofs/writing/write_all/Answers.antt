@@ -1,11 +1,7 @@
-use Rattle.std.specs.Prelude.{IsSome}
-use Rattle.std.proofs.Common.{◌≡◌, ◌+◌, ◌-◌, ◌≤◌, ℕ, List, length, length-drop, arith, rules, take, drop, subst, sym}
-use Rattle.std.proofs.lemmas.List.{take_all}
-use Rattle.conf_system.specs.Machine.{with_pending}
-use Rattle.file_calls.specs.Machine.{Machine, with_version}
-use Rattle.file_calls.specs.Models.{Wrote}
-use Rattle.conf_files.proofs.Filled.{some-changed}
-use Rattle.conf_files.proofs.Moving.{wrote-more}
+use Rattle.std.{specs.Prelude.IsSome, proofs.Common.{◌≡◌, ◌+◌, ◌-◌, ◌≤◌, ℕ, List, length, length-drop, arith, rules, take, drop, subst}}
+use Rattle.std.proofs.{Common.sym, lemmas.List.take_all}
+use Rattle.{conf_system.specs.Machine.with_pending, file_calls.specs.{Machine.{Machine, with_version}, Models.Wrote}}
+use Rattle.conf_files.proofs.{Filled.some-changed, Moving.wrote-more}
 use Rattle.conf_files.proofs.writing.write_all.Goals as goal
 
 -- the slice from a place to the end

@@ -1,5 +1,4 @@
-use Rattle.std.specs.Prelude.{IsSome}
-use Rattle.std.proofs.Common.{◌-◌, ◌≤◌, length}
+use Rattle.std.{specs.Prelude.IsSome, proofs.Common.{◌-◌, ◌≤◌, length}}
 use Rattle.file_calls.specs.Models.{Wrote}
 use Rattle.conf_files.proofs.writing.write_all.Given as goal
 

@@ -1,7 +1,6 @@
 -- README's first example is one of the runs that see what was written.
 use Rattle.std.specs.Str.{chars}
-use Rattle.yaml_config.specs.Limits.{config_limits}
-use Rattle.conf_runs.proofs.ExampleRuns.{first-example}
+use Rattle.{yaml_config.specs.Limits.config_limits, conf_runs.proofs.ExampleRuns.first-example}
 use Rattle.conf_runs.proofs.laws.first_example_holds.Goals as goal
 
 pub returns : goal.returns

@@ -1,7 +1,6 @@
 -- What is at the place after the runs is what is read there.
 use Rattle.std.specs.Str.{chars}
-use Rattle.yaml_config.specs.Limits.{config_limits}
-use Rattle.conf_runs.proofs.WriteLemmas.{others-stay, reads-see-writes}
+use Rattle.{yaml_config.specs.Limits.config_limits, conf_runs.proofs.WriteLemmas.{others-stay, reads-see-writes}}
 use Rattle.conf_runs.proofs.laws.reads_see_writes.Goals as goal
 
 pub returns-clause-others : goal.returns-clause-others

@@ -1,12 +1,7 @@
 -- What a world keeps of its files gives what runs of `format -i` keep.
-use Rattle.std.proofs.Common.{sym, subst, ◌∙◌}
-use Rattle.std.specs.Prelude.{map}
-use Rattle.conf_tools.specs.declared.program.Status.{Status}
-use Rattle.conf_tools.specs.declared.program.Status.TheVariants.{Done}
-use Rattle.conf_tools.specs.Performs.{Restyles}
-use Rattle.conf_runs.specs.Restyled.{FilesHold, ReadBy, restyled_by}
-use Rattle.conf_runs.proofs.FileLemmas.{files-hold}
-use Rattle.conf_tools.proofs.EndingLemmas.{told-status}
+use Rattle.std.{proofs.Common.{sym, subst, ◌∙◌}, specs.Prelude.map}
+use Rattle.conf_tools.{specs.{declared.program.Status.{Status, TheVariants.Done}, Performs.Restyles}, proofs.EndingLemmas.told-status}
+use Rattle.conf_runs.{specs.Restyled.{FilesHold, ReadBy, restyled_by}, proofs.FileLemmas.files-hold}
 use Rattle.conf_runs.proofs.laws.restyled_files_hold.Goals as goal
 
 pub returns : goal.returns

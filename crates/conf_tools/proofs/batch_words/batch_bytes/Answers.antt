@@ -1,10 +1,7 @@
 -- The change was made, or there is none.
-use Rattle.std.proofs.Common.{[], refl, subst}
-use Rattle.std.specs.Prelude.{Ok, Err}
-use Rattle.conf_words.specs.declared.invocation.Conditions.{Conditions}
-use Rattle.conf_tools.specs.Performs.{ChangesIf}
-use Rattle.conf_tools.specs.declared.outcome.Ending.TheVariants.{Of}
-use Rattle.conf_tools.specs.declared.world.Access.TheVariants.{Changing}
+use Rattle.std.{proofs.Common.{[], refl, subst}, specs.Prelude.{Ok, Err}}
+use Rattle.{conf_words.specs.declared.invocation.Conditions.Conditions, conf_tools.specs.Performs.ChangesIf}
+use Rattle.conf_tools.specs.declared.{outcome.Ending.TheVariants.Of, world.Access.TheVariants.Changing}
 use Rattle.conf_tools.proofs.batch_words.batch_bytes.Goals as goal
 
 pub returns-in-Ok-clause-makes : goal.returns-in-Ok-clause-makes

@@ -1,6 +1,6 @@
 -- The text that was read is the one whose edits are made.
 use Rattle.std.proofs.Common.{subst}
-use Rattle.conf_tools.specs.{Performs.BatchesBytes}
+use Rattle.conf_tools.specs.Performs.{BatchesBytes}
 use Rattle.conf_tools.proofs.batch_words.batch_text.Goals as goal
 
 pub returns-in-Ok-clause-makes : goal.returns-in-Ok-clause-makes

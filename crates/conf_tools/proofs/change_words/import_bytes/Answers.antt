@@ -1,8 +1,6 @@
 -- The change was made, and then it is told whether the text was refused.
-use Rattle.std.proofs.Common.{[], inl, refl, subst}
-use Rattle.std.specs.Prelude.{Ok, Err}
-use Rattle.conf_tools.specs.{Performs.ChangesIf, declared.world.Access.Access}
-use Rattle.conf_tools.specs.declared.outcome.Ending.TheVariants.{Of, ToldFault}
+use Rattle.std.{proofs.Common.{[], inl, refl, subst}, specs.Prelude.{Ok, Err}}
+use Rattle.conf_tools.specs.{Performs.ChangesIf, declared.{world.Access.Access, outcome.Ending.TheVariants.{Of, ToldFault}}}
 use Rattle.conf_tools.proofs.OutcomeLemmas.{import_left}
 use Rattle.conf_tools.proofs.change_words.import_bytes.Goals as goal
 

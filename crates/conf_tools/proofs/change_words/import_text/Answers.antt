@@ -1,6 +1,6 @@
 -- The text that was read is the one that is imported.
 use Rattle.std.proofs.Common.{inl, refl, subst}
-use Rattle.conf_tools.specs.{Performs.ImportsBytes, Performs.access_of}
+use Rattle.conf_tools.specs.Performs.{ImportsBytes, access_of}
 use Rattle.conf_tools.proofs.change_words.import_text.Goals as goal
 
 pub returns-in-Ok-clause-imports : goal.returns-in-Ok-clause-imports

@@ -1,10 +1,7 @@
 -- The change was made ready, and made.
-use Rattle.std.proofs.Common.{refl, sym, subst}
-use Rattle.std.specs.Prelude.{Result, Ok, Err}
-use Rattle.conf_tools.specs.{Performs.ChangesAt, declared.changes.Change.Change, declared.texts.ToolFault.ToolFault}
-use Rattle.conf_tools.specs.declared.outcome.Ending.TheVariants.{Of, ToldFault}
-use Rattle.conf_tools.specs.declared.world.Access.TheVariants.{Changing}
-use Rattle.conf_tools.specs.Performs.{ChangesIf}
+use Rattle.std.{proofs.Common.{refl, sym, subst}, specs.Prelude.{Result, Ok, Err}}
+use Rattle.conf_tools.specs.{Performs.{ChangesAt, ChangesIf}, declared.{changes.Change.Change, texts.ToolFault.ToolFault}}
+use Rattle.conf_tools.specs.declared.{outcome.Ending.TheVariants.{Of, ToldFault}, world.Access.TheVariants.Changing}
 use Rattle.conf_tools.proofs.EditLemmas.{placed-err, placed-ok}
 use Rattle.conf_tools.proofs.change_words.set_at.Goals as goal
 
@@ -13,11 +10,11 @@ returns-in-Ok-clause-sets g c = record {
   change = Ok c.in-Ok.set;
   seen = c.set_of.new.world;
   is = c.in-Ok.ensures.sets;
-  changes = subst (λ (r : Result Change ToolFault). ChangesAt g.A.World.model g.A.Disk.Disk.model c.args.place.conditions Changing
-      c.args.place.folder.now c.args.place.name.now c.args.place.pointer.now r c.set_of.new.world c.change_if.new.world
+  changes = subst (λ (r : Result Change ToolFault). ChangesAt g.A.World.model g.A.Disk.Disk.model c.args.target.conditions Changing
+      c.args.target.folder.now c.args.target.name.now c.args.target.pointer.now r c.set_of.new.world c.change_if.new.world
       (Of c.change_if.result)) (sym (placed-ok c.args.put.placing c.in-Ok.set))
-      (subst (λ (change : Change). ChangesIf g.A.World.model g.A.Disk.Disk.model c.args.place.conditions Changing
-      c.args.place.folder.now c.args.place.name.now c.args.place.pointer.now change c.set_of.new.world c.change_if.new.world
+      (subst (λ (change : Change). ChangesIf g.A.World.model g.A.Disk.Disk.model c.args.target.conditions Changing
+      c.args.target.folder.now c.args.target.name.now c.args.target.pointer.now change c.set_of.new.world c.change_if.new.world
       (Of c.change_if.result)) c.placed-change.ensures c.change_if.ensures.makes);
 }
 
@@ -29,8 +26,8 @@ returns-in-Err-clause-sets g c = record {
   change = Err c.in-Err.fault;
   seen = c.set_of.new.world;
   is = c.in-Err.ensures.sets;
-  changes = subst (λ (r : Result Change ToolFault). ChangesAt g.A.World.model g.A.Disk.Disk.model c.args.place.conditions Changing
-      c.args.place.folder.now c.args.place.name.now c.args.place.pointer.now r c.set_of.new.world c.set_of.new.world
+  changes = subst (λ (r : Result Change ToolFault). ChangesAt g.A.World.model g.A.Disk.Disk.model c.args.target.conditions Changing
+      c.args.target.folder.now c.args.target.name.now c.args.target.pointer.now r c.set_of.new.world c.set_of.new.world
       (ToldFault c.in-Err.fault)) (sym (placed-err c.args.put.placing c.in-Err.fault)) (refl, refl);
 }
 

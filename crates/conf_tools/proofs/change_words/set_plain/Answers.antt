@@ -1,7 +1,6 @@
 -- The text has these bytes.
 use Rattle.std.proofs.Common.{inl, inr, subst}
-use Rattle.conf_tools.proofs.Prelude.{chars}
-use Rattle.conf_tools.specs.TextWords.{SetsText}
+use Rattle.conf_tools.{proofs.Prelude.chars, specs.TextWords.SetsText}
 use Rattle.conf_tools.proofs.change_words.set_plain.Goals as goal
 
 pub returns-in-Ok : goal.returns-in-Ok

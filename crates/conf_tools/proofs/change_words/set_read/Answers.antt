@@ -1,7 +1,6 @@
 -- The bytes that were read are the value.
 use Rattle.std.proofs.Common.{subst}
-use Rattle.conf_tools.specs.TextWords.{SetsMeant}
-use Rattle.conf_tools.proofs.OutcomeLemmas.{set_left_out}
+use Rattle.conf_tools.{specs.TextWords.SetsMeant, proofs.OutcomeLemmas.set_left_out}
 use Rattle.conf_tools.proofs.change_words.set_read.Goals as goal
 
 pub returns-in-Ok-clause-sets : goal.returns-in-Ok-clause-sets

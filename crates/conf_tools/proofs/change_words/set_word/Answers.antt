@@ -1,6 +1,5 @@
 -- At most how many comments the word has was told.
-use Rattle.conf_tools.specs.declared.change_words.Meaning.TheVariants.{Yaml}
-use Rattle.conf_tools.proofs.OutcomeLemmas.{set_left_out}
+use Rattle.conf_tools.{specs.declared.change_words.Meaning.TheVariants.Yaml, proofs.OutcomeLemmas.set_left_out}
 use Rattle.conf_tools.proofs.change_words.set_word.Goals as goal
 
 pub returns-clause-told : goal.returns-clause-told

@@ -1,9 +1,7 @@
 -- The change was made, or refused, on the store that was opened, whose disk is handed back.
 use Rattle.std.proofs.Common.{true, false, Err, ap, sym, subst}
-use Rattle.conf_tools.proofs.Prelude.{HasFailed, AllImagesMean, failed-later}
-use Rattle.conf_store.specs.Changing.{store_file}
-use Rattle.conf_tools.specs.Changes.{KeepsChange, ReadsChanged}
-use Rattle.conf_tools.proofs.ChangeLemmas.{keeps-made, keeps-refused, never-reopen}
+use Rattle.conf_tools.proofs.{Prelude.{HasFailed, AllImagesMean, failed-later}, ChangeLemmas.{keeps-made, keeps-refused, never-reopen}}
+use Rattle.{conf_tools.specs.Changes.{KeepsChange, ReadsChanged}, conf_store.specs.Changing.store_file}
 use Rattle.conf_tools.proofs.changes.change_store.Goals as goal
 
 pub returns-in-Ok-made-clause-made : goal.returns-in-Ok-made-clause-made

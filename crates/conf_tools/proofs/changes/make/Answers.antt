@@ -1,8 +1,6 @@
 -- Nothing waits before the change, so a crash leaves one of two states.
-use Rattle.std.proofs.Common.{[]}
-use Rattle.conf_tools.proofs.Prelude.{command_of}
-use Rattle.std.proofs.lemmas.Result.{on_ok_weaker}
-use Rattle.conf_tools.proofs.ChangeLemmas.{checkpoint-leaves, command-leaves}
+use Rattle.std.proofs.{Common.[], lemmas.Result.on_ok_weaker}
+use Rattle.conf_tools.proofs.{Prelude.command_of, ChangeLemmas.{checkpoint-leaves, command-leaves}}
 use Rattle.conf_tools.proofs.changes.make.Goals as goal
 
 pub returns-in-Ok-clause-any_moment : goal.returns-in-Ok-clause-any_moment

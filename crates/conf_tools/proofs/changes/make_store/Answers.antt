@@ -1,7 +1,6 @@
 -- A crash while the file is looked for leaves no more than one before, and then what one of the opening leaves.
 use Rattle.std.proofs.Common.{sym, subst}
-use Rattle.conf_tools.proofs.Prelude.{LeavesOnly, MeantAtEntry, Reads, Content, Store}
-use Rattle.conf_tools.proofs.{ChangeLemmas.looked-leaves, MadeLemmas.made-empty}
+use Rattle.conf_tools.proofs.{Prelude.{LeavesOnly, MeantAtEntry, Reads, Content, Store}, ChangeLemmas.looked-leaves, MadeLemmas.made-empty}
 use Rattle.conf_tools.proofs.changes.make_store.Goals as goal
 
 pub returns-in-Ok-open_told-clause-made : goal.returns-in-Ok-open_told-clause-made

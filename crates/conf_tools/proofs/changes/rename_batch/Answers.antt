@@ -1,6 +1,5 @@
 -- The two edits, of which the first deletes at the empty path.
-use Rattle.std.proofs.Common.{[], ◌∷◌, ◌∙◌, ap}
-use Rattle.std.specs.Prelude.{map}
+use Rattle.std.{proofs.Common.{[], ◌∷◌, ◌∙◌, ap}, specs.Prelude.map}
 use Rattle.conf_tools.proofs.Prelude.{chars, tree_of, batch, delete_at, edit_of, import_as, text_of}
 use Rattle.conf_tools.proofs.changes.rename_batch.Goals as goal
 

@@ -1,9 +1,6 @@
 -- Opening made what it says, and nothing waits.
-use Rattle.std.proofs.Common.{◌+◌, length, ap, subst}
-use Rattle.std.specs.Prelude.{option_map}
-use Rattle.conf_store.specs.Staged.{Staged}
-use Rattle.conf_tools.specs.Dropped.{TellsCount}
-use Rattle.conf_tools.proofs.DroppedLemmas.{any_told}
+use Rattle.std.{proofs.Common.{◌+◌, length, ap, subst}, specs.Prelude.option_map}
+use Rattle.{conf_store.specs.Staged.Staged, conf_tools.{specs.Dropped.TellsCount, proofs.DroppedLemmas.any_told}}
 use Rattle.conf_tools.proofs.dropped.open_told.Goals as goal
 
 pub returns-in-Ok-clause-opens : goal.returns-in-Ok-clause-opens

@@ -1,8 +1,6 @@
 -- The line is that for more than one byte.
 use Rattle.std.proofs.Common.{◌≢◌, rules, arith}
-use Rattle.conf_tools.proofs.Prelude.{common_steps}
-use Rattle.conf_tools.specs.Dropped.{dropped_line}
-use Rattle.conf_tools.proofs.DroppedLemmas.{some_told}
+use Rattle.conf_tools.{proofs.{Prelude.common_steps, DroppedLemmas.some_told}, specs.Dropped.dropped_line}
 use Rattle.conf_tools.proofs.dropped.tell_dropped.Goals as goal
 
 pub returns-in_default : goal.returns-in_default

@@ -1,21 +1,8 @@
 -- The configuration is that of the state that the bytes mean.
 use Rattle.std.proofs.Common.{◌≡◌, ◌∙◌, ◌⊎◌, Bool, Ok, Err, inl, sym, arith, subst}
-use Rattle.conf_tools.proofs.Prelude.{
-  chars,
-  Reads,
-  bytes_under,
-  several_waited,
-  Content,
-  Store,
-  store_limit,
-  OutOfMemory,
-  FileMeans,
-  RecoversTo,
-}
-use Rattle.conf_tools.specs.Reads.{tree_or}
-use Rattle.conf_store.specs.Holes.{is_several}
-use Rattle.conf_tools.proofs.ExportLemmas.{bytes-find, bytes-lack, bytes-whole, leaves-same, whole-bytes-mean}
-use Rattle.conf_tools.proofs.HeldLemmas.{tree_lent}
+use Rattle.conf_tools.proofs.Prelude.{chars, Reads, bytes_under, several_waited, Content, Store, store_limit, OutOfMemory, FileMeans}
+use Rattle.conf_tools.proofs.{Prelude.RecoversTo, ExportLemmas.{bytes-find, bytes-lack, bytes-whole, leaves-same, whole-bytes-mean}}
+use Rattle.{conf_tools.{proofs.HeldLemmas.tree_lent, specs.Reads.tree_or}, conf_store.specs.Holes.is_several}
 use Rattle.conf_tools.proofs.exports.export_read.Goals as goal
 
 pub returns-in-Err-clause-refused : goal.returns-in-Err-clause-refused

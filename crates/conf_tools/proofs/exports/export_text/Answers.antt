@@ -1,13 +1,9 @@
 -- The file was read, which changed nothing; or the device failed at that.
-use Rattle.std.proofs.Common.{◌≡◌, ◌∙◌, Err, inl, refl, ap, sym, subst, string_bytes}
-use Rattle.std.specs.Prelude.{OnOk, option_map}
-use Rattle.conf_disk.specs.Image.{synced_file}
-use Rattle.conf_journal.specs.Held.{HoldsStore}
-use Rattle.conf_tools.proofs.Prelude.{chars, Tells, bytes_under, Image, Store, store_limit}
-use Rattle.conf_tools.specs.Exports.{disk_back}
-use Rattle.conf_tools.proofs.ExportLemmas.{alone-told, lasting-before, lasting-since, leaves-both, leaves-meant, leaves-since}
-use Rattle.conf_tools.proofs.ExportLemmas.{no-rest-before, quiet-before, quiet-since, refused-before, refused-since}
-use Rattle.conf_tools.proofs.ExportLemmas.{text-before, text-since}
+use Rattle.std.{proofs.Common.{◌≡◌, ◌∙◌, Err, inl, refl, ap, sym, subst, string_bytes}, specs.Prelude.{OnOk, option_map}}
+use Rattle.{conf_disk.specs.Image.synced_file, conf_journal.specs.Held.HoldsStore, conf_tools.proofs.Prelude.{chars, Tells, bytes_under}}
+use Rattle.conf_tools.proofs.{Prelude.{Image, Store, store_limit}, ExportLemmas.{alone-told, lasting-before, lasting-since, leaves-both}}
+use Rattle.conf_tools.proofs.ExportLemmas.{leaves-meant, leaves-since, no-rest-before, quiet-before, quiet-since, refused-before}
+use Rattle.conf_tools.{proofs.ExportLemmas.{refused-since, text-before, text-since}, specs.Exports.disk_back}
 use Rattle.conf_tools.proofs.exports.export_text.Goals as goal
 
 pub export_read-requires-clause-content : goal.export_read-requires-clause-content

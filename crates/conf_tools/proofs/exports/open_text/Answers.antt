@@ -1,10 +1,8 @@
 -- The store was opened, or its file was read after the device failed.
-use Rattle.std.proofs.Common.{◌≡◌, ◌⊎◌, inl, refl, sym, subst, string_bytes}
-use Rattle.std.specs.Prelude.{IfOk}
-use Rattle.conf_tools.proofs.Prelude.{chars, LeavesOnly, MeantAtEntry, OpenFault}
-use Rattle.conf_tools.specs.{Exports.HasNoText, Exports.HasText, Exports.LastsOrTells, Exports.TellsExport, Exports.TellsReadAlone}
-use Rattle.conf_tools.specs.{Exports.disk_back, Stores.CannotOpen}
-use Rattle.conf_tools.proofs.ExportLemmas.{alone-told, lasting-since, leaves-since, opened-finds, quiet-since, refused-since, text-since}
+use Rattle.std.{proofs.Common.{◌≡◌, ◌⊎◌, inl, refl, sym, subst, string_bytes}, specs.Prelude.IfOk}
+use Rattle.conf_tools.proofs.{Prelude.{chars, LeavesOnly, MeantAtEntry, OpenFault}, ExportLemmas.{alone-told, lasting-since, leaves-since}}
+use Rattle.conf_tools.{proofs.ExportLemmas.{opened-finds, quiet-since, refused-since, text-since}, specs.Exports.{HasNoText, HasText}}
+use Rattle.conf_tools.specs.{Exports.{LastsOrTells, TellsExport, TellsReadAlone, disk_back}, Stores.CannotOpen}
 use Rattle.conf_tools.proofs.exports.open_text.Goals as goal
 
 pub returns-in-Err-default-Device-clause-ok : goal.returns-in-Err-default-Device-clause-ok

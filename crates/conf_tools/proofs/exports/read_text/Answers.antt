@@ -1,9 +1,7 @@
 -- What was read is what the file holds, and a read changes nothing.
 use Rattle.std.specs.Prelude.{string_bytes}
-use Rattle.conf_tools.proofs.Prelude.{chars}
-use Rattle.conf_store.specs.Holes.{is_several}
+use Rattle.{conf_tools.proofs.{Prelude.chars, ExportLemmas.{lacks-read, text-read}}, conf_store.specs.Holes.is_several}
 use Rattle.conf_store.proofs.FileLemmas.{read-stays}
-use Rattle.conf_tools.proofs.ExportLemmas.{lacks-read, text-read}
 use Rattle.conf_tools.proofs.exports.read_text.Goals as goal
 
 pub returns-in-Ok-text_in-clause-ok : goal.returns-in-Ok-text_in-clause-ok

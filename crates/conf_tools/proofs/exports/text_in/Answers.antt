@@ -1,11 +1,8 @@
 -- A missing file means the empty state, and bytes that were read the state of the file.
-use Rattle.std.proofs.Common.{◌≡◌, ◌∙◌, ◌⊎◌, Err, subst, string_bytes}
-use Rattle.std.specs.Prelude.{IfErr, IfOk}
-use Rattle.conf_tools.proofs.Prelude.{chars, Tells, Content, store_limit, OutOfMemory, empty_state}
-use Rattle.conf_store.specs.Holes.{is_several}
-use Rattle.conf_tools.specs.{Exports.IsTextOfFound, Reads.tree_or}
-use Rattle.conf_tools.proofs.ExportLemmas.{bytes-mean, bytes-none, found-named, missing-means, exports-none, exports-text}
-use Rattle.conf_tools.proofs.HeldLemmas.{tree_lent}
+use Rattle.std.{proofs.Common.{◌≡◌, ◌∙◌, ◌⊎◌, Err, subst, string_bytes}, specs.Prelude.{IfErr, IfOk}}
+use Rattle.conf_tools.proofs.{Prelude.{chars, Tells, Content, store_limit, OutOfMemory, empty_state}, ExportLemmas.{bytes-mean, bytes-none}}
+use Rattle.conf_tools.proofs.{ExportLemmas.{found-named, missing-means, exports-none, exports-text}, HeldLemmas.tree_lent}
+use Rattle.{conf_tools.specs.{Exports.IsTextOfFound, Reads.tree_or}, conf_store.specs.Holes.is_several}
 use Rattle.conf_tools.proofs.exports.text_in.Goals as goal
 
 pub returns-in-Missing-clause-ok : goal.returns-in-Missing-clause-ok

@@ -1,7 +1,6 @@
 -- A text that is refused has no line, and of the lines of another only the first were written.
 use Rattle.std.proofs.Common.{ap}
-use Rattle.conf_tools.specs.FileTexts.{IsFileReport, file_report}
-use Rattle.conf_tools.proofs.{FileLemmas.no_style_of_file, PartLemmas.stops_in_file}
+use Rattle.conf_tools.{specs.FileTexts.{IsFileReport, file_report}, proofs.{FileLemmas.no_style_of_file, PartLemmas.stops_in_file}}
 use Rattle.conf_tools.proofs.file_texts.check_file.Goals as goal
 
 pub returns-in-Err-clause-stops : goal.returns-in-Err-clause-stops

@@ -1,8 +1,6 @@
 -- A text that is refused has no name written, and of the name of another only the first was.
-use Rattle.std.proofs.Common.{refl, rules, true}
-use Rattle.std.specs.Prelude.{string_bytes}
-use Rattle.conf_tools.specs.FileTexts.{IsNameLine, name_line}
-use Rattle.conf_tools.proofs.{FileLemmas.no_style, PartLemmas.stops_naming}
+use Rattle.std.{proofs.Common.{refl, rules, true}, specs.Prelude.string_bytes}
+use Rattle.conf_tools.{specs.FileTexts.{IsNameLine, name_line}, proofs.{FileLemmas.no_style, PartLemmas.stops_naming}}
 use Rattle.conf_tools.proofs.file_texts.list_changed.Goals as goal
 
 pub returns-in-Err-clause-stops : goal.returns-in-Err-clause-stops

@@ -1,11 +1,7 @@
 -- One more line is written, or the first of it.
-use Rattle.std.proofs.Common.{◌∙◌}
-use Rattle.std.proofs.lemmas.List.{drop_all}
-use Rattle.conf_tools.proofs.Prelude.{drop_more}
-use Rattle.conf_tools.specs.FileTexts.{file_report}
-use Rattle.conf_tools.proofs.Formatting.{then_kept}
-use Rattle.conf_tools.proofs.{FileLemmas.all_lines, FileLemmas.line_cut, FileLemmas.lines_before, FileLemmas.one_line_written}
-use Rattle.conf_tools.proofs.PartLemmas.{part_whole}
+use Rattle.std.proofs.{Common.◌∙◌, lemmas.List.drop_all}
+use Rattle.conf_tools.proofs.{Prelude.drop_more, Formatting.then_kept, FileLemmas.{all_lines, line_cut, lines_before, one_line_written}}
+use Rattle.conf_tools.{proofs.PartLemmas.part_whole, specs.FileTexts.file_report}
 use Rattle.conf_tools.proofs.file_texts.write_file_report.Goals as goal
 
 pub loop-finding-preserved : goal.loop-finding-preserved

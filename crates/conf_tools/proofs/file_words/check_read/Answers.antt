@@ -1,7 +1,6 @@
 -- The text that was read is the one whose findings were written.
 use Rattle.std.proofs.Common.{subst}
-use Rattle.conf_tools.specs.TextWords.{SaysChecked}
-use Rattle.conf_tools.proofs.OutcomeLemmas.{check_told}
+use Rattle.conf_tools.{specs.TextWords.SaysChecked, proofs.OutcomeLemmas.check_told}
 use Rattle.conf_tools.proofs.file_words.check_read.Goals as goal
 
 pub returns-in-Ok-clause-checks : goal.returns-in-Ok-clause-checks

@@ -1,6 +1,5 @@
 -- Of a text that was written, no more is told.
-use Rattle.conf_tools.specs.declared.reporter.Origin.TheVariants.{Named}
-use Rattle.conf_tools.proofs.OutcomeLemmas.{loss_then}
+use Rattle.conf_tools.{specs.declared.reporter.Origin.TheVariants.Named, proofs.OutcomeLemmas.loss_then}
 use Rattle.conf_tools.proofs.file_words.format_file.Goals as goal
 
 pub returns-clause-told : goal.returns-clause-told

@@ -1,7 +1,6 @@
 -- The text that was read is the one that was written.
 use Rattle.std.proofs.Common.{subst}
-use Rattle.conf_tools.specs.{Losses.TellsLossOr, TextWords.SaysStyled}
-use Rattle.conf_tools.proofs.OutcomeLemmas.{format_told}
+use Rattle.conf_tools.{specs.{Losses.TellsLossOr, TextWords.SaysStyled}, proofs.OutcomeLemmas.format_told}
 use Rattle.conf_tools.proofs.file_words.format_read.Goals as goal
 
 pub returns-in-Ok-clause-formats : goal.returns-in-Ok-clause-formats

@@ -1,8 +1,6 @@
 -- One more file.
-use Rattle.std.proofs.Common.{ap}
-use Rattle.std.specs.Prelude.{map}
-use Rattle.conf_tools.proofs.Prelude.{drop_more}
-use Rattle.conf_tools.proofs.{OutcomeLemmas.worst_silently, TellingLemmas.one_restyled, TellingLemmas.restyled_silent}
+use Rattle.std.{proofs.Common.ap, specs.Prelude.map}
+use Rattle.conf_tools.proofs.{Prelude.drop_more, OutcomeLemmas.worst_silently, TellingLemmas.{one_restyled, restyled_silent}}
 use Rattle.conf_tools.proofs.WordLemmas.{one_replaced}
 use Rattle.conf_tools.proofs.file_words.replace_files.Goals as goal
 

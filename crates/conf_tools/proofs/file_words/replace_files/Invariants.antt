@@ -1,8 +1,6 @@
 -- Whatever the files that are left lead to, is what all files lead to.
-use Rattle.std.proofs.Common.{drop}
-use Rattle.std.specs.Prelude.{map}
-use Rattle.conf_tools.specs.Outcomes.{SilentIfDone}
-use Rattle.conf_tools.proofs.{TellingLemmas.LeadsRestyled, WordLemmas.LeadsOnward}
+use Rattle.std.{proofs.Common.drop, specs.Prelude.map}
+use Rattle.conf_tools.{specs.Outcomes.SilentIfDone, proofs.{TellingLemmas.LeadsRestyled, WordLemmas.LeadsOnward}}
 use Rattle.conf_tools.proofs.file_words.replace_files.Given as goal
 
 abbrev pub invariant-loop-file : goal.invariant-loop-file

@@ -1,7 +1,6 @@
 -- The text that was read is the one that is replaced.
 use Rattle.std.proofs.Common.{refl, subst}
-use Rattle.conf_tools.specs.TextWords.{SaysRestyled}
-use Rattle.conf_tools.proofs.TellingLemmas.{ended_told}
+use Rattle.conf_tools.{specs.TextWords.SaysRestyled, proofs.TellingLemmas.ended_told}
 use Rattle.conf_tools.proofs.file_words.replace_read.Goals as goal
 
 pub returns-in-Ok : goal.returns-in-Ok

@@ -1,8 +1,6 @@
 -- The text that was read is the one that is reported on.
-use Rattle.std.proofs.Common.{subst}
-use Rattle.std.specs.Prelude.{Some}
-use Rattle.conf_tools.specs.{Telling.TellsReportOn, TextWords.SaysReport, TextWords.shown_name}
-use Rattle.conf_tools.proofs.TellingLemmas.{report_told}
+use Rattle.std.{proofs.Common.subst, specs.Prelude.Some}
+use Rattle.conf_tools.{specs.{Telling.TellsReportOn, TextWords.{SaysReport, shown_name}}, proofs.TellingLemmas.report_told}
 use Rattle.conf_tools.proofs.file_words.report_on_read.Goals as goal
 
 pub returns-in-Ok-clause-reports : goal.returns-in-Ok-clause-reports

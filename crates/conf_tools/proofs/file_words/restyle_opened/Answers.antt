@@ -1,6 +1,5 @@
 -- The file was opened, and read, or not.
-use Rattle.std.proofs.Common.{◌∙◌, ap, refl, subst}
-use Rattle.std.specs.Prelude.{Some, Ok, Err}
+use Rattle.std.{proofs.Common.{◌∙◌, ap, refl, subst}, specs.Prelude.{Some, Ok, Err}}
 use Rattle.conf_tools.specs.{Refused.TellsFaultOf, Statuses.status_of, declared.texts.ToolFault.ToolFault}
 use Rattle.conf_tools.proofs.file_words.restyle_opened.Goals as goal
 

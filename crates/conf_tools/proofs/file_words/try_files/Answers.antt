@@ -1,10 +1,7 @@
 -- One more file.
-use Rattle.std.proofs.Common.{ap, sym, ◌∙◌}
-use Rattle.std.specs.Prelude.{map}
-use Rattle.conf_tools.proofs.Prelude.{drop_more}
-use Rattle.conf_tools.specs.TextWords.{status_of_report}
-use Rattle.conf_tools.proofs.{OutcomeLemmas.worst_silently, TellingLemmas.last_told, TellingLemmas.one_told}
-use Rattle.conf_tools.proofs.{TellingLemmas.reported_silent, WordLemmas.last_one, WordLemmas.one_more}
+use Rattle.std.{proofs.Common.{ap, sym, ◌∙◌}, specs.Prelude.map}
+use Rattle.conf_tools.proofs.{Prelude.drop_more, OutcomeLemmas.worst_silently, TellingLemmas.{last_told, one_told, reported_silent}}
+use Rattle.conf_tools.{proofs.WordLemmas.{last_one, one_more}, specs.TextWords.status_of_report}
 use Rattle.conf_tools.proofs.file_words.try_files.Goals as goal
 
 pub returns-then-stops_all-clause-reports : goal.returns-then-stops_all-clause-reports

@@ -1,8 +1,6 @@
 -- Whatever the files that are left lead to, is what all files lead to.
-use Rattle.std.proofs.Common.{drop}
-use Rattle.std.specs.Prelude.{map}
-use Rattle.conf_tools.specs.{Outcomes.SilentIfDone, Worlds.around}
-use Rattle.conf_tools.proofs.{TellingLemmas.LeadsTold, WordLemmas.LeadsOn}
+use Rattle.std.{proofs.Common.drop, specs.Prelude.map}
+use Rattle.conf_tools.{specs.{Outcomes.SilentIfDone, Worlds.around}, proofs.{TellingLemmas.LeadsTold, WordLemmas.LeadsOn}}
 use Rattle.conf_tools.proofs.file_words.try_files.Given as goal
 
 abbrev pub invariant-loop-file : goal.invariant-loop-file

@@ -1,7 +1,6 @@
 -- An opening keeps no more bytes than there are.
 use Rattle.std.proofs.Common.{◌≤◌, length, subst}
-use Rattle.conf_store.specs.Holes.{is_several}
-use Rattle.conf_tools.proofs.KeepingLemmas.{kept-within}
+use Rattle.{conf_store.specs.Holes.is_several, conf_tools.proofs.KeepingLemmas.kept-within}
 use Rattle.conf_tools.proofs.keeping.read_store.Goals as goal
 
 pub returns-in-Ok-find_in_store-clause-within : goal.returns-in-Ok-find_in_store-clause-within

@@ -1,8 +1,7 @@
 -- The word was performed, and then its ending was told.
 use Rattle.std.proofs.Common.{◌≡◌, ◌⊎◌, ◌∙◌, ap, inl, inr, subst}
-use Rattle.conf_tools.specs.{Sentences.HasSentence, Statuses.code_of, declared.outcome.Ending.Ending}
-use Rattle.conf_tools.specs.{declared.program.Status.Status, declared.program.Status.TheVariants.Device}
-use Rattle.conf_tools.proofs.StoreLemmas.{performs-on-stores}
+use Rattle.conf_tools.specs.{Sentences.HasSentence, Statuses.code_of, declared.{outcome.Ending.Ending, program.Status.Status}}
+use Rattle.conf_tools.{specs.declared.program.Status.TheVariants.Device, proofs.StoreLemmas.performs-on-stores}
 use Rattle.conf_tools.proofs.program.perform.Goals as goal
 
 -- what follows the ending: a sentence, and why a device failed

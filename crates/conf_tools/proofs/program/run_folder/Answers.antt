@@ -1,6 +1,5 @@
 -- The disk was opened, used and given back.
-use Rattle.std.proofs.Common.{inl, inr, refl}
-use Rattle.std.specs.Prelude.{None}
+use Rattle.std.{proofs.Common.{inl, inr, refl}, specs.Prelude.None}
 use Rattle.conf_tools.proofs.OutcomeLemmas.{session_told}
 use Rattle.conf_tools.proofs.program.run_folder.Goals as goal
 

@@ -31,3 +31,7 @@ returns-in-Log g c = let e = c.write_log-ended.ensures in rw (c.in-Log.is) (reco
 pub returns-in-Survey : goal.returns-in-Survey
 returns-in-Survey g c = let e = c.write_survey-ended.ensures in rw (c.in-Survey.is)
     (record { result = c.write_survey-ended.result; ends = c.outcome_of_survey.ensures; done = e.ok; refused = e.refused })
+
+pub returns-in-Diff : goal.returns-in-Diff
+returns-in-Diff g c = let e = c.write_diff-ended.ensures in rw (c.in-Diff.is)
+    (record { result = c.write_diff-ended.result; ends = c.outcome_of_diff.ensures; done = e.ok; refused = e.refused })

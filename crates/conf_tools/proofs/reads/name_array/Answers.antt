@@ -1,6 +1,5 @@
 -- The array and its line feed are put one after the other.
-use Rattle.std.proofs.Common.{[], codes, string_bytes}
-use Rattle.std.specs.Prelude.{map}
+use Rattle.std.{proofs.Common.{[], codes, string_bytes}, specs.Prelude.map}
 use Rattle.conf_tools.proofs.Prelude.{text_of, json_texts, encoded_both}
 use Rattle.conf_tools.proofs.reads.name_array.Goals as goal
 

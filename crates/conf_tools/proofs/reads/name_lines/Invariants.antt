@@ -1,8 +1,6 @@
 -- The lines so far, and then those of the names that are left, are all of them.
-use Rattle.std.proofs.Common.{◌≡◌, ◌++◌, drop}
-use Rattle.std.specs.Prelude.{map}
-use Rattle.conf_tools.proofs.Prelude.{text_of}
-use Rattle.conf_tools.specs.Reads.{name_lines}
+use Rattle.std.{proofs.Common.{◌≡◌, ◌++◌, drop}, specs.Prelude.map}
+use Rattle.conf_tools.{proofs.Prelude.text_of, specs.Reads.name_lines}
 use Rattle.conf_tools.proofs.reads.name_lines.Given as goal
 
 abbrev pub invariant-loop-name : goal.invariant-loop-name

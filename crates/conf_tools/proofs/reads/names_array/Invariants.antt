@@ -1,8 +1,6 @@
 -- Whatever follows, the array with the names that are left is that of all of them.
-use Rattle.std.proofs.Common.{◌≡◌, drop}
-use Rattle.std.specs.Prelude.{encode_utf8_all, map}
-use Rattle.conf_tools.proofs.Prelude.{text_of, json_texts}
-use Rattle.yaml_forms.specs.TextArrays.{bytes_with}
+use Rattle.std.{proofs.Common.{◌≡◌, drop}, specs.Prelude.{encode_utf8_all, map}}
+use Rattle.{conf_tools.proofs.Prelude.{text_of, json_texts}, yaml_forms.specs.TextArrays.bytes_with}
 use Rattle.conf_tools.proofs.reads.names_array.Given as goal
 
 abbrev pub invariant-loop-name : goal.invariant-loop-name

@@ -1,7 +1,5 @@
 -- Nothing is there, or it can't be told, by the fault that ended the look.
-use Rattle.conf_tools.proofs.Prelude.{chars}
-use Rattle.conf_tools.specs.Reads.{tree_found, value_in}
-use Rattle.conf_tools.proofs.FoundLemmas.{presence-hidden, presence-told}
+use Rattle.conf_tools.{proofs.{Prelude.chars, FoundLemmas.{presence-hidden, presence-told}}, specs.Reads.{tree_found, value_in}}
 use Rattle.conf_tools.proofs.reads.presence_in.Goals as goal
 
 pub returns-in-Err-clause-ok : goal.returns-in-Err-clause-ok

@@ -1,7 +1,6 @@
 -- A value in a configuration is no deeper than what is written.
 use Rattle.std.proofs.Common.{subst, sym}
-use Rattle.conf_tools.proofs.Prelude.{IsKept, tree_of}
-use Rattle.conf_tools.proofs.ReadLemmas.{value-shallow}
+use Rattle.conf_tools.proofs.{Prelude.{IsKept, tree_of}, ReadLemmas.value-shallow}
 use Rattle.yaml_data.specs.declared.tree.Tree as code
 use Rattle.conf_tools.proofs.reads.value_at.Goals as goal
 

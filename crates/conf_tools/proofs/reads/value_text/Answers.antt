@@ -1,8 +1,7 @@
 -- What was found is shown, or what stands for it.
 use Rattle.std.proofs.Common.{string_bytes}
-use Rattle.conf_tools.proofs.Prelude.{chars, tree_of}
-use Rattle.conf_tools.specs.Reads.{tree_found, value_in}
-use Rattle.conf_tools.proofs.FoundLemmas.{found-lacks-all, found-shown-all, missing-lacks-all, missing-shown-all}
+use Rattle.conf_tools.proofs.{Prelude.{chars, tree_of}, FoundLemmas.{found-lacks-all, found-shown-all, missing-lacks-all}}
+use Rattle.conf_tools.{proofs.FoundLemmas.missing-shown-all, specs.Reads.{tree_found, value_in}}
 use Rattle.conf_tools.proofs.reads.value_text.Goals as goal
 
 pub returns-in-Ok-clause-ok : goal.returns-in-Ok-clause-ok

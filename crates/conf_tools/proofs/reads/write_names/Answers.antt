@@ -1,8 +1,6 @@
 -- Only the first of the names were written.
-use Rattle.std.proofs.Common.{ap, subst, ◌∙◌}
-use Rattle.std.specs.Prelude.{map}
-use Rattle.conf_tools.proofs.Prelude.{text_of}
-use Rattle.conf_tools.specs.{Parts.WritesPart, Reads.names_text}
+use Rattle.std.{proofs.Common.{ap, subst, ◌∙◌}, specs.Prelude.map}
+use Rattle.conf_tools.{proofs.Prelude.text_of, specs.{Parts.WritesPart, Reads.names_text}}
 use Rattle.conf_tools.proofs.reads.write_names.Goals as goal
 
 pub returns-clause-refused : goal.returns-clause-refused

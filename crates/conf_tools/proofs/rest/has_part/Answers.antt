@@ -1,7 +1,6 @@
 -- The part does not stand at this place, so it stands further on or nowhere.
 use Rattle.std.proofs.Common.{◌≡◌, List, ℕ, false, ◌==◌, ◌∙◌, sym, subst, rules}
-use Rattle.conf_tools.proofs.Prelude.{take_rest, starts_with}
-use Rattle.conf_tools.proofs.TailLemmas.{one_byte_on}
+use Rattle.conf_tools.proofs.{Prelude.{take_rest, starts_with}, TailLemmas.one_byte_on}
 use Rattle.conf_tools.proofs.rest.has_part.Goals as goal
 
 pub loop-at-preserved : goal.loop-at-preserved

@@ -1,9 +1,7 @@
 -- What the session left is what the closed store hands back.
 use Rattle.std.proofs.Common.{inl, sym, subst}
-use Rattle.conf_tools.proofs.Prelude.{streams_of}
-use Rattle.conf_session.specs.Handings.{handings_of}
-use Rattle.conf_tools.specs.Stores.{AnswersOn, KeepsAnswered}
-use Rattle.conf_tools.proofs.SessionLemmas.{answers-on, keeps-answered, opened-after, runs-after, survives-after}
+use Rattle.conf_tools.proofs.{Prelude.streams_of, SessionLemmas.{answers-on, keeps-answered, opened-after, runs-after, survives-after}}
+use Rattle.{conf_tools.specs.Stores.{AnswersOn, KeepsAnswered}, conf_session.specs.Handings.handings_of}
 use Rattle.conf_tools.proofs.stores.run_store.Goals as goal
 
 pub returns-clause-runs : goal.returns-clause-runs

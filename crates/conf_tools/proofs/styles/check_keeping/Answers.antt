@@ -1,7 +1,6 @@
 -- The text that was formatted is UTF-8 and short, and was compared with what it is with its comments.
 use Rattle.std.proofs.Common.{◌≡◌, ◌≤◌, ℕ, List, length, sym, ap, subst, ◌∙◌, string_bytes}
-use Rattle.conf_tools.proofs.Prelude.{chars, config_limits}
-use Rattle.yaml_style.specs.Findings.{findings}
+use Rattle.{conf_tools.proofs.Prelude.{chars, config_limits}, yaml_style.specs.Findings.findings}
 use Rattle.yaml_writer.proofs.ByteLemmas.{byte_len-chars}
 use Rattle.conf_tools.proofs.styles.check_keeping.Goals as goal
 

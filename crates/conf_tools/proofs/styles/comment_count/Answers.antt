@@ -1,7 +1,6 @@
 -- As many as were found.
 use Rattle.std.proofs.Common.{arith}
-use Rattle.yaml_comments.specs.Found.{places_of}
-use Rattle.conf_tools.proofs.StyleLemmas.{places_length}
+use Rattle.{yaml_comments.specs.Found.places_of, conf_tools.proofs.StyleLemmas.places_length}
 use Rattle.conf_tools.proofs.styles.comment_count.Goals as goal
 
 pub comments_of-requires : goal.comments_of-requires

@@ -1,8 +1,6 @@
 -- The findings are those beside the style that was asked for.
-use Rattle.std.proofs.Common.{ℕ}
-use Rattle.std.specs.Prelude.{Vec}
-use Rattle.conf_words.specs.declared.invocation.Style.TheVariants.{Bare}
-use Rattle.conf_tools.specs.Prelude.{Finding, Global}
+use Rattle.std.{proofs.Common.ℕ, specs.Prelude.Vec}
+use Rattle.{conf_words.specs.declared.invocation.Style.TheVariants.Bare, conf_tools.specs.Prelude.{Finding, Global}}
 use Rattle.conf_tools.proofs.StyleLemmas.{findings_give}
 use Rattle.conf_tools.proofs.styles.findings_in.Goals as goal
 

@@ -1,7 +1,6 @@
 -- The text is in the style that was asked for.
 use Rattle.std.specs.Prelude.{string_bytes}
-use Rattle.conf_words.specs.declared.invocation.Style.TheVariants.{Bare, WithComments}
-use Rattle.conf_tools.proofs.StyleLemmas.{styled_gives}
+use Rattle.{conf_words.specs.declared.invocation.Style.TheVariants.{Bare, WithComments}, conf_tools.proofs.StyleLemmas.styled_gives}
 use Rattle.conf_tools.proofs.styles.styled_text.Goals as goal
 
 pub returns-in-Bare-clause-ok : goal.returns-in-Bare-clause-ok

@@ -1,6 +1,5 @@
 -- What was found is what was written; or why it was not.
-use Rattle.conf_store.specs.Holes.{is_several}
-use Rattle.conf_tools.proofs.ReadLemmas.{cannot_write}
+use Rattle.{conf_store.specs.Holes.is_several, conf_tools.proofs.ReadLemmas.cannot_write}
 use Rattle.conf_tools.proofs.surveys.write_survey.Goals as goal
 
 pub returns-in-Ok-write_findings-clause-ok : goal.returns-in-Ok-write_findings-clause-ok

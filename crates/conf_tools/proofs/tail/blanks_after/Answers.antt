@@ -1,8 +1,6 @@
 -- The byte before the blank ones is not blank.
 use Rattle.std.proofs.Common.{◌≡◌, ◌+◌, ◌-◌, ◌^◌, ◌≤◌, length, get_or, false, rules, arith}
-use Rattle.conf_tools.proofs.Prelude.{common_steps}
-use Rattle.conf_tools.specs.Tails.{is_blank}
-use Rattle.conf_tools.proofs.TailLemmas.{last_not_blank}
+use Rattle.conf_tools.{proofs.{Prelude.common_steps, TailLemmas.last_not_blank}, specs.Tails.is_blank}
 use Rattle.conf_tools.proofs.tail.blanks_after.Goals as goal
 
 pub returns-then-not-is_blank : goal.returns-then-not-is_blank

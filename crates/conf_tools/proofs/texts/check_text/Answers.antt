@@ -1,7 +1,6 @@
 -- Nothing is written of a text that is refused, and else the lines of its findings.
 use Rattle.std.proofs.Common.{subst, ap, ◌∙◌}
-use Rattle.conf_tools.specs.{Parts.WritesPart, Tools.IsReport, Tools.report}
-use Rattle.conf_tools.proofs.FileLemmas.{no_style}
+use Rattle.conf_tools.{specs.{Parts.WritesPart, Tools.{IsReport, report}}, proofs.FileLemmas.no_style}
 use Rattle.conf_tools.proofs.texts.check_text.Goals as goal
 
 pub returns-in-Err-clause-stops : goal.returns-in-Err-clause-stops

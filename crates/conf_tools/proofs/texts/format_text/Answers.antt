@@ -1,9 +1,6 @@
 -- Nothing is written of a text that is refused, and else what it is in the style.
-use Rattle.std.proofs.Common.{subst}
-use Rattle.std.specs.Prelude.{string_bytes}
-use Rattle.conf_tools.proofs.Prelude.{Appends}
-use Rattle.conf_tools.specs.{Parts.WritesPart, Styles.IsStyled}
-use Rattle.conf_tools.proofs.FileLemmas.{no_style}
+use Rattle.std.{proofs.Common.subst, specs.Prelude.string_bytes}
+use Rattle.conf_tools.{proofs.{Prelude.Appends, FileLemmas.no_style}, specs.{Parts.WritesPart, Styles.IsStyled}}
 use Rattle.conf_tools.proofs.texts.format_text.Goals as goal
 
 pub returns-in-Err-clause-stops : goal.returns-in-Err-clause-stops

@@ -1,6 +1,5 @@
 -- What was written is kept by the flush.
-use Rattle.conf_tools.proofs.Formatting.{then_kept}
-use Rattle.conf_tools.proofs.PartLemmas.{part_whole}
+use Rattle.conf_tools.proofs.{Formatting.then_kept, PartLemmas.part_whole}
 use Rattle.conf_tools.proofs.texts.write_whole.Goals as goal
 
 pub returns-in-Ok-flush-clause-ok : goal.returns-in-Ok-flush-clause-ok

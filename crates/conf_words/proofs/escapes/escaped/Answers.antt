@@ -1,11 +1,8 @@
 -- One more character, and the end of the text.
 use Rattle.std.proofs.Common.{[], ◌∷◌, ◌++◌, length, drop, sym, ap, ◌∙◌, arith, append-nil, string_bytes, encode_utf8_all}
-use Rattle.std.proofs.lemmas.Iterator.{YieldsList-from_chars}
-use Rattle.std.proofs.lemmas.Iterator.Consumers.{YieldsList-turn, YieldsList-end}
-use Rattle.std.proofs.lemmas.List.{at_drop_all, length_push}
-use Rattle.std.specs.Str.{chars}
-use Rattle.conf_words.specs.Escapes.{escaped, escaped_char}
-use Rattle.conf_words.proofs.EscapeLemmas.{appended, first_escaped}
+use Rattle.std.proofs.lemmas.{Iterator.{YieldsList-from_chars, Consumers.{YieldsList-turn, YieldsList-end}}, List.at_drop_all}
+use Rattle.std.{proofs.lemmas.List.length_push, specs.Str.chars}
+use Rattle.conf_words.{specs.Escapes.{escaped, escaped_char}, proofs.EscapeLemmas.{appended, first_escaped}}
 use Rattle.conf_words.proofs.escapes.escaped.Goals as goal
 
 pub loop-c-preserved : goal.loop-c-preserved

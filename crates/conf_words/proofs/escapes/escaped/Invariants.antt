@@ -1,6 +1,5 @@
 -- What is left, escaped, ends what was appended so far to what all of it is.
-use Rattle.std.proofs.Common.{◌≡◌, ◌++◌, length, drop, string_bytes, encode_utf8_all}
-use Rattle.std.specs.Str.{chars}
+use Rattle.std.{proofs.Common.{◌≡◌, ◌++◌, length, drop, string_bytes, encode_utf8_all}, specs.Str.chars}
 use Rattle.conf_words.specs.Escapes.{escaped}
 use Rattle.conf_words.proofs.escapes.escaped.Given as goal
 

@@ -1,7 +1,5 @@
 -- What is left of the escape ends what was appended so far to the whole of it.
-use Rattle.std.proofs.Common.{◌≡◌, ◌++◌, string_bytes, encode_utf8_all}
-use Rattle.std.specs.Char.Escape.{escape_default}
-use Rattle.std.specs.Char.Iter.{escape_rest}
+use Rattle.std.{proofs.Common.{◌≡◌, ◌++◌, string_bytes, encode_utf8_all}, specs.Char.{Escape.escape_default, Iter.escape_rest}}
 use Rattle.conf_words.proofs.escapes.push_escaped.Given as goal
 
 abbrev pub invariant-loop-part : goal.invariant-loop-part

@@ -1,8 +1,6 @@
 -- No file that is replaced is standard input.
-use Rattle.std.proofs.Common.{map, sym, ap, ◌∙◌}
-use Rattle.std.specs.Prelude.{is_some}
-use Rattle.conf_words.specs.Invocations.{files_are_wrong}
-use Rattle.conf_words.proofs.NameLemmas.{wrong_if_found}
+use Rattle.std.{proofs.Common.{map, sym, ap, ◌∙◌}, specs.Prelude.is_some}
+use Rattle.conf_words.{specs.Invocations.files_are_wrong, proofs.NameLemmas.wrong_if_found}
 use Rattle.conf_words.proofs.text_words.why_not.Goals as goal
 
 pub returns-in-InPlace-2 : goal.returns-in-InPlace-2

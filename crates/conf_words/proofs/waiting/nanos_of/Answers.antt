@@ -1,8 +1,6 @@
 -- What stands on both sides of the point.
-use Rattle.std.proofs.Common.{Some, None, arith, ap, ◌∙◌, rules}
-use Rattle.std.proofs.lemmas.Str.Pattern.{split_parts}
-use Rattle.command_line.specs.Looks.{before_byte, behind_byte}
-use Rattle.command_line.proofs.LookLemmas.{before_at, before_none, behind_at, behind_none}
+use Rattle.std.proofs.{Common.{Some, None, arith, ap, ◌∙◌, rules}, lemmas.Str.Pattern.split_parts}
+use Rattle.command_line.{specs.Looks.{before_byte, behind_byte}, proofs.LookLemmas.{before_at, before_none, behind_at, behind_none}}
 use Rattle.conf_words.proofs.waiting.nanos_of.Goals as goal
 
 pub returns-in-Some : goal.returns-in-Some

@@ -1,6 +1,5 @@
 -- What std reads a text as.
-use Rattle.std.proofs.Common.{◌^◌}
-use Rattle.std.specs.Str.Parse.{without_leading_plus}
+use Rattle.std.{proofs.Common.◌^◌, specs.Str.Parse.without_leading_plus}
 use Rattle.command_line.proofs.NumberLemmas.{read_as, read_as_none}
 use Rattle.conf_words.proofs.waiting.parsed.Goals as goal
 

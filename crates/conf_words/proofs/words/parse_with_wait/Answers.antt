@@ -1,8 +1,6 @@
 -- Words that come to no invocation.
-use Rattle.std.proofs.Common.{map, rules, string_bytes}
-use Rattle.std.specs.Prelude.{option_map}
-use Rattle.command_line.specs.Rows.{row_of}
-use Rattle.conf_words.proofs.OutcomeLemmas.{refused_given, refused_read}
+use Rattle.std.{proofs.Common.{map, rules, string_bytes}, specs.Prelude.option_map}
+use Rattle.{command_line.specs.Rows.row_of, conf_words.proofs.OutcomeLemmas.{refused_given, refused_read}}
 use Rattle.conf_words.proofs.words.parse_with_wait.Goals as goal
 
 pub returns-in-Err : goal.returns-in-Err

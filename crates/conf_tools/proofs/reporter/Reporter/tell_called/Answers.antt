@@ -1,6 +1,5 @@
 -- Each fault is told in its own line.
-use Rattle.conf_tools.specs.declared.texts.ToolFault.TheVariants.{Input, Output, Unsettled}
-use Rattle.conf_tools.proofs.TellingLemmas.{called_plainly}
+use Rattle.conf_tools.{specs.declared.texts.ToolFault.TheVariants.{Input, Output, Unsettled}, proofs.TellingLemmas.called_plainly}
 use Rattle.conf_tools.proofs.reporter.Reporter.tell_called.Goals as goal
 
 pub returns-in-Input : goal.returns-in-Input

@@ -1,6 +1,5 @@
 -- The place is that of the first comment.
-use Rattle.std.proofs.Common.{[], refl}
-use Rattle.std.specs.Prelude.{Some}
+use Rattle.std.{proofs.Common.{[], refl}, specs.Prelude.Some}
 use Rattle.conf_tools.proofs.reporter.Reporter.tell_comments.Goals as goal
 
 pub returns : goal.returns

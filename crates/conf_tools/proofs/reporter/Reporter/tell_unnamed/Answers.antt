@@ -1,6 +1,5 @@
 -- What is told has the name of the fault.
-use Rattle.std.proofs.Common.{subst, codes}
-use Rattle.std.specs.Prelude.{None}
+use Rattle.std.{proofs.Common.{subst, codes}, specs.Prelude.None}
 use Rattle.conf_tools.specs.Refused.{refusal_line}
 use Rattle.conf_tools.proofs.reporter.Reporter.tell_unnamed.Goals as goal
 

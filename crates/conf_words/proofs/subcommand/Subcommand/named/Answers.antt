@@ -1,8 +1,6 @@
 -- All are sought through.
-use Rattle.std.proofs.Common.{rules}
-use Rattle.std.specs.Str.{bytes_eq}
-use Rattle.command_line.proofs.FindLemmas.{passed}
-use Rattle.conf_words.specs.Subcommands.{all, name_of, named}
+use Rattle.std.{proofs.Common.rules, specs.Str.bytes_eq}
+use Rattle.{command_line.proofs.FindLemmas.passed, conf_words.specs.Subcommands.{all, name_of, named}}
 use Rattle.conf_words.specs.declared.subcommand.Subcommand.TheVariants.{Init}
 use Rattle.conf_words.proofs.subcommand.Subcommand.named.Goals as goal
 
