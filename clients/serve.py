@@ -37,6 +37,9 @@ another folder or file stands in the place of the store (`serve_watch.py`), no m
 Those commands that the session has are performed and answered. For two seconds others are answered by
 `refused: Replaced`, and the status is 5.
 
+With `--check COMMAND` each change is first tried in a copy of the store, and COMMAND judges each configuration that it
+gives. One that is refused changes nothing (`serve_check.py`).
+
 With `--metrics` the server tells its health and counters (`serve_metrics.py`). A client that sends `watch: N` is told
 the changes from the number N on, as they are made (`serve_watch.py`).
 """
@@ -63,15 +66,15 @@ from typing import Callable, NamedTuple, Optional, Sequence
 sys.path.insert(0, os.path.dirname(os.path.realpath(__file__)))
 sys.dont_write_bytecode = True
 
+from serve_check import Check, Judge  # noqa: E402
+from serve_clients import LONGEST, Client, Places, Work  # noqa: E402
 from serve_metrics import Monitor, address, listening, mode_of  # noqa: E402
-from serve_socket import FAILED, PART, REPLACED, Fault, Listener, Pieces, Session, Signals  # noqa: E402
+from serve_socket import FAILED, PART, REPLACED, Fault, Listener, Session, Signals  # noqa: E402
 from serve_socket import clients_with_room, inside, may_write, open_standard_streams, peer_of, reason  # noqa: E402
 from serve_socket import say, shown, tell_manager  # noqa: E402
-from serve_watch import Store, Watcher, Watchers  # noqa: E402
+from serve_watch import Store, Watchers  # noqa: E402
 
-LONGEST = 16_777_216  # bytes of a command
 SESSION = 1_073_741_824  # bytes that a session takes
-MOST_DUE = 16  # commands of a client in the session
 MOST_UNSENT = 1_048_576  # bytes that wait to be sent to the session while more are put there
 GRACE = 10  # seconds until all clients have read their answers at the end
 REFUSES = 2  # seconds for which commands are refused where the store was replaced
@@ -80,13 +83,6 @@ STAY = 1  # seconds that each client is connected, whoever waits
 PAUSE = 0.02  # seconds between two tries to open the store again
 QUIET = 60  # seconds between two lines about the same lack
 FOREVER = 1e9  # seconds that no bound has
-
-# How commands begin whose answers are short, after `---`, and how many bytes are looked at for that.
-LOOKED_AT = 16
-SHORT = tuple(word + end for word in (b"set:", b"delete:", b"import:", b"batch:", b"if:") for end in (b" ", b"\n"))
-
-# What is answered where another store stands in the place of the one that the server holds.
-REFUSED = b"---\nrefused: Replaced\n...\n"
 
 READ, WRITE = selectors.EVENT_READ, selectors.EVENT_WRITE
 
@@ -101,195 +97,6 @@ class Bounds(NamedTuple):
     long_answers: int
     lock_wait: float
     renew_after: int
-
-
-def may_be_long(start: bytes) -> bool:
-    """Whether the answer to a command with this start may be long."""
-    return not start.removeprefix(b"---\n").startswith(SHORT)
-
-
-class Work:
-    """The clients that there is something to do for. Each turn goes over them, and not over all that are connected."""
-
-    def __init__(self) -> None:
-        self.changed: dict[Client, None] = {}  # who sent, got or read something since its events were watched
-        self.answered: dict[Client, None] = {}  # who got an answer that nothing was sent of yet
-        self.waiting: dict[Client, None] = {}  # who has a whole command that no session has, in order of their turns
-        self.watching: dict[Client, None] = {}  # who watches the store
-
-    def leave(self, client: Client) -> None:
-        for clients in (self.changed, self.answered, self.waiting, self.watching):
-            clients.pop(client, None)
-
-
-class Client:
-    """A client: what it sent and is not in the session, and what it has to read."""
-
-    def __init__(
-        self, connection: socket.socket, monitor: Monitor, work: Work, serve: Callable[[Client, int], None]
-    ) -> None:
-        self.connection = connection
-        self.monitor = monitor
-        self.work = work
-        self.descriptor = connection.fileno()
-        self.serve = lambda events: serve(self, events)
-        self.heard = Pieces()
-        self.may_hear = PART
-        self.unsaid = bytearray()
-        self.due = 0
-        self.waits_for_long = False
-        self.has_sent_all = False
-        self.is_gone = False
-        self.watcher: Optional[Watcher] = None
-        self.came = self.read_last = self.active = self.asked = time.monotonic()
-        self.has_changed()
-
-    def has_changed(self) -> None:
-        """Notes that the next turn has to look at it, and whether it has a command for the session."""
-        self.work.changed[self] = None
-        if self.heard.end:
-            self.work.waiting.setdefault(self)
-
-    def may_send(self) -> bool:
-        """Whether its next command may go to the session."""
-        is_free = not self.unsaid and not self.waits_for_long and self.watcher is None
-        return bool(self.heard.end) and is_free and self.due < MOST_DUE
-
-    def wants_long(self) -> bool:
-        """Whether the answer to its next command may be long."""
-        return may_be_long(bytes(self.heard.bytes[:LOOKED_AT]))
-
-    def next_command(self) -> bytearray:
-        self.waits_for_long = self.wants_long()
-        self.due += 1
-        self.may_hear = PART
-        command = self.heard.take()
-        del self.work.waiting[self]  # its next turn is behind those of the others
-        self.has_changed()
-        return command
-
-    def hear(self) -> bool:
-        """Takes what it sends. Whether it may go on."""
-        room = self.may_hear - len(self.heard.bytes)
-        if room <= 0 or self.has_sent_all:
-            return True
-        try:
-            part = self.connection.recv(min(PART, room))
-        except BlockingIOError:
-            return True
-        except OSError:
-            return False
-        self.has_sent_all = not part
-        self.heard.add(part)
-        self.has_changed()
-        self.monitor.received += len(part)
-        if self.heard.end:
-            self.active = self.asked = time.monotonic()  # all whole commands here came by now: none was here before
-        return not self.heard.is_longer_than(LONGEST)
-
-    def answer(self, answer: bytearray) -> None:
-        self.active = time.monotonic()
-        if not self.unsaid:
-            self.read_last = self.active
-            self.work.answered[self] = None
-        self.due -= 1
-        self.waits_for_long = False
-        self.unsaid = self.unsaid + answer if self.unsaid else answer
-
-    def tell(self, part: bytes) -> None:
-        """Gives it a part of what it watches."""
-        self.active = self.read_last = time.monotonic()
-        self.unsaid = bytearray(part)
-        self.has_changed()
-
-    def say(self) -> bool:
-        """Sends it what it takes now. Whether it may go on."""
-        self.has_changed()
-        try:
-            count = self.connection.send(self.unsaid)
-        except BlockingIOError:
-            return True
-        except OSError:
-            return False
-        del self.unsaid[:count]
-        self.monitor.sent += count
-        self.read_last = time.monotonic()
-        if not self.unsaid:
-            self.active = self.read_last
-        return True
-
-    def refuse_all(self) -> bool:
-        """Answers each whole command that has come, and that no session has, by the refusal of a store that is gone.
-        One that was refused is heard no more. Whether it may go on."""
-        goes_on = self.hear()
-        count = 0
-        while self.heard.end:
-            self.heard.take()
-            count += 1
-        if not self.unsaid:
-            self.read_last = time.monotonic()
-        self.unsaid = self.unsaid + REFUSED * count
-        self.has_sent_all = self.has_sent_all or count > 0
-        self.has_changed()
-        return goes_on
-
-    def leave(self) -> None:
-        """Ends the connection, and lets go of the memory."""
-        self.is_gone = True
-        self.connection.close()
-        self.heard, self.unsaid = Pieces(), bytearray()
-
-    def has_to_read(self) -> bool:
-        """Whether there is something that it has to be told before the end."""
-        return bool(self.unsaid) or (self.watcher is not None and self.watcher.has_to_end())
-
-    def is_done(self) -> bool:
-        if self.watcher is not None:
-            return not self.unsaid and (self.watcher.is_over or self.has_sent_all or bool(self.heard.end))
-        return self.has_sent_all and not self.unsaid and not self.due and not self.heard.end
-
-    def is_idle(self) -> bool:
-        """Whether the session has nothing to do for it."""
-        return not self.due and not self.heard.end
-
-    def needs_place(self) -> bool:
-        """Whether it has sent as much of a command as is kept of each client."""
-        return not self.heard.end and len(self.heard.bytes) >= self.may_hear and not self.has_sent_all
-
-    def events(self) -> int:
-        hears = not (self.has_sent_all or self.heard.end or self.unsaid) and len(self.heard.bytes) < self.may_hear
-        return (READ if hears else 0) | (WRITE if self.unsaid else 0)
-
-
-class Places:
-    """Places for so many clients at a time. The others wait for theirs, in order."""
-
-    def __init__(self, count: int) -> None:
-        self.count = count
-        self.since: dict[Client, float] = {}
-        self.waiting: dict[Client, None] = {}
-
-    def ask(self, client: Client) -> bool:
-        """Whether the client has a place. If not, it waits for one from now on."""
-        if client not in self.since:
-            self.waiting[client] = None
-        return client in self.since
-
-    def give(self) -> list[Client]:
-        """Those who have got a place just now."""
-        got = list(self.waiting)[: max(self.count - len(self.since), 0)]
-        for client in got:
-            del self.waiting[client]
-            self.since[client] = client.active = time.monotonic()
-        return got
-
-    def leave(self, client: Client) -> None:
-        self.since.pop(client, None)
-        self.waiting.pop(client, None)
-
-    def held(self) -> list[tuple[Client, float]]:
-        """Who has had a place since when, where others wait for one."""
-        return list(self.since.items()) if self.waiting else []
 
 
 class Server:
@@ -691,6 +498,75 @@ class Server:
             self.session.wait()
 
 
+class CheckedServer(Server):
+    """A server that has COMMAND judge each change before the session has it."""
+
+    def __init__(self, words: Sequence[str], store: Store, bounds: Bounds, signals: Signals, check: Check) -> None:
+        self.check = check
+        self.judge: Optional[Judge] = None  # once the first session has opened the store
+        super().__init__(words, store, bounds, signals)
+
+    def begin(self, *, is_barred: bool = False) -> None:
+        if self.judge is not None:
+            self.judge.restart()
+        super().begin(is_barred=is_barred)
+
+    def opens(self) -> bool:
+        """As of each server. The first time it also waits for the copy of the store in which changes are tried."""
+        if super().opens() and self.judge is None and not self.is_ending():
+            try:
+                self.judge = Judge(self.check, self.words[0], self.store, self.watch, self.monitor)
+            except OSError as error:
+                raise Fault(f"no changes can be judged: {reason(error)}: name a folder in TMPDIR") from None
+            self.judge.prepare()
+            while self.judge.steps is not None and not self.is_ending() and not self.session.is_over:
+                self.turn()
+            if self.judge.trouble:
+                raise Fault(f"no changes can be judged: {self.judge.trouble}: name a folder with room in TMPDIR")
+        return self.session.has_opened
+
+    def has_turn(self, client: Client) -> bool:
+        if self.judge is None or not self.judge.lets(client):
+            return False
+        if self.judge.changes(client):
+            return True  # its answer is short
+        goes = super().has_turn(client)
+        if goes:
+            self.judge.reading.discard(client)
+        return goes
+
+    def send_commands(self) -> None:
+        super().send_commands()
+        if self.judge is not None:
+            self.judge.note_sent()
+
+    def drop(self, client: Client) -> None:
+        super().drop(client)
+        if self.judge is not None:
+            self.judge.leave(client)
+
+    def turn(self) -> None:
+        if self.judge is not None:
+            if self.is_ending():
+                self.judge.drop()
+            else:
+                self.judge.heed(self.session.turns)
+                self.judge.turn()
+            if self.listener is not None:
+                self.tell_trouble(self.judge.trouble)
+        super().turn()
+
+    def tell_trouble(self, trouble: str) -> None:
+        self.monitor.lack = f"changes can't be judged: {trouble}" if trouble else ""
+        if trouble:
+            self.complain(f"{self.monitor.lack}: all are refused until they can be")
+
+    def close(self) -> None:
+        if self.judge is not None:
+            self.judge.close()
+        super().close()
+
+
 def count(text: str) -> int:
     number = int(text)
     if number < 1:
@@ -711,10 +587,13 @@ def arguments_of(words: Sequence[str]) -> argparse.Namespace:
     parser.add_argument("folder", metavar="FOLDER", help="the store")
     parser.add_argument("--checkpoint-after", metavar="BYTES", type=count, help="as for `confstore run --group`")
     told = "tell health and counters over HTTP: a Unix socket, with a slash, or 127.0.0.1:PORT"
+    judges = "have COMMAND judge what each change gives, on its standard input, before it is made (serve_check.py)"
+    parser.add_argument("--check", metavar="COMMAND", help=judges)
     parser.add_argument("--metrics", metavar="ADDRESS", type=address, help=told)
     mode = "the mode of that socket, as 0666 (default: those that may read the store may ask)"
     parser.add_argument("--metrics-mode", metavar="MODE", type=mode_of, help=mode)
     for word, kind, default, about in (
+        ("--check-timeout", seconds, 10, "how long COMMAND may judge one configuration"),
         ("--renew-after", count, SESSION, "start another session after so many bytes of commands"),
         ("--max-clients", count, 256, "clients at a time; others wait"),
         ("--max-wait", seconds, 10, "how long a client that is idle or slow may keep others waiting"),
@@ -742,8 +621,12 @@ def bounds_of(arguments: argparse.Namespace) -> Bounds:
     )  # fmt: skip
 
 
-def started(words: Sequence[str], store: Store, bounds: Bounds, signals: Signals) -> Server:
+def started(
+    words: Sequence[str], store: Store, bounds: Bounds, signals: Signals, check: Optional[Check]
+) -> Server:
     try:
+        if check is not None:
+            return CheckedServer(words, store, bounds, signals, check)
         return Server(words, store, bounds, signals)
     except OSError as error:
         remedy = "install it, or name it in CONFSTORE"
@@ -757,7 +640,8 @@ def run(arguments: argparse.Namespace, signals: Signals) -> int:
         listener.look()
         with contextlib.closing(Store(arguments.folder)) as store:
             with listening(arguments.metrics, arguments.metrics_mode, store.folder) as door:
-                server = started(words_of(arguments), store, bounds_of(arguments), signals)
+                check = Check(arguments.check, arguments.check_timeout) if arguments.check is not None else None
+                server = started(words_of(arguments), store, bounds_of(arguments), signals, check)
                 with contextlib.closing(server):
                     server.monitor.open(door)
                     return take_clients(server, listener)

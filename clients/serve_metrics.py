@@ -233,10 +233,12 @@ class Monitor:
         self.clients = clients
         self.hindrance = hindrance
         self.file = StoreFile(folder)
-        self.commands = self.received = self.sent = self.renewals = 0
+        self.commands = self.received = self.sent = self.renewals = self.check_refusals = 0
         self.refusals: collections.Counter[str] = collections.Counter()
         self.waits = Waits()
         self.waiting: collections.deque[float] = collections.deque()  # since when each command waits, in order
+        self.judged_since: Optional[float] = None  # since when the command waits that is judged, if there is one
+        self.lack = ""  # why changes can't be judged, if so
         self.scrapers: Optional[Scrapers] = None
 
     def command(self, since: float) -> None:
@@ -247,7 +249,16 @@ class Monitor:
     def answer(self, answer: bytearray) -> None:
         """Counts the answer to the command that waits for longest."""
         if self.waiting:
-            self.waits.add(time.monotonic() - self.waiting.popleft())
+            self.settle(self.waiting.popleft(), answer)
+        else:
+            self.count_refusal(answer)
+
+    def settle(self, since: float, answer: bytes) -> None:
+        """Counts the answer to a command that had come at this time."""
+        self.waits.add(time.monotonic() - since)
+        self.count_refusal(answer)
+
+    def count_refusal(self, answer: bytes) -> None:
         refusal = REFUSAL.match(answer)
         if refusal:
             name = refusal[1].decode()
@@ -283,12 +294,13 @@ class Monitor:
 
     def oldest(self) -> float:
         """For how many seconds the command has waited that waits for longest."""
-        return time.monotonic() - self.waiting[0] if self.waiting else 0.0
+        since = [*([self.waiting[0]] if self.waiting else []), *([self.judged_since] if self.judged_since else [])]
+        return time.monotonic() - min(since) if since else 0.0
 
     def trouble(self) -> str:
         """Why no commands are performed, or nothing."""
         stuck = f"a command has waited for more than {STUCK} seconds" if self.oldest() > STUCK else ""
-        return self.hindrance() or stuck
+        return self.hindrance() or self.lack or stuck
 
     def text(self) -> str:
         """All metrics."""
@@ -301,6 +313,10 @@ class Monitor:
             ("commands_total", "counter", "Commands that were sent to the session.", known(self.commands)),
             ("commands_waiting", "gauge", "Commands that the session has not answered.", known(len(self.waiting))),
             ("refusals_total", "counter", "Commands that were refused, by the name of the refusal.", refusals),
+            (
+                "check_refusals_total", "counter", "Commands that the command of --check refused, or could not judge.",
+                known(self.check_refusals),
+            ),
             ("received_bytes_total", "counter", "Bytes that clients sent.", known(self.received)),
             ("sent_bytes_total", "counter", "Bytes that were sent to clients.", known(self.sent)),
             (

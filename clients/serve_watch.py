@@ -76,6 +76,13 @@ def base_of(file: int) -> Optional[int]:
     return int(found[1]) if found else None
 
 
+def stands_for(file: int, count: int) -> bool:
+    """Whether the base of an open file stands for that many changes, as that of a later checkpoint does. Two checkpoints
+    may give a file the number that the one before the first had, so the number alone does not tell them apart."""
+    base = base_of(file)
+    return base is not None and base >= count
+
+
 class Mark(NamedTuple):
     """Where the last whole document of a file ends, the bytes before that, and the number of the last change in it."""
 
@@ -87,8 +94,7 @@ class Mark(NamedTuple):
         """Whether an open file begins with what was marked, or its base stands for all of that."""
         if os.pread(file, len(self.tail), self.end - len(self.tail)) == self.tail:
             return True
-        base = base_of(file)
-        return base is not None and self.number is not None and base >= self.number
+        return self.number is not None and stands_for(file, self.number)
 
 
 def mark_of(file: int) -> Mark:
@@ -119,7 +125,8 @@ class Store:
             hint = "make it first" if isinstance(error, FileNotFoundError) else "see who may read it"
             raise Fault(f"the store's folder {shown(path)} can't be used: {reason(error)}: {hint}") from None
         self.file: Optional[Identity] = None
-        self.seen = (0, b"")  # how long the file was when its end was looked at, and what stood there
+        # How long the file was when its end was looked at, what stood there, and the last number answered by then.
+        self.seen = (0, b"", 0)
         self.count = 0  # the last number that was answered
         self.mark: Optional[Mark] = None  # of the file, as the session before left it
         self.session: Optional[int] = None  # the process of the session, while it holds the store
@@ -171,7 +178,7 @@ class Store:
             return ""
         is_placed = self.is_placed_by_session(file)
         if is_placed:
-            self.file, self.seen = file, (0, b"")
+            self.file, self.seen = file, (0, b"", 0)
         return f"another {STORE_FILE} is there" if is_placed is False else ""
 
     def is_placed_by_session(self, file: Identity) -> Optional[bool]:
@@ -180,21 +187,23 @@ class Store:
         if file in files or not self.shows_files:
             return True
         following = self.found(NEXT_FILE)
-        is_between = following is not None and identity_of(following) in files  # a checkpoint is about to replace it
+        later = self.files_of_session()  # what it has opened while the first ones were listed, too
+        is_between = following is not None and identity_of(following) in files | later  # a checkpoint is to replace it
+        is_held = identity_of(os.fstat(self.folder)) in later  # a session that ends lets the folder go first
         still = self.found()
         is_there = still is not None and identity_of(still) == file
-        return False if files and is_there and not is_between else None
+        return False if is_held and is_there and not is_between else None
 
     def look_inside(self) -> bool:
         """As `look`. It also looks at what stands at the end of the file, and stood there before."""
         file = self.opened() if self.look() and self.session else None
         if file is not None:
-            length, tail = self.seen
+            length, tail, count = self.seen
             if identity_of(os.fstat(file)) == self.file:
-                if os.pread(file, len(tail), length - len(tail)) != tail:
+                if os.pread(file, len(tail), length - len(tail)) != tail and not stands_for(file, count):
                     self.trouble = f"its {STORE_FILE} was cut or written over"
                 length = os.fstat(file).st_size
-                self.seen = length, os.pread(file, TAIL, max(length - TAIL, 0))[: min(length, TAIL)]
+                self.seen = length, os.pread(file, TAIL, max(length - TAIL, 0))[: min(length, TAIL)], self.count
             os.close(file)
         return not self.trouble
 

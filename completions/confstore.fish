@@ -1,7 +1,7 @@
 # Completion of confstore for fish: put it into a folder of `fish_complete_path`.
 
-set -l stores run export import set delete copy rename move batch checkpoint init names get keys exists log verify salvage backup
-set -l named export import set delete copy rename move get keys exists log
+set -l stores run export import set delete copy rename move batch checkpoint init names get keys exists log diff verify salvage backup
+set -l named export import set delete copy rename move get keys exists log diff
 set -l conditional import set delete copy rename move
 set -l locking init import set delete copy rename move batch checkpoint run export
 
@@ -12,7 +12,7 @@ function __confstore_places
     for word in (commandline -opc)[3..-1]
         if test $is_value = 1
             set is_value 0
-        else if contains -- $word --checkpoint-after --at --from --to --default --file --hide --if-value --if-count --wait
+        else if contains -- $word --all --checkpoint-after --at --from --to --default --file --hide --if-value --if-count --keep-dropped --wait
             set is_value 1
         else if not string match -q -- '-?*' $word
             set -a places $word
@@ -36,16 +36,96 @@ function __confstore_names
     confstore names -- $places[1] 2>/dev/null
 end
 
+# Whether at least so many of them come before the word that is being written, after this subcommand.
+function __confstore_from
+    set -l words (commandline -opc)
+    test (count (__confstore_places)) -ge $argv[1]
+    and test "$words[2]" = $argv[2]
+end
+
+# Whether two files are compared: then they stand in the places of a folder and a name.
+function __confstore_of_files
+    contains -- --files (commandline -opc)
+end
+
+# The folder and the name that were written.
+function __confstore_store
+    set -l places (__confstore_places)
+    string join -- \n $places[1..2]
+end
+
+# ---- pointers
+
+# The pointer that is being written, without its quotes.
+function __confstore_typed
+    set -l word (commandline -ct | string collect)
+    for closed in "$word" "$word'" "$word\""
+        if set -l plain (string unescape -- "$closed" | string collect)
+            string replace -r -- '^--hide=' '' "$plain"
+            return
+        end
+    end
+end
+
+# The keys of these lines of `keys`, a NUL behind each: one that a line can't show as it is stands in quotes there. A key
+# with a TAB is left out, since fish takes what is behind that for a description.
+function __confstore_plain
+    for key in $argv
+        if string match -q -- '"*' $key
+            set key (string sub -s 2 -e -1 -- $key | string replace -a '\\\\' '\u005C')
+            string match -q -r -- '\\\\[0t]' "$key"
+            and continue
+            set key (string replace -a '\x' '\u00' -- "$key" | string replace -a '\"' '"')
+            printf '%b\0' "$key"
+        else
+            printf '%s\0' $key
+        end
+    end
+end
+
+# What may follow the pointer that is being written, a NUL behind each: at most 1,000 pointers.
+function __confstore_pointers
+    set -l store (__confstore_store)
+    set -l typed "$(__confstore_typed)"
+    test (count $store) -eq 2
+    and string match -q -r -- '^(/|$)' "$typed"
+    or return
+    string match -q -r -- '^~(/|$)' $store[1]
+    and set store[1] $HOME(string sub -s 2 -- $store[1])
+    set -l step "$(string replace -r -- '(?s)^.*/' '' "$typed")"
+    set -l parent "$(string replace -r -- '[^/]*$' '' "$typed")"
+    set -l keys (confstore keys -- $store "$(string replace -r -- '/$' '' "$parent")" 2>/dev/null)
+    # A list has the indexes from 0 on, and takes a new element at `-`.
+    test "$argv" = new -a "$keys[1]" = 0 -a "$keys[-1]" = (math (count $keys) - 1)
+    and set -a keys -
+    test -n "$parent"
+    or set parent /
+    set -l begin (string escape --style=regex -- "$step")
+    set keys (string replace -a '~' '~0' -- $keys | string replace -a / '~1' | string match -r -- "^(?:\"|$begin).*")
+    set -l found
+    for key in (__confstore_plain $keys[1..1000] | string split0)
+        string match -q -r -- "^$begin" "$key"
+        and set -a found "$parent$key"
+    end
+    if test (count $found) -eq 1; and confstore keys -- $store $found >/dev/null 2>&1
+        set found $found/
+    end
+    string join0 -- $found
+end
+
+# ---- words
+
 complete -c confstore -f
 complete -c confstore -l help -d 'Say what the word does'
 complete -c confstore -n __fish_use_subcommand -l version -d 'Write the version'
 complete -c confstore -n __fish_use_subcommand -a run -d 'Perform the commands on standard input'
-complete -c confstore -n __fish_use_subcommand -a export -d 'Write a configuration in the one style'
+complete -c confstore -n __fish_use_subcommand -a export -d 'Write a configuration, or each into a file'
 complete -c confstore -n __fish_use_subcommand -a names -d 'Write the names of the configurations'
 complete -c confstore -n __fish_use_subcommand -a get -d 'Write the value at a pointer'
 complete -c confstore -n __fish_use_subcommand -a keys -d 'Write the keys of what is at a pointer'
 complete -c confstore -n __fish_use_subcommand -a exists -d 'Tell by the status whether something is there'
 complete -c confstore -n __fish_use_subcommand -a log -d 'Write the commands since the last checkpoint'
+complete -c confstore -n __fish_use_subcommand -a diff -d 'Write what changed between two commands, or two files'
 complete -c confstore -n __fish_use_subcommand -a verify -d 'Write whether a store can be opened'
 complete -c confstore -n __fish_use_subcommand -a salvage -d 'Make a store of what comes before the damage'
 complete -c confstore -n __fish_use_subcommand -a backup -d 'Make a store with the same records'
@@ -67,6 +147,10 @@ complete -c confstore -n "__confstore_at 1 $named" -a '(__confstore_names)'
 complete -c confstore -n '__confstore_at 1 salvage backup' -a '(__fish_complete_directories)'
 complete -c confstore -n '__confstore_at 2 copy rename' -a '(__confstore_names)'
 complete -c confstore -n '__fish_seen_subcommand_from copy' -l replace -d 'Replace a configuration of that name'
+complete -c confstore -n '__confstore_at 2 set' -a '(__confstore_pointers new | string split0)'
+complete -c confstore -n '__confstore_at 2 delete move keys exists' -a '(__confstore_pointers | string split0)'
+complete -c confstore -n '__confstore_at 3 move' -a '(__confstore_pointers new | string split0)'
+complete -c confstore -n '__confstore_from 2 get' -a '(__confstore_pointers | string split0)'
 complete -c confstore -n '__confstore_at 2 import' -F
 complete -c confstore -n '__confstore_at 1 batch' -F
 complete -c confstore -n '__fish_seen_subcommand_from run' -l group -d 'Sync once for all commands at hand'
@@ -88,12 +172,18 @@ complete -c confstore -n '__fish_seen_subcommand_from get' -l raw -d 'Write a te
 complete -c confstore -n '__fish_seen_subcommand_from get' -l no-newline -d 'Write no line feed after it'
 complete -c confstore -n '__fish_seen_subcommand_from get export names' -l json -d 'Write a JSON text'
 complete -c confstore -n '__fish_seen_subcommand_from get export' -l plain -d 'Write numbers without quotes'
+complete -c confstore -n '__fish_seen_subcommand_from export' -l all -x -a '(__fish_complete_directories)' -d 'Write each configuration into a file'
 complete -c confstore -n '__fish_seen_subcommand_from get' -l default -x -d 'Write a text where nothing is there'
 complete -c confstore -n '__fish_seen_subcommand_from log' -l values -d 'Write values as JSON texts'
-complete -c confstore -n '__fish_seen_subcommand_from log' -l hide -x -d 'Hide the values at a place'
+complete -c confstore -n '__fish_seen_subcommand_from log' -l hide -x -d 'Hide the values at a place' -a '(__confstore_pointers | string split0)'
 complete -c confstore -n '__fish_seen_subcommand_from log' -l yaml -d 'Write the records as they stand'
 complete -c confstore -n '__fish_seen_subcommand_from log' -l from -x -d 'Begin with a command'
 complete -c confstore -n '__fish_seen_subcommand_from log' -l to -x -d 'End with a command'
+complete -c confstore -n '__fish_seen_subcommand_from diff' -l from -x -d 'Begin after a command'
+complete -c confstore -n '__fish_seen_subcommand_from diff' -l to -x -d 'Go to a command'
+complete -c confstore -n '__fish_seen_subcommand_from diff' -l files -d 'Compare two files'
+complete -c confstore -n '__confstore_at 0 diff; and __confstore_of_files' -F
+complete -c confstore -n '__confstore_at 1 diff; and __confstore_of_files' -F
 complete -c confstore -n '__fish_seen_subcommand_from verify salvage' -l keep-dropped -r -F -d 'Keep what an opening drops'
 complete -c confstore -n '__fish_seen_subcommand_from format check' -F
 complete -c confstore -n '__fish_seen_subcommand_from format' -s i -l in-place -d 'Replace each file that would change'

@@ -8,7 +8,7 @@ function __confstorectl_places
     for word in (commandline -opc)[2..-1]
         if test $is_value = 1
             set is_value 0
-        else if contains -- $word --all --at --check --checkpoint-after --default --dir --document --file --from --hide --if-count --if-value --keep-dropped --settle --socket --to --wait; and not contains -- "$places[1] $word" 'format --check'
+        else if contains -- $word --all --archive --at --check --checkpoint-after --default --dir --document --file --from --hide --if-count --if-value --keep-dropped --settle --socket --to --wait; and not contains -- "$places[1] $word" 'format --check'
             set is_value 1
         else if not string match -q -- '-?*' $word
             set -a places $word
@@ -39,6 +39,76 @@ end
 function __confstorectl_names
     set -l places (__confstorectl_places)
     confstorectl names -- $places[2] 2>/dev/null
+end
+
+# Whether at least so many arguments come before the one that is being written, after this word.
+function __confstorectl_from
+    set -l places (__confstorectl_places)
+    test (count $places) -gt $argv[1]
+    and test "$places[1]" = $argv[2]
+end
+
+# The folder and the name that were written.
+function __confstorectl_store
+    set -l places (__confstorectl_places)
+    string join -- \n $places[2..3]
+end
+
+# The pointer that is being written, without its quotes.
+function __confstorectl_typed
+    set -l word (commandline -ct | string collect)
+    for closed in "$word" "$word'" "$word\""
+        if set -l plain (string unescape -- "$closed" | string collect)
+            string replace -r -- '^--hide=' '' "$plain"
+            return
+        end
+    end
+end
+
+# The keys of these lines of `keys`, a NUL behind each: one that a line can't show as it is stands in quotes there. A key
+# with a TAB is left out, since fish takes what is behind that for a description.
+function __confstorectl_plain
+    for key in $argv
+        if string match -q -- '"*' $key
+            set key (string sub -s 2 -e -1 -- $key | string replace -a '\\\\' '\u005C')
+            string match -q -r -- '\\\\[0t]' "$key"
+            and continue
+            set key (string replace -a '\x' '\u00' -- "$key" | string replace -a '\"' '"')
+            printf '%b\0' "$key"
+        else
+            printf '%s\0' $key
+        end
+    end
+end
+
+# What may follow the pointer that is being written, a NUL behind each: at most 1,000 pointers.
+function __confstorectl_pointers
+    set -l store (__confstorectl_store)
+    set -l typed "$(__confstorectl_typed)"
+    test (count $store) -eq 2
+    and string match -q -r -- '^(/|$)' "$typed"
+    or return
+    string match -q -r -- '^~(/|$)' $store[1]
+    and set store[1] $HOME(string sub -s 2 -- $store[1])
+    set -l step "$(string replace -r -- '(?s)^.*/' '' "$typed")"
+    set -l parent "$(string replace -r -- '[^/]*$' '' "$typed")"
+    set -l keys (confstorectl keys -- $store "$(string replace -r -- '/$' '' "$parent")" 2>/dev/null)
+    # A list has the indexes from 0 on, and takes a new element at `-`.
+    test "$argv" = new -a "$keys[1]" = 0 -a "$keys[-1]" = (math (count $keys) - 1)
+    and set -a keys -
+    test -n "$parent"
+    or set parent /
+    set -l begin (string escape --style=regex -- "$step")
+    set keys (string replace -a '~' '~0' -- $keys | string replace -a / '~1' | string match -r -- "^(?:\"|$begin).*")
+    set -l found
+    for key in (__confstorectl_plain $keys[1..1000] | string split0)
+        string match -q -r -- "^$begin" "$key"
+        and set -a found "$parent$key"
+    end
+    if test (count $found) -eq 1; and confstorectl keys -- $store $found >/dev/null 2>&1
+        set found $found/
+    end
+    string join0 -- $found
 end
 
 complete -c confstorectl -f
@@ -202,6 +272,8 @@ complete -c confstorectl -n '__confstorectl_is batch' -l check -x \
     -d 'Makes the change only if COMMAND, of a shell, takes the text that comes of it'
 complete -c confstorectl -n '__confstorectl_is batch' -l dry-run \
     -d 'Writes what would change, as `diff -u` does, and changes nothing'
+complete -c confstorectl -n '__confstorectl_is undo' -l archive -r -F \
+    -d 'Looks into the store DIR, too, which `checkpoint --archive` made; may be given again'
 complete -c confstorectl -n '__confstorectl_is undo' -l if-count -x \
     -d 'Changes the store only if it has accepted N commands'
 complete -c confstorectl -n '__confstorectl_is undo' -l check -x \
@@ -209,6 +281,8 @@ complete -c confstorectl -n '__confstorectl_is undo' -l check -x \
 complete -c confstorectl -n '__confstorectl_is undo' -l dry-run \
     -d 'Writes what would change, as `diff -u` does, and changes nothing'
 complete -c confstorectl -n '__confstorectl_is rollback' -l to -x -d 'Goes as far as command number N'
+complete -c confstorectl -n '__confstorectl_is rollback' -l archive -r -F \
+    -d 'Looks into the store DIR, too, which `checkpoint --archive` made; may be given again'
 complete -c confstorectl -n '__confstorectl_is rollback' -l if-count -x \
     -d 'Changes the store only if it has accepted N commands'
 complete -c confstorectl -n '__confstorectl_is rollback' -l check -x \
@@ -225,6 +299,8 @@ complete -c confstorectl -n '__confstorectl_is sync' -l check -x \
     -d 'Makes the change only if COMMAND, of a shell, takes the text that comes of it'
 complete -c confstorectl -n '__confstorectl_is sync' -l dry-run \
     -d 'Writes what would change, as `diff -u` does, and changes nothing'
+complete -c confstorectl -n '__confstorectl_is checkpoint' -l archive -r -F \
+    -d 'Makes the new store NEW before, which has all that the checkpoint drops'
 complete -c confstorectl -n '__confstorectl_is export' -l json \
     -d 'Writes a JSON text on one line; each text is a string'
 complete -c confstorectl -n '__confstorectl_is export' -l plain \
@@ -234,8 +310,12 @@ complete -c confstorectl -n '__confstorectl_is export' -l all -r -F \
 complete -c confstorectl -n '__confstorectl_is names' -l json -d 'Writes a JSON array on one line'
 complete -c confstorectl -n '__confstorectl_is names' -l at -x \
     -d 'Reads the store as it was after command number N'
+complete -c confstorectl -n '__confstorectl_is names' -l archive -r -F \
+    -d 'Looks into the store DIR, too, which `checkpoint --archive` made; may be given again'
 complete -c confstorectl -n '__confstorectl_is keys' -l at -x \
     -d 'Reads the store as it was after command number N'
+complete -c confstorectl -n '__confstorectl_is keys' -l archive -r -F \
+    -d 'Looks into the store DIR, too, which `checkpoint --archive` made; may be given again'
 complete -c confstorectl -n '__confstorectl_is get' -l raw \
     -d 'Writes a text as it is, with a line feed after it'
 complete -c confstorectl -n '__confstorectl_is get' -l no-newline \
@@ -250,31 +330,41 @@ complete -c confstorectl -n '__confstorectl_is get' -l default -x \
     -d 'Writes TEXT where nothing is at the place; `--default=TEXT` if it begins with `-`'
 complete -c confstorectl -n '__confstorectl_is get' -l at -x \
     -d 'Reads the store as it was after command number N'
+complete -c confstorectl -n '__confstorectl_is get' -l archive -r -F \
+    -d 'Looks into the store DIR, too, which `checkpoint --archive` made; may be given again'
 complete -c confstorectl -n '__confstorectl_is exists' -l at -x \
     -d 'Reads the store as it was after command number N'
+complete -c confstorectl -n '__confstorectl_is exists' -l archive -r -F \
+    -d 'Looks into the store DIR, too, which `checkpoint --archive` made; may be given again'
 complete -c confstorectl -n '__confstorectl_is log' -l values \
     -d 'Writes the value of each import and set, too, as a JSON text'
 complete -c confstorectl -n '__confstorectl_is log' -l hide -x \
-    -d 'Writes `hidden` for what is at POINTER, or below it; needs --values, and may be given again'
+    -d 'Writes `hidden` for what is at POINTER, or below it; needs --values, and may be given again' -a '(__confstorectl_pointers | string split0)'
 complete -c confstorectl -n '__confstorectl_is log' -l yaml \
     -d 'Writes the records as they stand in store.yaml'
 complete -c confstorectl -n '__confstorectl_is log' -l from -x -d 'Begins with command number N'
 complete -c confstorectl -n '__confstorectl_is log' -l to -x -d 'Goes as far as command number N'
 complete -c confstorectl -n '__confstorectl_is log' -l at -x \
     -d 'Reads the store as it was after command number N'
+complete -c confstorectl -n '__confstorectl_is log' -l archive -r -F \
+    -d 'Looks into the store DIR, too, which `checkpoint --archive` made; may be given again'
 complete -c confstorectl -n '__confstorectl_is diff' -l from -x \
     -d 'Begins with what the store was after command number N'
 complete -c confstorectl -n '__confstorectl_is diff' -l to -x -d 'Goes as far as command number N'
 complete -c confstorectl -n '__confstorectl_is diff' -l lines \
     -d 'Writes a line for what was at each place, and one for what is there then'
 complete -c confstorectl -n '__confstorectl_is diff' -l hide -x \
-    -d 'Leaves out what is at POINTER, or below it; may be given again'
+    -d 'Leaves out what is at POINTER, or below it; may be given again' -a '(__confstorectl_pointers | string split0)'
 complete -c confstorectl -n '__confstorectl_is diff' -l files \
     -d 'Compares two files, which stand in the places of FOLDER and NAME'
 complete -c confstorectl -n '__confstorectl_is diff' -l explain \
     -d 'Shows the line at fault of a refused text, and says what to do'
+complete -c confstorectl -n '__confstorectl_is diff' -l archive -r -F \
+    -d 'Looks into the store DIR, too, which `checkpoint --archive` made; may be given again'
 complete -c confstorectl -n '__confstorectl_is page' -l hide -x \
-    -d 'Leaves out what is at POINTER, or below it; may be given again'
+    -d 'Leaves out what is at POINTER, or below it; may be given again' -a '(__confstorectl_pointers | string split0)'
+complete -c confstorectl -n '__confstorectl_is page' -l archive -r -F \
+    -d 'Looks into the store DIR, too, which `checkpoint --archive` made; may be given again'
 complete -c confstorectl -n '__confstorectl_is verify' -l keep-dropped -r -F \
     -d 'Writes what an opening drops, or is refused for, to the new file FILE'
 complete -c confstorectl -n '__confstorectl_is watch' -l values \
@@ -318,6 +408,13 @@ complete -c confstorectl -n '__confstorectl_at 1 import set delete copy rename m
     -a '(__confstorectl_names)'
 complete -c confstorectl -n '__confstorectl_at 2 undo' -a '(__confstorectl_names)'
 complete -c confstorectl -n '__confstorectl_at 2 copy rename' -a '(__confstorectl_names)'
-complete -c confstorectl -n '__confstorectl_at 3 move' -a '(__confstorectl_names)'
+complete -c confstorectl -n '__confstorectl_at 2 set' -a '(__confstorectl_pointers new | string split0)'
+complete -c confstorectl -n '__confstorectl_at 2 delete' -a '(__confstorectl_pointers | string split0)'
+complete -c confstorectl -n '__confstorectl_at 2 move' -a '(__confstorectl_pointers | string split0)'
+complete -c confstorectl -n '__confstorectl_at 3 move' -a '(__confstorectl_pointers new | string split0)'
+complete -c confstorectl -n '__confstorectl_at 2 keys' -a '(__confstorectl_pointers | string split0)'
+complete -c confstorectl -n '__confstorectl_from 2 get' -a '(__confstorectl_pointers | string split0)'
+complete -c confstorectl -n '__confstorectl_at 2 exists' -a '(__confstorectl_pointers | string split0)'
+complete -c confstorectl -n '__confstorectl_at 2 watch' -a '(__confstorectl_pointers | string split0)'
 complete -c confstorectl -n '__confstorectl_at 0 help' \
     -a 'import set delete copy rename move edit batch undo rollback sync checkpoint export names keys get exists render log diff page verify watch init run backup salvage format check'

@@ -13,7 +13,7 @@ import os
 import re
 import sys
 import textwrap
-from typing import Dict, Iterator, List, Sequence
+from typing import Dict, Iterator, List, Sequence, Tuple
 
 HERE = os.path.dirname(os.path.abspath(__file__))
 TOP = os.path.dirname(HERE)
@@ -48,11 +48,43 @@ def places(argument: str) -> Iterator[str]:
     """Where an argument stands: each word with the number of arguments before it, or with `*` for any number."""
     for word in ALL:
         for place, found in enumerate(word.arguments):
-            if found.name == argument:
+            if found.name == argument and not is_pointer(found):
                 yield f"{word.name}:{'*' if found.is_repeated else place}"
 
 
 # ---- completions
+
+
+def is_pointer(argument: Argument) -> bool:
+    return "JSON Pointer" in argument.about
+
+
+def takes_new(word: Word, place: int) -> bool:
+    """Whether a pointer may stand for a place where nothing is yet."""
+    return word.name == "set" or word.name == "move" and place == len(word.arguments) - 1
+
+
+def places_of_pointers() -> Iterator[Tuple[Word, int]]:
+    for word in ALL:
+        for place, argument in enumerate(word.arguments):
+            if is_pointer(argument):
+                yield word, place
+
+
+def pointers_of(file: str) -> str:
+    """What completes pointers: the same as for confstore, for this program."""
+    with open(os.path.join(TOP, "completions", file), encoding="utf-8") as source:
+        shared = source.read().partition("# ---- pointers\n\n")[2].partition("\n# ---- words\n")[0]
+    return shared.replace("confstore", "confstorectl")
+
+
+def bash_pointers() -> Iterator[str]:
+    """The cases of words and places that are pointers; a place counts the word, too."""
+    once = [f"{word.name}:{place + 1}" for word, place in places_of_pointers() if not word.arguments[place].is_repeated]
+    yield f"    {' | '.join(once)}) ;;"
+    for word, place in places_of_pointers():
+        if word.arguments[place].is_repeated:
+            yield f'    {word.name}:*) [ "$2" -ge {place + 1} ] ;;'
 
 
 def for_bash() -> str:
@@ -71,6 +103,9 @@ def for_bash() -> str:
         folders=" | ".join([*places("NEW"), *places("DIR")]),
         names=" | ".join([*places("NAME"), *places("TO")]),
         version=VERSION.name,
+        valued=" ".join(WITH_VALUE),
+        of_pointers="\n".join(bash_pointers()),
+        pointers=pointers_of("confstore.bash"),
     )
 
 
@@ -95,9 +130,21 @@ _confstorectl_names() {{
     confstorectl names -- "$folder" 2>/dev/null
 }}
 
+# The options with a value, and the words and places that are pointers: the word, the folder and the name come before
+# them.
+_confstorectl_valued='{valued}'
+_confstorectl_is_pointer() {{
+    case $1:$2 in
+{of_pointers}
+    *) return 1 ;;
+    esac
+}}
+
+{pointers}
 _confstorectl() {{
     local current=${{COMP_WORDS[COMP_CWORD]}} word='' place=-1 index folder='' more=''
     COMPREPLY=()
+    ! _confstorectl_pointers "$2" || return 0
     for ((index = 1; index < COMP_CWORD; index++)); do
         case "$word ${{COMP_WORDS[index]}}" in
         {no_values}) ;;
@@ -151,19 +198,21 @@ ZSH_PLACES = {
 
 
 def zsh_option(option: Option) -> str:
-    action = "_files" if option.name in OF_FILES else ""
+    action = "_files" if option.name in OF_FILES else "_confstorectl_pointers" if option.value == "POINTER" else ""
     value = f":{option.value.lower()}:{action}" if option.value else ""
-    return f"'{option.name}[{option.about}]{value}'"
+    return f"'{'*' if option.is_repeated else ''}{option.name}[{option.about}]{value}'"
 
 
-def zsh_argument(place: int, argument: Argument) -> str:
-    where = "*" if argument.is_repeated else place
+def zsh_argument(word: Word, place: int, argument: Argument) -> str:
+    where = "*" if argument.is_repeated else place + 1
+    if is_pointer(argument):
+        return f"'{where}:pointer:_confstorectl_{'new_' if takes_new(word, place) else ''}pointers'"
     return f"'{where}:{ZSH_PLACES.get(argument.name, argument.name.lower() + ':')}'"
 
 
 def zsh_case(word: Word) -> str:
     parts = [zsh_option(option) for option in word.options]
-    parts += [zsh_argument(place, argument) for place, argument in enumerate(word.arguments, 1)]
+    parts += [zsh_argument(word, place, argument) for place, argument in enumerate(word.arguments)]
     common = ["$common"] if word.common == COMMON else [zsh_option(option) for option in word.common]
     lines = " \\\n            ".join([*common, *parts])
     return f"        {word.name}) _arguments {lines} ;;"
@@ -177,6 +226,7 @@ def for_zsh() -> str:
         common="\n".join(f"        {zsh_option(option)}" for option in COMMON),
         version=zsh_option(VERSION),
         cases="\n".join(map(zsh_case, ALL)),
+        pointers=pointers_of("_confstore"),
     )
 
 
@@ -192,6 +242,7 @@ _confstorectl_names() {{
     compadd -a names_there
 }}
 
+{pointers}
 _confstorectl() {{
     local context state line curcontext=$curcontext
     local -a words_of common
@@ -202,7 +253,7 @@ _confstorectl() {{
     common=(
 {common}
     )
-    _arguments -C $common {version} '1: :->word' '*:: :->rest'
+    _arguments -C -A '-*' $common {version} '1: :->word' '*:: :->rest'
     case $state in
     word) _describe -t words word words_of ;;
     rest)
@@ -220,7 +271,19 @@ _confstorectl "$@"
 
 def fish_option(condition: str, option: Option) -> str:
     value = " -r -F" if option.name in OF_FILES else " -x" if option.value else ""
-    return f"complete -c confstorectl{condition} -l {option.name[2:]}{value} -d '{option.about}'"
+    pointers = f" {FISH_POINTERS}" if option.value == "POINTER" else ""
+    return f"complete -c confstorectl{condition} -l {option.name[2:]}{value} -d '{option.about}'{pointers}"
+
+
+FISH_POINTERS = "-a '(__confstorectl_pointers | string split0)'"
+
+
+def fish_pointers() -> Iterator[str]:
+    """The rows of the places that are pointers."""
+    for word, place in places_of_pointers():
+        where = "from" if word.arguments[place].is_repeated else "at"
+        action = FISH_POINTERS.replace("pointers", "pointers new") if takes_new(word, place) else FISH_POINTERS
+        yield f"complete -c confstorectl -n '__confstorectl_{where} {place} {word.name}' {action}"
 
 
 def fish_places(argument: str) -> Iterator[str]:
@@ -249,10 +312,14 @@ def for_fish() -> str:
         rows += [f"complete -c confstorectl -n {place} {action}" for place in fish_places(argument)]
     for argument in ("NAME", "TO"):
         rows += [f"complete -c confstorectl -n {place} -a '(__confstorectl_names)'" for place in fish_places(argument)]
+    rows += fish_pointers()
     rows.append(f"complete -c confstorectl -n '__confstorectl_at 0 help' -a '{' '.join(WORDS)}'")
     no_values = " ".join(f"'{name}'" for name in WITHOUT_VALUE)
     lines = "\n".join(map(fish_lines, [*starts, *rows]))
-    return FISH.format(made=MADE, values=" ".join(WITH_VALUE), no_values=no_values, rows=lines)
+    values = " ".join(WITH_VALUE)
+    return FISH.format(
+        made=MADE, values=values, no_values=no_values, rows=lines, pointers=pointers_of("confstore.fish")
+    )
 
 
 def fish_words_with(option: Option) -> str:
@@ -310,6 +377,20 @@ function __confstorectl_names
     confstorectl names -- $places[2] 2>/dev/null
 end
 
+# Whether at least so many arguments come before the one that is being written, after this word.
+function __confstorectl_from
+    set -l places (__confstorectl_places)
+    test (count $places) -gt $argv[1]
+    and test "$places[1]" = $argv[2]
+end
+
+# The folder and the name that were written.
+function __confstorectl_store
+    set -l places (__confstorectl_places)
+    string join -- \\n $places[2..3]
+end
+
+{pointers}
 complete -c confstorectl -f
 {rows}
 """

@@ -3,7 +3,7 @@
 from __future__ import annotations
 
 import re
-from typing import List, Optional
+from typing import List, Optional, Tuple
 
 from .commands import NAMES, refused
 from .faults import BadAnswer, ConfstoreError
@@ -52,6 +52,11 @@ class Answers:
         if not isinstance(text, str):
             raise BadAnswer("the text of an export is a collection")
         return text
+
+    def _lines_in(self, answer: bytes) -> Tuple[str, ...]:
+        """The lines behind a refusal by the check of a server."""
+        text = self._value_in(answer, "text", "")
+        return tuple(text.removesuffix("\n").split("\n")) if isinstance(text, str) and text else ()
 
     def _names_in(self, answer: bytes) -> List[str]:
         names = self._value_in(answer, "names", NAMES)

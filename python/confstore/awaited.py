@@ -6,14 +6,14 @@ import asyncio
 import copy
 import os
 import time
-from typing import Any, Callable, Dict, List, Mapping, Optional, Sequence, Type, Union, overload
+from typing import Any, Callable, Dict, List, Mapping, Optional, Sequence, Tuple, Type, Union, overload
 
 from .answers import Answers
-from .commands import CHECKPOINT, NAMES, delete_of, get_of, import_of, put_of, refused, set_of
+from .commands import CHECKPOINT, NAMES, delete_of, get_of, import_of, lines_of, put_of, refused_as, set_of
 from .conditions import PROBE, Condition, Test, at_place, move_of, under
 from .edits import Edits
-from .faults import BadCommand, BadName, Closed, ConfstoreError, EmptyBatch, NoConfig, NoSuchPlace, NotIndex, NotText
-from .faults import Refused, Unmet, Unsupported
+from .faults import BadCommand, BadName, CheckFailed, Closed, ConfstoreError, EmptyBatch, NoConfig, NoSuchPlace
+from .faults import NotIndex, NotText, Refused, Unmet, Unsupported
 from .mapping import MISSING, MISSING_HERE, NOWHERE, D, Missing, text_at
 from .places import make_folder, need_folder
 from .session import Session
@@ -109,7 +109,19 @@ class AsyncStore(Answers):
         return await self._session.ask_awaited(document(command), self._timeout)
 
     async def _count(self, command: Tree) -> int:
-        return self._count_in(await self._ask(command), command)
+        answer = await self._ask(command)
+        try:
+            return self._count_in(answer, command)
+        except CheckFailed as fault:
+            fault.lines = await self._lines_behind(command)
+            raise
+
+    async def _lines_behind(self, command: Tree) -> Tuple[str, ...]:
+        """The lines behind the refusal of a command by the check of a server, or none where they don't come."""
+        try:
+            return self._lines_in(await self._ask(lines_of(document(command))))
+        except ConfstoreError:
+            return ()
 
     async def _read_at(self, name: str, path: str) -> Tree:
         command = get_of(name, path)
@@ -179,7 +191,7 @@ class AsyncStore(Answers):
                     if time.monotonic() > deadline or (conditions and not await self._hold(conditions)):
                         raise
         except Refused as fault:
-            raise refused(fault.word, {word: source}, self._program) from None
+            raise refused_as(fault, {word: source}, self._program) from None
 
     async def _hold(self, conditions: Sequence[Condition]) -> bool:
         """Whether conditions hold, as of `Store`."""

@@ -56,6 +56,13 @@ def get_of(name: str, path: str) -> dict[str, Tree]:
     return {"get": name, "path": path}
 
 
+def lines_of(document: bytes) -> dict[str, Tree]:
+    """What asks a server for the lines behind the refusal of a document by its check."""
+    from hashlib import sha256  # by those alone that were refused so
+
+    return {"check": sha256(document).hexdigest()}
+
+
 def _texts(command: Tree) -> Iterator[bytes]:
     """The texts of the imports in a command."""
     if isinstance(command, dict):
@@ -91,3 +98,13 @@ def refused(word: str, command: Tree, program: str | None) -> Refused:
     fault.name, fault.path = name, path
     fault.texts, fault.program = tuple(_texts(command)), program
     return fault
+
+
+def refused_as(fault: Refused, command: Tree, program: str | None) -> Refused:
+    """The exception of a command that was refused as another one was, which was performed for it."""
+    from .faults import CheckFailed
+
+    found = refused(fault.word, command, program)
+    if isinstance(found, CheckFailed) and isinstance(fault, CheckFailed):
+        found.lines = fault.lines
+    return found

@@ -22,9 +22,9 @@ from .ctl_faults import DEVICE, NOTHING_THERE, OF_TEXTS, REFUSED, WRONG_WORDS, F
 from .ctl_places import NO_SERVER, Place, place_of
 from .ctl_program import Source, is_without_store, program_if_any, run_shown, styled
 from .ctl_streams import ClosedPipe, hold_closed, is_error_terminal, read_text, write, write_error
-from .ctl_words import ALL, ANY_ROOT, AT, BATCH, DIFF, EDIT, EDITS, ENVIRONMENT, EXISTS, EXPLAIN, FED, FOREIGN
-from .ctl_words import FROM_FILE, GET, HIDE, IMPORT, LOOKING_BACK, MOVING, OF_PROGRAM, PAGE, PLANNED, READING, RENDER
-from .ctl_words import ROLLBACK, RUN, SET, SHAPED, SYNC, UNDO, WATCH, YAML_VALUE, Option
+from .ctl_words import ALL, ANY_ROOT, ARCHIVE, AT, BATCH, CHECKPOINT, DIFF, EDIT, EDITS, ENVIRONMENT, EXISTS, EXPLAIN
+from .ctl_words import FED, FOREIGN, FROM_FILE, GET, HIDE, IMPORT, LOG, LOOKING_BACK, MOVING, OF_PROGRAM, PAGE
+from .ctl_words import PLANNED, READING, READING_AT, RENDER, ROLLBACK, RUN, SET, SHAPED, SYNC, UNDO, WATCH, YAML_VALUE, Option
 
 TYPE_CHECKING = False  # `typing` takes as long to import as all of this
 if TYPE_CHECKING:
@@ -224,6 +224,10 @@ def _try(work: Work) -> int:
 
 def do(asked: Asked) -> int:
     """Does what is asked. The status. Raises a `Fault`."""
+    if asked.archives and asked.word in READING_AT:
+        from .ctl_archives import found
+
+        asked = found(asked)
     composed = composed_of(asked)
     if composed is not None:
         return composed(asked)
@@ -246,6 +250,10 @@ def composed_of(asked: Asked) -> Callable[[Asked], int] | None:
         name = "ctl_values.get_values"
     if name is None and asked.has(ALL):
         name = "ctl_values.export_all"
+    if name is None and asked.word is LOG and asked.archives:
+        name = "ctl_archives.log"
+    if name is None and asked.word is CHECKPOINT and asked.has(ARCHIVE):
+        name = "ctl_archiving.checkpoint"
     if name is not None:
         from importlib import import_module
 

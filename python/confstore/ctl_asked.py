@@ -4,9 +4,10 @@ from __future__ import annotations
 
 from .ctl_faults import Fault, shown
 from .ctl_words import ALL, AT, COMMON, DEFAULT, DIFF, EDITS, ENVIRONMENT, EXPORT, FORMAT, FROM_FILE, GET, HELP, HIDE
-from .ctl_words import IF_ABSENT, IF_VALUE, IN_PLACE, INSERT, JSON, LINES, LOG, MOVE, NO_NEWLINE, OF_FILES, OTHER_NAMES
-from .ctl_words import PAGE, PARENTS, PLAIN, RAW, RENDER, ROLLBACK, SET, SETTLE, SINCE, SOCKET, TO_NUMBER, UNDO, VALUES
-from .ctl_words import VERSION, WAIT, WHOLE, WORDS, YAML_RECORDS, YAML_VALUE, Option, Word
+from .ctl_words import ARCHIVE, ARCHIVES, CHECKPOINT, IF_ABSENT, IF_VALUE, IN_PLACE, INSERT, JSON, LINES, LOG, MOVE
+from .ctl_words import NO_NEWLINE, OF_FILES, OTHER_NAMES, PAGE, PARENTS, PLAIN, RAW, READING_AT, RENDER, ROLLBACK, SET
+from .ctl_words import SETTLE, SINCE, SOCKET, TO_NUMBER, UNDO, VALUES, VERSION, WAIT, WHOLE, WORDS, YAML_RECORDS
+from .ctl_words import YAML_VALUE, Option, Word
 
 TYPE_CHECKING = False
 if TYPE_CHECKING:
@@ -17,6 +18,8 @@ _OPTIONS: dict[str, Option] = {}
 for _word in WORDS.values():
     for _option in (*_word.options, *COMMON, VERSION):
         _OPTIONS.setdefault(_option.name, _option)
+# Those that may be given again, by some word.
+_REPEATED = {option.name for word in WORDS.values() for option in word.options if option.is_repeated}
 _SHORT = {"-h": HELP.name, "-V": VERSION.name, "-i": IN_PLACE.name}
 
 # A negative number, and a number of seconds.
@@ -44,6 +47,7 @@ _EXCLUDING = (
     (ENVIRONMENT, DEFAULT),
     (OF_FILES, SINCE),
     (OF_FILES, TO_NUMBER),
+    (OF_FILES, ARCHIVES),
     (AT, TO_NUMBER),
 )
 
@@ -65,15 +69,25 @@ class Asked:
         options: dict[str, str],
         command: tuple[str, ...] = (),
         repeated: tuple[str, ...] = (),
-        hidden: tuple[str, ...] = (),
+        several: dict[str, list[str]] | None = None,
     ) -> None:
         self.word, self.arguments, self.options, self.command = word, arguments, options, command
         self.repeated = repeated  # what stands again for the last argument
-        self.hidden = hidden  # the pointers of `--hide`
+        self._several = several or {}  # the values of options that may be given again
 
     @property
     def folder(self) -> str:
         return self.arguments["FOLDER"]
+
+    @property
+    def hidden(self) -> list[str]:
+        """The pointers of `--hide`."""
+        return self._several.get(HIDE.name, [])
+
+    @property
+    def archives(self) -> list[str]:
+        """The archives that are looked into, too."""
+        return self._several.get(ARCHIVES.name, []) if ARCHIVES in self.word.options else []
 
     def argument(self, name: str) -> str:
         """An argument, or an empty text where it was left out."""
@@ -86,7 +100,14 @@ class Asked:
 
     def with_option(self, option: Option) -> Asked:
         """This with an option more, which has no value."""
-        return Asked(self.word, self.arguments, {**self.options, option.name: ""}, self.command, self.repeated)
+        options = {**self.options, option.name: ""}
+        return Asked(self.word, self.arguments, options, self.command, self.repeated, self._several)
+
+    def of_archive(self, folder: str) -> Asked:
+        """This of one folder, and of no archive beside it."""
+        arguments = {**self.arguments, "FOLDER": folder}
+        options = {name: value for name, value in self.options.items() if name != ARCHIVES.name}
+        return Asked(self.word, arguments, options, self.command, self.repeated)
 
     @property
     def socket(self) -> str:
@@ -146,7 +167,7 @@ class _Cut:
         self.arguments: list[str] = []
         self.options: dict[str, str] = {}
         self.command: tuple[str, ...] = ()
-        self.hidden: list[str] = []
+        self.several: dict[str, list[str]] = {}
         self._left = list(reversed(words))
         while self._left:
             self._take(self._left.pop())
@@ -195,7 +216,7 @@ class _Cut:
         option = _option_of(self._word(), name)
         if option is None:
             raise no_option(name, self._word())
-        if name in self.options and name != HIDE.name:
+        if name in self.options and name not in _REPEATED:
             raise wrong(f"{name} is there twice", self._word())
         if not option.value and mark:
             raise wrong(f"{name} takes no value", self._word())
@@ -206,8 +227,8 @@ class _Cut:
             if option not in COMMON and value.startswith("-") and value != "-" and not _is(_NUMBER, value):
                 raise wrong(f"{name} wants {option.value}; {name}={shown(value)} gives it that", self._word())
         self.options[name] = value
-        if name == HIDE.name:
-            self.hidden.append(value)
+        if name in _REPEATED:
+            self.several.setdefault(name, []).append(value)
 
 
 def asked_of(words: Sequence[str]) -> Asked | Help | Version:
@@ -229,11 +250,11 @@ def asked_of(words: Sequence[str]) -> Asked | Help | Version:
         return Help(name)
     _check_options(word, cut.options)
     repeated = tuple(cut.arguments[1 + len(word.arguments) :])
-    hidden = tuple(cut.hidden)
-    asked = Asked(word, _arguments_of(word, cut.arguments[1:]), cut.options, cut.command, repeated, hidden)
+    asked = Asked(word, _arguments_of(word, cut.arguments[1:]), cut.options, cut.command, repeated, cut.several)
     _check_pointer(asked)
     _check_together(asked)
     _check_history(asked)
+    _check_archives(asked, len(cut.several.get(ARCHIVE.name, ())))
     _check_several(asked)
     return asked
 
@@ -320,6 +341,16 @@ def _check_history(asked: Asked) -> None:
     for pointer in asked.hidden if asked.word in (DIFF, PAGE) else ():
         if not _is("(/([^~/]|~[01])*)*", pointer):
             raise wrong(f"{HIDE.name} wants a JSON Pointer, not {shown(pointer)}", asked.word)
+
+
+def _check_archives(asked: Asked, count: int) -> None:
+    """Raises `WrongWords` for archives of a word that has no use for them, or for one that has no name."""
+    if asked.word is CHECKPOINT and count > 1:
+        raise wrong(f"{ARCHIVE.name} is there twice", asked.word)
+    if asked.options.get(ARCHIVE.name) == "" or "" in asked.archives:
+        raise wrong(f"{ARCHIVE.name} wants a folder", asked.word)
+    if asked.archives and asked.word in READING_AT and not asked.has(AT):
+        raise wrong(f"{ARCHIVES.name} needs {AT.name}", asked.word)
 
 
 def range_of(text: str) -> tuple[int, int]:

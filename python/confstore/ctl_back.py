@@ -5,12 +5,12 @@ from __future__ import annotations
 from typing import Dict, List, Optional, Tuple
 
 from .commands import is_name
+from .ctl_archives import history_of
 from .ctl_asked import Asked, range_of
 from .ctl_changes import conditions_of
 from .ctl_check import NothingToChange, Planned, carry_out
 from .ctl_exchange import Exchange
 from .ctl_faults import Fault, shown
-from .ctl_history import names_changed, tree_at
 from .ctl_sockets import Command
 from .ctl_words import TO_NUMBER
 from .differences import are_same, edits_between
@@ -39,11 +39,14 @@ def undo(asked: Asked) -> int:
 
 def _changes(asked: Asked, first: int, last: int) -> Dict[str, Change]:
     """What commands have changed, by the names. Raises a `Fault` where that is nothing."""
-    folder, wanted = asked.folder, asked.argument("NAME")
+    wanted = asked.argument("NAME")
     if wanted and not is_name(wanted):
         raise Fault("BadName")
-    names = [name for name in names_changed(folder, first, last) if wanted in ("", name)]
-    trees = {name: (tree_at(folder, name, first - 1), tree_at(folder, name, last)) for name in names}
+    history = history_of(asked)
+    history.need(first - 1)
+    history.need(last)
+    names = [name for name in history.names_changed(first, last) if wanted in ("", name)]
+    trees = {name: (history.tree_at(name, first - 1), history.tree_at(name, last)) for name in names}
     changes = {name: change for name, change in trees.items() if not are_same(*change)}
     if not changes:
         of_name = f" of {wanted}" if wanted else ""
@@ -91,7 +94,7 @@ def rollback(asked: Asked) -> int:
     name = asked.arguments["NAME"]
     if not is_name(name):
         raise Fault("BadName")
-    before = tree_at(asked.folder, name, int(asked.options[TO_NUMBER.name]))
+    before = history_of(asked).tree_at(name, int(asked.options[TO_NUMBER.name]))
     now = Exchange(asked).tree(name)
     if before is None and now is None:
         raise Fault("NoConfig")

@@ -4,18 +4,19 @@ from __future__ import annotations
 
 import os
 import re
-from typing import Dict, Iterator, List, Optional, Sequence, Tuple
+from typing import Iterator, List, Sequence, Tuple
 
 from .commands import is_name
+from .ctl_archives import History, Moved, again, history_of
 from .ctl_asked import Asked
 from .ctl_faults import REFUSED, Fault, fault_of, shown, unread
-from .ctl_history import names_changed, numbers_of, tree_at
+from .ctl_history import names_at
 from .ctl_outputs import json_text
 from .ctl_program import Source
 from .ctl_streams import is_output_terminal, read_text, write
 from .ctl_texts import tree_of
 from .ctl_words import EXPLAIN, LINES, OF_FILES, SINCE, TO_NUMBER
-from .differences import Difference, differences, edit_of
+from .differences import Difference, differences, edit_of, keys_between
 from .faults import ConfstoreError
 from .hidden import Hidden, Hiding
 from .hidden import shown as shown_tree
@@ -32,41 +33,58 @@ COLOURS, END = {"-": "\033[31m", "+": "\033[32m"}, "\033[0m"
 # What stands on a line of its own as it is: a pointer without what a terminal or a reader of lines could mistake.
 _PLAIN = re.compile(r'/[^\s"\\\x00-\x1f\x7f-\x9f\u2028-\u202e\u2066-\u2069\u061c\u200e\u200f]*')
 
-# A configuration, or a file, that differs: its name, and its trees before and after.
-Pair = Tuple[str, Optional[Tree], Optional[Tree]]
+# A difference of a configuration, or of two files, and its name.
+Named = Tuple[str, Difference]
 
 
 def diff(asked: Asked) -> int:
     """Writes what differs. The status: 1 if anything does. Raises a `Fault`."""
-    pairs = _files(asked) if asked.has(OF_FILES) else _configurations(asked)
-    found = {name: differences(before, after) for name, before, after in pairs}
-    if not any(found.values()):
+    found = _of_files(asked) if asked.has(OF_FILES) else _of_store(asked)
+    if not found:
         return 0
     is_one = asked.has(OF_FILES) or bool(asked.argument("NAME"))
-    write(("".join(_lines(asked, found, is_one)) if asked.has(LINES) else _edits(asked, found)).encode())
+    write(("".join(_lines(asked, found, is_one)) if asked.has(LINES) else _edits(found)).encode())
     return REFUSED
 
 
-def _configurations(asked: Asked) -> List[Pair]:
-    """What may differ of a store between two numbers: by default from the oldest that the file has to the last."""
-    folder, name = asked.folder, asked.argument("NAME")
+def _of_store(asked: Asked) -> List[Named]:
+    """What differs of a store between two numbers: by default from the oldest that the file has to the last."""
+    name = asked.argument("NAME")
     if name and not is_name(name):
         raise Fault("BadName")
-    known = numbers_of(folder)
+    history = history_of(asked)
+    known = history.numbers
     start = int(asked.options.get(SINCE.name, known.first))
     end = int(asked.options.get(TO_NUMBER.name, known.last))
-    least, most = min(start, end), max(start, end)
-    if least < known.first or most > known.last:
-        raise Fault("NoSuchCommand", f"the file has the numbers from {known.first} to {known.last}")
-    names = [name] if name else names_changed(folder, least + 1, most)
-    pairs = [(one, tree_at(folder, one, start), tree_at(folder, one, end)) for one in names]
-    if name and pairs[0][1] is None and pairs[0][2] is None:
+    history.need(start)
+    history.need(end)
+    return _of_name(history, name, start, end) if name else list(_of_all(history, start, end))
+
+
+def _of_name(history: History, name: str, start: int, end: int) -> List[Named]:
+    """What differs of one configuration between two numbers."""
+    before, after = history.tree_at(name, start), history.tree_at(name, end)
+    if before is None and after is None:
         raise Fault("NoConfig")
-    return pairs
+    return [(name, one) for one in differences(before, after)]
 
 
-def _files(asked: Asked) -> List[Pair]:
-    """The trees of two files."""
+def _of_all(history: History, start: int, end: int) -> Iterator[Named]:
+    """What differs of all configurations between two numbers, in the order in which the edits make it."""
+    changed = history.names_changed(min(start, end) + 1, max(start, end))
+    names = [names_at(history.folder_with(number), number) for number in (start, end)]
+    for name, is_old, is_new in keys_between(*names):
+        if name in changed or not (is_old and is_new):
+            before = history.tree_at(name, start) if is_old else None
+            after = history.tree_at(name, end) if is_new else None
+            yield from ((name, one) for one in differences(before, after))
+
+
+def _of_files(asked: Asked) -> List[Named]:
+    """What differs between two files. The edits have the name of the second one up to its first dot."""
+    name = os.path.basename(asked.arguments["NAME"]).partition(".")[0]
+    if not asked.has(LINES) and not is_name(name):
+        raise Fault("BadName", f"{shown(name)} is no name for the edits: {LINES.name} needs none")
     trees = []
     for file in (asked.folder, asked.arguments["NAME"]):
         try:
@@ -74,16 +92,12 @@ def _files(asked: Asked) -> List[Pair]:
         except OSError as error:
             raise unread(file, error) from None
         trees.append(tree_of(text, Source(file, asked.has(EXPLAIN))))
-    name = os.path.basename(asked.arguments["NAME"]).partition(".")[0]
-    return [(name, trees[0], trees[1])]
+    return [(name, one) for one in differences(trees[0], trees[1])]
 
 
-def _edits(asked: Asked, found: Dict[str, List[Difference]]) -> str:
+def _edits(found: Sequence[Named]) -> str:
     """The edits as the list that `batch` takes."""
-    for name in found:
-        if not is_name(name):
-            raise Fault("BadName", f"{shown(name)} is no name for the edits: {LINES.name} needs none")
-    return to_text([_edit(name, one) for name, several in found.items() for one in several])
+    return to_text([_edit(name, one) for name, one in found])
 
 
 def _edit(name: str, difference: Difference) -> Tree:
@@ -93,18 +107,17 @@ def _edit(name: str, difference: Difference) -> Tree:
     return edit_of(name, difference)
 
 
-def _lines(asked: Asked, found: Dict[str, List[Difference]], is_one: bool) -> Iterator[str]:
+def _lines(asked: Asked, found: Sequence[Named], is_one: bool) -> Iterator[str]:
     """A line for what was at each place, and one for what is there then."""
     hidden = [steps_of(pointer) for pointer in asked.hidden]
     colours = COLOURS if is_output_terminal() else {}
-    for name, several in found.items():
-        for difference in several:
-            for sign, tree in (("-", difference.old), ("+", difference.new)):
-                if tree is not None:
-                    where = [] if is_one else [name]
-                    line = " ".join([sign, *where, *_place_and_value(difference.steps, tree, hidden)])
-                    colour = colours.get(sign, "")
-                    yield f"{colour}{line}{END if colour else ''}\n"
+    for name, difference in found:
+        for sign, tree in (("-", difference.old), ("+", difference.new)):
+            if tree is not None:
+                where = [] if is_one else [name]
+                line = " ".join([sign, *where, *_place_and_value(difference.steps, tree, hidden)])
+                colour = colours.get(sign, "")
+                yield f"{colour}{line}{END if colour else ''}\n"
 
 
 def _place_and_value(steps: Sequence[str], tree: Tree, hidden: Hidden) -> List[str]:
@@ -118,11 +131,20 @@ def _place_and_value(steps: Sequence[str], tree: Tree, hidden: Hidden) -> List[s
 
 def page(asked: Asked) -> int:
     """Writes the page of a store's log. The status. Raises a `Fault`."""
+    write(again(lambda: _page(asked)).encode())
+    return 0
+
+
+def _page(asked: Asked) -> str:
     from .log_page import page_of
     from .reader import Reader
 
+    history = History(asked.folder, asked.archives)
     try:
-        write(page_of(Reader(asked.folder), [steps_of(pointer) for pointer in asked.hidden]).encode())
+        *before, reader = map(Reader, history.folders)
+        text = page_of(reader, [steps_of(pointer) for pointer in asked.hidden], before)
     except ConfstoreError as error:
         raise fault_of(error) from None
-    return 0
+    if before and not history.is_as_it_was():
+        raise Moved
+    return text

@@ -45,6 +45,7 @@ _HINTS: dict[str, str] = {
     "NotCollection": "a text has neither keys nor indexes",
     "Unmet": "a condition does not hold, so nothing was changed",
     "Replaced": "another store stands in the place of the one that the server held: start the server again",
+    "CheckFailed": "the server's check refused what it would give, so nothing was changed",
     "MissingProgram": "install confstore, or name it in CONFSTORE",
 }
 
@@ -62,6 +63,11 @@ def shown(text: str) -> str:
     import re  # by those faults alone that show something
 
     return re.sub(_HIDDEN, _escape, text.encode("utf-8", "replace").decode())
+
+
+def shown_line(line: str) -> str:
+    """A line of a server, which has escaped what it shows so: the signs `\\` in it stay as they are."""
+    return "\\".join(map(shown, line.split("\\")))
 
 
 def _escape(found: re.Match[str]) -> str:

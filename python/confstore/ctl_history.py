@@ -22,7 +22,7 @@ class Numbers(NamedTuple):
     last: int
 
 
-def _done(words: Sequence[str]) -> Ended:
+def performed(words: Sequence[str]) -> Ended:
     """A run of a word of the program that did it. Raises the `Fault` of one that did not."""
     ended = run(words, None)
     if ended.status:
@@ -32,7 +32,7 @@ def _done(words: Sequence[str]) -> Ended:
 
 def numbers_of(folder: str) -> Numbers:
     """The numbers of a store's commands. Raises a `Fault`."""
-    told = dict(_NUMBER.findall(_done(["verify", "--", folder]).output.decode()))
+    told = dict(_NUMBER.findall(performed(["verify", "--", folder]).output.decode()))
     if set(told) != {"base", "commands"}:
         raise Fault("BadAnswer", "`verify` does not tell the numbers of the commands")
     base = int(told["base"])
@@ -58,10 +58,15 @@ def _tree_in(output: bytes) -> Tree:
     return tree
 
 
+def names_at(folder: str, number: int) -> List[str]:
+    """The names of the configurations as they were after a command, in their order. Raises a `Fault`."""
+    return performed(["names", "--at", str(number), "--", folder]).output.decode().splitlines()
+
+
 def names_changed(folder: str, first: int, last: int) -> List[str]:
     """The names of what the commands from one number to another have changed, in the order of their changes. Raises a
     `Fault`, as where the file does not have them."""
-    lines = _done(["log", "--at", str(last), "--", folder]).output.decode().splitlines()
+    lines = performed(["log", "--at", str(last), "--", folder]).output.decode().splitlines()
     changes = [done for number, _, done in (line.partition(" ") for line in lines) if int(number) >= first]
     if len(changes) != last - first + 1:
         raise Fault("NoSuchCommand", f"a checkpoint dropped what came before number {last - len(changes) + 1}")

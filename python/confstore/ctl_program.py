@@ -78,17 +78,18 @@ class Ended:
     def lines(self, source: Source = Source()) -> str:
         """Its lines on standard error, as confstorectl says them where this text was on standard input."""
         lines = self.errors.decode("utf-8", "replace").removesuffix("\n").split("\n") if self.errors else []
-        return "".join(_told(line, source) for line in lines)
+        return "".join(_told(line, following, source) for line, following in zip(lines, [*lines[1:], ""]))
 
 
-def _told(line: str, source: Source) -> str:
+def _told(line: str, following: str, source: Source) -> str:
     if line.startswith(INPUT):
         return f"{shown(source.name)}:{line[len(INPUT) :]}\n"
     if not line.startswith(THEIRS):
         return f"{line}\n"
     name = line[len(THEIRS) :]
     hint = hint_of(name)
-    return f"{OURS}{name}: {hint}\n" if hint else f"{OURS}{name}\n"
+    # The line that follows may say the same.
+    return f"{OURS}{name}: {hint}\n" if hint not in ("", following) else f"{OURS}{name}\n"
 
 
 def _not_started(error: OSError) -> Fault:

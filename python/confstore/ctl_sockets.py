@@ -15,7 +15,7 @@ import re
 import socket
 import time
 
-from .ctl_faults import Fault, shown
+from .ctl_faults import Fault, shown, shown_line
 from .ctl_places import NO_SERVER, Place
 from .pieces import LONGEST_ANSWER, LONGEST_COMMAND, Cutter, simple_value
 
@@ -55,17 +55,18 @@ _ANSWERS = {"get": "value", "export": "text", "names": "names"}
 _NUMBER = re.compile("0|[1-9][0-9]*")
 
 # What a replicated node takes for no command, and why.
-_NOT_BY_NODES = {
+NOT_BY_NODES = {
     "checkpoint": "a replicated node makes its checkpoints itself",
     "watch": "a replicated node tells no changes: watch its folder",
 }
 
 
 class Reply:
-    """An answer: its one key, and what is under it."""
+    """An answer: its one key, and what is under it. `about` is what a server says of a refusal by its check."""
 
     def __init__(self, key: str) -> None:
         self.key = key
+        self.about = ""
 
     def tree(self) -> Tree:
         """What is under the key."""
@@ -236,7 +237,7 @@ class Connection:
             raise self._cut_off("it closed the connection")
         pieces = self._cutter.cut(part)
         if self._cutter.rest[:1] == b"{":
-            raise Fault("Unsupported", _NOT_BY_NODES["watch"])
+            raise Fault("Unsupported", NOT_BY_NODES["watch"])
         if len(self._cutter.rest) > LONGEST_ANSWER:
             raise Fault("BadAnswer", f"a document has more than {LONGEST_ANSWER} bytes")
         return pieces
@@ -250,8 +251,20 @@ class Connection:
         if isinstance(reply, SessionReply) and (reply.key, reply.styled()) == ("refused", b"BadCommand\n"):
             from .style import document
 
-            return self._answer_to(document(command))  # as where a key is too long to stand in one line
+            reply = self._answer_to(document(command))  # as where a key is too long to stand in one line
+        if isinstance(reply, SessionReply) and (reply.key, reply.styled()) == ("refused", b"CheckFailed\n"):
+            reply.about = self._said_by_check()
         return reply
+
+    def _said_by_check(self) -> str:
+        """What the server's check said of the change that it has just refused; nothing where the server does not say
+        it."""
+        try:
+            said = self._answer_to(line_of({"check": ""}) + b"...\n")
+            text = said.tree() if said.key == "text" else ""
+        except Fault:
+            return ""
+        return text.removesuffix("\n") if isinstance(text, str) else ""
 
     def finish(self) -> None:
         """Ends what is asked. Raises a `Fault` where a session says more than was asked."""
@@ -360,11 +373,13 @@ def _refusal_of(reply: Reply, command: Command, program: str | None) -> Fault:
     if not isinstance(word, str):
         raise Fault("BadAnswer", "a refusal has no name")
     if isinstance(reply, NodeReply):
-        for key, about in _NOT_BY_NODES.items():
+        for key, about in NOT_BY_NODES.items():
             if word == "BadCommand" and key in command:
                 return Fault("Unsupported", about)
         if word == "NotText":
             return Fault(word, "a text has a lone surrogate")
+    if reply.about:
+        return Fault(shown(word), "\n".join(map(shown_line, reply.about.split("\n"))))
     if word == "BadCommand" and "if" in command:
         return Fault(word, "the server takes no such command; its program may be one without conditions")
     try:

@@ -12,6 +12,7 @@ from .ctl_faults import Fault, shown
 from .ctl_history import tree_at
 from .ctl_exchange import Exchange
 from .ctl_outputs import has_form, in_form
+from .ctl_program import run
 from .ctl_render import put
 from .ctl_streams import write
 from .ctl_words import ALL, AT, ENVIRONMENT, JSON
@@ -89,6 +90,8 @@ def export_all(asked: Asked) -> int:
     exchange, folder = Exchange(asked), asked.options[ALL.name]
     ending = ".json" if asked.has(JSON) else ".yaml"
     trees: Dict[str, Optional[Tree]] = {name: exchange.tree(name) for name in exchange.names()}
+    if _has_store(folder):
+        raise Fault("StoreExists")
     try:
         os.makedirs(folder, exist_ok=True)
         for name, tree in trees.items():
@@ -98,3 +101,9 @@ def export_all(asked: Asked) -> int:
     except OSError as error:
         raise Fault("Output", f"{shown(folder)}: {error.strerror}") from None
     return 0
+
+
+def _has_store(folder: str) -> bool:
+    """Whether the file of a store could be replaced in a folder, by that of a configuration."""
+    is_there = os.path.lexists(os.path.join(folder, "store.yaml"))
+    return is_there and not run(["names", "--", folder], None).has_fault("NotAStore")

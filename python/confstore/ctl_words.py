@@ -11,10 +11,10 @@ class Argument:
 
 
 class Option:
-    """An option. What comes after it is named `value`, if anything does."""
+    """An option. What comes after it is named `value`, if anything does. It may be given again if it is repeated."""
 
-    def __init__(self, name: str, about: str, value: str = "") -> None:
-        self.name, self.about, self.value = name, about, value
+    def __init__(self, name: str, about: str, value: str = "", is_repeated: bool = False) -> None:
+        self.name, self.about, self.value, self.is_repeated = name, about, value, is_repeated
 
 
 class Word:
@@ -81,8 +81,9 @@ FROM_FILE = Option(
 YAML_RECORDS = Option("--yaml", "Writes the records as they stand in store.yaml")
 VALUES = Option("--values", "Writes the value of each import and set, too, as a JSON text")
 HIDE = Option(
-    "--hide", "Writes `hidden` for what is at POINTER, or below it; needs --values, and may be given again", "POINTER"
-)
+    "--hide", "Writes `hidden` for what is at POINTER, or below it; needs --values, and may be given again", "POINTER",
+    is_repeated=True,
+)  # fmt: skip
 SETTLE = Option("--settle", "Runs COMMAND once for the changes that come within so many seconds", "SECONDS")
 DEFAULT = Option(
     "--default", "Writes TEXT where nothing is at the place; `--default=TEXT` if it begins with `-`", "TEXT"
@@ -111,8 +112,17 @@ SINCE = Option("--from", "Begins with what the store was after command number N"
 FIRST = Option("--from", "Begins with command number N", "N")
 LINES = Option("--lines", "Writes a line for what was at each place, and one for what is there then")
 OF_FILES = Option("--files", "Compares two files, which stand in the places of FOLDER and NAME")
-HIDE_VALUES = Option("--hide", "Leaves out what is at POINTER, or below it; may be given again", "POINTER")
+HIDE_VALUES = Option(
+    "--hide", "Leaves out what is at POINTER, or below it; may be given again", "POINTER", is_repeated=True
+)
 DELETE_MISSING = Option("--delete", "Removes each configuration that has no file")
+
+# That of `checkpoint` which makes an archive, and that of the words that look into archives.
+ARCHIVE = Option("--archive", "Makes the new store NEW before, which has all that the checkpoint drops", "NEW")
+ARCHIVES = Option(
+    "--archive", "Looks into the store DIR, too, which `checkpoint --archive` made; may be given again", "DIR",
+    is_repeated=True,
+)  # fmt: skip
 
 # That of `import` which records edits, and those of the words that write several values or configurations.
 EDITS = Option("--edits", "Records the edits that make the text of what is there, in place of the whole text")
@@ -312,30 +322,31 @@ BATCH = Word(
 UNDO = Word(
     "undo",
     "Takes back what commands have changed",
-    (IF_COUNT, *PLANNED),
+    (ARCHIVES, IF_COUNT, *PLANNED),
     (FOLDER, Argument("N", "The number of a command, or `N..M` for those from N to M"), WATCHED_NAME),
     (
         "Each place that the commands changed gets the value that it had before, by one batch, which is recorded and"
         " can be undone. Where a place has another value than they left there, nothing is changed (Unmet), and the fault"
         " says which places these are. Mappings are compared key by key, and lists element by element where none was"
         " added or taken out; another list is one place. A change that comes meanwhile is looked at in the same way."
-        " Commands that a checkpoint dropped can't be undone (NoSuchCommand).",
+        " Commands that a checkpoint dropped need their archive (see `log`).",
     ),
     (
         "confstorectl undo store 12",
         "confstorectl undo store 12..14 web --dry-run",
+        "confstorectl undo store 3 --archive store-until-may",
     ),
 )
 ROLLBACK = Word(
     "rollback",
     "Makes a configuration what it was after a command",
-    (TO_NUMBER, IF_COUNT, *PLANNED),
+    (TO_NUMBER, ARCHIVES, IF_COUNT, *PLANNED),
     (FOLDER, NAME),
     (
         "`--to` is needed. The edits that this takes are one batch, which is recorded and can be undone. All changes of"
         " the configuration since then are dropped, so look at them first (`diff`). Where it is changed meanwhile,"
         " nothing is changed (Unmet); `--if-count` says up to which number you have looked. One that was not there then"
-        " is removed.",
+        " is removed. With `--archive` the command may be one that a checkpoint dropped (see `log`).",
     ),
     (
         "confstorectl rollback store web --to 11",
@@ -361,10 +372,21 @@ SYNC = Word(
 CHECKPOINT = Word(
     "checkpoint",
     "Makes the store file as short as its state",
-    (),
+    (ARCHIVE,),
     (FOLDER,),
-    ("What earlier commands were is gone then. A replicated node makes its checkpoints itself.",),
-    ("confstorectl checkpoint store",),
+    (
+        "What earlier commands were is gone then. A replicated node makes its checkpoints itself.",
+        "With `--archive` NEW gets them first: it is made as by `backup`, with all that the file has, and is read by"
+        " the option `--archive` of other words (see `log`). It is refused if it has a store (StoreExists). The checkpoint is made only while no command came since NEW was copied; else it is"
+        " copied again. Where a server holds the store, the user has to be allowed to read FOLDER, and the server is"
+        " asked for the checkpoint. Then NEW is best on the device of FOLDER: commands may come meanwhile, and NEW gets"
+        " them too. On another device it is copied five times at most until none came between; then nothing is changed"
+        " (Unmet).",
+    ),
+    (
+        "confstorectl checkpoint store",
+        "confstorectl checkpoint store --archive store-until-may",
+    ),
 )
 EXPORT = Word(
     "export",
@@ -376,8 +398,9 @@ EXPORT = Word(
         " `--json` it is a JSON text, each text a string. With `--plain` such texts stand without quotes, so that"
         " readers with types take them for numbers; then they do so with a version 1.10, too.",
         "With `--all` each configuration is written into a file of its own: NAME.yaml, or NAME.json with `--json`. DIR"
-        " is made if it is missing. A file is replaced whole, with its mode and owner, and only if it changes; other files"
-        " stay. Two configurations may be of two moments.",
+        " is made if it is missing, and refused if it has a store (StoreExists). A file is replaced whole, with its mode"
+        " and owner, and only if it changes; other files stay. Two configurations may be of two moments; those that"
+        " `confstore export --all` writes are of one.",
     ),
     (
         "confstorectl export store web",
@@ -388,9 +411,9 @@ EXPORT = Word(
 NAMES = Word(
     "names",
     "Writes the names of the configurations, a line each",
-    (JSON_NAMES, AT),
+    (JSON_NAMES, AT, ARCHIVES),
     (FOLDER,),
-    (),
+    ("With `--archive` command number N may be one that a checkpoint dropped (see `log`).",),
     (
         "confstorectl names store",
         "confstorectl names store --at 12",
@@ -399,7 +422,7 @@ NAMES = Word(
 GET = Word(
     "get",
     "Writes the value at a JSON Pointer of a configuration",
-    (RAW, NO_NEWLINE, JSON, PLAIN, ENVIRONMENT, DEFAULT, AT),
+    (RAW, NO_NEWLINE, JSON, PLAIN, ENVIRONMENT, DEFAULT, AT, ARCHIVES),
     (FOLDER, NAME, POINTERS),
     (
         "The value is written in the one style. With `--raw` a text is written as it is, with a line feed after it, or"
@@ -412,6 +435,7 @@ GET = Word(
         " (EnvironmentFile=) set the variable port to exactly this text. The name is made of the steps that lead to the"
         " text, with `_` between them and in the place of what a name can't have; two places of one name are refused"
         " (NameTwice).",
+        "With `--archive` command number N may be one that a checkpoint dropped (see `log`).",
     ),
     (
         "confstorectl get store web /port --raw",
@@ -419,17 +443,19 @@ GET = Word(
         "confstorectl get store web --env > web.env",
         "confstorectl get store web",
         "confstorectl get store web /port --at 12",
+        "confstorectl get store web /port --at 3 --archive store-until-may",
         "confstorectl get store web /port --raw --default 80",
     ),
 )
 KEYS = Word(
     "keys",
     "Writes the keys of a mapping, or the indexes of a list, a line each",
-    (AT,),
+    (AT, ARCHIVES),
     (FOLDER, NAME, WHOLE_POINTER),
     (
         "A key that begins with a double quote or holds what is not shown, as a line break, is written in double"
         " quotes, and so is the empty one. A text has no keys (NotCollection).",
+        "With `--archive` command number N may be one that a checkpoint dropped (see `log`).",
     ),
     (
         "confstorectl keys store web",
@@ -439,11 +465,12 @@ KEYS = Word(
 EXISTS = Word(
     "exists",
     "Tells whether something is at a JSON Pointer, by the status",
-    (AT,),
+    (AT, ARCHIVES),
     (FOLDER, NAME, WHOLE_POINTER),
     (
         "Nothing is written. The status is 0 if something is at the pointer, and 1 if nothing is there or no"
         " configuration has the name. Without POINTER it is 0 if the configuration is there.",
+        "With `--archive` command number N may be one that a checkpoint dropped (see `log`).",
     ),
     ("confstorectl exists store web /port && echo there",),
 )
@@ -472,7 +499,7 @@ RENDER = Word(
 LOG = Word(
     "log",
     "Writes the commands since the last checkpoint",
-    (VALUES, HIDE, YAML_RECORDS, FIRST, TO_NUMBER, AT),
+    (VALUES, HIDE, YAML_RECORDS, FIRST, TO_NUMBER, AT, ARCHIVES),
     (FOLDER, Argument("NAME", "The configuration of which the commands are written; all if it is left out", True)),
     (
         "Each command is one line, as `2 set web \"/port\"`: its number, what it did, and where. With `--values` the"
@@ -481,6 +508,10 @@ LOG = Word(
         " same.",
         "With `--hide POINTER` the word `hidden` stands for what is at the JSON Pointer of any configuration, or below"
         " it. An index is the one that the command names, and `-` is taken for every index: hide a list whole.",
+        "With `--archive` the commands are those of the archives and of the store, each once. The archives may be given"
+        " in any order: their numbers say which one is older. Where a number is in none of them nothing is written"
+        " (Gap). Where an archive has another state or other commands than what follows it, it is one of another store"
+        " (OtherArchive).",
     ),
     (
         "confstorectl log store",
@@ -488,6 +519,7 @@ LOG = Word(
         "confstorectl log store --values",
         "confstorectl log store --values --hide /key",
         "confstorectl log store --yaml",
+        "confstorectl log store web --archive store-until-may --archive store-until-june",
     ),
 )
 VERIFY = Word(
@@ -538,18 +570,21 @@ WATCH = Word(
 DIFF = Word(
     "diff",
     "Writes what changed between two commands, or between two files",
-    (SINCE, TO_NUMBER, LINES, HIDE_VALUES, OF_FILES, EXPLAIN),
+    (SINCE, TO_NUMBER, LINES, HIDE_VALUES, OF_FILES, EXPLAIN, ARCHIVES),
     (FOLDER, WATCHED_NAME),
     (
         "It begins with the oldest state that the file has, which the last checkpoint left, and goes to the last"
         " command, unless numbers are given. Without `--lines` it writes the edits that make the second state of the"
         " first, as a list that `batch` takes; they are made in their order. With `--lines` each place is a line as"
         " `- /port \"80\"`, or `+ /port \"81\"`, the value as a JSON text, in colours on a terminal (unless NO_COLOR"
-        " is set); without NAME the name stands before the place. The order of keys counts.",
+        " is set); without NAME the name stands before the place. The order of keys and of configurations counts.",
         "The status is 0 if nothing differs, and 1 if something does, as of diff. `--hide` needs `--lines`.",
+        "With `--archive` numbers before the last checkpoint may be given, and it begins with the oldest state that an"
+        " archive has (see `log`).",
     ),
     (
         "confstorectl diff store web --from 11 --lines",
+        "confstorectl diff store web --from 3 --lines --archive store-until-may",
         "confstorectl diff store --from 11 --to 12",
         "confstorectl diff --files old.yaml new.yaml --lines",
     ),
@@ -558,14 +593,16 @@ DIFF = Word(
 PAGE = Word(
     "page",
     "Writes a page of the log, a file of HTML for a browser",
-    (HIDE_VALUES,),
+    (HIDE_VALUES, ARCHIVES),
     (FOLDER,),
     (
         "It has each command since the last checkpoint with the values before and after it, and the store at each"
         " number. It asks nothing of a network. Whoever may read it sees all values but those that `--hide` leaves out.",
+        "With `--archive` it has those of the archives, too (see `log`).",
     ),
     (
         "confstorectl page store > log.html",
+        "confstorectl page store --archive store-until-may > log.html",
         "confstorectl page store --hide /db/password > log.html",
     ),
     common=WITHOUT_SERVER,
@@ -654,6 +691,9 @@ MOVING = (COPY, RENAME, MOVE)
 READING = (EXPORT, NAMES, KEYS, GET, EXISTS, RENDER)
 LOOKING_BACK = (LOG, DIFF, PAGE, VERIFY, WATCH)
 
+# Those that read with `--at` what the store was.
+READING_AT = (NAMES, KEYS, GET, EXISTS)
+
 # The words that change a store by what its file says.
 WITH_HISTORY = (UNDO, ROLLBACK, SYNC)
 
@@ -691,9 +731,9 @@ DESCRIPTION = (
     " FOLDER/confstore.sock if a server listens there; and of a FOLDER in /var/lib/confstore it is"
     " /run/confstore/NAME/socket. With one that is given FOLDER only counts for the words and options that look into"
     " the file of a store: `log`, `diff`, `page`, `verify`, `watch` and `--at`, and those that change something back,"
-    " `undo`, `rollback` and `sync`. These read the folder, also beside a server, by the"
+    " `undo`, `rollback` and `sync`, and for `checkpoint --archive`. These read the folder, also beside a server, by the"
     " program, which is CONFSTORE or confstore on the PATH; where the folder can't be read, `watch` asks the server."
-    " Where `undo`, `rollback` and `sync` find a server that has another store than FOLDER, nothing is changed"
+    " Where one that changes the store finds a server that has another store than FOLDER, nothing is changed"
     " (OtherStore).",
     "A socket that is not given is only used where its server has the store in FOLDER, and not where a copy of a folder"
     " has a link to the socket of the first one.",
@@ -737,10 +777,12 @@ OWN_FAULTS = (
     ("Unknown", "3", "nobody says how the program ended"),
     ("Unsupported", "1", "a replicated node has no such word"),
     ("EditorFailed", "3", "the editor could not be started, or ended with another status than 0"),
-    ("CheckFailed", "1", "the command of `--check` has refused a configuration; nothing was changed"),
+    ("CheckFailed", "1", "the command of `--check`, or that of the server, has refused a text; nothing was changed"),
     ("CommandFailed", "1", "a command that was run has ended with another status than 0"),
     ("NothingToImport", "1", "no file of the folder has an ending of the format"),
     ("NothingToUndo", "1", "the commands have changed nothing of what was named"),
+    ("Gap", "1", "commands are in none of the archives, and not in the store; nothing was written"),
+    ("OtherArchive", "1", "an archive is one of another store; nothing was written"),
     ("NameTwice", "1", "two places would be one variable; nothing was written"),
     ("NoVariable", "1", "a text can't be a variable; nothing was written"),
 )

@@ -1,8 +1,8 @@
 """What differs between two trees: the edits that make the second of the first, performed in their order.
 
 The rules are those of the crate `tree_diff`. In a mapping a key stays if it is the next key of the second mapping;
-others are deleted, and what is then missing is set last. A mapping of which fewer keys stay than are deleted is set
-whole, if some are missing. In a list the elements at one index are compared. If the first list is longer, what is left
+others are deleted, and what is then missing is set last. So it is with the configurations of a store, too. A mapping of
+which fewer keys stay than are deleted is set whole, if some are missing. In a list the elements at one index are compared. If the first list is longer, what is left
 over is deleted before the elements that both have at their ends; if it is shorter, what is missing comes to the end.
 """
 
@@ -19,6 +19,14 @@ COMPARED = 8
 
 # The step behind the last element of a list.
 END = "-"
+
+
+class Key(NamedTuple):
+    """A key of two mappings, and in which of them it is. One that has to move is deleted first, and set later."""
+
+    key: str
+    is_old: bool
+    is_new: bool
 
 
 class Difference(NamedTuple):
@@ -64,32 +72,35 @@ def _between(steps: Tuple[str, ...], first: Tree, second: Tree) -> Iterator[Diff
     if isinstance(first, list) and isinstance(second, list):
         yield from _of_elements(steps, first, second)
     elif isinstance(first, dict) and isinstance(second, dict) and not _is_set_whole(first, second):
-        yield from _of_members(steps, list(first.items()), list(second.items()))
+        yield from _of_members(steps, first, second)
     elif not (isinstance(first, str) and first == second):
         yield Difference(steps, first, second)
 
 
 def _is_set_whole(first: Dict[str, Tree], second: Dict[str, Tree]) -> bool:
     """Whether fewer keys of a mapping stay than are deleted, and some of the second one are new."""
-    keys, kept = list(second), 0
-    for key in first:
-        if kept < len(keys) and keys[kept] == key:
-            kept += 1
+    kept = sum(key.is_old and key.is_new for key in keys_between(list(first), list(second)))
     return kept < len(first) - kept and kept < len(second)
 
 
-def _of_members(
-    steps: Tuple[str, ...], first: Sequence[Tuple[str, Tree]], second: Sequence[Tuple[str, Tree]]
-) -> Iterator[Difference]:
+def keys_between(first: Sequence[str], second: Sequence[str]) -> Iterator[Key]:
+    """The keys of two mappings in the order of their edits: a key stays if it is the next one of the second mapping,
+    others are deleted, and those that are then missing come last."""
     place = 0
-    for key, value in first:
-        if place < len(second) and second[place][0] == key:
-            yield from _between((*steps, key), value, second[place][1])
-            place += 1
+    for key in first:
+        stays = place < len(second) and second[place] == key
+        place += stays
+        yield Key(key, True, stays)
+    for key in second[place:]:
+        yield Key(key, False, True)
+
+
+def _of_members(steps: Tuple[str, ...], first: Dict[str, Tree], second: Dict[str, Tree]) -> Iterator[Difference]:
+    for key, is_old, is_new in keys_between(list(first), list(second)):
+        if is_old and is_new:
+            yield from _between((*steps, key), first[key], second[key])
         else:
-            yield Difference((*steps, key), value, None)
-    for key, value in second[place:]:
-        yield Difference((*steps, key), None, value)
+            yield Difference((*steps, key), first[key] if is_old else None, second[key] if is_new else None)
 
 
 def _of_elements(steps: Tuple[str, ...], first: Sequence[Tree], second: Sequence[Tree]) -> Iterator[Difference]:

@@ -14,13 +14,13 @@ if TYPE_CHECKING:
     from .texts import Place
 
 __all__ = [
-    "AnswerCut", "AnswerLong", "BadAnswer", "BadCommand", "BadName", "BadPath", "Closed", "CommandLong", "ConfigLarge",
-    "ConfstoreError", "CountFull", "Damaged", "Device", "Disconnected", "Documents", "EmptyBatch", "InputFailed",
-    "JournalLong", "KeyNotText", "KeyTwice", "LargeInStyle", "Locked", "MissingFolder", "MissingProgram", "NoConfig",
-    "NoSuchCommand", "NoSuchPlace", "NotAStore", "NotAText", "NotATree", "NotIndex", "NotStarted", "NotText", "NotUtf8",
-    "OutOfMemory", "OutputFailed", "RecordLong", "Refused", "SessionEnded", "SessionLong", "StoreFull", "StoreReplaced",
-    "Syntax", "TimedOut", "TooDeep", "TooLong", "TooLongToSend", "Unknown", "Unmet", "Unsupported", "UnusablePath",
-    "Unwritten",
+    "AnswerCut", "AnswerLong", "BadAnswer", "BadCommand", "BadName", "BadPath", "CheckFailed", "Closed", "CommandLong",
+    "ConfigLarge", "ConfstoreError", "CountFull", "Damaged", "Device", "Disconnected", "Documents", "EmptyBatch",
+    "InputFailed", "JournalLong", "KeyNotText", "KeyTwice", "LargeInStyle", "Locked", "MissingFolder", "MissingProgram",
+    "NoConfig", "NoSuchCommand", "NoSuchPlace", "NotAStore", "NotAText", "NotATree", "NotIndex", "NotStarted",
+    "NotText", "NotUtf8", "OutOfMemory", "OutputFailed", "RecordLong", "Refused", "SessionEnded", "SessionLong",
+    "StoreFull", "StoreReplaced", "Syntax", "TimedOut", "TooDeep", "TooLong", "TooLongToSend", "Unknown", "Unmet",
+    "Unsupported", "UnusablePath", "Unwritten",
 ]  # fmt: skip
 
 
@@ -199,6 +199,21 @@ class StoreReplaced(Refused):
     """Another store stands in the place of the one that the server of the socket held. The server ends."""
 
     because = "another store stands in the place of the one that the server held; start the server again"
+
+
+class CheckFailed(Refused):
+    """The command that judges changes for the server (`serve.py --check`) refused what this one would give, or it could
+    not be judged. Nothing was changed.
+
+    `lines` says how that command ended, and on which configuration, and then has the last lines of what it said; they
+    are empty where the server does not know them any more.
+    """
+
+    because = "the server's check refused what it would give"
+    lines: tuple[str, ...] = ()
+
+    def __str__(self) -> str:
+        return "\n".join([super().__str__(), *self.lines])
 
 
 class SessionEnded(ConfstoreError):
@@ -391,7 +406,7 @@ REFUSALS: dict[str, type[Refused]] = {
     for kind in (
         BadCommand, Unmet, BadName, NoConfig, BadPath, NoSuchPlace, NotIndex, TooLong, NotUtf8, Syntax, Documents,
         KeyNotText, KeyTwice, TooDeep, LargeInStyle, ConfigLarge, StoreFull, JournalLong, CountFull, EmptyBatch,
-        RecordLong, NoSuchCommand,
+        RecordLong, NoSuchCommand, CheckFailed,
     )
 }  # fmt: skip
 REFUSALS["Replaced"] = StoreReplaced

@@ -8,13 +8,13 @@ import hashlib
 import json
 import os
 import re
-from typing import Any, Dict
+from typing import Any, Dict, List, Optional, Sequence, Tuple
 
 from .faults import ConfstoreError, NoSuchCommand
 from .hidden import Hidden, Hiding, shown
 from .pointers import steps_of
 from .reader import Reader
-from .records import Edit
+from .records import Edit, Record
 from .style import Tree
 
 _TEMPLATE = os.path.join(os.path.dirname(os.path.abspath(__file__)), "log_page.html")
@@ -47,19 +47,32 @@ def _edit_of(edit: Edit) -> Dict[str, Any]:
     return {"kind": edit.kind, "name": edit.name, "path": edit.path, "tree": tree}
 
 
-def _history(reader: Reader, hidden: Hidden) -> Dict[str, Any]:
-    """The state before the first record of the file, and the records, but for what is hidden."""
+def _records(readers: Sequence[Reader]) -> Tuple[Reader, List[Record]]:
+    """The records that files have one after the other, each once, and the reader of the first of them."""
+    found: List[Record] = []
+    first = readers[-1]
+    for reader in readers:
+        records = reader.log(found[-1].number if found else 0)
+        first = reader if records and not found else first
+        found += records
+    return first, found
+
+
+def _history(readers: Sequence[Reader], hidden: Hidden) -> Dict[str, Any]:
+    """The state before the first record of files, and the records, but for what is hidden."""
     for _ in range(TRIES):
-        records = reader.log()
-        start = records[0].number - 1 if records else None
+        first, records = _records(readers)
+        start: Optional[int] = records[0].number - 1 if records else None
+        if records and records[-1].number - records[0].number + 1 != len(records):
+            continue
         try:
-            names = reader.names(start)
-            configs = [[name, _packed(shown(reader.get(name, at=start), hidden, MARK))] for name in names]
+            names = first.names(start)
+            configs = [[name, _packed(shown(first.get(name, at=start), hidden, MARK))] for name in names]
         except NoSuchCommand:
             continue
         edits = [[_edit_of(shown_edit(edit, hidden)) for edit in record.edits] for record in records]
         told = [{"number": record.number, "edits": made} for record, made in zip(records, edits)]
-        title = os.path.basename(reader.folder) or reader.folder
+        title = os.path.basename(readers[-1].folder) or readers[-1].folder
         return {"title": title, "start": start or 0, "configs": {"pairs": configs}, "records": told}
     raise ConfstoreError("checkpoints come faster than the log is read")
 
@@ -75,9 +88,10 @@ def _policy(template: str) -> str:
     return "; ".join(["default-src 'none'", *kinds])
 
 
-def page_of(reader: Reader, hidden: Hidden) -> str:
-    """The page of a store as a text, without the values at these paths. Raises a `ConfstoreError`."""
-    data = json.dumps(_history(reader, hidden)).replace("<", "\\u003c")  # so that no text ends the script that holds it
+def page_of(reader: Reader, hidden: Hidden, before: Sequence[Reader] = ()) -> str:
+    """The page of a store as a text, without the values at these paths, with the commands that archives have from
+    before. Raises a `ConfstoreError`."""
+    data = json.dumps(_history([*before, reader], hidden)).replace("<", "\\u003c")  # so that no text ends the script that holds it
     with open(_TEMPLATE, encoding="utf-8") as source:
         template = source.read()
     return template.replace("POLICY", _policy(template), 1).replace(">DATA<", f">{data}<", 1)

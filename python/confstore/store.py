@@ -10,11 +10,11 @@ from types import TracebackType
 from typing import Any, Callable, Dict, List, MutableMapping, Optional, Sequence, Tuple, Type, TypeVar, overload
 
 from .answers import Answers
-from .commands import CHECKPOINT, NAMES, delete_of, get_of, import_of, put_of, refused, set_of
+from .commands import CHECKPOINT, NAMES, delete_of, get_of, import_of, lines_of, put_of, refused_as, set_of
 from .conditions import PROBE, Condition, Test, at_place, move_of, under
 from .edits import Edits
-from .faults import BadCommand, BadName, Closed, ConfstoreError, EmptyBatch, NoConfig, Refused, Unmet, Unsupported
-from .faults import refusal
+from .faults import BadCommand, BadName, CheckFailed, Closed, ConfstoreError, EmptyBatch, NoConfig, Refused, Unmet
+from .faults import Unsupported, refusal
 from .mapping import MISSING, MISSING_HERE, Configurations, D, Missing
 from .places import find_program, make_folder, need_folder, path_of
 from .reader import Reader, View
@@ -179,7 +179,22 @@ class Store(Answers, Configurations, MutableMapping[str, Tree]):
         self._session.distrust(fault)
 
     def _count(self, command: Tree) -> int:
-        return self._count_in(self._ask(command), command)
+        return self._counted(self._ask(command), command)
+
+    def _counted(self, answer: bytes, command: Tree) -> int:
+        """The count in the answer to a command. Where the check of a server refused it, the lines are asked for."""
+        try:
+            return self._count_in(answer, command)
+        except CheckFailed as fault:
+            fault.lines = self._lines_behind(command)
+            raise
+
+    def _lines_behind(self, command: Tree) -> Tuple[str, ...]:
+        """The lines behind the refusal of a command by the check of a server, or none where they don't come."""
+        try:
+            return self._lines_in(self._ask(lines_of(document(command))))
+        except ConfstoreError:
+            return ()
 
     def _read_at(self, name: str, path: str) -> Tree:
         command = get_of(name, path)
@@ -258,7 +273,7 @@ class Store(Answers, Configurations, MutableMapping[str, Tree]):
                     if time.monotonic() > deadline or (conditions and not self._hold(conditions)):
                         raise
         except Refused as fault:
-            raise refused(fault.word, {word: source}, self._program) from None
+            raise refused_as(fault, {word: source}, self._program) from None
 
     def _hold(self, conditions: Sequence[Condition]) -> bool:
         """Whether conditions hold. It asks for an empty batch, which is refused after they were looked at."""
@@ -315,7 +330,7 @@ class Store(Answers, Configurations, MutableMapping[str, Tree]):
         answers = self._session.ask_all([document(command) for command in commands], self._timeout)
         for command, answer in zip(commands, answers):
             try:
-                counts.append(answer if isinstance(answer, ConfstoreError) else self._count_in(answer, command))
+                counts.append(answer if isinstance(answer, ConfstoreError) else self._counted(answer, command))
             except ConfstoreError as fault:
                 counts.append(fault)
         return counts

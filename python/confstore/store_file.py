@@ -10,7 +10,7 @@ import io
 import os
 import re
 import stat
-from typing import Iterator, Optional, Tuple
+from typing import BinaryIO, Iterator, Optional, Tuple
 
 from .faults import BadAnswer, Damaged, Device, NotAStore, end_of
 from .pieces import Cutter
@@ -130,6 +130,13 @@ class StoreFile:
             return record_of(self._tree_of(piece))
         except BadAnswer as fault:
             raise Damaged(f"Damaged: after command {self.number}: {fault}") from None
+
+    def copy_read(self, target: BinaryIO) -> None:
+        """Copies the bytes that were read, which are whole pieces."""
+        place = 0
+        while part := os.pread(self._file.fileno(), min(PART, self._place - place), place):
+            target.write(part)
+            place += len(part)
 
     def _is_record(self, piece: bytes) -> bool:
         """Whether a piece is a record, whatever its number. None has a zero."""

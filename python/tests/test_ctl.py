@@ -193,6 +193,13 @@ class Told(unittest.TestCase):
         self.assertRegex(ended.lines(), r"\Aconfstorectl: Device: [^\n]+\nstore.yaml: No space left on device\n\Z")
         self.assertEqual(Ended(0, b"x", b"").lines(), "")
 
+    def test_nothing_is_said_twice(self) -> None:
+        said = "a name has 1 to 64 of a-z, 0-9, _ and -, a letter first\n"
+        self.assertEqual(
+            Ended(1, b"", b"confstore: BadName\n" + said.encode()).lines(), "confstorectl: BadName\n" + said
+        )
+        self.assertEqual(Ended(1, b"", b"confstore: BadName\n").lines(), "confstorectl: BadName: " + said)
+
     def test_which_run_was_locked(self) -> None:
         locked = b"confstore: Locked\n"
         for errors in (locked, locked + b"store.lock: another run holds its lock\n", b"confstore: the last\n" + locked):
@@ -385,6 +392,11 @@ class Sockets(SocketTest):
     def test_a_node_has_no_checkpoint(self) -> None:
         self.listen(b'{"refused": "BadCommand"}\n')
         self.assertEqual(self.fault("checkpoint", self.folder), (1, "Unsupported"))
+        os.remove(self.path)
+        self.listen(b'{"names": ["web"]}\n')
+        archive = os.path.join(self.top, "archive")
+        self.assertEqual(self.fault("checkpoint", self.folder, "--archive", archive), (1, "Unsupported"))
+        self.assertFalse(os.path.exists(archive))
 
     def test_what_no_line_can_hold_is_sent_as_a_document(self) -> None:
         self.listen(b"---\nrefused: BadCommand\n...\n", b'---\nok: "2"\n...\n')

@@ -8,6 +8,7 @@ import subprocess
 import sys
 
 from confstore import Reader, Store
+from confstore.differences import are_same
 from confstore.trees import from_text
 
 from .places import python_path
@@ -56,9 +57,24 @@ class Diff(HistoryTest):
                     store.update(states[start])
                 if edits:
                     self.does_at(other, "batch", given=edits)
-                self.assertEqual(dict(Reader(other).items()), states[end])
+                self.assertTrue(are_same(dict(Reader(other).items()), states[end]), (start, end))
         self.assertEqual(from_text(self.ctl("diff", "web", "--from", "1", "--to", "2")[1]),
                          [{"set": "web", "path": "/port", "value": "81"}])  # fmt: skip
+
+    def test_the_order_of_configurations_counts(self) -> None:
+        """One that has to move is deleted and imported last, also where no command named it."""
+        with Store(self.folder) as store:
+            web = store["web"]
+            store.delete("web")
+            store["web"] = web
+        for start, end, wanted in (
+            ("5", "7", [{"delete": "web", "path": ""}, {"import": "web", "tree": web}]),
+            ("7", "5", [{"delete": "mail", "path": ""}, {"import": "mail", "tree": {"host": "m"}}]),
+            ("7", "6", [{"delete": "web", "path": ""}]),
+        ):  # fmt: skip
+            self.assertEqual(from_text(self.ctl("diff", "--from", start, "--to", end)[1]), wanted)
+        self.assertEqual(self.lines("--from", "7", "--to", "5"), ['- mail {"host":"m"}', '+ mail {"host":"m"}'])
+        self.assertEqual(self.lines("web", "--from", "5", "--to", "7"), [])
 
     def does_at(self, folder: str, *words: str, given: str) -> None:
         kept, self.folder = self.folder, folder
@@ -87,7 +103,8 @@ class Diff(HistoryTest):
         self.assertEqual(files("old.yaml", "new.yaml"), (1, '- set: new\n  path: "/port"\n  value: "81"\n', ""))
         odd = '- /port "80"\n+ /port "81"\n- /host "a"\n'
         self.assertEqual(files("old.yaml", "Odd.txt", "--lines"), (1, odd, ""))
-        self.assertIn("BadName", files("old.yaml", "Odd.txt")[2])
+        for first in ("old.yaml", "Odd.txt", "none.yaml"):  # the name is looked at before the files
+            self.assertIn("BadName", files(first, "Odd.txt")[2])
         self.assertIn("bad.yaml:1:4: Syntax Flow", files("old.yaml", "bad.yaml")[2])
         self.assertEqual(files("old.yaml", "none.yaml")[0], 3)
         self.assertEqual(files("old.yaml")[0], 2)

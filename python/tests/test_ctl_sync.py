@@ -216,3 +216,11 @@ class ExportAll(SyncTest):
             self.assertEqual(self.ctl("export", *wrong)[0], 2, wrong)
         self.writes("file", "x")
         self.assertEqual(self.ctl("export", "--all", os.path.join(self.files, "file"))[0], 3)
+
+    def test_no_store_is_replaced(self) -> None:
+        """A configuration may be called `store`, and its file is no store."""
+        self.does("copy", "web", "store")
+        self.is_refused("StoreExists", "export", "--all", self.folder)
+        self.does("export", "--all", self.files)
+        self.does("export", "--all", self.files)
+        self.assertEqual(self.does("names").split(), ["web", "dns", "store"])

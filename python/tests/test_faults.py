@@ -264,7 +264,7 @@ class Limits(unittest.TestCase):
         """The clients, the server and docs/STORE.md say the same."""
         rows = (
             ("docs/STORE.md", r"(?m)^\| a piece of a session.* \| ([0-9,]+) bytes \| `TooLong` \|$"),
-            ("clients/serve.py", r"(?m)^LONGEST = ([0-9_]+) "),
+            ("clients/serve_clients.py", r"(?m)^LONGEST = ([0-9_]+) "),
             ("clients/c/confstore.h", r"CONFSTORE_LONGEST_COMMAND \(\(size_t\)([0-9]+)\)"),
         )
         for file, pattern in rows:

@@ -170,13 +170,13 @@ class Clients(ServerTest):
 
 class Cutting(unittest.TestCase):
     def test_pieces(self) -> None:
-        spec = importlib.util.spec_from_file_location("serve", SERVER)
+        spec = importlib.util.spec_from_file_location("serve_socket", os.path.join(TOP, "clients", "serve_socket.py"))
         assert spec is not None and spec.loader is not None
-        serve = importlib.util.module_from_spec(spec)
-        spec.loader.exec_module(serve)
+        sockets = importlib.util.module_from_spec(spec)
+        spec.loader.exec_module(sockets)
         stream = b"...\na\n...\n....\n ...\n...\n\n...\nb...\nrest"
         for step in (1, 2, 3, 5, 100):
-            pieces = serve.Pieces()
+            pieces = sockets.Pieces()
             found: list[bytes] = []
             for place in range(0, len(stream), step):
                 pieces.add(stream[place : place + step])

@@ -1,0 +1,214 @@
+"""What `serve.py` keeps of each client: what it sent and is not in the session, and what it has to read; and who waits
+for a place."""
+
+from __future__ import annotations
+
+import selectors
+import socket
+import time
+from typing import Callable, Optional
+
+from serve_metrics import Monitor
+from serve_socket import PART, Pieces
+from serve_watch import Watcher
+
+LONGEST = 16_777_216  # bytes of a command
+MOST_DUE = 16  # commands of a client in the session
+
+# How commands begin whose answers are short, after `---`, and how many bytes are looked at for that.
+LOOKED_AT = 16
+SHORT = tuple(word + end for word in (b"set:", b"delete:", b"import:", b"batch:", b"if:") for end in (b" ", b"\n"))
+
+# What is answered where another store stands in the place of the one that the server holds.
+REFUSED = b"---\nrefused: Replaced\n...\n"
+
+READ, WRITE = selectors.EVENT_READ, selectors.EVENT_WRITE
+
+
+def may_be_long(start: bytes) -> bool:
+    """Whether the answer to a command with this start may be long."""
+    return not start.removeprefix(b"---\n").startswith(SHORT)
+
+
+class Work:
+    """The clients that there is something to do for. Each turn goes over them, and not over all that are connected."""
+
+    def __init__(self) -> None:
+        self.changed: dict[Client, None] = {}  # who sent, got or read something since its events were watched
+        self.answered: dict[Client, None] = {}  # who got an answer that nothing was sent of yet
+        self.waiting: dict[Client, None] = {}  # who has a whole command that no session has, in order of their turns
+        self.watching: dict[Client, None] = {}  # who watches the store
+
+    def leave(self, client: Client) -> None:
+        for clients in (self.changed, self.answered, self.waiting, self.watching):
+            clients.pop(client, None)
+
+
+class Client:
+    """A client: what it sent and is not in the session, and what it has to read."""
+
+    def __init__(
+        self, connection: socket.socket, monitor: Monitor, work: Work, serve: Callable[[Client, int], None]
+    ) -> None:
+        self.connection = connection
+        self.monitor = monitor
+        self.work = work
+        self.descriptor = connection.fileno()
+        self.serve = lambda events: serve(self, events)
+        self.heard = Pieces()
+        self.may_hear = PART
+        self.unsaid = bytearray()
+        self.due = 0
+        self.waits_for_long = False
+        self.has_sent_all = False
+        self.is_gone = False
+        self.watcher: Optional[Watcher] = None
+        self.came = self.read_last = self.active = self.asked = time.monotonic()
+        self.has_changed()
+
+    def has_changed(self) -> None:
+        """Notes that the next turn has to look at it, and whether it has a command for the session."""
+        self.work.changed[self] = None
+        if self.heard.end:
+            self.work.waiting.setdefault(self)
+
+    def may_send(self) -> bool:
+        """Whether its next command may go to the session."""
+        is_free = not self.unsaid and not self.waits_for_long and self.watcher is None
+        return bool(self.heard.end) and is_free and self.due < MOST_DUE
+
+    def wants_long(self) -> bool:
+        """Whether the answer to its next command may be long."""
+        return may_be_long(bytes(self.heard.bytes[:LOOKED_AT]))
+
+    def next_command(self) -> bytearray:
+        self.waits_for_long = self.wants_long()
+        self.due += 1
+        self.may_hear = PART
+        command = self.heard.take()
+        del self.work.waiting[self]  # its next turn is behind those of the others
+        self.has_changed()
+        return command
+
+    def hear(self) -> bool:
+        """Takes what it sends. Whether it may go on."""
+        room = self.may_hear - len(self.heard.bytes)
+        if room <= 0 or self.has_sent_all:
+            return True
+        try:
+            part = self.connection.recv(min(PART, room))
+        except BlockingIOError:
+            return True
+        except OSError:
+            return False
+        self.has_sent_all = not part
+        self.heard.add(part)
+        self.has_changed()
+        self.monitor.received += len(part)
+        if self.heard.end:
+            self.active = self.asked = time.monotonic()  # all whole commands here came by now: none was here before
+        return not self.heard.is_longer_than(LONGEST)
+
+    def answer(self, answer: bytearray) -> None:
+        self.active = time.monotonic()
+        if not self.unsaid:
+            self.read_last = self.active
+            self.work.answered[self] = None
+        self.due -= 1
+        self.waits_for_long = False
+        self.unsaid = self.unsaid + answer if self.unsaid else answer
+
+    def tell(self, part: bytes) -> None:
+        """Gives it a part of what it watches."""
+        self.active = self.read_last = time.monotonic()
+        self.unsaid = bytearray(part)
+        self.has_changed()
+
+    def say(self) -> bool:
+        """Sends it what it takes now. Whether it may go on."""
+        self.has_changed()
+        try:
+            count = self.connection.send(self.unsaid)
+        except BlockingIOError:
+            return True
+        except OSError:
+            return False
+        del self.unsaid[:count]
+        self.monitor.sent += count
+        self.read_last = time.monotonic()
+        if not self.unsaid:
+            self.active = self.read_last
+        return True
+
+    def refuse_all(self) -> bool:
+        """Answers each whole command that has come, and that no session has, by the refusal of a store that is gone.
+        One that was refused is heard no more. Whether it may go on."""
+        goes_on = self.hear()
+        count = 0
+        while self.heard.end:
+            self.heard.take()
+            count += 1
+        if not self.unsaid:
+            self.read_last = time.monotonic()
+        self.unsaid = self.unsaid + REFUSED * count
+        self.has_sent_all = self.has_sent_all or count > 0
+        self.has_changed()
+        return goes_on
+
+    def leave(self) -> None:
+        """Ends the connection, and lets go of the memory."""
+        self.is_gone = True
+        self.connection.close()
+        self.heard, self.unsaid = Pieces(), bytearray()
+
+    def has_to_read(self) -> bool:
+        """Whether there is something that it has to be told before the end."""
+        return bool(self.unsaid) or (self.watcher is not None and self.watcher.has_to_end())
+
+    def is_done(self) -> bool:
+        if self.watcher is not None:
+            return not self.unsaid and (self.watcher.is_over or self.has_sent_all or bool(self.heard.end))
+        return self.has_sent_all and not self.unsaid and not self.due and not self.heard.end
+
+    def is_idle(self) -> bool:
+        """Whether the session has nothing to do for it."""
+        return not self.due and not self.heard.end
+
+    def needs_place(self) -> bool:
+        """Whether it has sent as much of a command as is kept of each client."""
+        return not self.heard.end and len(self.heard.bytes) >= self.may_hear and not self.has_sent_all
+
+    def events(self) -> int:
+        hears = not (self.has_sent_all or self.heard.end or self.unsaid) and len(self.heard.bytes) < self.may_hear
+        return (READ if hears else 0) | (WRITE if self.unsaid else 0)
+
+
+class Places:
+    """Places for so many clients at a time. The others wait for theirs, in order."""
+
+    def __init__(self, count: int) -> None:
+        self.count = count
+        self.since: dict[Client, float] = {}
+        self.waiting: dict[Client, None] = {}
+
+    def ask(self, client: Client) -> bool:
+        """Whether the client has a place. If not, it waits for one from now on."""
+        if client not in self.since:
+            self.waiting[client] = None
+        return client in self.since
+
+    def give(self) -> list[Client]:
+        """Those who have got a place just now."""
+        got = list(self.waiting)[: max(self.count - len(self.since), 0)]
+        for client in got:
+            del self.waiting[client]
+            self.since[client] = client.active = time.monotonic()
+        return got
+
+    def leave(self, client: Client) -> None:
+        self.since.pop(client, None)
+        self.waiting.pop(client, None)
+
+    def held(self) -> list[tuple[Client, float]]:
+        """Who has had a place since when, where others wait for one."""
+        return list(self.since.items()) if self.waiting else []
