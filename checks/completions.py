@@ -2,8 +2,9 @@
 """Presses keys in bash, zsh and fish, as far as they are installed, and looks at what their completions make of them.
 
 Each shell runs in a terminal of its own with only the file of `completions/`. A line is typed up to a TAB, and the
-words that it then has are those with which `confstore` is called. Then the words that `confstore --help` lists are
-looked up in the three files and in docs/man/confstore.1.
+words that it then has are those with which `confstore` is called. Some are pointers to keys that a shell would run,
+expand or cut, if it took them as they are. Then the words that `confstore --help` lists are looked up in the three
+files and in docs/man/confstore.1.
 
 Run it from the repository's root after the program is built; it takes some seconds:
 
@@ -20,9 +21,13 @@ import shutil
 import subprocess
 import sys
 import tempfile
+from concurrent.futures import ThreadPoolExecutor
 
-from lib.keys import FOLDER, SHELLS, press_keys, put_stand_in
+from lib.keys import FOLDER, SHELLS, press_for_last_word, press_keys, put_stand_in
 from lib.store_runs import PROGRAM, TOP, Failures, need_program, session, write_file
+from lib.typed_pointers import (
+    LINES_OF_BASH, LINES_OF_POINTERS, LINES_WITHOUT_FISH, MADE, MORE_LINES_OF_POINTERS, put_keys,
+)  # fmt: skip
 
 PAGE = "docs/man/confstore.1"
 
@@ -33,6 +38,9 @@ LINES = [
     ("run --gr", "run --group"),
     ("run --group sto", "run --group store"),
     ("export sto", "export store"),
+    ("export --al", "export --all"),
+    ("export --all sto", "export --all store"),
+    ("export --all store sto", "export --all store store"),
     ("set --ya", "set --yaml"),
     ("import store app fil", "import store app file.yaml"),
     ("bat", "batch"),
@@ -41,6 +49,13 @@ LINES = [
     ("verif", "verify"),
     ("log --ya", "log --yaml"),
     ("log --va", "log --values"),
+    ("dif", "diff"),
+    ("diff --fro", "diff --from"),
+    ("diff --from 1 sto", "diff --from 1 store"),
+    ("diff store we", "diff store web"),
+    ("diff --fil", "diff --files"),
+    ("diff --files fil", "diff --files file.yaml"),
+    ("diff --files file.yaml fil", "diff --files file.yaml file.yaml"),
     ("get --at 1 --ra", "get --at 1 --raw"),
     ("get store we", "get store web"),
     ("get --at 1 store we", "get --at 1 store web"),
@@ -86,6 +101,13 @@ def look_up_words(failures: Failures) -> None:
         print(f"completed, but not in this program: {' '.join(sorted(completed - words - {'help'}))}")
 
 
+def type_pointers(shell: str, top: str, programs: str, failures: Failures) -> None:
+    lines = [*LINES_OF_POINTERS, *MORE_LINES_OF_POINTERS]
+    lines += LINES_WITHOUT_FISH if shell != "fish" else []
+    lines += LINES_OF_BASH if shell == "bash" else []
+    press_for_last_word(shell, "confstore", lines, top, programs, failures)
+
+
 def main() -> int:
     need_program()
     failures = Failures()
@@ -94,11 +116,16 @@ def main() -> int:
         programs = os.path.join(top, "bin")
         os.mkdir(programs)
         put_stand_in(programs, "confstore")
-        for shell in SHELLS:
-            if shutil.which(shell):
-                press_keys(shell, "confstore", LINES, top, programs, failures)
-            else:
-                print(f"left out: {shell}")
+        there = [shell for shell in SHELLS if shutil.which(shell)]
+        print("".join(f"left out: {shell}\n" for shell in SHELLS if shell not in there), end="")
+        with ThreadPoolExecutor() as pool:
+            list(pool.map(lambda shell: press_keys(shell, "confstore", LINES, top, programs, failures), there))
+        room = os.path.join(top, "pointers")
+        os.makedirs(os.path.join(room, "store"))
+        put_keys(top, os.path.join(room, "store"))
+        with ThreadPoolExecutor() as pool:
+            list(pool.map(lambda shell: type_pointers(shell, room, programs, failures), there))
+        failures.expect("files that keys made", [file for file in os.listdir(room) if MADE in file], [])
     look_up_words(failures)
     return failures.report()
 

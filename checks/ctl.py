@@ -48,8 +48,9 @@ from typing import Any, NamedTuple
 
 from lib.ctl_rows import NODE_ROWS, ROWS, Row
 from lib.ctl_table import Table, common_of_ctl, table_of_ctl, table_of_program
-from lib.keys import SHELLS, press_keys, put_stand_in
+from lib.keys import SHELLS, press_for_last_word, press_keys, put_stand_in
 from lib.store_runs import PROGRAM, TOP, Failures, need_program, read_file, write_file
+from lib.typed_pointers import LINES_OF_POINTERS, MADE, put_keys
 from lib.waiting import accepts, until
 
 sys.path.insert(0, os.path.join(TOP, "python"))
@@ -69,7 +70,7 @@ PAGES = os.path.join(TOP, "python", "pages_of_confstorectl.py")
 OF_PROGRAM_ALONE = {"help"}
 
 # The words that confstorectl has alone.
-OF_CTL_ALONE = {"watch", "edit", "render", "undo", "rollback", "sync", "diff", "page"}
+OF_CTL_ALONE = {"watch", "edit", "render", "undo", "rollback", "sync", "page"}
 
 # What is told of an edit that is none, or of the text of an import among edits: confstorectl tells no file.
 OF_EDITS = re.compile(r"^(?:-: )?(\w+)(?: \d+:\d+ \w+)?(?: \((?:no list of edits|the text of an import)\))?$")
@@ -757,6 +758,17 @@ def try_pages(top: str, failures: Failures) -> None:
     there = [shell for shell, path in shells.items() if path is not None]
     with ThreadPoolExecutor() as pool:
         list(pool.map(lambda shell: press_keys(shell, "confstorectl", LINES, room, programs, failures), there))
+    of_pointers = os.path.join(top, "pointers")
+    os.makedirs(os.path.join(of_pointers, "store"))
+    put_keys(top, os.path.join(of_pointers, "store"))
+    lines = [*LINES_OF_POINTERS, ("get --wait 1 store web /po", "/port", "")]
+    with ThreadPoolExecutor() as pool:
+        list(
+            pool.map(
+                lambda shell: press_for_last_word(shell, "confstorectl", lines, of_pointers, programs, failures), there
+            )
+        )
+    failures.expect("files that keys made", [file for file in os.listdir(of_pointers) if MADE in file], [])
 
 
 def main() -> int:

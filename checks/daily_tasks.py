@@ -142,8 +142,10 @@ def what_changed(user: User) -> None:
     user.does("confstore set s web /port 81; confstore set s web /hosts/- c; confstore copy s web old")
     shown = user.runs("confstorectl diff s web --from 1 --to 3 --lines").stdout
     assert shown == '- /port "80"\n+ /port "81"\n+ /hosts/- "c"\n', shown
-    user.does("confstorectl diff s --from 1 > edits.yaml || [ $? = 1 ]; confstore get s web --at 1 > web.yaml")
-    user.does("confstore init t; confstore import t web web.yaml; confstorectl batch t edits.yaml")
+    for program, file in (("confstore", "edits.yaml"), ("confstorectl", "same.yaml")):
+        user.does(f"{program} diff s --from 1 > {file} || [ $? = 1 ]")
+    user.does("cmp edits.yaml same.yaml; confstore get s web --at 1 > web.yaml")
+    user.does("confstore init t; confstore import t web web.yaml; confstore batch t edits.yaml")
     assert user.does("confstore names t; confstore get t old") == user.does("confstore names s; confstore get s old")
 
 
@@ -184,6 +186,20 @@ def folder_as_it_is(user: User) -> None:
     assert user.does("confstorectl sync s files --delete") == shown
     assert user.does("confstore names s").split() == ["web", "new"] and user.value("/port") == "81"
     assert user.does("confstore log s").splitlines()[2:] == ['3 batch import new; set web "/port"; delete old ""']
+
+
+def all_files(user: User) -> None:
+    """Each configuration in a file of its own: what has changed is replaced, with its mode, and nothing else."""
+    user.does("confstore copy s web old; confstore export s --all files; confstore export s --all texts --json")
+    assert user.does("ls files texts").split() == ["files:", "old.yaml", "web.yaml", "texts:", "old.json", "web.json"]
+    assert user.does("cat files/*; cat texts/web.json") == user.does(
+        "confstore export s old; confstore export s web; confstore export s web --json"
+    )
+    user.does("chmod 640 files/*; touch -d @1 files/* texts/*; confstore set s web /port 81")
+    user.does("confstore export s --all files")
+    assert user.does("find files -newermt @2 -type f -printf '%f %m\n'") == "web.yaml 640\n"
+    assert user.reads("files/web.yaml") == user.does("confstore export s web")
+    user.is_refused("confstore export s --all s", "StoreExists")
 
 
 def secret(user: User) -> None:
@@ -345,11 +361,12 @@ TASKS = [
     Task("roll back one configuration", "`get --at`, `import --if-count`", roll_back),
     Task("the same by a word", "`confstorectl rollback`", roll_back_by_a_word),
     Task("undo", "`confstorectl undo`", undo),
-    Task("what changed between two numbers", "`confstorectl diff`", what_changed),
+    Task("what changed between two numbers", "`diff`, `confstorectl diff --lines`", what_changed),
     Task("what changed of one configuration", "`log NAME --from N`", log_of_one),
     Task("several values at once", "`get` of several pointers", several_values),
     Task("files of other formats are refused", "`import`", other_formats),
     Task("a folder that the store is to be like", "`confstorectl sync`, `export --all`", folder_as_it_is),
+    Task("all files", "`export --all`", all_files),
     Task("a secret out of arguments and logs", "`set --file -`, `log --hide`, `page --hide`", secret),
     Task("render a file, and reload", "`confstorectl render .. -- COMMAND`", render),
     Task("variables for sh", "`confstorectl get --env`, `render`, `| sh`", environment),

@@ -12,9 +12,10 @@ be defined there: else the edit would be refused for that alone. A module that t
 another whole, is not looked at.
 
 checks/data/edits-tried has a line for each crate with edits beside the gate: its name, the checksum of its code, its
-definitions and these edits, and how many were refused, which is 0 where not all were tried on it as it stands (`TODO.md`).
-A crate that is not as its line says fails: its edits have to be tried. The last line is 'N edits, M wrong', and the status is 1
-if M is above 0. It takes a second.
+definitions and these edits, and how many were refused, which is 0 where not all were tried on it as it stands
+(`TODO.md`). Imports of definitions count by what they import, and not by their layout. A crate that is not as its line
+says fails: its edits have to be tried. The last line is 'N edits, M wrong', and the status is 1 if M is above 0. It
+takes some seconds.
 """
 
 from __future__ import annotations
@@ -27,13 +28,14 @@ import re
 import sys
 from collections.abc import Iterator
 
+from lib.imports import imports_in, with_leaves
+
 TOP = os.path.dirname(os.path.dirname(os.path.abspath(__file__)))
 TRIED = os.path.join(TOP, "checks", "data", "edits-tried")
 BESIDE = "must-fail-beside"
 # What such an edit stands on, of its crate.
 STOOD_ON = ("src", "specs", BESIDE)
-IMPORT = re.compile(r"\buse\s+Rattle\.(\w+)\.(specs|proofs)((?:\.\w+)*)(?:\.\{([^}]*)\}|\s+as\s|;|\s*$)", re.M)
-EXPORT = re.compile(r"\bpub use\s+[\w.]*\w(?:\.\{([^}]*)\})?")
+MODULE = re.compile(r"Rattle\.(\w+)\.(specs|proofs)(?:\.|$)(.*)")
 DECLARED = re.compile(
     r"^\s*(?:(?:pub|abbrev)\s+)*(?:(?:data|record)\s+(\S+)|([^:={}()]+?)\s*(?:(?:\{[^}]*\}|\([^)]*\))\s*)*:\s)", re.M
 )
@@ -44,23 +46,15 @@ def read(path: str) -> str:
         return file.read()
 
 
-def names_in(entries: str) -> Iterator[tuple[str, str]]:
-    """Each imported name, and the name that it has here."""
-    for entry in entries.split(","):
-        name, _, alias = entry.partition(" as ")
-        if name.strip():
-            yield name.strip(), alias.strip() or name.strip()
-
-
 @functools.lru_cache(maxsize=None)
 def defined(path: str) -> set[str] | None:
     """The names that a module defines or exports, or None if it exports another module whole."""
     text = re.sub(r"^\s*--.*$", "", read(path), flags=re.M)
     found: set[str] = set()
-    for match in EXPORT.finditer(text):
-        if match[1] is None:
+    for leaf in (leaf for one in imports_in(text) if one.is_public for leaf in one.leaves):
+        if not leaf.name:
             return None
-        found.update(alias for _, alias in names_in(match[1]))
+        found.add(leaf.here)
     for record, names in DECLARED.findall(text):
         found.update([record] if record else names.split())
     return found
@@ -73,12 +67,10 @@ def is_generated(module: str) -> bool:
 
 def imports(text: str) -> Iterator[tuple[str, str, str, str]]:
     """What a text imports from this repository: each crate, folder, module and name. A name may be empty."""
-    for crate, folder, module, entries in IMPORT.findall(text):
-        if not os.path.isdir(os.path.join(TOP, "crates", crate)):
-            continue
-        for name in [name for name, _ in names_in(entries)] or [""]:
-            inner, _, last = name.rpartition(".")
-            yield crate, folder, ".".join(part for part in (module[1:], inner) if part), last
+    for leaf in (leaf for one in imports_in(text) for leaf in one.leaves):
+        match = MODULE.match(leaf.module)
+        if match and os.path.isdir(os.path.join(TOP, "crates", match[1])):
+            yield match[1], match[2], match[3], leaf.name
 
 
 def missing_imports(text: str) -> Iterator[str]:
@@ -123,13 +115,19 @@ def all_edits() -> Iterator[tuple[str, str]]:
             yield path, path.split(os.sep)[1]
 
 
+def content_of(path: str) -> bytes:
+    """What counts of a file: all of it, but of the imports of definitions only what they import."""
+    with open(path, "rb") as file:
+        content = file.read()
+    return with_leaves(content.decode()).encode() if path.endswith(".antt") else content
+
+
 def sum_of(crate: str) -> str:
-    """The checksum of what a crate's edits beside the gate stand on, by the files' names and content."""
+    """The checksum of what a crate's edits beside the gate stand on, by the files' names and what counts of them."""
     found = hashlib.sha256()
     for folder in STOOD_ON:
         for path in sorted(glob.glob(os.path.join(TOP, "crates", crate, folder, "**", "*.*"), recursive=True)):
-            with open(path, "rb") as file:
-                content = file.read()
+            content = content_of(path)
             found.update(f"{os.path.relpath(path, TOP)} {len(content)}\n".encode())
             found.update(content)
     return found.hexdigest()

@@ -1,11 +1,14 @@
 #!/usr/bin/env python3
-"""Lets each system call of each word that changes a store go wrong in turn, and looks at what is left.
+"""Lets each system call of each word that changes a store, or makes files of one, go wrong in turn, and looks at what
+is left.
 
 The library and the ways in which a call goes wrong are those of lib/call_faults.py; the words, and what each has to
 leave, are in lib/word_rows.py. Each time `store.yaml` has what it had or what the word makes of it, once what opening
-drops is taken off, and a new store of `init`, `salvage` or `backup` is not there or is whole. Status 0 says that the
-change is made. Another status comes with a fault, and where no call after the failed one fails too, no empty folder is
-left. `verify` then finds the store whole, and the word, run again, makes the change or finds it made.
+drops is taken off, and a new store of `init`, `salvage` or `backup` is not there or is whole. A file that
+`export --all` replaces is the old one or the new one, and one that it makes is not there, is empty, or is whole.
+Status 0 says that the change is made. Another status comes with a fault, and where no call after the failed one fails
+too, no empty folder is left, but by `export --all`. `verify` then finds the store whole, and the word, run again, makes
+the change or finds it made.
 
 Run it from the repository's root after the program is built. It takes a minute, and needs a C compiler:
 
@@ -28,12 +31,14 @@ from dataclasses import dataclass
 
 from lib.call_faults import ENDED, Call, Kind, calls_in, counted, try_faults
 from lib.store_runs import PROGRAM, Ended, Failures, compiled, need_program
-from lib.word_rows import BASE, STORE, WORDS, Word, files_in, new_folder
+from lib.word_rows import BASE, FILES, STORE, WORDS, Word, files_in, new_folder
 
-# The line of a fault, as `confstore: Device`, or of a file that is read, as `-: Input`.
-FAULT = re.compile(r"confstore: (Device|Locked|Output)|(confstore|-|VALUE): Input")
+# The line of a fault, as `confstore: Device`, or of a file that is read or written, as `-: Input`.
+FAULT = re.compile(r"confstore: (Device|Locked|Output)|(confstore|-|VALUE): Input|(NEW|D)/web\.(yaml|json): Output")
 # The words that a store in the new folder refuses.
 INTO_NEW = ("salvage", "backup")
+# The folders in which words make files.
+FOLDERS = ("NEW/", "D/")
 
 
 @dataclass(frozen=True)
@@ -63,24 +68,41 @@ def without_rest(content: bytes) -> bytes:
     return pieces + closing
 
 
+def is_store(name: str) -> bool:
+    return os.path.basename(name) == "store.yaml"
+
+
+def held_in(files: Mapping[str, bytes], name: str) -> bytes:
+    """What a file has, and one of a store up to its last closing line; nothing if it isn't there."""
+    found = files.get(name, b"")
+    return without_rest(found) if is_store(name) else found
+
+
 def is_whole(trial: Trial, files: Mapping[str, bytes], start: bytes = STORE) -> bool:
     """Whether all that the word makes of this start is made."""
     word = trial.word
     store = start + word.store[len(STORE) :] if word.store.startswith(STORE) else word.store
     made = {"S/store.yaml": store, **word.made}
-    return all(without_rest(files.get(name, b"")) == content for name, content in made.items())
+    return all(held_in(files, name) == content for name, content in made.items())
 
 
 def is_empty(folder: str) -> bool:
     return os.path.isdir(folder) and not os.listdir(folder)
 
 
+def may_have(file: str, found: bytes, content: bytes) -> bool:
+    """Whether a file that is to have this content may be found so: one that is replaced is the old one or the new one,
+    and a new one that is no store may have nothing in it."""
+    return found == content or (not is_store(file) and found == FILES.get(file, b""))
+
+
 def expect_files(trial: Trial, name: str, files: Mapping[str, bytes], failures: Failures) -> None:
     """The store has what it had or what the word makes of it, and a new one is not there or whole."""
-    held = without_rest(files.get("S/store.yaml", b""))
+    held = held_in(files, "S/store.yaml")
     failures.expect(f"{name}: store.yaml is {held!r}", held in (STORE, trial.word.store), True)
     for file, content in trial.word.made.items():
-        failures.expect(f"{name}: {file}", files.get(file, content), content)
+        found = files.get(file, content)
+        failures.expect(f"{name}: {file} is {found!r}", may_have(file, found, content), True)
 
 
 def expect_told(
@@ -124,7 +146,7 @@ def try_fault(trial: Trial, call: Call, kind: Kind) -> tuple[Failures, str]:
         failures.expect(f"{name}: ending", (status, errors), (ENDED, ""))
     else:
         expect_told(trial, name, status, errors, files, failures)
-        if not kind.later and call.name != "rmdir":
+        if not kind.later and call.name != "rmdir" and not trial.word.leaves_empty:
             failures.expect(f"{name}: no empty folder", is_empty(os.path.join(folder, "NEW")), False)
     whole = is_whole(trial, files)
     run_again(trial, name, folder, whole, failures)
@@ -145,7 +167,7 @@ def main() -> int:
     with tempfile.TemporaryDirectory() as top:
         compiled("fail_calls.c", top)
         for word in WORDS:
-            if word.store != STORE or any(file.startswith("NEW/") for file in word.made):
+            if word.store != STORE or any(file.startswith(FOLDERS) for file in word.made):
                 try_word(top, word, failures)
     return failures.report()
 

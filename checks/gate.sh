@@ -24,7 +24,8 @@ trap 'exit 1' INT TERM HUP
 SCRIPTS=(
     checks/fail_calls.py checks/fail_word_calls.py checks/refuse_allocations.py checks/release.py checks/released.sh
     checks/search_schedules.py checks/fail_file_calls.py checks/cases.py checks/names.py checks/program.py
-    checks/search_locks.py checks/worlds.py checks/edits.py checks/lines.py checks/unused.py checks/reading_list.py
+    checks/search_locks.py checks/worlds.py checks/edits.py checks/imports.py checks/lines.py checks/unused.py
+    checks/reading_list.py
 )
 # The memory that a check may take, in KiB.
 MEMORY_OF_A_CHECK=$((4 << 20))

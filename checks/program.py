@@ -24,6 +24,8 @@ The rows are in checks/data/program.txt. A row is some lines, and an empty line 
     left PATH TEXT  what is in a file afterwards
     leads PATH TO   where a symbolic link leads afterwards
     has PATH NAMES  what is in a folder afterwards, in order
+    keeps PATH      a file that is there before and afterwards: no other is in its place, and none wrote to it
+    mode PATH MODE  who may use a file afterwards, as `chmod` takes it
 
 A text has the escapes of checks/cases.py, and so has the path of a file or a folder that is made. All rows share one
 folder, and run in order. The program has to be built first:
@@ -40,6 +42,7 @@ import contextlib
 import fcntl
 import os
 import socket
+import stat
 import subprocess
 import sys
 import tempfile
@@ -65,6 +68,9 @@ PATIENCE = 60
 
 # A pipe that has no room for so many bytes is full.
 PAGE = 4096
+
+# Who may not use a new file.
+UMASK = 0o022
 
 
 def read_rows(path: str) -> list[tuple[int, Row]]:
@@ -245,21 +251,42 @@ def faults_of_files(row: Row, top: str) -> Iterator[str]:
             yield f"{path} does not lead to {target}"
     for folder in values(row, "has"):
         path, *names = folder.split(" ")
-        there = sorted(os.listdir(os.path.join(top, path)))
+        place = os.path.join(top, path)
+        there = sorted(os.listdir(place)) if os.path.isdir(place) else None
         if there != names:
             yield f"{path} has {there}"
+    for file in values(row, "mode"):
+        path, wanted = file.split(" ")
+        state = state_of(os.path.join(top, path))
+        if state is None or stat.S_IMODE(state.st_mode) != int(wanted, 8):
+            yield f"{path} has not the mode {wanted}"
+
+
+def state_of(path: str) -> os.stat_result | None:
+    """What the system says of a file, if it is there."""
+    return os.stat(path) if os.path.exists(path) else None
+
+
+def kept_files(row: Row, top: str) -> dict[str, tuple[int, int] | None]:
+    """The files that the program is to leave alone: of each which one it is, and when it was written last."""
+    states = {path: state_of(os.path.join(top, path)) for path in values(row, "keeps")}
+    return {path: state and (state.st_ino, state.st_mtime_ns) for path, state in states.items()}
 
 
 def faults_of(row: Row, top: str) -> list[str]:
     """What is wrong with what the program does in a row."""
     prepare(row, top)
+    kept = kept_files(row, top)
     status, output, errors = run(row, top)
     faults = [] if status == int(value(row, "status")) else [f"status {status}"]
+    found = kept_files(row, top)
+    faults += [f"{path} is not the same" for path, file in found.items() if file is None or file != kept[path]]
     return [*faults, *faults_of_output(row, output), *faults_of_errors(row, errors), *faults_of_files(row, top)]
 
 
 def main() -> int:
     need_program()
+    os.umask(UMASK)
     rows = read_rows(ROWS)
     wrong = 0
     with tempfile.TemporaryDirectory() as top:

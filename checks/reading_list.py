@@ -19,6 +19,8 @@ from collections.abc import Iterator
 from dataclasses import dataclass, field
 from pathlib import Path
 
+from lib.imports import imports_in
+
 TOP = Path(__file__).resolve().parent.parent
 CRATES = TOP / "crates"
 TRUSTED = TOP / "docs" / "TRUSTED.md"
@@ -31,7 +33,6 @@ ROOTS = (
     ("conf_session", "groups", "run_grouped", ""), ("conf_session", "session", "run", ""),
     ("yaml_tree", "read", "read_one", ""), ("yaml_tree", "format", "format_one", ""),
 )
-IMPORT = re.compile(r"^\s*(?:unfoldable )?(pub )?(?:ghost )?use Rattle\.([\w.]+?)(?:\.\{([^}]*)\}| as (\w+))?;?$")
 DECLARED = re.compile(r"^( *)(?:(?:pub|abbrev|unfoldable|opaque|data|record)\s+)*([^\s:={}()|.]+) (?::|\(|\{)")
 INNER = re.compile(r"^\s+(?:pub )?([^\s:={}()|.]+) :\s")
 WORD = re.compile(r"[^\s(){}\[\];,.λ:\"=`]+")
@@ -55,26 +56,10 @@ class Module:
     definitions: dict[str, Definition] = field(default_factory=dict)
 
 
-def names_of(entries: str) -> Iterator[tuple[str, str]]:
-    """Each name of a list of imports as a path, and the name that it has here."""
-    for entry in entries.split(","):
-        name, _, alias = entry.strip().partition(" as ")
-        if name:
-            yield name, alias or name.rpartition(".")[2]
-
-
-def imports_of(lines: list[str]) -> dict[str, tuple[str, str]]:
-    found: dict[str, tuple[str, str]] = {}
-    for line in lines:
-        match = IMPORT.match(line)
-        if not match:
-            continue
-        if match[4]:
-            found[match[4]] = (match[2], "")
-        for name, alias in names_of(match[3] or ""):
-            inner, _, last = name.rpartition(".")
-            found[alias] = (f"{match[2]}.{inner}" if inner else match[2], last)
-    return found
+def imports_of(text: str) -> dict[str, tuple[str, str]]:
+    """The module and the name of what a file imports from Rattle, by the name that it has here."""
+    leaves = (leaf for one in imports_in(text) for leaf in one.leaves if leaf.module.startswith("Rattle."))
+    return {leaf.here: (leaf.module.removeprefix("Rattle."), leaf.name) for leaf in leaves if leaf.here}
 
 
 def blocks(lines: list[str]) -> Iterator[tuple[int, int]]:
@@ -119,8 +104,9 @@ def module_of(name: str) -> Module | None:
     path = CRATES / (name.replace(".", "/") + ".antt")
     if not path.is_file():
         return None
-    lines = path.read_text(encoding="utf-8").split("\n")
-    module = Module(path, imports_of(lines))
+    text = path.read_text(encoding="utf-8")
+    lines = text.split("\n")
+    module = Module(path, imports_of(text))
     for first, end in blocks(lines):
         add_block(module, lines, first, end)
     return module
@@ -168,7 +154,7 @@ def reach_code(
     path, lines = found
     clauses = clause_in(lines[span[0]:span[1]], clause)
     body = "\n".join(line for line in clauses if not line.lstrip().startswith("//"))
-    imports = imports_of([line.strip() for line in lines])
+    imports = imports_of("\n".join(lines))
     return path, *span, {imports[word] for word in WORD.findall(body) if word in imports}
 
 

@@ -239,10 +239,28 @@ def walk_servers(room: Room, page: Page) -> None:
         room.shell(change)
         found = room.shell("confstorectl get /var/lib/app web /port --raw")
     room.failures.expect("what was set through the socket", found, "81\n")
+    walk_check(room, page)
     measured, asked = page.take("clients/serve.py --metrics").splitlines()
     if has("curl"):
         with room.serving(measured):
             room.failures.expect("a session is open", "confstore_session_open 1\n" in room.shell(asked), True)
+
+
+def walk_check(room: Room, page: Page) -> None:
+    """A server that judges each change by a schema."""
+    code, server = page.take("import json, os, sys"), page.take("clients/serve.py --check").strip()
+    if "no" in room.shell("python3 -c 'import jsonschema, yaml' 2>/dev/null || echo no"):
+        print("left out: jsonschema is not installed")
+        return
+    room.write("judge.py", code)
+    schema = '{"properties": {"port": {"pattern": "^[0-9]+$"}}}'
+    room.shell(f"mkdir /var/lib/schemas; cp judge.py /var/lib/schemas; echo '{schema}' >/var/lib/schemas/web.schema.json")
+    with room.serving(server):
+        words = "from confstore import CheckFailed, Store\nstore = Store.connect('/run/app/socket')\n"
+        words += "store.set('web', '/port', '80')\ntry:\n    store.set('web', '/port', 'none')\n"
+        words += "except CheckFailed as fault:\n    print(fault.lines[1], store['web']['port'])\n"
+        said = room.python(words)
+    room.failures.expect("what the schema says", said, "/port: 'none' does not match '^[0-9]+$' 80\n")
 
 
 # ---- docs/OPERATING.md

@@ -8,7 +8,7 @@ A library under a program (shims/refuse.c) refuses one allocation. What has to h
 - `state`: commands on a state, by `tree_probe` (lib/refuse_state.py);
 - `store`: calls on a store, rounds among them, by `store_probe` (lib/refuse_store.py);
 - `sessions`: nine sessions, batches and conditions among them (lib/refuse_sessions.py);
-- `words`: each word of the program, in 36 runs (lib/refuse_words.py).
+- `words`: each word of the program, in 48 runs (lib/refuse_words.py).
 
     checks/refuse_allocations.py [KIND ..]
 

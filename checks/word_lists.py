@@ -33,12 +33,13 @@ OPTIONS = {
     "move": "if-value= if-absent if-count= wait=",
     "checkpoint": "wait=",
     "run": "group checkpoint-after= wait=",
-    "export": "json plain wait=",
+    "export": "all= json plain wait=",
     "names": "json at=",
     "get": "raw no-newline json plain default= at=",
     "keys": "at=",
     "exists": "at=",
     "log": "values hide= yaml from= to= at=",
+    "diff": "from= to= files",
     "verify": "keep-dropped=",
     "salvage": "keep-dropped=",
     "backup": "",
@@ -56,6 +57,7 @@ PLACES = {
     "get": 3,
     "keys": 3,
     "exists": 3,
+    "diff": 2,
 }
 ALL = sorted({option for options in OPTIONS.values() for option in options.split()})
 USUAL = ["store", "web", "/port", "80", "x", "y"]

@@ -21,6 +21,7 @@ is then printed, and 2 if the toolchain can't be run.
 
 from __future__ import annotations
 
+import contextlib
 import fcntl
 import os
 import re
@@ -265,9 +266,19 @@ def interrupt(number: int, _: FrameType | None) -> None:
     sys.exit(128 + number)
 
 
+def toolchain_of_release() -> str:
+    """What the released program was made with, as `rt version` prints it, or nothing where no release is here."""
+    with contextlib.suppress(OSError):
+        found = re.search(r'^toolchain: "(.*)"$', (TOP / "release" / "manifest").read_text(), re.M)
+        return found[1] if found else ""
+    return ""
+
+
 def main() -> int:
     if shutil.which("rt") is None:
         say("the proof needs the Rattle toolchain: no rt is on the PATH")
+        if known := toolchain_of_release():
+            say(f"the release is made with the kit whose `rt version` prints '{known}': put the folder of its rt on the PATH")
         return 2
     crates = crates_of_program()
     if PROGRAM not in crates:

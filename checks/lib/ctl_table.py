@@ -12,11 +12,13 @@ from lib.store_runs import TOP
 
 sys.path.insert(0, os.path.join(TOP, "python"))
 
-from confstore.ctl_words import ALL, EDITS, ENVIRONMENT, EXPORT, FOREIGN, PLANNED, WORDS  # noqa: E402
+from confstore.ctl_words import (  # noqa: E402
+    ARCHIVE, ARCHIVES, EDITS, ENVIRONMENT, EXPLAIN, FOREIGN, HIDE_VALUES, LINES, PLANNED, WORDS,
+)  # fmt: skip
 
-# The options of words of confstore that it does not have, and the argument that one of them makes needless.
-ALONE = (*FOREIGN, *PLANNED, EDITS, ALL, ENVIRONMENT)
-NEEDED = {(EXPORT.name, "NAME")}
+# The options of words of confstore that it does not have, and those that it has of other words alone.
+ALONE = (*FOREIGN, *PLANNED, ARCHIVE, ARCHIVES, EDITS, ENVIRONMENT, LINES, HIDE_VALUES)
+ALONE_OF = {"diff": (EXPLAIN,)}
 
 # A row of the help of a word: an argument, or an option, and a row of the words in the help of all.
 ARGUMENT = re.compile(r"(?m)^  (<|\[)([A-Z]+)[>\]](?:\.\.\.)?  +\S")
@@ -66,8 +68,12 @@ def table_of_ctl() -> Table:
     """The words of confstorectl, without the options that confstore has of no word."""
     return {
         word.name: Shape(
-            [(one.name, one.is_optional and (word.name, one.name) not in NEEDED) for one in word.arguments],
-            {option.name: option.value for option in word.options if option not in ALONE},
+            [(one.name, one.is_optional) for one in word.arguments],
+            {
+                option.name: option.value
+                for option in word.options
+                if option not in (*ALONE, *ALONE_OF.get(word.name, ()))
+            },
         )
         for word in WORDS.values()
     }

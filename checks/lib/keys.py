@@ -27,10 +27,11 @@ PATIENCE = 10
 
 
 def put_stand_in(folder: str, program: str) -> None:
-    """A program that says its words. For `names`, which completions call, it is the one that was built."""
+    """A program that says its words, and writes them to a file. For what completions call it is the one that was built."""
     path = os.path.join(folder, program)
-    script = f'#!/bin/sh\nif [ "$1" = names ]; then exec "{PROGRAM}" "$@"; fi\necho "called: $*."\n'
-    write_file(path, script.encode())
+    own = f'if [ "$1 $2" = "names --" ] || [ "$1 $2" = "keys --" ]; then exec "{PROGRAM}" "$@"; fi'
+    says = 'printf "%s\\0" "$@" > "$CALLED"\necho "called: $*."'
+    write_file(path, f"#!/bin/sh\n{own}\n{says}\n".encode())
     os.chmod(path, 0o755)
 
 
@@ -39,7 +40,10 @@ class Terminal:
 
     def __init__(self, words: list[str], top: str, programs: str) -> None:
         path = f"{programs}:{os.environ['PATH']}"
-        environment = {"PATH": path, "HOME": top, "TERM": "dumb", "LANG": "C.UTF-8", "PS1": "$ "}
+        self.called = os.path.join(programs, f"{words[0]}.called")
+        environment = {
+            "PATH": path, "HOME": top, "TERM": "dumb", "LANG": "C.UTF-8", "PS1": "$ ", "CALLED": self.called
+        }  # fmt: skip
         self.process, self.end = pty.fork()
         if self.process == 0:
             os.chdir(top)
@@ -71,22 +75,55 @@ class Terminal:
         os.waitpid(self.process, 0)
 
 
+def start(shell: str, program: str, top: str, programs: str, failures: Failures) -> Terminal | None:
+    """A shell in a folder, once it has the completions of a program."""
+    words, first = SHELLS[shell]
+    terminal = Terminal(words, top, programs)
+    terminal.type(f"{first.format(folder=FOLDER, program=program)}; echo rea''dy\r")
+    if terminal.await_text(r"(?m)^ready", START):
+        return terminal
+    failures.expect(f"{shell} starts", terminal.seen, "ready")
+    terminal.close()
+    return None
+
+
 def press_keys(
     shell: str, program: str, lines: Sequence[tuple[str, str]], top: str, programs: str, failures: Failures
 ) -> None:
     """Presses keys in a shell in a folder: what is typed before a TAB, and the words that the program then has."""
-    words, first = SHELLS[shell]
-    terminal = Terminal(words, top, programs)
+    terminal = start(shell, program, top, programs, failures)
+    if terminal is None:
+        return
     try:
-        terminal.type(f"{first.format(folder=FOLDER, program=program)}; echo rea''dy\r")
-        if not terminal.await_text(r"(?m)^ready", START):
-            failures.expect(f"{shell} starts", terminal.seen, "ready")
-            return
         for typed, wanted in lines:
             terminal.type(f"{program} {typed}\t")
             time.sleep(PAUSE)
             terminal.type("\r")
             found = terminal.await_text(r"called: (.*?)\.\r?\n", PATIENCE)
             failures.expect(f"{shell}: {typed}", found and found[1].strip().removesuffix("/"), wanted)
+    finally:
+        terminal.close()
+
+
+def press_for_last_word(
+    shell: str, program: str, lines: Sequence[tuple[str, str, str]], top: str, programs: str, failures: Failures
+) -> None:
+    """The same for the last word alone, which may have any character: what is typed before a TAB, that word, and what
+    is typed behind the TAB. No error is to be seen meanwhile."""
+    terminal = start(shell, program, top, programs, failures)
+    if terminal is None:
+        return
+    try:
+        for typed, wanted, behind in lines:
+            write_file(terminal.called, b"")
+            terminal.type(f"{program} {typed}\t")
+            time.sleep(PAUSE)
+            terminal.type(f"{behind}\r")
+            found = terminal.await_text(r"(?s)(.*?)called: ", PATIENCE)
+            said = found[1] if found else terminal.seen
+            failures.expect(f"{shell}: {typed}: errors", re.findall(r"confstore\w*: |rror|not found|No such|bad ", said), [])
+            with open(terminal.called, encoding="utf-8") as source:
+                words = source.read().split("\0")[:-1]
+            failures.expect(f"{shell}: {typed}", words and words[-1].removesuffix("/"), wanted.removesuffix("/"))
     finally:
         terminal.close()

@@ -3,7 +3,7 @@
 The words, and what each has to write and to leave, are in word_rows.py. A word that lacks an allocation either does
 without, and all is as it should be, or it says OutOfMemory with the status 1: its output is the beginning of what it
 had to write, `store.yaml` is as it was, and no file or folder stands that was not there. (`salvage` says what it found
-once it has made its store, so then it may have made it.)
+once it has made its store, so then it may have made it. What `export --all` makes may stand, with nothing in it.)
 """
 
 from __future__ import annotations
@@ -26,9 +26,11 @@ def expect_out_of_memory(run: Run, word: Word, ended: Ended, files: dict[str, by
     """The word said that memory ran out, and left everything as it was."""
     status, output, errors = ended
     said, _, remedy = errors.partition("\n")
-    run.expect(f"{errors!r} tells of memory", said.removesuffix(FAULT) in ("confstore", word.file), True)
+    run.expect(f"{errors!r} tells of memory", said.removesuffix(FAULT) in ("confstore", *word.named), True)
     run.expect(f"{errors!r} is explained", remedy == "" or (EXPLAINED in word.words and remedy.startswith(HELP)), True)
     run.expect("status", status, 1)
+    if word.leaves_empty:
+        files = {name: content for name, content in files.items() if content}
     if not word.ends_by_writing or files != word.files():
         run.expect("files", files, FILES)
     run.expect(f"output {output!r} begins that of the word", word.output.startswith(output), True)

@@ -41,7 +41,9 @@ INSERT = record(2, b'set: web\npath: "/tls"\nvalue:\n  - a\n  - b\n  - "no"\n')
 @dataclass(frozen=True)
 class Word:
     """A run of a word: what it has to write, its status, what store.yaml and further files then hold; and its input.
-    `file` is a FILE that a line about memory may name. `ends_by_writing` is whether files are made before it writes."""
+    `named` has the files and folders that a line about memory may name. `ends_by_writing` is whether files are made
+    before it writes, and `leaves_empty` whether new files, or their folder, may be left with nothing in them where it
+    is refused."""
 
     words: str
     output: bytes = b""
@@ -49,8 +51,9 @@ class Word:
     store: bytes = STORE
     made: dict[str, bytes] = field(default_factory=dict)
     input: bytes = b""
-    file: str = "confstore"
+    named: tuple[str, ...] = ()
     ends_by_writing: bool = False
+    leaves_empty: bool = False
 
     def run(self, folder: str, environment: Mapping[str, str]) -> Ended:
         """Runs it in a folder."""
@@ -64,6 +67,7 @@ class Word:
 
 FILES = {
     "S/store.yaml": STORE, "FILE": b"port:   80\nhost: [a]\n", "VALUE": b"81", "NOTES": b"# all\na:   b # one\n",
+    "D/web.yaml": b"port: 80\n",
 }  # fmt: skip
 
 WORDS = [
@@ -77,6 +81,9 @@ WORDS = [
     Word("export S web", TEXT),
     Word("export S web --json", JSON),
     Word("export S web --plain", PLAIN),
+    Word("export S --all D", made={"D/web.yaml": TEXT}, named=("D", "D/web.yaml")),
+    Word("export S --all D --json", made={"D/web.json": JSON}, named=("D", "D/web.json"), leaves_empty=True),
+    Word("export S --all NEW", made={"NEW/web.yaml": TEXT}, named=("NEW", "NEW/web.yaml"), leaves_empty=True),
     Word("names S", b"web\n"),
     Word("names S --json", b'["web"]\n'),
     Word("keys S web", b"host\nport\ntls\n"),
@@ -86,14 +93,21 @@ WORDS = [
     Word("log S", b"1 import web\n"),
     Word("log S --values", b"1 import web " + JSON),
     Word("log S --yaml", STORE[len(EMPTY) :]),
+    Word("diff S", b"- import: web\n  tree:\n" + indented(TEXT, 4), status=1),
+    Word("diff S web --from 1"),
+    Word("diff --files FILE D/web.yaml", b'- delete: web\n  path: "/host"\n', status=1, named=("FILE", "D/web.yaml")),
+    Word(
+        "diff --files - D/web.yaml", b'- delete: web\n  path: "/host"\n', status=1, input=b"port: 80\nhost: [a]\n",
+        named=("-", "D/web.yaml"),
+    ),  # fmt: skip
     Word("verify S", STATE),
     Word("set S web /port 81", store=STORE + SET),
-    Word("set S web /port --file VALUE", store=STORE + SET, file="VALUE"),
+    Word("set S web /port --file VALUE", store=STORE + SET, named=("VALUE",)),
     Word("set S web /port 81 --if-value 8080 --if-count 1", store=STORE + SET),
-    Word("set S web /port --yaml -", store=STORE + SET, input=b'"81"\n', file="-"),
+    Word("set S web /port --yaml -", store=STORE + SET, input=b'"81"\n', named=("-",)),
     Word("delete S web /tls", store=STORE + DELETE),
-    Word("import S mail -", store=STORE + IMPORT, input=b"a: b\n", file="-"),
-    Word("import S mail - --if-absent", store=STORE + IMPORT, input=b"a:   b\n", file="-"),
+    Word("import S mail -", store=STORE + IMPORT, input=b"a: b\n", named=("-",)),
+    Word("import S mail - --if-absent", store=STORE + IMPORT, input=b"a:   b\n", named=("-",)),
     Word("copy S web mail", store=STORE + COPY),
     Word("copy S web mail --replace", store=STORE + COPY),
     Word("rename S web mail", store=STORE + RENAME),
@@ -105,16 +119,16 @@ WORDS = [
     Word("init NEW", made={"NEW/store.yaml": EMPTY}),
     Word("salvage S NEW", STATE, made={"NEW/store.yaml": BASE}, ends_by_writing=True),
     Word("backup S NEW", made={"NEW/store.yaml": STORE}),
-    Word("format -i FILE", made={"FILE": b'port: "80"\nhost:\n  - a\n'}, file="FILE"),
-    Word("check FILE", b"FILE:1: S4 the text first differs from the one style here\n", status=1, file="FILE"),
-    Word("format --keep-comments NOTES", b"# all\na: b # one\n", file="NOTES"),
-    Word("format --check --keep-comments NOTES", b"NOTES\n", status=1, file="NOTES"),
-    Word("format -i --keep-comments NOTES", made={"NOTES": b"# all\na: b # one\n"}, file="NOTES"),
+    Word("format -i FILE", made={"FILE": b'port: "80"\nhost:\n  - a\n'}, named=("FILE",)),
+    Word("check FILE", b"FILE:1: S4 the text first differs from the one style here\n", status=1, named=("FILE",)),
+    Word("format --keep-comments NOTES", b"# all\na: b # one\n", named=("NOTES",)),
+    Word("format --check --keep-comments NOTES", b"NOTES\n", status=1, named=("NOTES",)),
+    Word("format -i --keep-comments NOTES", made={"NOTES": b"# all\na: b # one\n"}, named=("NOTES",)),
     Word(
         "check --keep-comments NOTES", b"NOTES:2: S4 the text first differs from the one style here\n", status=1,
-        file="NOTES",
+        named=("NOTES",),
     ),  # fmt: skip
-    Word("import S mail - --explain", store=STORE + IMPORT, input=b"a:   b\n", file="-"),
+    Word("import S mail - --explain", store=STORE + IMPORT, input=b"a:   b\n", named=("-",)),
 ]
 
 
@@ -133,7 +147,7 @@ def files_in(folder: str) -> dict[str, bytes]:
 
 def new_folder(path: str) -> str:
     """A new folder with the store and the files that the words name."""
-    os.makedirs(os.path.join(path, "S"))
     for name, content in FILES.items():
+        os.makedirs(os.path.dirname(os.path.join(path, name)), exist_ok=True)
         write_file(os.path.join(path, name), content)
     return path
