@@ -6,7 +6,6 @@ pub mod RecordLemmas
 pub mod SizeLemmas
 pub mod DocumentLemmas
 pub mod FieldLemmas
-pub mod AboutLemmas
 pub mod PieceLemmas
 pub mod TreeLemmas
 pub mod WrittenLemmas

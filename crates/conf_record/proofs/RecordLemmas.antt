@@ -1,6 +1,6 @@
 -- The trees of records and bases: they are good, within the limits, and tell what they were made of.
 use Rattle.std.proofs.Common.{◌≡◌, ℕ, ◌+◌, ◌<◌, ◌≤◌, true, not, ◌&&◌, ◌||◌, nat_le, if◌then◌else◌, List, [], ◌∷◌, ◌++◌, length, codes}
-use Rattle.std.proofs.{Common.{decimal, Some, None, option_map, append_assoc, refl, ap, sym, subst, ◌∙◌, arith}, lemmas.Str.Parse.tells_digits}
+use Rattle.std.proofs.{Common.{decimal, Some, None, option_map, append_assoc, refl, ap, sym, ◌∙◌, arith}, lemmas.Str.Parse.tells_digits}
 use Rattle.conf_record.proofs.Prelude.{byte_len-encoded, encodes-IsAscii, every-IsAscii, and_parts, and_from, nat_tests}
 use Rattle.conf_record.proofs.Prelude.{decimal_is_IsNumeral, length-decimal-le, AllDigits, digits_value, code_point, in_range, list_all}
 use Rattle.conf_record.proofs.Prelude.{IsText, byte_len, first, same_text, Tree, text, Members, no_member, member, elements_depth}
@@ -11,10 +11,9 @@ use Rattle.conf_record.proofs.Prelude.{import_as, set_at, delete_at, Command, si
 use Rattle.conf_record.proofs.Prelude.{names_of, has_name, names_differ, AreConfigs, IsState, members, base_tree, base_text, base_length}
 use Rattle.conf_record.{proofs.{Prelude.closed_document, SizeLemmas.{size, scalar_most, value_size}}, specs.Records.edit_members}
 use Rattle.conf_record.specs.Records.{edit_elements, command_members, record_tree, record_text, FitsRecord}
-use Rattle.conf_record.specs.RecordsRead.{number_from_digits, edit_from, ahead, edits_of, command_from, with_number, without_about, record_of, entries}
+use Rattle.conf_record.specs.RecordsRead.{number_from_digits, edit_from, ahead, edits_of, command_from, with_number, record_of, entries}
 use Rattle.conf_record.specs.{RecordsRead.{base_of, IsEdit, AreEdits, IsCommand}, SmallCommands.{IsSmallEdit, AreSmallEdits}}
 use Rattle.{conf_record.specs.SmallCommands.IsSmallCommand, conf_state.proofs.BaseLemmas.count_bytes, yaml_writer.proofs.SizeLaws.three}
-use Rattle.{conf_record.proofs.Prelude.Gives, yaml_recognizers.specs.StyleLaws.FramedReads}
 
 -- ---- numbers and names
 
@@ -94,26 +93,18 @@ edits_tell [] ok = refl
 edits_tell (edit ∷ edits) ok =
     ap (λ first. ahead first (edits_of (edit_elements edits))) (edit_tells edit ok.0) ∙ ap (ahead (Some edit)) (edits_tell edits ok.1)
 
-pub command_tells : (command : Command) → IsSmallCommand command → command_from (command_members command) ≡ Some command
+command_tells : (command : Command) → IsSmallCommand command → command_from (command_members command) ≡ Some command
 command_tells (single (import_as name tree)) ok = ap (option_map single) (edit_tells (import_as name tree) ok)
 command_tells (single (set_at name path value)) ok = ap (option_map single) (edit_tells (set_at name path value) ok)
 command_tells (single (delete_at name path)) ok = ap (option_map single) (edit_tells (delete_at name path) ok)
 command_tells (batch edits) ok = ap (option_map batch) (edits_tell edits ok)
-
--- no command ends with an about
-pub without-none : (command : Command) → without_about (command_members command) ≡ command_members command
-without-none (single (import_as name tree)) = refl
-without-none (single (set_at name path value)) = refl
-without-none (single (delete_at name path)) = refl
-without-none (batch edits) = refl
 
 -- the tree of an accepted command's record is read as that command and number
 pub record_tells : (command : Command) (number : ℕ) → IsSmallCommand command → number ≤ count_limit
     → record_of (record_tree command number) ≡ Some (command, number)
 unfolding record_of
 record_tells command number ok small =
-    ap (λ ms. with_number (command_from ms) (decimal number)) (without-none command)
-    ∙ ap (λ read. with_number read (decimal number)) (command_tells command ok)
+    ap (λ read. with_number read (decimal number)) (command_tells command ok)
     ∙ ap (option_map (λ n. (command, n))) (number_from_digits-decimal number small)
 
 -- the same parts, grouped otherwise
@@ -125,11 +116,7 @@ pub record FramedGood (t : Tree) : Type 0 where
   pub good : Good t own_limits
   pub short : byte_len (framed_text t) ≤ own_limits.bytes
 
--- a closed document gives its tree
-pub document_gives : FramedReads → (t : Tree) → FramedGood t → Gives (closed_document t) own_limits t
-document_gives reads t framed = subst (λ source. Gives source own_limits t) (framed_document t) (reads t own_limits framed.good framed.short)
-
-pub framed_bytes : (t : Tree) → byte_len (framed_text t) ≡ 8 + size t
+framed_bytes : (t : Tree) → byte_len (framed_text t) ≡ 8 + size t
 framed_bytes t =
     omega (arith, byte_len-append (codes "---\n") (style_text t ++ codes "...\n"), byte_len-append (style_text t) (codes "...\n"))
 
@@ -175,7 +162,7 @@ edits_texts : (edits : List Edit) → AreEdits edits → AreSmallEdits edits →
 edits_texts [] are ok = tt
 edits_texts (edit ∷ edits) are ok = (edit_texts edit are.0 ok.0, edits_texts edits are.1 ok.1)
 
-pub command_texts : (command : Command) → IsCommand command → IsSmallCommand command → AreTextMembers (command_members command)
+command_texts : (command : Command) → IsCommand command → IsSmallCommand command → AreTextMembers (command_members command)
 command_texts (single edit) is ok = edit_texts edit is ok
 command_texts (batch edits) is ok = (refl, edits_texts edits is ok, tt)
 
@@ -188,7 +175,7 @@ edits_depth : (edits : List Edit) → AreSmallEdits edits → elements_depth (ed
 edits_depth [] ok = omega arith
 edits_depth (edit ∷ edits) ok = omega (arith, edit_depth edit ok.0, edits_depth edits ok.1)
 
-pub command_depth : (command : Command) → IsSmallCommand command → members_depth (command_members command) ≤ 2 + config_limits.depth
+command_depth : (command : Command) → IsSmallCommand command → members_depth (command_members command) ≤ 2 + config_limits.depth
 command_depth (single edit) ok = omega (arith, edit_depth edit ok)
 command_depth (batch edits) ok = omega (arith, edits_depth edits ok)
 
@@ -197,7 +184,7 @@ edit_distinct (import_as name tree) is = let keys = is.keys in rw keys refl
 edit_distinct (set_at name path value) is = let keys = is.1.keys in rw keys refl
 edit_distinct (delete_at name path) is = refl
 
-pub edits_distinct : (edits : List Edit) → AreEdits edits → elements_distinct (edit_elements edits) ≡ true
+edits_distinct : (edits : List Edit) → AreEdits edits → elements_distinct (edit_elements edits) ≡ true
 edits_distinct [] are = refl
 edits_distinct (edit ∷ edits) are =
     and_from (members_distinct (edit_members edit)) (elements_distinct (edit_elements edits))

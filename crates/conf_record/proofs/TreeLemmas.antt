@@ -1,13 +1,13 @@
 -- What a tree is as a record or a base.
 use Rattle.std.proofs.Common.{◌≡◌, refl, sym, ◌∙◌, ap, ap₂, subst, nat_lt, ℕ, Bool, true, false, List, [], ◌∷◌, codes, if◌then◌else◌}
 use Rattle.std.proofs.{Common.{Option, Some, None, option_map, IfSome, IfNone}, lemmas.Option.{none-some, same_Some}}
-use Rattle.conf_record.proofs.Prelude.{and_parts, list_all, chars, same_text, Tree, text, sequence, mapping, Members, no_member, member, own_limits}
-use Rattle.conf_record.proofs.Prelude.{same_text-true, IsRead, Pair, members_of, Command, single, command_of, entries_of, IsState, Contents, ascii}
+use Rattle.conf_record.proofs.Prelude.{and_parts, list_all, chars, same_text, Tree, text, sequence, mapping, Members, member, own_limits}
+use Rattle.conf_record.proofs.Prelude.{IsRead, Pair, members_of, Command, single, command_of, entries_of, IsState, Contents, ascii}
 use Rattle.conf_record.{proofs.{DocumentLemmas.BytesGiveOne, PieceLemmas.Named}, specs.RecordsRead.{number_from_digits, keys_are, values}}
 use Rattle.conf_record.specs.RecordsRead.{import_of, set_of, delete_of, edit_under, edit_from, batch_of, command_from, with_number}
 use Rattle.conf_record.specs.RecordsRead.{record_of, batch_keys, set_keys, delete_keys, base_keys, base_of, contents_of}
-use Rattle.conf_record.specs.{Documents.{IsRecord, IsNoRecord, IsBase, IsNoBase}, Reading.{texts, is_text, command_and_number, about_read}}
-use Rattle.conf_record.specs.{Abouts.{IsRecordWith, about_in, about_of}, RecordsRead.without_about, declared.command_reader.Record.Record}
+use Rattle.conf_record.specs.{Documents.{IsRecord, IsNoRecord, IsBase, IsNoBase}, Reading.{texts, is_text, command_and_number}}
+use Rattle.conf_state.specs.declared.command.Command as code
 
 -- ---- records
 
@@ -22,15 +22,9 @@ with_number-None (Some command) digits told = ap (option_map (λ number. (comman
 
 -- a mapping that begins with a number is read by the members after it
 pub record_numbered : (key digits : List ℕ) (ms : Members) (n : ℕ) → same_text key (codes "at") ≡ true → number_from_digits digits ≡ Some n
-    → record_of (mapping (member key (text digits) ms)) ≡ option_map (λ command. (command, n)) (command_from (without_about ms))
+    → record_of (mapping (member key (text digits) ms)) ≡ option_map (λ command. (command, n)) (command_from ms)
 unfolding record_of
-record_numbered key digits ms n is told = rw is (with_number-Some (command_from (without_about ms)) digits n told)
-
--- and its about is that of the members after it
-pub about_numbered : (key : List ℕ) (t : Tree) (ms : Members) → same_text key (codes "at") ≡ true
-    → about_of (mapping (member key t ms)) ≡ about_in ms
-about_numbered key t no_member is = rw (same_text-true key (codes "at") is) refl
-about_numbered key t (member other u ms) is = refl
+record_numbered key digits ms n is told = rw is (with_number-Some (command_from ms) digits n told)
 
 -- one with another first key is no record
 pub record_other : (key : List ℕ) (t : Tree) (ms : Members) → same_text key (codes "at") ≡ false
@@ -53,8 +47,8 @@ pub record_numberless : (key digits : List ℕ) (ms : Members) → number_from_d
 unfolding record_of
 record_numberless key digits ms told = by (same_text key (codes "at"))
   where
-    by : (b : Bool) → (if b then with_number (command_from (without_about ms)) digits else None) ≡ None
-    by true = with_number-None (command_from (without_about ms)) digits told
+    by : (b : Bool) → (if b then with_number (command_from ms) digits else None) ≡ None
+    by true = with_number-None (command_from ms) digits told
     by false = refl
 
 -- ---- edits and batches
@@ -129,17 +123,16 @@ module _ (give_one : BytesGiveOne) (bytes : List ℕ) (t : Tree) (is : IsRead by
   same_as_base state r = give_one bytes own_limits t r.reads.tree is (record { utf8 = r.utf8; gives = r.reads.gives })
 
   -- a tree that is no record's was given by bytes that are none
-  pub no_record : (read : Option Record) → command_and_number read ≡ record_of t → IfNone read (IsNoRecord bytes)
+  pub no_record : (read : Option (code.Command × ℕ)) → command_and_number read ≡ record_of t → IfNone read (IsNoRecord bytes)
   no_record None e = λ command number r.
       none-some (command, number) (e ∙ ap record_of (same_as_record command number r) ∙ r.reads.tells)
   no_record (Some r) e = tt
 
   -- bytes are the record that their tree is read as
-  pub one_record : (read : Option Record) → command_and_number read ≡ record_of t → IfSome read (λ r. about_read r ≡ about_of t)
-      → IfSome read (λ r. IsRecordWith bytes (command_of r.command) r.number (about_read r))
-  one_record None e about = tt
-  one_record (Some r) e about =
-      record { utf8 = is.utf8; reads = record { tree = t; gives = is.gives; tells = sym e; about_is = sym about } }
+  pub one_record : (read : Option (code.Command × ℕ)) → command_and_number read ≡ record_of t
+      → IfSome read (λ r. IsRecord bytes (command_of r.0) r.1)
+  one_record None e = tt
+  one_record (Some r) e = record { utf8 = is.utf8; reads = record { tree = t; gives = is.gives; tells = sym e } }
 
   -- bytes whose tree is no base are none
   pub no_parts : None ≡ base_of t → IsNoBase bytes

@@ -1,7 +1,6 @@
 pub mod Prelude
 pub mod Records
 pub mod RecordsRead
-pub mod Abouts
 pub mod SmallCommands
 pub mod Documents
 pub mod Reading

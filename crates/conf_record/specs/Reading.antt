@@ -5,7 +5,7 @@ use Rattle.conf_record.specs.Prelude.{tree_of, members_of, text_bytes, Edit, imp
 use Rattle.{conf_record.specs.{declared.edit_members.EditMembers.EditMembers, RecordsRead.entries}, yaml_data.specs.declared.text.Text.Text}
 use Rattle.yaml_data.specs.declared.tree.Tree as code_tree
 use Rattle.conf_record.specs.declared.edit_members.EditMembers.TheVariants as read
-use Rattle.conf_record.specs.declared.command_reader.Record.{Record}
+use Rattle.conf_state.specs.declared.command.Command as code
 
 -- each is a tree that a `Config` keeps
 abbrev pub AreKept : List Tree → Type 0
@@ -63,13 +63,9 @@ KeepsTree (import_as name tree) = IsKept tree
 KeepsTree (set_at name path value) = IsKept value
 KeepsTree (delete_at name path) = Unit {0}
 
--- the command of a record that was read, and its number, as the definitions have them
-abbrev pub command_and_number : Option Record → Option (Command × ℕ)
-command_and_number read = option_map (λ r. (command_of r.command, r.number)) read
-
--- the about of a record that was read
-abbrev pub about_read : Record → Option Tree
-about_read r = option_map tree_of r.about
+-- a command of the code and its number, as the definitions have them
+abbrev pub command_and_number : Option (code.Command × ℕ) → Option (Command × ℕ)
+command_and_number read = option_map (λ r. (command_of r.0, r.1)) read
 
 -- configurations and a count as the state that they make
 abbrev pub state_of_parts : Option (Vec Pair Global × ℕ) → Option Contents

@@ -1,11 +1,10 @@
 -- Which texts are records and bases, and what they hold. The document may be spelled in any way. With other keys, keys
 -- in another order, or a number, a name or a path that is not good, it is neither.
 use Rattle.std.specs.Prelude.{◌≡◌, ℕ, Bool, true, false, ◌&&◌, ◌||◌, nat_le, if◌then◌else◌, List, [], ◌∷◌, codes, decimal, Option, Some}
-use Rattle.std.specs.{Prelude.{None, option_map, is_ok, is_none}, Str.Parse.digits_value}
+use Rattle.std.specs.{Prelude.{None, option_map, is_ok}, Str.Parse.digits_value}
 use Rattle.conf_record.specs.Prelude.{IsText, same_text, Tree, text, sequence, mapping, Elements, no_element, element, Members, no_member}
 use Rattle.conf_record.specs.Prelude.{member, Gives, IsKept, own_limits, path_of, good_name, Edit, import_as, set_at, delete_at, Command}
 use Rattle.conf_record.specs.Prelude.{single, batch, name_of, Entry, Contents, count_limit, IsState}
-use Rattle.conf_about.specs.Abouts.{fault_of}
 
 -- ---- the parts of a document
 
@@ -100,24 +99,14 @@ batch_of ts = None
 abbrev pub command_from : Members → Option Command
 command_from ms = if keys_are batch_keys ms then batch_of (values ms) else option_map single (edit_from ms)
 
--- the member is an about: who made a change, when and why
-abbrev pub is_about : List ℕ → Tree → Bool
-is_about key t = same_text key (codes "about") && is_none (fault_of t)
-
--- the members without an about as the last of them
-abbrev pub without_about : Members → Members
-without_about no_member = no_member
-without_about (member key t no_member) = if is_about key t then no_member else member key t no_member
-without_about (member key t (member other u ms)) = member key t (without_about (member other u ms))
-
 abbrev pub with_number : Option Command → List ℕ → Option (Command × ℕ)
 with_number None digits = None
 with_number (Some command) digits = option_map (λ number. (command, number)) (number_from_digits digits)
 
--- the command and the number of a mapping with this first member; an about comes last, and is no part of the command
+-- the command and the number of a mapping with this first member
 abbrev pub numbered_of : List ℕ → Tree → Members → Option (Command × ℕ)
 numbered_of key (text digits) ms =
-    if same_text key (codes "at") then with_number (command_from (without_about ms)) digits else None
+    if same_text key (codes "at") then with_number (command_from ms) digits else None
 numbered_of key t ms = None
 
 -- the command and the number that a record's tree holds

@@ -1,38 +1,22 @@
 // The command and the number of a record's tree.
-ghost use Rattle.std.specs.Prelude.{◌≡◌, ◌&&◌, [], ◌∷◌, Some, None, map, option_map, is_ok, true, false, IfOk, IfErr, IfSome, MatchOption};
+ghost use Rattle.std.specs.Prelude.{◌≡◌, ◌&&◌, [], ◌∷◌, Some, None, map, option_map, is_ok, IfOk, IfSome, MatchOption};
 ghost use Rattle.conf_record.specs.Prelude.{chars, sequence, mapping, IsKept, Pair, tree_of, elements_of, members_of};
 ghost use Rattle.conf_record.specs.Prelude.{path_of, edit_of, command_of, good_name};
 ghost use Rattle.conf_record.specs.RecordsRead.{values, if_good, edit_from, edit_in, edits_of, batch_of, command_from, record_of};
-ghost use Rattle.conf_record.specs.RecordsRead.{is_about, without_about};
-ghost use Rattle.conf_record.specs.Abouts.{about_in, about_of};
-ghost use Rattle.conf_record.specs.Reading.{AreKept, AreKeptElements, KeepsTree, about_read, edit_seen, command_and_number};
+ghost use Rattle.conf_record.specs.Reading.{AreKept, AreKeptElements, KeepsTree, edit_seen, command_and_number};
 
 use crate::edit_members::{EditMembers, members_from};
 use crate::fields::{is_same, keys_are, last_value, number_from, split_first, text_in};
 use crate::parts::part;
-use conf_about::About;
 use conf_state::{Command, Edit, good_name};
 use json_pointer::is_pointer;
 use std::alloc::{AllocError, Global};
 use yaml_tree::{Text, Tree};
 
-/// What a record says.
-#[derive(Debug, Drop)]
-pub struct Record {
-    /// The number under which the command was accepted.
-    pub number: u64,
-    /// The command.
-    pub command: Command,
-    /// Who made the change, when and why, if the record says so.
-    pub about: Option<About>,
-}
-
-/// What a record's tree says; `None` if it is no record's. It fails only if memory runs out.
-pub(crate) fn record_from(alloc: Global, tree: Tree) -> Result<Option<Record>, AllocError>
+/// The command and the number of a record's tree; `None` if it is no record's. It fails only if memory runs out.
+pub(crate) fn record_from(alloc: Global, tree: Tree) -> Result<Option<(Command, u64)>, AllocError>
     requires kept { IsKept (tree_of tree) }
-    ensures read { IfOk result (λ read. command_and_number read ≡ record_of (tree_of tree)) }
-    ensures about { IfOk result (λ read. IfSome read (λ r.
-        about_read r ≡ about_of (tree_of tree))) }
+    ensures { IfOk result (λ read. command_and_number read ≡ record_of (tree_of tree)) }
 {
     let pairs = match tree {
         Tree::Text(_) => return Ok(None),
@@ -42,24 +26,17 @@ pub(crate) fn record_from(alloc: Global, tree: Tree) -> Result<Option<Record>, A
     let Some((number, pairs)) = split_number(pairs) else {
         return Ok(None);
     };
-    let (pairs, about) = split_about(pairs)?;
     let Some(command) = command_from(alloc, pairs)? else {
         return Ok(None);
     };
-    Ok(Some(Record {
-        number,
-        command,
-        about,
-    }))
+    Ok(Some((command, number)))
 }
 
 /// The number of a record, and the pairs after it; `None` if the first pair has no good number.
 fn split_number(pairs: Vec<(Text, Tree)>) -> Option<(u64, Vec<(Text, Tree)>)>
     ensures read { MatchOption result (record_of (mapping (members_of pairs.items)) ≡ None)
-        (λ v. record_of (mapping (members_of pairs.items)) ≡ option_map
-        (λ command. (command, v.0)) (command_from (without_about (members_of v.1.items)))) }
-    ensures about { IfSome result (λ v.
-        about_of (mapping (members_of pairs.items)) ≡ about_in (members_of v.1.items)) }
+        (λ v. record_of (mapping (members_of pairs.items))
+        ≡ option_map (λ command. (command, v.0)) (command_from (members_of v.1.items))) }
     ensures rest { IfSome result (λ v. (pair : Pair) × (pairs.items ≡ pair ∷ v.1.items)) }
 {
     let ((key, value), rest) = split_first(pairs)?;
@@ -69,43 +46,6 @@ fn split_number(pairs: Vec<(Text, Tree)>) -> Option<(u64, Vec<(Text, Tree)>)>
     let digits = text_in(value)?;
     let number = number_from(&digits)?;
     Some((number, rest))
-}
-
-/// The about that is the last of some pairs, if one is, and the pairs without it. It takes no memory.
-fn split_about(
-    mut pairs: Vec<(Text, Tree)>,
-) -> Result<(Vec<(Text, Tree)>, Option<About>), AllocError>
-    ensures rest { IfOk result (λ split.
-        members_of split.0.items ≡ without_about (members_of pairs.items)) }
-    ensures about { IfOk result (λ split.
-        option_map tree_of split.1 ≡ about_in (members_of pairs.items)) }
-{
-    let Some((key, tree)) = pairs.pop() else {
-        return Ok((pairs, None));
-    };
-    match about_under(&key, tree) {
-        Ok(about) => Ok((pairs, Some(about))),
-        Err(tree) => {
-            pairs.push((key, tree))?;
-            Ok((pairs, None))
-        }
-    }
-}
-
-/// The about that a tree under a key is, or the tree.
-fn about_under(key: &str, tree: Tree) -> Result<About, Tree>
-    ensures about { IfOk result (λ about.
-        (about ≡ tree) × (is_about (chars key.now) (tree_of tree) ≡ true)) }
-    ensures other { IfErr result (λ other.
-        (other ≡ tree) × (is_about (chars key.now) (tree_of tree) ≡ false)) }
-{
-    if !is_same(key, "about") {
-        return Err(tree);
-    }
-    match About::of(tree) {
-        Ok(about) => Ok(about),
-        Err((tree, _)) => Err(tree),
-    }
 }
 
 /// The command of the pairs after the number; `None` if they are no command's.

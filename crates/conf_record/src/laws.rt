@@ -1,7 +1,6 @@
 // What records and base texts read as.
 ghost use Rattle.std.specs.Prelude.{◌≡◌, ◌≤◌, ℕ, Ok};
 ghost use Rattle.conf_record.specs.Prelude.{Command, Contents, count_limit, IsState, step, base_text, Room};
-ghost use Rattle.conf_record.specs.Abouts.{AboutsAreRead};
 ghost use Rattle.conf_record.specs.Records.{FitsRecord, record_text};
 ghost use Rattle.conf_record.specs.RecordsRead.{IsCommand, ReadsRecord, ReadsBase};
 ghost use Rattle.conf_record.specs.SmallCommands.{IsSmallCommand};
@@ -30,13 +29,5 @@ pub fn records_read()
         → (other ≡ command) × (read ≡ number) }
 {
     one_tree();
-    style_reads();
-}
-
-/// The record of a command with an about reads as that command under its number, and with the about, if some state
-/// accepts the command. The record has to have at most 67,108,864 bytes.
-pub fn abouts_are_read()
-    ensures { AboutsAreRead }
-{
     style_reads();
 }

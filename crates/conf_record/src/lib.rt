@@ -12,7 +12,6 @@
 //! one place, whatever its document: by [`members_from`] of its mapping, by [`cut_edit`] of its lines.
 #![tactic(auto)]
 
-mod about_record;
 mod base_reader;
 mod base_spans;
 mod base_writer;
@@ -30,23 +29,19 @@ mod parts;
 mod read;
 mod record;
 mod record_sink;
-#[cfg(test)]
-mod tests;
 mod written;
 mod written_base;
 
-pub use about_record::{length_with_about, record_with_about};
 pub use base_writer::{base_start, base_text};
-pub use command_reader::Record;
 pub use conf_state::{Command, Edit, Names, Room, State, StoreFault, good_name, step};
 pub use documents::{documents_are_read, documents_close};
 pub use edit_lines::{Place, cut_edit, cut_element};
 pub use edit_members::{EditMembers, members_from};
 pub use fields::{is_same, keys_are, last_text, last_value, next_text, number_from, split_first};
 pub use held_base::BaseText;
-pub use laws::{abouts_are_read, records_read};
+pub use laws::records_read;
 pub use next_record::{NoNext, read_next};
 pub use parts::part;
-pub use read::{read_base, read_record, read_with_about};
+pub use read::{read_base, read_record};
 pub use record::{record_length, record_of_length, record_text, short_record};
 pub use yaml_styled::Miss;

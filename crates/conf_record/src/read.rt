@@ -2,12 +2,10 @@
 ghost use Rattle.std.specs.Prelude.{◌≢◌, OnOk, IfOk, IfSome, IfNone};
 ghost use Rattle.conf_record.specs.Prelude.{own_limits, tree_of, command_of};
 ghost use Rattle.yaml_tree.specs.Reading.{IsRead, GivesNone};
-ghost use Rattle.conf_record.specs.Abouts.{IsRecordWith};
 ghost use Rattle.conf_record.specs.Documents.{IsRecord, IsBase, IsNoRecord, IsNoBase};
-ghost use Rattle.conf_record.specs.Reading.{about_read};
 
 use crate::base_reader::base_from;
-use crate::command_reader::{Record, record_from};
+use crate::command_reader::record_from;
 use crate::parts::configurations;
 use crate::written_base::written_base;
 use conf_state::{Command, State};
@@ -21,7 +19,7 @@ use yaml_tree::{Limits, ReadFault, Tree, bytes_give_one, read_one, refused_bytes
 /// - they are not one document of texts, sequences and mappings, or are over the limits of a `Config`
 ///   ([`Limits::KEPT`]);
 /// - the mapping has other keys, or the same in another order; in a batch (`batch`) those of each edit count, and a
-///   batch may have none. An about ([`About`](conf_about::About)) may come last (`about`);
+///   batch may have none;
 /// - the number is not decimal digits without a leading zero, or is more than 18,446,744,073,709,551,615;
 /// - the name or the path (RFC 6901) of an edit is not good.
 ///
@@ -29,18 +27,6 @@ use yaml_tree::{Limits, ReadFault, Tree, bytes_give_one, read_one, refused_bytes
 pub fn read_record(alloc: Global, bytes: &[u8]) -> Result<Option<(Command, u64)>, AllocError>
     ensures some { IfOk result (λ read. IfSome read (λ r.
         IsRecord bytes.now (command_of r.0) r.1)) }
-    ensures none { IfOk result (λ read. IfNone read (IsNoRecord bytes.now)) }
-{
-    match read_with_about(alloc, bytes)? {
-        Some(record) => Ok(Some((record.command, record.number))),
-        None => Ok(None),
-    }
-}
-
-/// Reads a record as [`read_record`] does, with its about.
-pub fn read_with_about(alloc: Global, bytes: &[u8]) -> Result<Option<Record>, AllocError>
-    ensures some { IfOk result (λ read. IfSome read (λ r.
-        IsRecordWith bytes.now (command_of r.command) r.number (about_read r))) }
     ensures none { IfOk result (λ read. IfNone read (IsNoRecord bytes.now)) }
 {
     bytes_give_one();

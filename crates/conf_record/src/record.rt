@@ -131,7 +131,7 @@ pub(crate) fn write_number<S: Sink>(number: u64, sink: &mut S) -> Result<(), S::
 }
 
 /// Writes what follows the number.
-pub(crate) fn write_command<S: RecordSink>(command: &Command, sink: &mut S) -> Result<(), S::Fault>
+fn write_command<S: RecordSink>(command: &Command, sink: &mut S) -> Result<(), S::Fault>
     ensures takes { OnOk result (S.Takes sink.old
         (members_after (command_members (command_of command.now)) 0) sink.new) }
     ensures kept { OnOk result (IsCommand (command_of command.now)) }

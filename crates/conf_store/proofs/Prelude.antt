@@ -12,7 +12,7 @@ pub use Rattle.conf_record.specs.{Documents.RecordsAreRead, Records.{command_mem
 unfoldable pub use Rattle.conf_record.specs.Records.{record_bytes, record_text}
 pub use Rattle.conf_record.specs.RecordsRead.{keys_are, values, number_from_digits, entries, base_keys, import_keys, set_keys, delete_keys}
 pub use Rattle.conf_record.specs.RecordsRead.{has_good_path, if_good, import_of, set_of, delete_of, with_number, numbered_of, contents_of}
-pub use Rattle.conf_record.specs.RecordsRead.{IsCommand, is_about, without_about}
+pub use Rattle.conf_record.specs.RecordsRead.{IsCommand}
 unfoldable pub use Rattle.conf_record.specs.RecordsRead.{record_of, base_of}
 pub use Rattle.conf_state.{proofs.RunLaws.{and_then-Ok, after-count, after-append}, specs.BaseTexts.{members, entry_lines}}
 unfoldable pub use Rattle.conf_state.specs.BaseTexts.{base_bytes, base_length, base_text}

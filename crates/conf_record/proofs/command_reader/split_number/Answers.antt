@@ -1,7 +1,7 @@
 use Rattle.std.proofs.Common.{codes, refl, sym, ap, ◌∙◌}
 use Rattle.conf_record.proofs.Prelude.{chars, same_text, mapping, member, tree_of, members_of, text_bytes, ascii}
-use Rattle.conf_record.proofs.TreeLemmas.{about_numbered, record_numbered, record_other, record_textless, record_numberless}
-use Rattle.conf_record.specs.{Abouts.about_of, RecordsRead.{number_from_digits, record_of}}
+use Rattle.conf_record.proofs.TreeLemmas.{record_numbered, record_other, record_textless, record_numberless}
+use Rattle.conf_record.specs.RecordsRead.{number_from_digits, record_of}
 use Rattle.conf_record.proofs.command_reader.split_number.Goals as goal
 
 pub returns-in_err-key-clause-read : goal.returns-in_err-key-clause-read
@@ -47,12 +47,3 @@ returns-clause-read c =
     ∙ ap (λ t. record_of (mapping (member key t ms))) c.in_ok-digits.ensures
     ∙ record_numbered key (chars digits) ms c.in_ok-number.number same
     (ap (λ bs. number_from_digits (chars bs)) (sym c.deref-2.ensures) ∙ sym c.in_ok-number.ensures.read)
-
-pub returns-clause-about : goal.returns-clause-about
-returns-clause-about c =
-    let key = chars (text_bytes c.in_ok-key.key) in
-    let same = ap (λ bs. same_text (chars bs) (codes "at")) (sym c.deref.ensures)
-    ∙ ap (same_text (chars c.deref.result.now)) (sym (ascii (codes "at") refl))
-    ∙ sym c.is_same.ensures ∙ c.if-not-is_same.false in
-    ap (λ ps. about_of (mapping (members_of ps))) c.in_ok-key.ensures
-    ∙ about_numbered key (tree_of c.in_ok-key.value) (members_of c.in_ok-key.rest.items) same

@@ -1,10 +1,15 @@
-use Rattle.std.proofs.{Common.{◌≤◌, ℕ, ap, sym, ◌∙◌}, lemmas.Option.same_Some}
-use Rattle.conf_record.proofs.Prelude.{own_limits, base_tree, base_text, closed_document, Command, count_limit}
-use Rattle.conf_record.proofs.{AcceptedLemmas.accepted, RecordLemmas.{document_gives, record_good, record_tells, base_good}}
+use Rattle.std.proofs.{Common.{◌≤◌, ℕ, ap, sym, subst, ◌∙◌}, lemmas.Option.same_Some}
+use Rattle.conf_record.proofs.Prelude.{Gives, Tree, own_limits, base_tree, base_text, closed_document, Command, count_limit}
+use Rattle.conf_record.proofs.{AcceptedLemmas.accepted, RecordLemmas.{FramedGood, framed_document, record_good, record_tells, base_good}}
 use Rattle.conf_record.{proofs.RecordLemmas.base_tells, specs.Records.{record_tree, record_text, FitsRecord}}
 use Rattle.conf_record.specs.{SmallCommands.IsSmallCommand, RecordsRead.{record_of, base_of, IsCommand, ReadsRecord}}
 use Rattle.yaml_recognizers.specs.StyleLaws.{FramedReads}
 use Rattle.conf_record.proofs.laws.records_read.Goals as goal
+
+-- a closed document gives its tree
+document_gives : FramedReads → (t : Tree) → FramedGood t → Gives (closed_document t) own_limits t
+document_gives reads t framed = subst (λ source. Gives source own_limits t) (framed_document t)
+    (reads t own_limits framed.good framed.short)
 
 pub returns-clause-base : goal.returns-clause-base
 unfolding base_text
