@@ -8,7 +8,8 @@ instructions instead, as valgrind does (`apt-get install valgrind`). They are th
 machine is. After each shape it prints how many times as much an edit takes by a command as in the tree; it may be 3.
 
 Then it counts instructions, with `-i` or without, of a command of a session that sets a key which a mapping of so many
-keys has, or has not, and of opening a store after such commands.
+keys has, or has not, and of opening a store after such commands; and of a `get` of a key, of which
+the first makes the index.
 
 Last it times deletes at the head of a long list, in one batch and at the opening after it: the processor time of a
 delete, the least of three runs, less that of a batch of one delete. A delete moves the elements behind it.
@@ -120,6 +121,23 @@ def set_costs(width: int, name: str, numbers: Callable[[int, int], Iterable[int]
           f" {opening:9.0f} at opening", flush=True)  # fmt: skip
 
 
+def gets(numbers: Iterable[int]) -> bytes:
+    """Commands that get the keys with these numbers."""
+    return "".join(f"---\nget: wide\npath: /k{key}\n...\n" for key in numbers).encode()
+
+
+def read_costs(width: int) -> None:
+    """Prints what the first `get` of a key costs in a session, and each further one, in instructions."""
+    pairs = "".join(f"  k{number}: v00000\n" for number in range(width))
+    with tempfile.TemporaryDirectory() as folder:
+        perform(folder, f"---\nimport: wide\ntext: |\n{pairs}...\n".encode() + CHECKPOINT, "--group")
+        none, one, many = (
+            session_instructions(folder, gets(old_keys(width, count)), "--group") for count in (0, 1, 1 + SETS)
+        )
+    print(f"a get beside {width:6}: the first {one - none:9} instructions in a session,"
+          f" each further {(many - one) / SETS:9.0f}", flush=True)  # fmt: skip
+
+
 def session_time(folder: str, commands: str) -> float:
     """The processor time of a session that performs these commands."""
     return seconds_in(session_usage(folder, commands.encode(), "--group"))
@@ -165,6 +183,7 @@ def main() -> int:
         for width in WIDTHS:
             set_costs(width, "an old", old_keys)
             set_costs(width, "a new", new_keys)
+            read_costs(width)
     if os.access(PROGRAM, os.X_OK):
         delete_costs()
     return 0

@@ -10,6 +10,7 @@ ghost use Rattle.conf_session.specs.Replies.{Replies};
 
 use crate::fault::SessionFault;
 use crate::reply::{Reply, refused};
+use conf_conditions::LARGE;
 use conf_disk::Disk;
 use conf_state::StoreFault;
 use conf_store::Store;
@@ -66,27 +67,40 @@ fn write_count<S: Sink>(count: u64, sink: &mut S) -> Result<(), S::Fault>
     sink.put_text("\"\n...\n")
 }
 
-/// The answer to a `get`: the value at a path of a configuration. It fails only if memory runs out.
+/// The answer to a `get`: the value at a path of a configuration. The store stays as it is, and gets ready for further
+/// reads there. It fails only if memory runs out.
 pub fn get_answer<D: Disk>(
     alloc: Global,
-    store: &Store<D>,
+    store: &mut Store<D>,
     name: &str,
     path: &str,
 ) -> Result<Reply, SessionFault>
     ensures ok { IfOk result
-        (Replies (stored_of store.now) (getting (chars name.now) (chars path.now))) }
+        (Replies (stored_of store.old) (getting (chars name.now) (chars path.now))) }
     ensures memory { IfErr result (λ fault. fault ≡ SessionFault.OutOfMemory) }
+    ensures same { store.new ≡ store.old }
 {
-    if let Err(fault) = store.config(name) {
-        return refused(fault);
-    }
+    let length = match store.config(name) {
+        Ok(config) => config.style_length(),
+        Err(fault) => return refused(fault),
+    };
     let path = match Path::parse(alloc, path) {
         Ok(path) => path,
         Err(fault) => return refused(StoreFault::Path(fault)),
     };
+    index_if_large(store, name, &path, length);
     match store.get(name, &path) {
         Ok(value) => Ok(Reply::Done(answer(alloc, "value", value)?)),
         Err(fault) => refused(fault),
+    }
+}
+
+/// Gets a store ready for further reads at a path of a configuration that is so long, if that is worth it.
+fn index_if_large<D: Disk>(store: &mut Store<D>, name: &str, path: &Path, length: u64)
+    ensures { store.new ≡ store.old }
+{
+    if length >= LARGE {
+        store.index_for(name, path);
     }
 }
 

@@ -13,7 +13,7 @@ use crate::fault::SessionFault;
 use crate::reading::{read_batch, read_change, read_single};
 use crate::said::{Said, read_said};
 use crate::words::{Refusal, answered, condition_answered};
-use conf_conditions::{Condition, ConditionFault, check};
+use conf_conditions::{Condition, ConditionFault, check, index_for};
 use conf_disk::Disk;
 use conf_state::{Command, StoreFault};
 use conf_store::Store;
@@ -115,7 +115,8 @@ fn unmet(read: Result<Command, StoreFault>, fault: ConditionFault) -> Result<Rep
 }
 
 /// Performs a command whose texts are read, if its conditions hold of the state that it finds. Its texts are read
-/// before, so that a command without memory changes nothing, whatever its conditions are.
+/// before, so that a command without memory changes nothing, whatever its conditions are. The store gets ready for more
+/// conditions like these.
 fn change_if<D: Disk>(
     alloc: Global,
     store: &mut Store<D>,
@@ -127,6 +128,7 @@ fn change_if<D: Disk>(
     ensures { Handles D.model store.old store.new
         (IfMet (conditions_of conditions.now) (IsRequest read)) result }
 {
+    index_for(alloc, store, conditions);
     match check(alloc, store, conditions) {
         Ok(()) => change_read(alloc, store, read),
         Err(fault) => unmet(read, fault),

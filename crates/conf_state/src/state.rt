@@ -29,6 +29,7 @@ use indexmap::IndexSet;
 use std::alloc::{AllocError, Global};
 use std::marker::Model;
 use std::mem;
+use tree_path::Path;
 use yaml_config::{Config, Edit as PathEdit};
 use yaml_writer::Sink;
 
@@ -116,6 +117,17 @@ impl State {
         ensures limits { IsState self.now }
     {
         self.configs.get(name)
+    }
+
+    /// Gets the configuration under a name ready for reads at a path ([`Config::index_for`]), if there is one. The
+    /// state stays as it is.
+    pub fn index_for(&mut self, alloc: Global, name: &str, path: &Path)
+        ensures { self.new ≡ self.old }
+    {
+        let Some(config) = self.configs.get_mut(name) else {
+            return;
+        };
+        config.index_for(alloc, path);
     }
 
     /// The names, in the order of the configurations.

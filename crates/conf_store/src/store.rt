@@ -224,6 +224,15 @@ impl<D: Disk> Store<D> {
         }
     }
 
+    /// Gets ready for reads at a path in the configuration under a name: the keys of the last wide mapping on its way
+    /// are indexed, so that [`get`](Store::get) need not walk along it. The store stays as it is. Nothing is indexed
+    /// where the path leads nowhere, or memory runs out.
+    pub fn index_for(&mut self, name: &str, path: &Path)
+        ensures { self.new ≡ self.old }
+    {
+        self.state.index_for(self.alloc, name, path);
+    }
+
     /// The configuration under a name. Takes no memory.
     ///
     /// # Errors

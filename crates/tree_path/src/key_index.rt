@@ -59,6 +59,16 @@ impl KeyIndex {
         }
     }
 
+    /// An index that knows nothing, and becomes that of a wide mapping at the first walk along one. It takes no memory.
+    pub fn eager(alloc: Global) -> KeyIndex
+        ensures { (t : Meant) → Indexes result t }
+    {
+        KeyIndex {
+            walks: WALKS - 1,
+            ..KeyIndex::new(alloc)
+        }
+    }
+
     /// The index of the mapping to which the steps lead.
     fn of_mapping(
         alloc: Global,

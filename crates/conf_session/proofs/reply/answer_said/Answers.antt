@@ -1,8 +1,8 @@
 -- Each document is the request that it says.
 use Rattle.std.{proofs.Common.{◌≡◌, refl, sym, ap, ◌∙◌, subst}, specs.Prelude.Ok}
-use Rattle.conf_session.proofs.{Prelude.{chars, err_from_is_err_and, text_bytes, conditions_of}, WordLemmas.refusal-short}
+use Rattle.conf_session.proofs.{Prelude.{chars, err_from_is_err_and, text_bytes, conditions_of, StoreView}, WordLemmas.refusal-short}
 use Rattle.conf_session.{proofs.RequestLemmas.{handles-none, handles-reading, handles-retold}, specs.Said.{get_at, export_of, said_of}}
-use Rattle.conf_session.specs.{ReadChanges.{IfMet, IsRequest}, declared.reply.Reply.TheVariants.Refused}
+use Rattle.conf_session.specs.{Replies.Handles, ReadChanges.{IfMet, IsRequest}, declared.reply.Reply.TheVariants.Refused}
 use Rattle.conf_session.specs.{declared.words.Refusal.TheVariants.BadCommand, Requests.{MeansRequest, if_met, checkpointing, getting}}
 use Rattle.conf_session.specs.Requests.{exporting, naming, bad}
 use Rattle.conf_session.proofs.reply.answer_said.Goals as goal
@@ -51,10 +51,12 @@ returns-in-Get g c =
     let same : get_at name path ≡ said_of c.args.said =
     ap (λ b. get_at (chars b) path) c.deref-in-Get.ensures
     ∙ ap (λ b. get_at (chars (text_bytes c.in-Get.name)) (chars b)) c.deref-in-Get-2.ensures ∙ sym (ap said_of c.in-Get.is) in
-    handles-reading d.model store c.requires.means (MeansRequest (said_of c.args.said))
+    subst (λ (s : StoreView g.row.D.Denot). Handles d.model store s (MeansRequest (said_of c.args.said)) c.get_answer.result)
+    (sym c.get_answer.ensures.same)
+    (handles-reading d.model store c.requires.means (MeansRequest (said_of c.args.said))
     (λ image h is. g.met.D.Disk.only_now store.disk image h is)
     (getting name path) (subst (λ s. MeansRequest s (getting name path)) same refl) tt c.get_answer.result
-    c.get_answer.ensures.ok c.get_answer.ensures.memory
+    c.get_answer.ensures.ok c.get_answer.ensures.memory)
 
 pub returns-in-Export : goal.returns-in-Export
 returns-in-Export g c =
