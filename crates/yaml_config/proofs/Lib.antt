@@ -6,3 +6,4 @@ pub mod Measured
 pub mod Planned
 pub mod SizeLemmas
 pub mod TextTreeLemmas
+mod TallyLemmas

@@ -4,3 +4,4 @@ pub mod Edits
 pub mod Kept
 pub mod Limits
 pub mod Undoing
+pub mod Tallies

@@ -1,5 +1,5 @@
 // A tree that is good to keep.
-ghost use Rattle.std.specs.Prelude.{◌≡◌, ◌+◌, ◌*◌, ◌^◌, ◌<◌, ◌≤◌, true, [], Ok, Err, IfOk, IfErr, IfSome};
+ghost use Rattle.std.specs.Prelude.{◌≡◌, ◌+◌, ◌*◌, ◌^◌, ◌<◌, ◌≤◌, true, [], Ok, Err, IfOk, IfErr, IfSome, MatchOption};
 ghost use Rattle.yaml_config.specs.Prelude.{Good, lines_after_dash, style_text, byte_len, depth, distinct, text};
 ghost use Rattle.yaml_config.specs.Prelude.{tree_of, element_size, indented, at, Indexes};
 ghost use Rattle.yaml_config.specs.Changes.{child_size};
@@ -7,12 +7,13 @@ ghost use Rattle.yaml_config.specs.Kept.{IsKept, IsFirstFault, own_limits, limit
 
 use crate::change::Slot;
 use crate::limits::Limits;
+use crate::tally::Tally;
 use std::alloc::{AllocError, Global};
 use std::marker::Model;
 use tree_path::{KeyIndex, Path, PathFault, at_by};
 use yaml_data::{Text, Tree, has_distinct_keys};
 use yaml_events::ReadFault;
-use yaml_writer::{Size, style_len};
+use yaml_writer::Size;
 
 /// The bytes of the empty text in the one style, `""` and a line feed.
 const EMPTY_LENGTH: u64 = 3;
@@ -120,9 +121,9 @@ impl Config {
         ensures refused { IfErr result (λ refused. (refused ≡ (tree, ReadFault.LargeInStyle))
             × (limits.now.style < byte_len (style_text (tree_of tree)))) }
     {
-        match style_len(&tree, limits.style) {
+        match known_size(&tree, limits.style) {
             None => Err((tree, ReadFault::LargeInStyle)),
-            Some(length) => Ok(Config::from_parts(tree, length)),
+            Some(element) => Ok(Config::with_size(tree, element)),
         }
     }
 
@@ -260,6 +261,28 @@ impl Config {
     {
         self.index = index;
     }
+}
+
+/// The size of a tree as an element, if the tree has at most `max` bytes in the one style.
+fn known_size(tree: &Tree, max: u64) -> Option<Size>
+    requires deep { depth (tree_of tree.now) ≤ own_limits.depth }
+    requires style { max ≤ own_limits.style }
+    ensures { MatchOption result (max < byte_len (style_text (tree_of tree.now)))
+        (λ element. (element ≡ element_size (tree_of tree.now))
+        × (byte_len (style_text (tree_of tree.now)) ≤ max)) }
+{
+    let Tally { bytes, lines } = Tally::of_element(tree);
+    if bytes == u64::MAX {
+        return None;
+    }
+    let element = Size {
+        bytes: u128::from(bytes),
+        lines: u128::from(lines),
+    };
+    if element.bytes - dash_indent(tree) * element.lines > u128::from(max) {
+        return None;
+    }
+    Some(element)
 }
 
 /// The length of a tree in the one style, from its size as an element.

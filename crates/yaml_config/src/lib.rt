@@ -11,6 +11,8 @@ mod config;
 mod edit;
 mod limits;
 mod measure;
+mod reads;
+mod tally;
 mod undo;
 
 pub use change::{Change, Slot};

@@ -1,5 +1,5 @@
 -- What lines are read as.
-use Rattle.std.specs.Prelude.{◌≡◌, ℕ, List}
+use Rattle.std.specs.Prelude.{◌≡◌, ℕ, List, ◌++◌}
 use Rattle.yaml_styled.specs.Prelude.{Tree, text, sequence, mapping, Elements, no_element, element, Members, no_member, member}
 use Rattle.yaml_styled.specs.{Prelude.{scalar_lines, elements_at, members_at, Pair, tree_of, elements_of, members_of}, Taking.Took}
 use Rattle.yaml_styled.specs.Sounds.{Sound}
@@ -37,13 +37,21 @@ IsTree made t = tree_of made ≡ t
 abbrev pub IsAny : {V : Type 0} → V → Tree → Type 0
 IsAny made t = Unit {0}
 
--- elements and members of the code that are these
-abbrev pub AreElements : List code.Tree → Elements → Type 0
-AreElements made ts = elements_of made ≡ ts
+-- the elements of the code that come after others are these
+pub record AreElements (before now : List code.Tree) (ts : Elements) : Type 0 where
+  pub own : List code.Tree
+  pub stand : now ≡ before ++ own
+  pub are : elements_of own ≡ ts
 
-abbrev pub AreMembers : List Pair → Members → Type 0
-AreMembers made ms = members_of made ≡ ms
+-- and so are members
+pub record AreMembers (before now : List Pair) (ms : Members) : Type 0 where
+  pub own : List Pair
+  pub stand : now ≡ before ++ own
+  pub are : members_of own ≡ ms
 
--- any value, and any elements or members
-abbrev pub AreAny : {V Parts : Type 0} → V → Parts → Type 0
-AreAny made parts = Unit {0}
+-- any elements, and any members
+abbrev pub AreAnyElements : List code.Tree → List code.Tree → Elements → Type 0
+AreAnyElements before now ts = Unit {0}
+
+abbrev pub AreAnyMembers : List Pair → List Pair → Members → Type 0
+AreAnyMembers before now ms = Unit {0}

@@ -163,7 +163,7 @@ fn read_empty_sequence<V: Build>(
         lines.old.rest.now lines.old.counted lines.new.rest.now lines.new.counted) }
 {
     lines.take("[]\n")?;
-    Ok(V::from_elements(V::no_elements(alloc)))
+    Ok(V::empty_sequence(alloc))
 }
 
 /// Reads a mapping that holds nothing.
@@ -177,5 +177,5 @@ fn read_empty_mapping<V: Build>(
         lines.old.rest.now lines.old.counted lines.new.rest.now lines.new.counted) }
 {
     lines.take("{}\n")?;
-    Ok(V::from_members(V::no_members(alloc)))
+    Ok(V::empty_mapping(alloc))
 }

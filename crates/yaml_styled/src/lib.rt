@@ -14,6 +14,7 @@ mod keys;
 mod lines;
 mod miss;
 mod open_keys;
+mod pending;
 mod read;
 mod styled;
 mod words;

@@ -19,6 +19,7 @@ pub(crate) fn read_rows<'t, V: Build>(
     alloc: Global,
     lines: &mut Lines<'t>,
     keys: &mut OpenKeys<'t>,
+    pending: &mut V::Pending,
     indent: u64,
     levels: u64,
 ) -> Result<V, Miss>
@@ -27,14 +28,16 @@ pub(crate) fn read_rows<'t, V: Build>(
         (λ t. lines_of t indent) indented (levels + 1)
         lines.old.rest.now lines.old.counted lines.new.rest.now lines.new.counted) }
     ensures keys { OnOk result (keys.new.keys.items ≡ keys.old.keys.items) }
+    ensures elements { OnOk result (V.elements pending.new ≡ V.elements pending.old) }
+    ensures members { OnOk result (V.members pending.new ≡ V.members pending.old) }
 {
     if levels == 0 {
         return Err(Miss::OtherForm);
     }
     if lines.first() == Some(b'-') {
-        read_elements(alloc, lines, keys, indent, levels - 1)
+        read_elements(alloc, lines, keys, pending, indent, levels - 1)
     } else {
-        read_members(alloc, lines, keys, indent, levels - 1)
+        read_members(alloc, lines, keys, pending, indent, levels - 1)
     }
 }
 
@@ -44,6 +47,7 @@ fn read_elements<'t, V: Build>(
     alloc: Global,
     lines: &mut Lines<'t>,
     keys: &mut OpenKeys<'t>,
+    pending: &mut V::Pending,
     indent: u64,
     levels: u64,
 ) -> Result<V, Miss>
@@ -52,15 +56,18 @@ fn read_elements<'t, V: Build>(
         (λ t. lines_of t indent) indented (levels + 2)
         lines.old.rest.now lines.old.counted lines.new.rest.now lines.new.counted) }
     ensures keys { OnOk result (keys.new.keys.items ≡ keys.old.keys.items) }
+    ensures elements { OnOk result (V.elements pending.new ≡ V.elements pending.old) }
+    ensures members { OnOk result (V.members pending.new ≡ V.members pending.old) }
 {
-    let mut elements = V::no_elements(alloc);
+    let start = V::elements_start(pending);
     'rows: for _ in 0..u64::MAX {
         lines.take("- ")?;
-        let element = read_element(alloc, lines, keys, indent, levels)?;
-        V::add_element(&mut elements, element)?;
+        let element = read_element(alloc, lines, keys, pending, indent, levels)?;
+        V::add_element(pending, element)?;
         let more = lines.next_row(indent)?;
         if !more {
-            return Ok(V::from_elements(elements));
+            let made = V::end_sequence(pending, start)?;
+            return Ok(made);
         }
     }
     Err(Miss::OtherForm)
@@ -72,6 +79,7 @@ fn read_element<'t, V: Build>(
     alloc: Global,
     lines: &mut Lines<'t>,
     keys: &mut OpenKeys<'t>,
+    pending: &mut V::Pending,
     indent: u64,
     levels: u64,
 ) -> Result<V, Miss>
@@ -80,9 +88,11 @@ fn read_element<'t, V: Build>(
         (λ t. lines_after_dash t indent) indented (levels + 1)
         lines.old.rest.now lines.old.counted lines.new.rest.now lines.new.counted) }
     ensures keys { OnOk result (keys.new.keys.items ≡ keys.old.keys.items) }
+    ensures elements { OnOk result (V.elements pending.new ≡ V.elements pending.old) }
+    ensures members { OnOk result (V.members pending.new ≡ V.members pending.old) }
 {
     if begins_collection(lines.rest()) {
-        read_rows(alloc, lines, keys, indent + 2, levels)
+        read_rows(alloc, lines, keys, pending, indent + 2, levels)
     } else {
         read_flat(alloc, lines, indent + 2)
     }
@@ -94,6 +104,7 @@ fn read_members<'t, V: Build>(
     alloc: Global,
     lines: &mut Lines<'t>,
     keys: &mut OpenKeys<'t>,
+    pending: &mut V::Pending,
     indent: u64,
     levels: u64,
 ) -> Result<V, Miss>
@@ -102,18 +113,21 @@ fn read_members<'t, V: Build>(
         (λ t. lines_of t indent) indented (levels + 2)
         lines.old.rest.now lines.old.counted lines.new.rest.now lines.new.counted) }
     ensures keys { OnOk result (keys.new.keys.items ≡ keys.old.keys.items) }
+    ensures elements { OnOk result (V.elements pending.new ≡ V.elements pending.old) }
+    ensures members { OnOk result (V.members pending.new ≡ V.members pending.old) }
 {
     let from = keys.count();
-    let mut members = V::no_members(alloc);
+    let start = V::members_start(pending);
     'rows: for _ in 0..u64::MAX {
         let key = take_key(lines, indent)?;
         keys.add(key)?;
-        let value = read_value_lines(alloc, lines, keys, indent, levels)?;
-        V::add_member(alloc, &mut members, key, value)?;
+        let value = read_value_lines(alloc, lines, keys, pending, indent, levels)?;
+        V::add_member(alloc, pending, key, value)?;
         let more = lines.next_row(indent)?;
         if !more {
             keys.close(alloc, from)?;
-            return Ok(V::from_members(members));
+            let made = V::end_mapping(pending, start)?;
+            return Ok(made);
         }
     }
     Err(Miss::OtherForm)
@@ -125,6 +139,7 @@ fn read_value_lines<'t, V: Build>(
     alloc: Global,
     lines: &mut Lines<'t>,
     keys: &mut OpenKeys<'t>,
+    pending: &mut V::Pending,
     indent: u64,
     levels: u64,
 ) -> Result<V, Miss>
@@ -133,11 +148,13 @@ fn read_value_lines<'t, V: Build>(
         (levels + 1)
         lines.old.rest.now lines.old.counted lines.new.rest.now lines.new.counted) }
     ensures keys { OnOk result (keys.new.keys.items ≡ keys.old.keys.items) }
+    ensures elements { OnOk result (V.elements pending.new ≡ V.elements pending.old) }
+    ensures members { OnOk result (V.members pending.new ≡ V.members pending.old) }
 {
     if lines.first() == Some(b' ') {
         read_beside(alloc, lines, indent)
     } else {
-        read_below(alloc, lines, keys, indent, levels)
+        read_below(alloc, lines, keys, pending, indent, levels)
     }
 }
 
@@ -147,6 +164,7 @@ pub(crate) fn read_below<'t, V: Build>(
     alloc: Global,
     lines: &mut Lines<'t>,
     keys: &mut OpenKeys<'t>,
+    pending: &mut V::Pending,
     indent: u64,
     levels: u64,
 ) -> Result<V, Miss>
@@ -155,10 +173,12 @@ pub(crate) fn read_below<'t, V: Build>(
         (λ t. value_at t indent) value_indented (levels + 1)
         lines.old.rest.now lines.old.counted lines.new.rest.now lines.new.counted) }
     ensures keys { OnOk result (keys.new.keys.items ≡ keys.old.keys.items) }
+    ensures elements { OnOk result (V.elements pending.new ≡ V.elements pending.old) }
+    ensures members { OnOk result (V.members pending.new ≡ V.members pending.old) }
 {
     lines.take("\n")?;
     lines.indent(indent + 2)?;
-    read_rows(alloc, lines, keys, indent + 2, levels)
+    read_rows(alloc, lines, keys, pending, indent + 2, levels)
 }
 
 /// Reads a value on the line of its key, which is at `indent`.

@@ -21,6 +21,9 @@ use yaml_writer::Size;
 /// The greatest depth of what is read.
 pub const MOST_DEPTH: u64 = 128;
 
+/// By how many levels a collection may be deeper than a text.
+const MOST_LEVELS: u64 = MOST_DEPTH - 1;
+
 /// What was read of lines.
 #[derive(Debug, Drop)]
 pub struct Styled<'t, V> {
@@ -137,7 +140,15 @@ fn styled_below<V: Build>(alloc: Global, text: &str, indent: u64) -> Result<Styl
 {
     let mut lines = Lines::new(text);
     let mut keys = OpenKeys::new(alloc);
-    let value = read_below(alloc, &mut lines, &mut keys, indent, MOST_DEPTH - 1)?;
+    let mut pending = V::nothing_pending(alloc);
+    let value = read_below(
+        alloc,
+        &mut lines,
+        &mut keys,
+        &mut pending,
+        indent,
+        MOST_LEVELS,
+    )?;
     let size = size_below(at_margin(text, &lines, indent), lines.counted());
     Ok(Styled {
         value,
@@ -198,7 +209,8 @@ fn styled_rows<V: Build>(alloc: Global, text: &str) -> Result<Styled<'_, V>, Mis
 {
     let mut lines = Lines::new(text);
     let mut keys = OpenKeys::new(alloc);
-    let value = read_rows(alloc, &mut lines, &mut keys, 0, MOST_DEPTH - 1)?;
+    let mut pending = V::nothing_pending(alloc);
+    let value = read_rows(alloc, &mut lines, &mut keys, &mut pending, 0, MOST_LEVELS)?;
     let size = size_of_rows(at_margin(text, &lines, 0), lines.counted());
     Ok(Styled {
         value,

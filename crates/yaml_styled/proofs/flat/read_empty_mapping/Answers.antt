@@ -8,7 +8,7 @@ returns g c =
     let b = c.take.new.self in
     record {
       tree = mapping no_member;
-      is = (c.from_members.ensures no_member c.no_members.ensures, refl);
+      is = (c.empty_mapping.ensures, refl);
       took = subst (λ cs. Took a.rest.now a.counted cs 0 b.rest.now b.counted) (chars-literal (codes "{}\n") refl) c.in_ok-take.ensures;
       sound = no_members_sound;
     }

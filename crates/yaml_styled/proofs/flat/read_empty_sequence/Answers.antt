@@ -8,7 +8,7 @@ returns g c =
     let b = c.take.new.self in
     record {
       tree = sequence no_element;
-      is = (c.from_elements.ensures no_element c.no_elements.ensures, refl);
+      is = (c.empty_sequence.ensures, refl);
       took = subst (λ cs. Took a.rest.now a.counted cs 0 b.rest.now b.counted) (chars-literal (codes "[]\n") refl) c.in_ok-take.ensures;
       sound = no_elements_sound;
     }

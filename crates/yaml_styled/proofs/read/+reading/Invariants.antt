@@ -1,20 +1,28 @@
-use Rattle.std.proofs.Common.{◌≡◌, ◌+◌, ◌*◌, ◌++◌, List}
+use Rattle.std.proofs.Common.{◌≡◌, ◌+◌, ◌*◌, ◌≤◌, ◌++◌, List, length}
 use Rattle.yaml_styled.proofs.{NameLemmas.Key, RowLemmas.{StartedElements, StartedMembers}}
 use Rattle.yaml_styled.proofs.read.+reading.Given as goal
 
 -- the rows so far were read, and the spaces before the next
 abbrev pub invariant-read_elements-rows : goal.invariant-read_elements-rows
 invariant-read_elements-rows g l =
-    StartedElements (g.V.Build.MeansElements l.elements) (l.levels + 1) l.indent
+    let before = g.V.Build.elements l.initial.pending in
+    let now = g.V.Build.elements l.pending in
+    StartedElements (g.V.Build.MeansElements before now) (l.levels + 1) l.indent
     l.initial.lines.rest.now l.initial.lines.counted l.lines.rest.now l.lines.counted
     × (l.keys.keys.items ≡ l.initial.keys.keys.items)
+    × (length before ≤ length now)
+    × (g.V.Build.members l.pending ≡ g.V.Build.members l.initial.pending)
 
 -- and their keys stand after those that stood before
 abbrev pub invariant-read_members-rows : goal.invariant-read_members-rows
 invariant-read_members-rows g l =
+    let before = g.V.Build.members l.initial.pending in
+    let now = g.V.Build.members l.pending in
     (own : List Key) × (l.keys.keys.items ≡ l.initial.keys.keys.items ++ own)
-    × StartedMembers (g.V.Build.MeansMembers l.members) own (l.levels + 1) l.indent
+    × StartedMembers (g.V.Build.MeansMembers before now) own (l.levels + 1) l.indent
     l.initial.lines.rest.now l.initial.lines.counted l.lines.rest.now l.lines.counted
+    × (length before ≤ length now)
+    × (g.V.Build.elements l.pending ≡ g.V.Build.elements l.initial.pending)
 
 -- rows are a level deeper than what holds them
 abbrev pub decreases-read_rows : goal.decreases-read_rows
