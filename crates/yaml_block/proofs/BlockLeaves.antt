@@ -217,7 +217,8 @@ leaf_goes_on p m bol sep text f rest e h c = leaf_no_mapping p m bol sep text f 
 
 -- ---- a further pair
 
-key_node_opens : (bol : Bool) (text : List ℕ) (f : Flow) (rest : List ℕ)
+-- what a key starts with
+pub key_node_opens : (bol : Bool) (text : List ℕ) (f : Flow) (rest : List ℕ)
     → flow_node_at 0 block_key bol text ≡ Some (f, rest) → Opens text × (first bar text ≡ false)
 key_node_opens bol text f rest e =
     let s : StandsFlow 0 block_key bol text f rest = stands 0 block_key bol text f rest e in
@@ -235,6 +236,22 @@ next_key_opens sits k bol done text f rest e c s =
     key_opens sits k bol done text f (take_while white rest) (past (drop_while white rest))
     ((key_node_opens bol text f rest e).0).no_ask
     (ap (λ r. on r (λ key rest'. key_after key (take_while white rest') (drop_while white rest'))) e ∙ rw (c, s) refl)
+
+-- a key begins a mapping, where one may begin
+pub key_begins : (sits : Sits) (k m : ℕ) (bol : Bool) (sep : Sep) (text : List ℕ) (f : Flow) (rest : List ℕ)
+    → flow_node_at 0 block_key bol text ≡ Some (f, rest)
+    → sign 58 (drop_while white rest) ≡ true → short_key f (take_while white rest) ≡ true
+    → part_at (Some (sits, k)) m bol sep text ≡ close_pairs sits [] (block_pairs_at k bol text)
+key_begins sits k m bol sep text f rest e c s =
+    let found : block_key_in bol text ≡ Some ((f, take_while white rest), past (drop_while white rest)) =
+    ap (λ r. on r (λ key rest'. key_after key (take_while white rest') (drop_while white rest'))) e ∙ rw (c, s) refl in
+    choose found ((key_node_opens bol text f rest e).0).no_ask (close_pairs sits [] (block_pairs_at k bol text))
+    (leaf_part m bol sep text)
+  where
+    choose : block_key_in bol text ≡ Some ((f, take_while white rest), past (drop_while white rest)) → sign 63 text ≡ false
+        → (r s : Read Indented)
+        → (if opens_pair block_key_in flow_leaf_at read_block bol text then r else s) ≡ r
+    choose found unasked r s = rw (unasked, found) refl
 
 -- a flow node that is no key starts no further pair
 pub next_key_unfit : (sits : Sits) (k : ℕ) (bol : Bool) (done : List Pair) (text : List ℕ) (f : Flow) (rest : List ℕ)

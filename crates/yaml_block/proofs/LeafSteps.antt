@@ -6,12 +6,13 @@ use Rattle.yaml_block.proofs.Prelude.{bare_block_text, block_events, block_text,
 use Rattle.yaml_block.proofs.Prelude.{block_key, LineEnd, comments_text, sep_text, byte_len, first, BlockFrame, PairKey, Sits, key_asked}
 use Rattle.yaml_block.proofs.Prelude.{key_on_line, keyed_part, plug, unwind, waits_item, waits_key, waits_value, bar, read_block}
 use Rattle.yaml_block.proofs.Prelude.{all_comments, closes_line, drop_while, past, sign, take_while, Read, on, block_indented_at}
-use Rattle.yaml_block.proofs.Prelude.{flow_leaf_at, flow_node_at, asked_opens, unwind_none, done_pairs_events, is_key, byte_len_joined}
-use Rattle.yaml_block.proofs.{Prelude.{unbroken, line_starts}, BlockLeaves.{leaf_goes_on as leaf_unclosed, bar_part, first_key_opens}}
-use Rattle.yaml_block.proofs.BlockLeaves.{leaf_before_colon, leaf_closes, leaf_missing, leaf_one_line, next_key_missing, next_key_opens}
-use Rattle.yaml_block.{proofs.BlockLeaves.{next_key_unfit, question_opens}, specs.declared.line_sign.Sign.TheVariants.{Asked, Colon}}
-use Rattle.yaml_block.specs.{BlockParts.part_at, Frames.{AfterSign, AtLeaf, AtLine, AtPair, MaySit, Seated, events_in, fits_frames}}
-use Rattle.{yaml_block.specs.Frames.{pairs_of, place_in, sign_after, sits_place}, yaml_grammar.specs.Events.Event}
+use Rattle.yaml_block.proofs.Prelude.{block_pairs_at, close_pairs, flow_leaf_at, flow_node_at, asked_opens, unwind_none, done_pairs_events}
+use Rattle.yaml_block.proofs.{Prelude.{is_key, byte_len_joined, unbroken, line_starts}, BlockLeaves.leaf_goes_on as leaf_unclosed}
+use Rattle.yaml_block.proofs.BlockLeaves.{bar_part, first_key_opens, leaf_before_colon, leaf_closes, leaf_missing, leaf_one_line}
+use Rattle.yaml_block.proofs.BlockLeaves.{next_key_missing, next_key_opens, key_begins, next_key_unfit, question_opens}
+use Rattle.yaml_block.specs.{declared.line_sign.Sign.TheVariants.{Asked, Colon}, BlockParts.part_at, Frames.{AfterSign, AtLeaf, AtLine}}
+use Rattle.yaml_block.specs.Frames.{AtPair, MaySit, Seated, events_in, fits_frames, pairs_of, place_in, sign_after, sits_place}
+use Rattle.yaml_grammar.specs.Events.{Event}
 
 -- ---- where the mapping may sit
 
@@ -99,6 +100,31 @@ module _ (W : Read Indented) (text : List ℕ) (from : ℕ) where
               ∙ ap (λ x. events_in fs from ++ map_start ∷ flow_events f x) (sym may.1);
         },
       )
+
+  -- a mapping opens before its first key, which is read as that of a further pair
+  pub first_pair : (fs : List BlockFrame) (evs : List Event) (m k at : ℕ) (f : Flow) (end : ℕ)
+      → AtLeaf W text from fs evs m (Some k) at → line_starts text at ≡ (k == 0)
+      → flow_node_at 0 block_key (line_starts text at) (rest text at) ≡ Some (f, rest text end)
+      → sign 58 (drop_while white (rest text end)) ≡ true
+      → short_key f (take_while white (rest text end)) ≡ true
+      → AtPair W text from fs (evs ++ map_start ∷ []) k at
+  first_pair fs evs m k at f end h bol e c short =
+      let s : (sits : Sits) × (h.mapping ≡ Some (sits, k)) = mapping_some h.mapping k h.pairs_is in
+      let may : Seated s.0 k fs × (sits_place s.0 (place_in fs from) ≡ at) =
+      subst (MaySit fs from at) s.1 h.may_sit in
+      record {
+        sits = s.0;
+        done = [];
+        starts = bol;
+        reads = h.reads ∙ ap (unwind fs)
+            (ap (λ mapping. part_at mapping m (line_starts text at) h.sep (rest text at)) s.1
+            ∙ (key_begins s.0 k m (line_starts text at) h.sep (rest text at) f (rest text end) e c short
+            ∙ ap (λ b. close_pairs s.0 [] (block_pairs_at k b (rest text at))) bol));
+        nested = h.nested;
+        seated = may.0;
+        place = may.1;
+        wrote = ap (λ es. es ++ map_start ∷ []) h.wrote;
+      }
 
   -- where no mapping may begin
   pub second_key : (fs : List BlockFrame) (evs : List Event) (m at : ℕ) (f : Flow) (end colon : ℕ)

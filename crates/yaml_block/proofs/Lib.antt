@@ -22,3 +22,4 @@ pub mod PlainStarts
 pub mod FurtherLines
 pub mod LineValueSteps
 pub mod PairLoop
+pub mod NestedKeys

@@ -94,6 +94,14 @@ module _ (text : List ℕ) (u : IsUtf8 text) where
       let next : IsSign text (at + 1) 32 = sign_there text (at + 1) 32 u there.boundary (omega arith) space in
       ap (sign 58) (there.splits ∙ ap (λ r. 58 ∷ r) next.splits)
 
+  -- and so is one at the end of its line
+  pub closing_colon : (at : ℕ) → IsCharBoundary text at → first (is_sign 58) (rest text at) ≡ true
+      → first (is_sign 10) (rest text (at + 1)) ≡ true → sign 58 (rest text at) ≡ true
+  closing_colon at b c feed =
+      let there : IsSign text at 58 = sign_there text at 58 u b (omega arith) c in
+      let next : IsSign text (at + 1) 10 = sign_there text (at + 1) 10 u there.boundary (omega arith) feed in
+      ap (sign 58) (there.splits ∙ ap (λ r. 58 ∷ r) next.splits)
+
   -- the place after the `:`
   pub after_colon : (at colon k : ℕ) → IsCharBoundary text colon → sign 58 (rest text colon) ≡ true → k ≤ at
       → at ≤ colon → IsAfterSign text k (colon + 1)

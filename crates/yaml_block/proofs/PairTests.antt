@@ -1,8 +1,9 @@
 -- The tests of a line by which a mapping goes on with a further pair.
-use Rattle.std.proofs.Common.{ap, arith, inl, inr, length, refl, sym, ◌<◌, ◌∙◌, ◌≡◌, eq-eqb}
-use Rattle.std.specs.Prelude.{Bool, List, [], false, nat_lt, not, true, ℕ, ◌&&◌, ◌==◌, ◌||◌}
-use Rattle.yaml_block.proofs.Prelude.{IsUtf8, IsCharBoundary, and_left, and_right, cases_eq, false≢true, le-ltb, ne_eqb, or_right, rest}
-use Rattle.yaml_block.proofs.Prelude.{rest-end, char_at, spaces_before, is_empty, marker, is_line_end, block_node_stops}
+use Rattle.std.{proofs.Common.{ap, arith, inl, inr, length, refl, sym, ◌<◌, ◌∙◌, ◌≡◌, eq-eqb}, specs.Prelude.{Bool, List, [], false}}
+use Rattle.std.specs.Prelude.{nat_lt, not, true, ℕ, ◌&&◌, ◌==◌, ◌||◌, ◌∷◌}
+use Rattle.yaml_block.proofs.Prelude.{IsUtf8, IsCharBoundary, cases_Bool, eqb-true, and_left, and_right, cases_eq, false≢true, le-ltb}
+use Rattle.yaml_block.proofs.Prelude.{ne_eqb, or_right, rest, rest-end, char_at, spaces_before, is_empty, marker, is_line_end}
+use Rattle.yaml_block.proofs.Prelude.{block_node_stops}
 
 -- nothing goes on at the text's end, at a marker, or at a line of white space or a comment
 abbrev pub stops_all : List ℕ → Bool
@@ -68,3 +69,24 @@ pair_by_marker k text s l e = sym (pair_test k text
 pub filled_there : (bs : List ℕ) (at : ℕ) → IsUtf8 bs → IsCharBoundary bs at → at < length bs
     → is_empty (rest bs at) ≡ false
 filled_there bs at u b l = ap is_empty (char_at bs at u b l).1.splits
+
+-- behind spaces is neither the end of the text nor a marker
+pub spaces_before_no_marker : (k : ℕ) (text : List ℕ) → 0 < k → spaces_before text ≡ k
+    → (is_empty text ≡ false) × (marker text ≡ false)
+spaces_before_no_marker k [] l e = absurd (omega (arith, l, e))
+spaces_before_no_marker k (c ∷ cs) l e = elim (cases_Bool (c == 32)) [
+  | inl s ↦ (refl, ap (λ x. marker (x ∷ cs)) (eqb-true c 32 s) ∙ unmarked cs)
+  | inr n ↦ (let z : 0 ≡ k = rw n at e in absurd (omega (arith, l, z)))
+]
+  where
+    unmarked : (cs : List ℕ) → marker (32 ∷ cs) ≡ false
+    unmarked [] = refl
+    unmarked (a ∷ []) = refl
+    unmarked (a ∷ b ∷ cs) = refl
+
+-- a pair goes on at a line with its spaces, if there are any
+pub pair_after_spaces : (k : ℕ) (text : List ℕ) → 0 < k → spaces_before text ≡ k → is_line_end text ≡ false
+    → true ≡ (spaces_before text == k) && not (block_node_stops k false text)
+pair_after_spaces k text l s e =
+    let there = spaces_before_no_marker k text l s in
+    sym (ap not there.1) ∙ pair_by_marker k text s e there.0

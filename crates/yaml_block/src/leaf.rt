@@ -49,6 +49,7 @@ impl<'a> Reader<'a> {
     }
 
     /// Reads a leaf that is a plain scalar and the rest of its line. Returns the line after it.
+    #[inline(always)]
     fn line_leaf(&mut self, text: &'a str, leaf: Leaf, scalar: LineValue) -> Result<Next, ScanFault>
         requires scalar { IsRestOfLine text.now leaf.least scalar }
         requires start { scalar.start ≡ leaf.at }

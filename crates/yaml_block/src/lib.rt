@@ -13,6 +13,7 @@ mod leaf;
 mod line;
 mod line_sign;
 mod line_value;
+mod nested_key;
 mod next_line;
 mod node;
 mod pair;

@@ -39,6 +39,10 @@ pub(crate) fn goes_on_with_pair(text: &str, after: NextLine, indent: usize) -> b
     if !after.is_solid {
         return false;
     }
+    // Neither the end of the text nor a marker has spaces before it.
+    if indent > 0 {
+        return true;
+    }
     if line.start == text.len() {
         return false;
     }

@@ -1,12 +1,12 @@
 // Further pairs of a mapping (YAML 1.2.2, 8.2.2).
-ghost use Rattle.std.specs.Prelude.{◌≡◌, ◌*◌, ◌+◌, ◌-◌, ◌<◌, nat_le, true, IfOk, IfErr, IfSome, length};
-ghost use Rattle.yaml_block.specs.Prelude.{IsCharBoundary, between, rest, colon, key_limit, sign};
-ghost use Rattle.yaml_block.specs.LineValues.{IsLeadIn, IsLineValue};
+ghost use Rattle.std.specs.Prelude.{◌≡◌, ◌*◌, ◌-◌, ◌<◌, IfOk, IfErr, length};
+ghost use Rattle.yaml_block.specs.Prelude.{IsCharBoundary};
 ghost use Rattle.yaml_block.specs.States.{Grown, IsPairPlace, Onward, Leads, FailsBy, BeforePair, BeforeColon};
 
 use crate::frame::{Next, Waits};
 use crate::line_sign::Sign;
-use crate::line_value::{LineValue, line_value};
+use crate::line_value::line_value;
+use crate::nested_key::nested_key;
 use crate::reader::Reader;
 use crate::refusals::{no_node, refusal};
 use yaml_events::{FlowContext, ScanFault, Why};
@@ -15,8 +15,8 @@ use yaml_flow_scalars::plain_first_line_end;
 use yaml_scan::{at_most_chars, sign_at, white_end};
 
 impl<'a> Reader<'a> {
-    /// Reads the further pairs of a mapping that are whole lines, and the start of the first that is not. Returns what
-    /// is read next.
+    /// Reads the further pairs of a mapping that are whole lines, and those of the mappings in them, up to the start of
+    /// the first that is not. Returns what is read next.
     pub(crate) fn pair(
         &mut self,
         text: &'a str,
@@ -30,26 +30,42 @@ impl<'a> Reader<'a> {
         ensures grown { Grown self.old.events self.new.events }
         ensures none { IfErr result (FailsBy text.now (BeforePair text.now indent at) self.old) }
     {
+        let Some(end) = plain_first_line_end(text, at, FlowContext::BlockKey) else {
+            return self.any_pair(text, at, indent);
+        };
         let mut at = at;
+        let mut end = end;
         let mut indent = indent;
         'pairs: loop {
-            let Some(end) = plain_first_line_end(text, at, FlowContext::BlockKey) else {
-                return self.any_pair(text, at, indent);
-            };
             self.put_plain(text, at, end)?;
-            let Some(value) = key_value(text, at, end, indent) else {
+            if !at_most_chars(text, at, end, KEY_LIMIT) {
                 return self.after_key(text, at, end, indent);
-            };
-            match self.line_pair(text, value, indent)? {
-                Next::Pair {
+            }
+            if let Some(value) = line_value(text, end, indent) {
+                let next = self.line_pair(text, value, indent)?;
+                let Next::Pair {
                     at: further,
                     indent: same,
-                } => {
-                    at = further;
-                    indent = same;
-                }
-                next => return Ok(next),
+                } = next
+                else {
+                    return Ok(next);
+                };
+                let Some(further_end) = plain_first_line_end(text, further, FlowContext::BlockKey)
+                else {
+                    return self.any_pair(text, further, same);
+                };
+                at = further;
+                end = further_end;
+                indent = same;
+                continue;
             }
+            let Some(nested) = nested_key(text, end, indent) else {
+                return self.after_key(text, at, end, indent);
+            };
+            self.open_nested(text, at, end, indent, nested)?;
+            at = nested.at;
+            end = nested.end;
+            indent = nested.indent;
         }
     }
 
@@ -118,23 +134,4 @@ impl<'a> Reader<'a> {
             sign: Sign::Colon,
         })
     }
-}
-
-/// Returns the value of the pair whose key is between two places, in a mapping at `indent`, as [`line_value`] does.
-/// Returns None also if the key is too long.
-#[inline(always)]
-pub(crate) fn key_value(text: &str, at: usize, end: usize, indent: usize) -> Option<LineValue>
-    requires placed { IsPairPlace text.now indent at }
-    requires above { at < end }
-    requires end { IsCharBoundary text.now end }
-    ensures short { IfSome result (λ _. nat_le (length (between text.now at end)) key_limit
-        ≡ true) }
-    ensures colon { IfSome result (λ _. sign colon (rest text.now end) ≡ true) }
-    ensures value { IfSome result (IsLineValue text.now indent) }
-    ensures lead { IfSome result (λ value. IsLeadIn text.now (end + 1) value.start) }
-{
-    if !at_most_chars(text, at, end, KEY_LIMIT) {
-        return None;
-    }
-    line_value(text, end, indent)
 }

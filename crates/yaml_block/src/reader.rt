@@ -111,6 +111,7 @@ impl<'a> Reader<'a> {
     }
 
     /// Opens a collection with this indentation, whose first event is `start`.
+    #[inline(always)]
     pub(crate) fn open(
         &mut self,
         waits: Waits,

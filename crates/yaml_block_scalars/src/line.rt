@@ -45,6 +45,7 @@ pub(crate) fn empty_lines(text: &str, at: usize, indent: usize) -> (usize, usize
 
 /// Returns where the text of the text line at `at` starts. Returns None if no text line is there. No empty line is at
 /// `at`.
+#[inline(always)]
 pub(crate) fn text_start(text: &str, at: usize, indent: usize) -> Option<usize>
     requires boundary { IsCharBoundary text.now at }
     requires past { IsPastEmpties indent (rest text.now at) }
@@ -72,6 +73,7 @@ pub(crate) fn text_start(text: &str, at: usize, indent: usize) -> Option<usize>
 /// # Errors
 ///
 /// [`ScanFault::At`] if the text of the line ends neither with a break nor with the end of the text.
+#[inline(always)]
 pub(crate) fn text_line(text: &str, at: usize, indent: usize) -> Result<Option<Line>, ScanFault>
     requires boundary { IsCharBoundary text.now at }
     requires past { IsPastEmpties indent (rest text.now at) }

@@ -136,6 +136,7 @@ fn without_value(
 
 /// Begins the mapping of a pair in a sequence without `?`, once its `:` is found. Fails if the key is not on one line
 /// with the `:`, or is too long. For other pairs it does nothing.
+#[inline(always)]
 fn begin_pair(
     events: &mut Events<'_>,
     text: &str,
@@ -161,6 +162,7 @@ fn begin_pair(
 }
 
 /// Reads what follows the `:` of a pair.
+#[inline(always)]
 fn value(
     events: &mut Events<'_>,
     text: &str,

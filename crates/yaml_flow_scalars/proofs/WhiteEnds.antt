@@ -22,6 +22,10 @@ white_boundary bs start end u d l h = elim (cases_lt start end) [
     white_low : (c : ℕ) → white c ≡ true → c < 128
     white_low c h = grind (arith, nat_tests)
 
+-- a byte above the space is no whitespace
+pub above_space : (c : ℕ) → 32 < c → white c ≡ false
+above_space c h = grind (arith, nat_tests)
+
 -- the whitespace at the end of a piece starts there
 pub white_start_is : (bs : List ℕ) (from start end : ℕ) → IsUtf8 bs → IsCharBoundary bs from → IsCharBoundary bs end
     → from ≤ start → start ≤ end

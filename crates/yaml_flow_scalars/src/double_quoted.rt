@@ -9,7 +9,7 @@ ghost use Rattle.yaml_flow_scalars.specs.Standing.{ScalarAt, NoScalarAt, IsUnbro
 ghost use Rattle.yaml_flow_scalars.specs.DoubleScan.{double_value, raw_char, Adds, ClosesAt, EscapeAt, NoEscapeAt, IsEscape, IsDigit, digits_at, IsNumberAt, JoinsAt, NoJoinAt};
 ghost use Rattle.yaml_flow_scalars.specs.DoubleBorrowed.{BorrowsVerbatim};
 
-use crate::fold::{Fold, fold_at, fold_fault, push_fold, white_start};
+use crate::fold::{Fold, first_room, fold_at, fold_fault, push_fold, white_start};
 use crate::unclosed::{Quotes, quote_fault};
 use std::alloc::Global;
 use std::borrow::CowStr;
@@ -86,7 +86,7 @@ fn unescaped(
     ensures err { IfErr result (λ fault.
         Refuses fault (double_value n (context_of context) (rest text.now start) ≡ None)) }
 {
-    let mut value = String::new(alloc);
+    let mut value = String::with_capacity(alloc, first_room(first - start))?;
     let mut place = start;
     let mut end = first;
     'runs: while !stands_at(text, end, b'"') {
@@ -162,6 +162,7 @@ fn push_escape(
 }
 
 /// Returns the fold whose break is at `at`, if lines may be joined there. No other join follows it at once.
+#[inline(always)]
 fn line_after(text: &str, at: usize, n: u64, context: FlowContext) -> Result<Fold, ScanFault>
     requires { IsCharBoundary text.now at }
     ensures ok { IfOk result (λ fold.

@@ -102,6 +102,24 @@ pub(crate) fn fold_fault(text: &str, at: usize) -> ScanFault
     }
 }
 
+/// The most bytes that a value over lines gets room for at first, beyond its first line.
+const FURTHER_ROOM: usize = 512;
+
+/// Returns how many bytes a value gets room for at first: for eight lines as long as the first, which has this length.
+pub(crate) fn first_room(line: usize) -> usize {
+    line.saturating_add(line.saturating_mul(7).min(FURTHER_ROOM))
+}
+
+/// Appends the text of a line to a value. One that has no room at all gets room for further lines too.
+pub(crate) fn push_line(value: &mut String, line: &str) -> Result<(), AllocError>
+    ensures { OnOk result (string_bytes value.new ≡ string_bytes value.old ++ line.now) }
+{
+    if value.capacity() == 0 {
+        value.reserve(first_room(line.len()))?;
+    }
+    value.push_str(line)
+}
+
 /// Appends what a fold means: a space, or a line feed for each empty line.
 pub(crate) fn push_fold(value: &mut String, empties: usize) -> Result<(), AllocError>
     ensures { OnOk result (string_bytes value.new ≡ string_bytes value.old
@@ -122,7 +140,8 @@ pub(crate) fn white_start(text: &str, from: usize, end: usize) -> usize
 {
     let bytes = text.as_bytes();
     let mut start = end;
-    while start > from && is_white(bytes[start - 1]) {
+    // Before most ends no whitespace is: a byte above the space says so at once.
+    while start > from && bytes[start - 1] <= b' ' && is_white(bytes[start - 1]) {
         start -= 1;
     }
     start

@@ -9,7 +9,7 @@ ghost use Rattle.yaml_scan.specs.Classes.{test_of, word};
 ghost use Rattle.yaml_flow_scalars.specs.Standing.{ScalarAt, NoScalarAt, IsUnbroken};
 ghost use Rattle.yaml_flow_scalars.specs.PlainPlaces.{is_content, letter_or_digit, BeginsPlain, NoPlainBegins, IsPlainPiece, NoPlainPiece, IsPlainRun, IsFirstLine, IsNextLine, NoNextLine, PushesLines};
 
-use crate::fold::{fold_at, push_fold, white_start};
+use crate::fold::{fold_at, push_fold, push_line, white_start};
 use std::alloc::{AllocError, Global};
 use std::borrow::CowStr;
 use yaml_chars::{indicator, next_char, ns};
@@ -59,7 +59,8 @@ pub fn plain<'a>(
     let Some(line) = next_line(text, end, n, context) else {
         return Ok((CowStr::Borrowed(&text[at..end]), end));
     };
-    let mut value = String::from_str(alloc, &text[at..end])?;
+    let mut value = String::new(alloc);
+    push_line(&mut value, &text[at..end])?;
     let end = push_lines(&mut value, text, line, n, context)?;
     Ok((CowStr::Owned(value), end))
 }
@@ -220,16 +221,24 @@ fn words_of(context: FlowContext) -> Class
 }
 
 /// Returns the end of the plain character at `at`, where no word goes on (`ns-plain-char`): a `:` or a `#` where one is
-/// allowed, or a character that is not ASCII.
+/// allowed, or a character that is not ASCII. Words go from `end` to `words`, and whitespace from there to `at`.
 #[inline(always)]
-fn special_end(text: &str, at: usize, before: Before, context: FlowContext) -> Option<usize>
+fn special_end(
+    text: &str,
+    at: usize,
+    before: Before,
+    end: usize,
+    words: usize,
+    context: FlowContext,
+) -> Option<usize>
     requires at { IsCharBoundary text.now at }
+    requires order { words ≤ at }
     requires stop { at < length text.now → word (context_of context) (slice_index text.now at)
         ≡ false }
     ensures found { IfSome result (IsPlainPiece (context_of context)
-        (is_content before) text.now at) }
+        ((nat_lt end words || is_content before) && (at == words)) text.now at) }
     ensures none { IfNone result (NoPlainPiece (context_of context)
-        (is_content before) text.now at) }
+        ((nat_lt end words || is_content before) && (at == words)) text.now at) }
 {
     let bytes = text.as_bytes();
     if at == bytes.len() {
@@ -239,10 +248,13 @@ fn special_end(text: &str, at: usize, before: Before, context: FlowContext) -> O
     if byte == b':' {
         return colon_end(text, at, context);
     }
+    if byte < b'#' {
+        return None;
+    }
     if byte < 128 && byte != b'#' {
         return None;
     }
-    decoded_end(text, at, before, context)
+    decoded_end(text, at, before_stop(before, end, words, at), context)
 }
 
 /// Returns the end of the `:` at `at`, if a safe character follows it.
@@ -315,7 +327,7 @@ fn plain_run_end(text: &str, from: usize, before: Before, context: FlowContext) 
     'runs: loop {
         let stop = run_end(text, end, class);
         let words = white_start(text, end, stop);
-        match special_end(text, stop, before_stop(before, end, words, stop), context) {
+        match special_end(text, stop, before, end, words, context) {
             Some(next) => {
                 end = next;
                 before = Before::Content;

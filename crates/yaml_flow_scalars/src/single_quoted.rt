@@ -6,7 +6,7 @@ ghost use Rattle.yaml_flow_scalars.specs.Folds.{IsFold};
 ghost use Rattle.yaml_flow_scalars.specs.SingleScalars.{content, BorrowsContent, IsInside, NoFoldIn, read_inside};
 ghost use Rattle.yaml_flow_scalars.specs.Standing.{ScalarAt, NoScalarAt, IsUnbroken};
 
-use crate::fold::{Fold, fold_at, fold_fault, push_fold, white_start};
+use crate::fold::{Fold, fold_at, fold_fault, push_fold, push_line, white_start};
 use crate::unclosed::{Quotes, quote_fault};
 use std::alloc::Global;
 use std::borrow::CowStr;
@@ -72,7 +72,7 @@ fn unquoted<'a>(
         let end = run_end(text, place, Class::SingleQuoted);
         if stands_at(text, end, b'\'') {
             if stands_at(text, end + 1, b'\'') {
-                value.push_str(&text[place..end + 1])?;
+                push_line(&mut value, &text[place..end + 1])?;
                 place = end + 2;
                 continue;
             }
@@ -86,7 +86,7 @@ fn unquoted<'a>(
         let Some(fold) = fold_in(text, end, n, context) else {
             return Err(fault_at(text, start, end, context));
         };
-        value.push_str(&text[place..white])?;
+        push_line(&mut value, &text[place..white])?;
         push_fold(&mut value, fold.empties)?;
         place = fold.next;
     }

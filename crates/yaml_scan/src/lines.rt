@@ -107,6 +107,20 @@ pub fn solid_line(text: &str, at: usize) -> Line
     ensures found { IsSolidLine true text.now at result }
     ensures starts { IsLineStart text.now at → IsLineStart text.now result.start }
 {
+    let first = spaces_end(text, at);
+    if solid_at(text, first) {
+        return Line { start: at, first };
+    }
+    later_solid_line(text, at)
+}
+
+/// Returns the first solid line from the line at `at` on, as [`solid_line`] does. Mostly it is a later one.
+#[inline(never)]
+fn later_solid_line(text: &str, at: usize) -> Line
+    requires { IsCharBoundary text.now at }
+    ensures found { IsSolidLine true text.now at result }
+    ensures starts { IsLineStart text.now at → IsLineStart text.now result.start }
+{
     let mut start = at;
     'lines: loop {
         if let Some(next) = empty_line_end(text, start) {

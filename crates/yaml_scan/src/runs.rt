@@ -66,6 +66,7 @@ fn last_spaces_end(bytes: &[u8], at: usize) -> usize
 }
 
 /// Returns the end of the character at `at` if a line may hold it (5.4, `nb-char`), and None otherwise.
+#[inline(always)]
 pub fn nb_at(text: &str, at: usize) -> Option<usize>
     requires { IsCharBoundary text.now at }
     ensures found { IfSome result (IsNb text.now at) }
@@ -86,6 +87,7 @@ pub fn nb_at(text: &str, at: usize) -> Option<usize>
 }
 
 /// Returns the end of the `nb` character at `at`, whatever its bytes; `None` if there is none.
+#[inline(never)]
 fn decoded_nb_at(text: &str, at: usize) -> Option<usize>
     requires { IsCharBoundary text.now at }
     ensures found { IfSome result (IsNb text.now at) }

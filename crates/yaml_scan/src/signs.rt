@@ -32,7 +32,7 @@ pub fn white_at(text: &str, at: usize) -> bool
 fn is_solid(byte: u8) -> bool
     ensures { result ≡ solid byte }
 {
-    !matches!(byte, b' ' | b'\t' | b'\n' | b'\r' | b'#')
+    byte > b'#' || !matches!(byte, b' ' | b'\t' | b'\n' | b'\r' | b'#')
 }
 
 /// Returns whether a character is at `at` that is neither whitespace, a break nor `#`.

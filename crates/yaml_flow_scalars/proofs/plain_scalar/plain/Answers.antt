@@ -38,8 +38,9 @@ returns-clause-found c =
     let above = pushed.above in
     let step = lines_step c.args.n context text end line.empties line.start line.end next in
     let held = folded_break line.empties ++ between text line.start line.end in
-    let first : chars (string_bytes c.in_ok-value.value) ≡ between text c.args.at end =
-    ap chars (c.in_ok-value.ensures.ok ∙ c.range-2.ensures.value) in
+    let first : chars (string_bytes c.push_line.new.value) ≡ between text c.args.at end =
+    ap chars (c.in_ok-push_line.ensures ∙ (ap (λ bs. bs ++ c.range-2.result.now) c.new-value.ensures.bytes
+    ∙ c.range-2.ensures.value)) in
     plain_found c.args.n context text c.args.at c.in_ok-after.after end c.utf8.text c.requires
     c.in_ok-after.ensures.found c.plain_run_end-end.ensures
     c.in_ok-end.end (chars (string_bytes c.push_lines.new.value)) (omega arith) pushed.boundary (step.1 ∙ pushed.left)

@@ -1,6 +1,6 @@
 use Rattle.std.{proofs.Common.{◌∙◌, ap, arith, subst, sym}, specs.Prelude.{◌&&◌, ◌||◌, ◌==◌, nat_lt, slice_index}}
 use Rattle.yaml_flow_scalars.proofs.{Prelude.{IsRun, context_of, word}, PlainPieces.{goes_from, piece_more, run_ends_at}}
-use Rattle.yaml_flow_scalars.{proofs.PlainWords.{white_after, words_more}, specs.PlainPlaces.{is_content, IsPlainPiece, NoPlainPiece}}
+use Rattle.yaml_flow_scalars.{proofs.PlainWords.{white_after, words_more}, specs.PlainPlaces.{is_content, IsPlainPiece}}
 use Rattle.yaml_flow_scalars.proofs.plain_scalar.plain_run_end.Goals as goal
 
 pub runs-init : goal.runs-init
@@ -26,7 +26,7 @@ runs-preserved c =
     let w = c.white_start-words.ensures in
     let after = is_content c.runs.before in
     let piece : IsPlainPiece d ((nat_lt end words || after) && (stop == words)) text stop c.in-Some.next =
-    subst (λ b. IsPlainPiece d b text stop c.in-Some.next) c.before_stop.ensures c.in-Some.ensures.found in
+    c.in-Some.ensures.found in
     let past = piece.above in
     let above = run.above in
     record {
@@ -56,4 +56,4 @@ returns-in-None c =
     (words_more d text end stop words c.utf8.text i.boundary run w
     (is_content c.args.before) after c.args.from c.requires i.above i.goes_on)
     (white_after d text end stop words c.utf8.text i.boundary run w)
-    (subst (λ b. NoPlainPiece d b text stop) c.before_stop.ensures c.in-None.ensures.none)
+    c.in-None.ensures.none

@@ -36,8 +36,8 @@ runs-preserved-then-stands_at-2 c =
     let above = s.run.above in
     let further = i.above in
     let d = goes_past_pair c.args.n (context_of c.args.context) c.args.text.now c.args.start c.runs.place
-    c.run_end-end.result (string_bytes c.runs.value) s (string_bytes c.push_str.new.self) q r
-    (c.in_ok-push_str.ensures.bytes ∙ ap (λ x. string_bytes c.runs.value ++ x) c.range.ensures.value) in
+    c.run_end-end.result (string_bytes c.runs.value) s (string_bytes c.push_line.new.value) q r
+    (c.in_ok-push_line.ensures ∙ ap (λ x. string_bytes c.runs.value ++ x) c.range.ensures.value) in
     record {
       above = omega arith;
       boundary = d.1;
@@ -65,8 +65,8 @@ returns-then-stands_at-clause-found c =
     let r : first quote (rest c.args.text.now (c.run_end-end.result + 1)) ≡ false =
     sym c.stands_at-then-stands_at.ensures ∙ c.if-stands_at-2.false in
     reads_to_close c.args.n (context_of c.args.context) c.args.text.now c.args.start c.runs.place c.run_end-end.result
-    (string_bytes c.runs.value) s (string_bytes c.push_str-then-stands_at.new.self) i.above q r
-    (c.in_ok-push_str-2.ensures.bytes ∙ ap (λ x. string_bytes c.runs.value ++ x) c.range-then-stands_at.ensures.value)
+    (string_bytes c.runs.value) s (string_bytes c.push_str.new.self) i.above q r
+    (c.in_ok-push_str.ensures.bytes ∙ ap (λ x. string_bytes c.runs.value ++ x) c.range-then-stands_at.ensures.value)
 
 pub returns-then-stands_at-clause-borrowed : goal.returns-then-stands_at-clause-borrowed
 returns-then-stands_at-clause-borrowed c =
@@ -112,10 +112,10 @@ runs-preserved c =
       boundary = f.boundary;
       reads = goes_past_fold c.args.n (context_of c.args.context) c.args.text.now c.args.start c.runs.place
           c.run_end-end.result (string_bytes c.runs.value) s c.white_start-white.result w
-          (string_bytes c.push_str-in-runs.new.self)
+          (string_bytes c.push_line-in-runs.new.value)
           (string_bytes c.push_fold.new.value) c.in-Some.fold.empties c.in-Some.fold.next
-          (IsUtf8-string_bytes c.push_str-in-runs.new.self) f c.in-Some.ensures.lines
-          (c.in_ok-push_str-3.ensures.bytes ∙ ap (λ x. string_bytes c.runs.value ++ x)
+          (IsUtf8-string_bytes c.push_line-in-runs.new.value) f c.in-Some.ensures.lines
+          (c.in_ok-push_line-2.ensures ∙ ap (λ x. string_bytes c.runs.value ++ x)
           c.range-in-runs.ensures.value) c.in_ok-push_fold.ensures;
       changed = λ _. fold_changed c.args.n c.args.text.now c.args.start c.run_end-end.result c.in-Some.fold.empties
           c.in-Some.fold.next c.utf8.text s.run.boundary f (omega arith);
