@@ -7,8 +7,8 @@ use std::alloc::Global;
 use std::io::{ErrorKind, Read};
 use yaml_tree::ReadFault;
 
-/// The most bytes that are read at once.
-const CHUNK: usize = 65_536;
+/// The most bytes that are read at once. A larger room for them would take a short input longer to zero than to read.
+const CHUNK: usize = 16_384;
 
 /// The bytes that the reader gives up to its end, or the first `most` of them. Whatever it returns, at most so many are
 /// read. A read that was interrupted is tried again.
