@@ -12,6 +12,9 @@ four minutes, as the disk syncs:
 
     ./prove && python3 bench/client_rates.py
 
+With `-m` it times the server alone, by how many client processes it has, from 1 to 255. The store is in memory, where a
+sync takes no time. Medians are printed; it takes a minute.
+
 SQLite in C is left out where its header is missing: `apt-get install libsqlite3-dev`.
 """
 
@@ -19,18 +22,22 @@ from __future__ import annotations
 
 import functools
 import os
+import socket
 import sqlite3
+import statistics
 import subprocess
 import sys
 import tempfile
 import threading
 import time
 from collections.abc import Callable
+from pathlib import Path
 
-from lib.programs import PROGRAM, TOP, built, need_program
+from lib.programs import MEMORY, PROGRAM, TOP, built, need_program
 from lib.runs import by_turns
 from lib.serving import served
-from lib.stores import fresh, store_in
+from lib.stores import command, fresh, store_in
+from lib.waiting import until
 
 sys.path.insert(0, os.path.join(TOP, "python"))
 
@@ -39,6 +46,13 @@ from confstore import Store  # noqa: E402
 COUNT = 2_000
 CLIENTS = 16
 RUNS = 5
+
+# How many client processes a server in memory has, for how many seconds their commands are counted, how often each
+# number has its turn, and how many commands no client comes to the end of.
+PROCESSES = (1, 2, 4, 8, 16, 32, 64, 128, 255)
+SECONDS = 1.0
+TURNS = 5
+ENDLESS = 10**9
 
 
 def timed_threads(call: Callable[[int], None], count: int) -> float:
@@ -68,14 +82,41 @@ def by_c(top: str, client: str, window: int) -> float:
 
 
 def by_socket(top: str, client: str, count: int) -> float:
+    """The seconds for the commands by so many clients. They are counted for a while once all are connected, so that no
+    start of a process is timed."""
     path = os.path.join(top, "socket")
-    with served(path, store_in(top, "run")):
-        words = [client, "-", path, str(COUNT // count), "1"]
-        start = time.perf_counter()
+    with served(path, store_in(top, "run")) as server, socket.socket(socket.AF_UNIX) as own:
+        own.connect(path)
+        number_now(own)
+        files = Path(f"/proc/{server}/fd")
+        alone = len(list(files.iterdir()))
+        words = [client, "-", path, str(ENDLESS), "1"]
         clients = [subprocess.Popen(words, stdout=subprocess.DEVNULL) for _ in range(count)]
-        if any(process.wait() != 0 for process in clients):
-            sys.exit("a client of the socket failed")
-        return time.perf_counter() - start
+        try:
+            if not until(lambda: len(list(files.iterdir())) == alone + count, 60):
+                sys.exit("a client of the socket failed")
+            first, start = number_now(own), time.perf_counter()
+            time.sleep(SECONDS)
+            last, end = number_now(own), time.perf_counter()
+        finally:
+            for process in clients:
+                process.kill()
+                process.wait()
+    return COUNT * (end - start) / (last - first)
+
+
+def in_memory(client: str, count: int) -> float:
+    with tempfile.TemporaryDirectory(dir=MEMORY) as top:
+        return by_socket(top, client, count)
+
+
+def number_now(connection: socket.socket) -> int:
+    """The number of a command that changes the store now, beside those of the other clients."""
+    connection.sendall(command(1))
+    answer = connection.recv(4096)
+    if not answer.startswith(b'---\nok: "'):
+        sys.exit(f"a command was not accepted: {answer!r}")
+    return int(answer.split(b'"')[1])
 
 
 def by_sqlite(top: str, count: int) -> float:
@@ -121,15 +162,25 @@ def ways_of(top: str, client: str) -> dict[str, Callable[[], float]]:
     }
 
 
+def say_rates_in_memory(client: str) -> None:
+    ways = {str(count): functools.partial(in_memory, client, count) for count in PROCESSES}
+    print("client processes  commands a second, the median and the best")
+    for name, times in by_turns(ways, TURNS).items():
+        print(f"{name:>16}  {COUNT / statistics.median(times):>9,.0f}  {COUNT / min(times):>9,.0f}")
+
+
 def main() -> int:
     need_program()
     library = os.path.join(TOP, "clients", "c")
     with tempfile.TemporaryDirectory() as top:
         sources = [os.path.join(library, name) for name in ("confstore.c", "confstore_text.c")]
         client = built(top, "confstore_client", *sources, f"-I{library}")
-        peer = built(top, "sqlite_client", "-lsqlite3")
         if client is None:
             sys.exit("the client in C was not built: a C compiler is needed")
+        if "-m" in sys.argv[1:]:
+            say_rates_in_memory(client)
+            return 0
+        peer = built(top, "sqlite_client", "-lsqlite3")
         ways = ways_of(top, client)
         if peer is not None:
             ways["SQLite from C"] = functools.partial(by_sqlite_in_c, top, peer)

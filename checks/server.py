@@ -3,7 +3,8 @@
 
 - Bounds: idle, slow and busy clients where the number of clients is at its bound, a burst of clients, unfinished
   commands, answers that nobody reads, and what all of that takes of memory.
-- Costs: what a command costs the server, in system calls and in time of the processor, however many are connected.
+- Costs: what a command costs the server, in system calls, calls of Python's functions and time of the processor,
+  however many are connected.
 - Sessions: others that hold the store while a session is renewed, programs that are missing or no confstore.
 - The socket: those may connect that may write in the folder, by modes and access lists, as the system itself decides
   it, also where access was narrowed since; the socket has its name only when it is ready; what is at the name stays
@@ -235,6 +236,26 @@ class Holder(threading.Thread):
             self.stop.wait(self.pause)
 
 
+# Runs a server as `python3` does, and writes to a file how many of Python's functions it has called.
+CALLS = """
+import runpy, sys
+file, _, sys.argv = sys.argv[1], sys.argv[2], sys.argv[3:]
+calls = 0
+
+def count(_frame, event, _argument):
+    global calls
+    calls += event == "call"
+
+sys.setprofile(count)
+try:
+    runpy.run_path(sys.argv[0], run_name="__main__")
+finally:
+    sys.setprofile(None)
+    with open(file, "w", encoding="ascii") as target:
+        target.write(str(calls))
+"""
+
+
 class Costs(ServerTest):
     """What a command costs the server. Nothing here is measured by the clock, which tells what else the machine does."""
 
@@ -268,6 +289,36 @@ class Costs(ServerTest):
         with open(f"/proc/{server.process.pid}/schedstat", encoding="ascii") as figures:
             return int(figures.read().split()[0])
 
+    def test_the_functions_of_a_command(self) -> None:
+        """A command takes the server few calls of Python's functions, which are most of its time: two dozen alone are
+        done for it by itself. All else is done once for those that come together, however many they are."""
+        for count in (16, 256):
+            with self.subTest(clients=count):
+                called = self.functions_of(count, 30) - self.functions_of(count, 10)
+                self.assertGreater(called, 5 * 20 * count)
+                self.assertLess(called, 30 * 20 * count)
+
+    def functions_of(self, count: int, rounds: int) -> int:
+        """How many functions a server calls, from its start to its end, that serves so many clients."""
+        script, counted = os.path.join(self.top, "counting.py"), os.path.join(self.top, "counted")
+        with open(script, "w", encoding="ascii") as target:
+            target.write(CALLS)
+        server = self.serve(before=[PYTHON, script, counted])
+        clients = self.clients(count)
+        clients[0].ask(b'import: app\ntext: "n: 0"\n...\n')
+        self.perform(clients, rounds)
+        self.assertEqual((server.end(), server.errors()), (0, ""))
+        with open(counted, encoding="ascii") as source:
+            return int(source.read())
+
+    def perform(self, clients: list[Client], rounds: int) -> None:
+        """Has each client send a command and await its answer, all of them at once, so often."""
+        for _ in range(rounds):
+            for client in clients:
+                client.send(self.SET)
+            for client in clients:
+                self.assertTrue(client.answer().startswith(b"---\nok: "))
+
     @unittest.skipUnless(shutil.which("strace"), "needs strace")
     def test_the_calls_of_a_command(self) -> None:
         """A command is received, and its answer is sent. All else is shared by those that come together."""
@@ -290,11 +341,7 @@ class Costs(ServerTest):
         with subprocess.Popen(words, stderr=subprocess.PIPE) as tracer:
             assert tracer.stderr is not None
             self.assertIn(b"attached", tracer.stderr.readline())
-            for _ in range(rounds):
-                for client in clients:
-                    client.send(self.SET)
-                for client in clients:
-                    self.assertTrue(client.answer().startswith(b"---\nok: "))
+            self.perform(clients, rounds)
             tracer.send_signal(signal.SIGINT)
         server.end()
         with open(counted, encoding="ascii") as lines:

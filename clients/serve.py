@@ -69,7 +69,7 @@ sys.dont_write_bytecode = True
 from serve_check import Check, Judge  # noqa: E402
 from serve_clients import LONGEST, Client, Places, Work  # noqa: E402
 from serve_metrics import Monitor, address, listening, mode_of  # noqa: E402
-from serve_socket import FAILED, PART, REPLACED, Fault, Listener, Session, Signals  # noqa: E402
+from serve_socket import FAILED, PART, REPLACED, Fault, Listener, Loop, Session, Signals  # noqa: E402
 from serve_socket import clients_with_room, inside, may_write, open_standard_streams, peer_of, reason  # noqa: E402
 from serve_socket import say, shown, tell_manager  # noqa: E402
 from serve_watch import Store, Watchers  # noqa: E402
@@ -107,11 +107,11 @@ class Server:
         self.store = store
         self.bounds = bounds
         self.signals = signals
-        self.selector = selectors.DefaultSelector()
-        self.watched: dict[int, int] = {}
+        self.loop = Loop()
         self.may = READ | WRITE  # what is watched of clients
+        self.takes = False  # whether it is watched who waits to be taken
         self.work = Work()
-        self.watch(signals.ear.fileno(), READ, signals.hear)
+        self.loop.watch(signals.ear.fileno(), READ, signals.hear)
         self.listener: Optional[Listener] = None
         self.clients: collections.deque[Client] = collections.deque()
         self.long_commands = Places(bounds.long_commands)
@@ -138,25 +138,8 @@ class Server:
 
     def begin(self, *, is_barred: bool = False) -> None:
         self.session: Session[Client] = Session(self.words, self.store.folder, is_barred=is_barred)
-        self.watch(self.session.output, READ, self.take_answers)
-        self.watch(self.session.errors_end, READ, self.take_errors)
-
-    def watch(self, descriptor: int, events: int, call: Callable[[int], None]) -> None:
-        """Calls so when one of the events is there; never, without events."""
-        known = self.watched.get(descriptor, 0)
-        if events == known:
-            return
-        self.watched[descriptor] = events
-        if not known:
-            self.selector.register(descriptor, events, call)
-        elif events:
-            self.selector.modify(descriptor, events, call)
-        else:
-            self.unwatch(descriptor)
-
-    def unwatch(self, descriptor: int) -> None:
-        if self.watched.pop(descriptor, 0) or descriptor in self.selector.get_map():
-            self.selector.unregister(descriptor)
+        self.loop.watch(self.session.output, READ, self.take_answers)
+        self.loop.watch(self.session.errors_end, READ, self.take_errors)
 
     def opens(self) -> bool:
         """Waits for the session to open the store. Whether it has."""
@@ -227,12 +210,12 @@ class Server:
             return
         if (events & WRITE and not client.say()) or (events & READ and not client.hear()):
             self.drop(client)
-        elif not client.unsaid and not client.due:
+        elif client in self.long_answers.since and not client.unsaid and not client.due:
             self.long_answers.leave(client)
 
     def drop(self, client: Client) -> None:
         """Cuts a client off. What it sent to the session is performed all the same."""
-        self.unwatch(client.descriptor)
+        self.loop.unwatch(client.descriptor)
         client.leave()
         self.clients.remove(client)
         self.work.leave(client)
@@ -243,56 +226,59 @@ class Server:
 
     def take_answers(self, _events: int) -> None:
         given, may_be_more = self.session.read()
+        answers = [answer for _, answer in given]
+        self.monitor.answer(*answers)
+        self.store.answer(*answers)
         for client, answer in given:
-            self.monitor.answer(answer)
-            self.store.answer(answer)
             if client.is_gone:
                 continue
             if not answer:
                 self.drop(client)
                 continue
-            if len(answer) <= PART:
+            if client.waits_for_long and len(answer) <= PART:
                 self.long_answers.leave(client)
             client.answer(answer)
         if not may_be_more:
             self.session.is_over = True
             self.store.leave()
-            self.unwatch(self.session.output)
-            self.unwatch(self.session.errors_end)
+            self.loop.unwatch(self.session.output)
+            self.loop.unwatch(self.session.errors_end)
             if self.session.takes_commands:
-                self.unwatch(self.session.commands)
+                self.loop.unwatch(self.session.commands)
 
     def take_errors(self, _events: int) -> None:
         if not self.session.read_errors():
-            self.unwatch(self.session.errors_end)
+            self.loop.unwatch(self.session.errors_end)
 
     def say_answers(self) -> None:
         """Sends the answers that came at once, as most clients take theirs whole. What is left waits for its event."""
-        for client in list(self.work.answered):
+        answered, self.work.answered = self.work.answered, {}
+        for client in answered:
             self.serve_client(client, WRITE)
-        self.work.answered.clear()
 
     def send_commands(self) -> None:
         """Sends commands of the clients in turn, one of each, as long as there is room. Who got no room is first in the
         next turn."""
-        was_sent = self.session.has_opened and not self.is_ending()
-        while was_sent and not self.session.is_full:
+        session, waiting = self.session, self.work.waiting
+        was_sent = bool(waiting) and session.has_opened and not self.is_ending()
+        while was_sent and waiting and not session.is_full:
             was_sent = bool(self.long_answers.give())
-            for client in list(self.work.waiting):
-                if len(self.session.unsent) > MOST_UNSENT or not client.may_send() or not self.has_turn(client):
+            for client in list(waiting):
+                if len(session.unsent) > MOST_UNSENT or not client.may_send() or not self.has_turn(client):
                     continue
-                if self.session.is_used_up(client.heard.end, self.bounds.renew_after):
-                    self.session.is_full = True
+                if session.is_used_up(client.heard.end, self.bounds.renew_after):
+                    session.is_full = True
                     return
-                self.session.send(client.next_command(), client)
+                if client.may_hear > PART:
+                    self.long_commands.leave(client)
+                session.send(client.next_command(), client)
                 self.monitor.command(client.asked)
-                self.long_commands.leave(client)
                 was_sent = True
             was_sent = was_sent or (bool(self.long_answers.waiting) and bool(self.long_answers.give()))
 
     def has_turn(self, client: Client) -> bool:
         """Whether a client may send its command now: one whose answer may be long waits for the answers before."""
-        if not client.wants_long():
+        if not client.wants_long:
             return True
         if client.due:
             return False
@@ -311,7 +297,7 @@ class Server:
     def finish_session(self) -> None:
         """Ends the session once what it was sent is written."""
         if not self.session.unsent and self.session.takes_commands:
-            self.unwatch(self.session.commands)
+            self.loop.unwatch(self.session.commands)
             self.session.finish()
 
     def look(self, now: float) -> None:
@@ -336,44 +322,59 @@ class Server:
         if now >= self.next_look:
             self.next_look = now + LOOK
             self.look(now)
-        self.say_answers()
-        for client in [client for client in self.work.changed if client.is_done()]:
-            self.drop(client)
+        if self.work.answered:
+            self.say_answers()
         if not self.session.is_over:
-            self.send_commands()
-            if self.session.unsent:
-                self.session.write()
-            if self.session.is_full:
-                self.finish_full_session()
-            if self.session.takes_commands:
-                wanted = WRITE if self.session.unsent else 0
-                self.watch(self.session.commands, wanted, lambda _: self.session.write())
-        is_more = (not self.is_ending() or bool(self.store.trouble)) and self.watchers.turn()
-        self.watch_clients()
+            self.go_on()
+        is_ending = self.is_ending()
+        is_more = (not is_ending or bool(self.store.trouble)) and self.watchers.turn()
+        if self.work.changed or self.work.watching:
+            for client in self.work.done():
+                self.drop(client)
+        self.watch_clients(WRITE if is_ending else READ | WRITE)
         if self.listener is not None:
-            takes = not self.is_full(now) and not self.is_ending()
-            self.watch(self.listener.socket.fileno(), READ if takes else 0, self.accept)
-        longest = self.monitor.turn(self.watch, LOOK)
-        for key, events in self.selector.select(0 if is_more else longest):
-            key.data(events)
+            self.watch_listener(self.listener, takes=not is_ending and not self.is_full(now))
+        longest = self.monitor.turn(self.loop.watch, LOOK)
+        self.loop.turn(0 if is_more else longest)
 
-    def watch_clients(self) -> None:
-        """Has the events watched of the clients that have changed, and of those who watch the store, which may be over.
-        Who is done is dropped in the next turn."""
-        may = WRITE if self.is_ending() else READ | WRITE
+    def go_on(self) -> None:
+        """Sends the session what it takes."""
+        session = self.session
+        self.send_commands()
+        if session.unsent:
+            session.write()
+        if session.is_full:
+            self.finish_full_session()
+        if session.takes_commands and (session.unsent or session.commands in self.loop.watched):
+            self.loop.watch(session.commands, WRITE if session.unsent else 0, lambda _: self.session.write())
+
+    def watch_listener(self, listener: Listener, *, takes: bool) -> None:
+        if takes != self.takes:
+            self.takes = takes
+            self.loop.watch(listener.socket.fileno(), READ if takes else 0, self.accept)
+
+    def watch_clients(self, may: int) -> None:
+        """Has those events watched that may be, of the clients that have changed, or whose command got no room."""
+        changed, self.work.changed = self.work.changed, {}
         if may != self.may:
             self.may = may
-            self.work.changed = dict.fromkeys(self.clients)
-        changed = self.work.changed
+            changed = dict.fromkeys(self.clients)
+        changed.update((client, None) for client in self.work.waiting if client.watched & READ)
         for client in changed:
-            if client.needs_place():
-                self.long_commands.ask(client)
+            self.watch_client(client)
         for client in self.long_commands.give():
             client.may_hear = LONGEST + 1
-            changed[client] = None
-        for client in changed:
-            self.watch(client.descriptor, client.events() & may, client.serve)
-        self.work.changed = dict.fromkeys(client for client in (*changed, *self.work.watching) if client.is_done())
+            self.watch_client(client)
+
+    def watch_client(self, client: Client) -> None:
+        """Has the events of a client watched, or notes that it needs a place to send more."""
+        events = client.events()
+        if not events & READ and client.needs_place():
+            self.long_commands.ask(client)
+        events &= self.may
+        if events != client.watched:
+            client.watched = events
+            self.loop.watch(client.descriptor, events, client.serve)
 
     def serve(self) -> int:
         """Serves until the session is over or the server is told to end. The status."""
@@ -474,7 +475,7 @@ class Server:
 
     def stop_taking(self) -> None:
         if self.listener is not None:
-            self.unwatch(self.listener.socket.fileno())
+            self.loop.unwatch(self.listener.socket.fileno())
             self.listener.close()
             self.listener = None
 
@@ -496,6 +497,7 @@ class Server:
         self.watchers.close()
         if not self.session.is_over:
             self.session.wait()
+        self.loop.close()
 
 
 class CheckedServer(Server):
@@ -515,7 +517,7 @@ class CheckedServer(Server):
         """As of each server. The first time it also waits for the copy of the store in which changes are tried."""
         if super().opens() and self.judge is None and not self.is_ending():
             try:
-                self.judge = Judge(self.check, self.words[0], self.store, self.watch, self.monitor)
+                self.judge = Judge(self.check, self.words[0], self.store, self.loop.watch, self.monitor)
             except OSError as error:
                 raise Fault(f"no changes can be judged: {reason(error)}: name a folder in TMPDIR") from None
             self.judge.prepare()

@@ -3,6 +3,8 @@ for a place."""
 
 from __future__ import annotations
 
+import functools
+import re
 import selectors
 import socket
 import time
@@ -15,19 +17,13 @@ from serve_watch import Watcher
 LONGEST = 16_777_216  # bytes of a command
 MOST_DUE = 16  # commands of a client in the session
 
-# How commands begin whose answers are short, after `---`, and how many bytes are looked at for that.
-LOOKED_AT = 16
-SHORT = tuple(word + end for word in (b"set:", b"delete:", b"import:", b"batch:", b"if:") for end in (b" ", b"\n"))
+# How commands begin whose answers are short.
+SHORT = re.compile(rb"(?:---\n)?(?:set|delete|import|batch|if):[ \n]")
 
 # What is answered where another store stands in the place of the one that the server holds.
 REFUSED = b"---\nrefused: Replaced\n...\n"
 
 READ, WRITE = selectors.EVENT_READ, selectors.EVENT_WRITE
-
-
-def may_be_long(start: bytes) -> bool:
-    """Whether the answer to a command with this start may be long."""
-    return not start.removeprefix(b"---\n").startswith(SHORT)
 
 
 class Work:
@@ -38,6 +34,11 @@ class Work:
         self.answered: dict[Client, None] = {}  # who got an answer that nothing was sent of yet
         self.waiting: dict[Client, None] = {}  # who has a whole command that no session has, in order of their turns
         self.watching: dict[Client, None] = {}  # who watches the store
+
+    def done(self) -> list[Client]:
+        """Those for whom nothing is left to do. They have sent all, or watch the store, whose file may be over."""
+        clients = {**self.changed, **self.watching} if self.watching else self.changed
+        return [client for client in clients if (client.has_sent_all or client.watcher) and client.is_done()]
 
     def leave(self, client: Client) -> None:
         for clients in (self.changed, self.answered, self.waiting, self.watching):
@@ -54,11 +55,13 @@ class Client:
         self.monitor = monitor
         self.work = work
         self.descriptor = connection.fileno()
-        self.serve = lambda events: serve(self, events)
+        self.serve = functools.partial(serve, self)
+        self.watched = 0  # its events that are watched
         self.heard = Pieces()
         self.may_hear = PART
         self.unsaid = bytearray()
         self.due = 0
+        self.wants_long = False  # whether the answer to its next command may be long, if that is here
         self.waits_for_long = False
         self.has_sent_all = False
         self.is_gone = False
@@ -67,47 +70,52 @@ class Client:
         self.has_changed()
 
     def has_changed(self) -> None:
-        """Notes that the next turn has to look at it, and whether it has a command for the session."""
+        """Notes that its events may be other ones, or that it may be done."""
         self.work.changed[self] = None
-        if self.heard.end:
-            self.work.waiting.setdefault(self)
+
+    def has_command(self) -> None:
+        """Notes that a whole command of it waits for the session."""
+        self.work.waiting.setdefault(self)
+        self.wants_long = SHORT.match(self.heard.bytes) is None
 
     def may_send(self) -> bool:
         """Whether its next command may go to the session."""
         is_free = not self.unsaid and not self.waits_for_long and self.watcher is None
         return bool(self.heard.end) and is_free and self.due < MOST_DUE
 
-    def wants_long(self) -> bool:
-        """Whether the answer to its next command may be long."""
-        return may_be_long(bytes(self.heard.bytes[:LOOKED_AT]))
-
     def next_command(self) -> bytearray:
-        self.waits_for_long = self.wants_long()
+        self.waits_for_long = self.wants_long
         self.due += 1
         self.may_hear = PART
         command = self.heard.take()
         del self.work.waiting[self]  # its next turn is behind those of the others
-        self.has_changed()
+        if self.heard.end:
+            self.has_command()
+        if self.watched != READ:
+            self.has_changed()
         return command
 
     def hear(self) -> bool:
         """Takes what it sends. Whether it may go on."""
-        room = self.may_hear - len(self.heard.bytes)
+        heard = self.heard
+        room = self.may_hear - len(heard.bytes)
         if room <= 0 or self.has_sent_all:
             return True
         try:
-            part = self.connection.recv(min(PART, room))
+            part = self.connection.recv(PART if room > PART else room)
         except BlockingIOError:
             return True
         except OSError:
             return False
         self.has_sent_all = not part
-        self.heard.add(part)
-        self.has_changed()
         self.monitor.received += len(part)
-        if self.heard.end:
+        heard.add(part)
+        if heard.end and part:
             self.active = self.asked = time.monotonic()  # all whole commands here came by now: none was here before
-        return not self.heard.is_longer_than(LONGEST)
+            self.has_command()
+        else:
+            self.has_changed()
+        return (heard.end or len(heard.bytes)) <= LONGEST
 
     def answer(self, answer: bytearray) -> None:
         self.active = time.monotonic()
@@ -126,18 +134,23 @@ class Client:
 
     def say(self) -> bool:
         """Sends it what it takes now. Whether it may go on."""
-        self.has_changed()
         try:
             count = self.connection.send(self.unsaid)
         except BlockingIOError:
+            self.has_changed()
             return True
         except OSError:
             return False
-        del self.unsaid[:count]
         self.monitor.sent += count
         self.read_last = time.monotonic()
-        if not self.unsaid:
+        if count == len(self.unsaid):
+            self.unsaid = bytearray()
             self.active = self.read_last
+            if self.watched == READ and not self.has_sent_all:
+                return True  # nothing is to be watched that isn't
+        else:
+            del self.unsaid[:count]
+        self.has_changed()
         return True
 
     def refuse_all(self) -> bool:
@@ -199,6 +212,8 @@ class Places:
 
     def give(self) -> list[Client]:
         """Those who have got a place just now."""
+        if not self.waiting:
+            return []
         got = list(self.waiting)[: max(self.count - len(self.since), 0)]
         for client in got:
             del self.waiting[client]

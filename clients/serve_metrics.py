@@ -65,6 +65,7 @@ TEXT = "text/plain; version=0.0.4; charset=utf-8"
 END_OF_HEAD = re.compile(rb"\r?\n\r?\n")
 REQUEST = re.compile(rb"([!-~]+) (/[!-~]*) HTTP/1\.[01]")
 LOCAL = re.compile(r"127\.0\.0\.1:([0-9]{1,5})")
+REFUSED = b"---\nrefused: "
 REFUSAL = re.compile(rb"---\nrefused: ([A-Za-z]{1,40})\n")
 
 Number = Union[int, float]
@@ -246,12 +247,14 @@ class Monitor:
         self.commands += 1
         self.waiting.append(since)
 
-    def answer(self, answer: bytearray) -> None:
-        """Counts the answer to the command that waits for longest."""
-        if self.waiting:
-            self.settle(self.waiting.popleft(), answer)
-        else:
-            self.count_refusal(answer)
+    def answer(self, *answers: bytearray) -> None:
+        """Counts the answers to the commands that wait for longest."""
+        now = time.monotonic()
+        for answer in answers:
+            if self.waiting:
+                self.waits.add(now - self.waiting.popleft())
+            if answer.startswith(REFUSED):
+                self.count_refusal(answer)
 
     def settle(self, since: float, answer: bytes) -> None:
         """Counts the answer to a command that had come at this time."""

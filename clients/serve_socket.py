@@ -23,6 +23,7 @@ import pwd
 import resource
 import secrets
 import select
+import selectors
 import signal
 import socket
 import stat
@@ -41,10 +42,18 @@ RESERVED = 32  # files that are open beside the clients
 SIGNALS_HEARD = 65_536  # signals that are taken at once
 PART = 65_536  # bytes that are read at once
 LONGEST_ANSWER = 67_108_864  # bytes
+CLOSING = b"...\n"  # the line that ends a piece, at its start or behind another line
+CLOSED = b"\n" + CLOSING
+CLOSED_TWICE = CLOSED + CLOSING
 ERRORS_KEPT = 8_192  # bytes of the session's standard error while it opens the store
 GOING = 10  # seconds until a session that has ended its output is killed
 
 WRONG_WORDS, FAILED, REPLACED = 2, 3, 5  # statuses
+
+# Events that are watched, as epoll has them, and the other way round.
+READS, WRITES = selectors.EVENT_READ, selectors.EVENT_WRITE
+POLLED = {READS: select.EPOLLIN, WRITES: select.EPOLLOUT, READS | WRITES: select.EPOLLIN | select.EPOLLOUT}
+FOUND = {polled: events for events, polled in POLLED.items()}
 
 # What the session says where another run holds the store.
 LOCKED = b"confstore: Locked"
@@ -445,6 +454,45 @@ class Signals:
         self.bell.close()
 
 
+class Loop:
+    """The descriptors that are watched, and what is called when one of their events is there.
+
+    The module `selectors` has the same, in more calls of Python for each event.
+    """
+
+    def __init__(self) -> None:
+        self.poll = select.epoll()
+        self.watched: dict[int, tuple[int, Callable[[int], None]]] = {}
+
+    def watch(self, descriptor: int, events: int, call: Callable[[int], None]) -> None:
+        """Calls so when one of the events is there; never, without events."""
+        known = self.watched.get(descriptor)
+        if not events:
+            self.unwatch(descriptor)
+        elif known is None:
+            self.poll.register(descriptor, POLLED[events])
+            self.watched[descriptor] = events, call
+        elif known[0] != events:
+            self.poll.modify(descriptor, POLLED[events])
+            self.watched[descriptor] = events, call
+
+    def unwatch(self, descriptor: int) -> None:
+        if self.watched.pop(descriptor, None) is not None:
+            self.poll.unregister(descriptor)
+
+    def turn(self, seconds: float) -> None:
+        """Waits for events for so long at most, and makes their calls. One who is gone or has an error has each event
+        that is watched."""
+        for descriptor, found in self.poll.poll(seconds):
+            known = self.watched.get(descriptor)
+            if known is not None:
+                events, call = known
+                call(events if found & ~POLLED[events] else FOUND[found])
+
+    def close(self) -> None:
+        self.poll.close()
+
+
 def tell_manager() -> None:
     """Tells systemd that clients are taken, if it has started this program."""
     address = os.environ.get("NOTIFY_SOCKET")
@@ -494,29 +542,46 @@ class Pieces:
     def __init__(self) -> None:
         self.bytes = bytearray()
         self.end = 0  # of the first piece, or 0 if none is whole
-        self.looked = 0
+        self.looked = 0  # where the closing line of that may begin at the earliest
 
     def add(self, part: bytes) -> None:
         self.bytes += part
-        self.look()
+        if not self.end:
+            self.look()
 
     def look(self) -> None:
-        while not self.end and (found := self.bytes.find(b"...\n", self.looked)) >= 0:
-            self.looked = found + 4
-            if found == 0 or self.bytes[found - 1] == ord("\n"):
-                self.end = found + 4
-        if not self.end:
-            self.looked = max(self.looked, len(self.bytes) - 3, 0)
+        if self.looked == 0 and self.bytes.startswith(CLOSING):
+            self.end = len(CLOSING)
+            return
+        found = self.bytes.find(CLOSED, max(self.looked - 1, 0))
+        if found >= 0:
+            self.end = found + len(CLOSED)
+        else:
+            self.looked = max(len(self.bytes) - 3, 0)
 
     def take(self) -> bytearray:
         if self.end == len(self.bytes):
             piece, self.bytes = self.bytes, bytearray()
-        else:
-            piece = self.bytes[: self.end]
-            del self.bytes[: self.end]
+            self.looked = self.end = 0
+            return piece
+        piece = self.bytes[: self.end]
+        del self.bytes[: self.end]
         self.looked = self.end = 0
         self.look()
         return piece
+
+    def take_all(self) -> list[bytearray]:
+        """All pieces that are whole."""
+        pieces: list[bytearray] = []
+        if self.end and not self.bytes.startswith(CLOSING) and CLOSED_TWICE not in self.bytes:
+            *pieces, self.bytes = self.bytes.split(CLOSED)
+            for piece in pieces:
+                piece += CLOSED
+            self.looked = self.end = 0
+            self.look()
+        while self.end:
+            pieces.append(self.take())
+        return pieces
 
     def is_longer_than(self, most: int) -> bool:
         return (self.end or len(self.bytes)) > most
@@ -583,7 +648,10 @@ class Session(Generic[Asks]):
         return True
 
     def send(self, piece: bytearray, client: Optional[Asks]) -> None:
-        self.unsent = self.unsent + piece if self.unsent else piece
+        if self.unsent:
+            self.unsent += piece
+        else:
+            self.unsent = piece
         self.sent += len(piece)
         self.turns.append(client)
 
@@ -612,8 +680,7 @@ class Session(Generic[Asks]):
             return [], True
         self.answers.add(part)
         given = []
-        while self.answers.end:
-            answer = self.answers.take()
+        for answer in self.answers.take_all():
             client = self.turns.popleft() if self.turns else None
             if client is not None:
                 given.append((client, bytearray() if self.skips else answer))

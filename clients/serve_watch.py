@@ -147,10 +147,12 @@ class Store:
         """The session is over."""
         self.session = None
 
-    def answer(self, answer: bytes) -> None:
-        """Notes the number of a change that was answered."""
-        if found := OK.fullmatch(answer):
-            self.count = int(found[1])
+    def answer(self, *answers: bytes) -> None:
+        """Notes the number of the last change that was answered."""
+        for answer in reversed(answers):
+            if found := OK.fullmatch(answer):
+                self.count = int(found[1])
+                return
 
     def look(self) -> bool:
         """Whether the store is still this one, as far as it can be seen."""
@@ -504,7 +506,8 @@ class Watchers:
     def turn(self) -> bool:
         """Reads on, and tells some of them what is there, in turn. Whether there is more to do at once."""
         if not self.all:
-            self.journals.close()
+            if self.journals.all:
+                self.journals.close()
             return False
         is_more = self.journals.look({watcher.journal for watcher in self.all if watcher.journal})
         told = 0

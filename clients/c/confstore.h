@@ -47,7 +47,7 @@ extern "C" {
 #endif
 
 /* The version of this library. Its number has three digits each for the second and the third part: 1.2.3 is 1002003. */
-#define CONFSTORE_VERSION "0.6.0"
+#define CONFSTORE_VERSION "0.6.1"
 #define CONFSTORE_VERSION_NUMBER 2000
 
 /* The longest command that a session takes, with its closing line. */
