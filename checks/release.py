@@ -49,8 +49,8 @@ BESIDE = "crates/text_probe/src/main.rt"
 # The crates of most copies. The last one is beside the program.
 FEW = "confstore: conf_words conf_state\nconf_words:\nconf_state:\ntext_probe: conf_words\n"
 # What a start may take of processors more than the program, and what a first start may take, in starts of bash, which
-# measure how busy the machine is. A start takes some eight, and fifty where it reads all sources; a first one some 300.
-MOST_COST = 15
+# measure how busy the machine is. A start takes some four, and fifty where it reads all sources; a first one some 300.
+MOST_COST = 9
 MOST_FIRST = 1_000
 # How long a command may take, in seconds: a slow and busy machine packs an archive for minutes.
 HANGS = 1_800
@@ -641,6 +641,32 @@ def try_cost(scene: Scene, failures: Failures) -> None:
     failures.expect("a start costs little", started - alone < MOST_COST * empty, True)
 
 
+def try_what_starts(scene: Scene, whole: Path, failures: Failures) -> None:
+    """A start that finds nothing changed runs three programs of the system beside confstore, and no bash."""
+    for case in ("released", "built"):
+        copy = scene.copy(whole)
+        if case == "built":
+            scene.run([copy / "prove"])
+        scene.old(copy)
+        started = programs_of(scene, copy)
+        failures.expect(f"what a start runs, {case}", sorted(started), ["cmp", "find", "stat"])
+        change(copy / BESIDE)
+        failures.expect(f"with a crate beside changed, {case}", sorted(programs_of(scene, copy)), ["cmp", "find", "stat"])
+        change(copy / CODE)
+        failures.expect(f"with a source changed, {case}", "sha256sum" in programs_of(scene, copy), True)
+
+
+def programs_of(scene: Scene, copy: Path) -> list[str]:
+    """The names of the programs of the PATH that a start runs, as each notes its own."""
+    log = scene.folder / "started"
+    log.write_bytes(b"")
+    for name in ("awk", "bash", "cmp", "find", "readlink", "realpath", "sed", "sha256sum", "sort", "stat", "xargs"):
+        scene.script(f"noting/{name}", f'echo {name} >>{log}\nexec {shutil.which(name)} "$@"')
+    found = scene.format(copy, PATH=f"{scene.folder}/noting:{scene.environment['PATH']}")
+    assert found.returncode in (0, 4), found.stderr
+    return log.read_text(encoding="utf-8").split()
+
+
 def least_costs(scene: Scene, programs: list[Path]) -> list[float]:
     """The seconds of processors that a start of each program takes: the least of many turns of all."""
     taken: list[list[float]] = [[] for _ in programs]
@@ -699,6 +725,7 @@ def main() -> int:
         try_exchange(scene, whole, failures)
         try_own_folder(scene, whole, failures)
         try_links(scene, whole, failures)
+        try_what_starts(scene, whole, failures)
         try_cost(scene, failures)
     try_version(failures)
     return int(failures.report())

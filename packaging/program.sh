@@ -7,7 +7,7 @@
 # proofs in proofs/ change neither the program nor what is claimed of it: release/manifest has a checksum of theirs for
 # the gate.
 #
-# A comparison is remembered in a stamp: the size, the number on the disk and the time of the last change (ctime) of
+# A comparison is remembered in a stamp (stamp.sh): the number on the disk and the time of the last change (ctime) of
 # each file that it stands on. Nobody can set this time, so a file whose line is the same has the same content. No stamp
 # is written within two seconds of such a change, as a later one might then have the same time.
 #
@@ -23,6 +23,9 @@ program=  # the one to be run
 opened=   # the number of the open file that was looked at as the program
 why=      # why no program is of the sources here
 instead=  # what may be run in its place
+
+# shellcheck source=packaging/stamp.sh
+. "$top/packaging/stamp.sh" || return
 
 say() { echo "confstore: $*" >&2; }
 
@@ -121,20 +124,8 @@ sum_of_program() { sum_of "/dev/fd/$opened"; }
 # Whether the program's name still leads to the file that was looked at.
 is_in_place() { [ "$program" -ef "/dev/fd/$opened" ]; }
 
-# A line for each of the files, and of those in the folders, that changes whenever the file does. It ends the shell that
-# it is called in, which is one of a pipe or a substitution.
-state_of() { # FILE|FOLDER..
-    exec find -L "$@" -type f -printf '%D %i %s %C@ %p\n' 2>/dev/null
-}
-
 state_of_sources() {
     cd "$top" && state_of crates.txt crates/*/src crates/*/specs
-}
-
-# The state of each file that the choice of the program stands on, and of the FILES.
-state() { # [FILE..]
-    cd "$top" && state_of crates.txt crates/*/src crates/*/specs release/manifest out/proved \
-        crates/confstore/out/confstore "$@"
 }
 
 # The lines of crates.txt of the program's crate and of all below it, by name.
@@ -277,32 +268,34 @@ unpack_released() {
     fi
 }
 
-# Sets `program` to the one that the stamp names, if no file that it stands on has changed. A stamp names the program
-# that was built here or the released one, by one word. Returns 4, after a line that says why, if it is not trusted.
+# Sets `program` to the one that the stamp names, if no file that it stands on has changed. Returns 4, after a line that
+# says why, if it is not trusted.
 take_stamped() {
-    local name place
-    [ -f "$kept/stamp" ] && [ -r "$kept/stamp" ] && IFS= read -r name <"$kept/stamp" || return 1
+    local name crates place=
+    [ -f "$kept/stamp" ] && [ -r "$kept/stamp" ] &&
+        { IFS= read -r name && IFS= read -r crates; } <"$kept/stamp" || return 1
     case $name in
         built) place=$built ;;
-        released) place=$released ;;
-        *) place= ;;
+        "${folder##*/}") place=$released ;;
     esac
     if [ ! -x "$place" ]; then
         trust "$kept/stamp" || return
         return 1
     fi
     trust "$kept/stamp" "$place" || return
-    open_program "$place" && { echo "$name" && state "$place"; } | cmp -s - "$kept/stamp"
+    open_program "$place" &&
+        { printf '%s\n%s\n' "$name" "$crates"; state "$crates" "${place#"$top"/}"; } | cmp -s - "$kept/stamp"
 }
 
-# Keeps a stamp for `program`, which stands on these states, unless a file is too young. Nothing is said if it can't.
-keep_stamp() { # STATES
-    local new name=released
+# Keeps a stamp for `program`, which is made of these crates and stands on these states, unless a file is too young.
+# Nothing is said if it can't.
+keep_stamp() { # CRATES STATES
+    local new name=${folder##*/}
     [ "$program" != "$built" ] || name=built
     { [ -d "$kept" ] && trust "$kept"; } 2>/dev/null || return 0
     new=$(mktemp "$kept/stamp.XXXXXX" 2>/dev/null) || return 0
-    if printf '%s\n' "$1" | awk -v now="$(stat -c %Z "$new")" '$4 + 2 > now { young = 1 } END { exit young }' &&
-        chmod 644 "$new" && printf '%s\n%s\n' "$name" "$1" 2>/dev/null >"$new"; then
+    if printf '%s\n' "$2" | awk -v now="$(stat -c %Z "$new")" '$2 + 2 > now { young = 1 } END { exit young }' &&
+        chmod 644 "$new" && printf '%s\n%s\n%s\n' "$name" "$1" "$2" 2>/dev/null >"$new"; then
         mv -f "$new" "$kept/stamp"
     else
         rm -f "$new"
@@ -320,21 +313,43 @@ trust_places() {
 # the released one. Returns 1 if there is none, and sets `why` and `instead`; returns 4, after a line that says why, if
 # it may not be run.
 find_program() {
-    local general own sum wanted='' archive='' folder released
+    local listed crates general own sum wanted='' archive='' folder released
     choose_kept
     find_places
     read_manifest
     take_stamped
     case $? in 0) return ;; 4) return 4 ;; esac
     trust_places || return
-    general=$(state)
+    listed=$(state_of crates.txt)
+    crates=$(product_crates)
+    crates=${crates//$'\n'/ }
+    general=$(state "$crates")
     sum=$(sum_of_sources src specs) || { say "the sources can't be read: the lines above say why"; return 4; }
     if ! is_built_of "$sum"; then
         program=
         find_released "$sum" || return
     fi
-    own=$(state_of "$program")
-    keep_stamp "$general"$'\n'"$own"
+    own=$(state_of "${program#"$top"/}")
+    [[ $general != "$listed"* ]] || keep_stamp "$crates" "$general"$'\n'"$own"
+}
+
+# Runs the program that is made of the sources here with these words. If there is none that may be run, it says why, and
+# ends this shell with the status 4.
+run_program() { # [WORD..]
+    find_program
+    case $? in
+        0) ;;
+        1)
+            say "$why: $top/prove proves and builds the program of these sources, which takes an hour on four" \
+                "processors${instead:+; $instead}"
+            exit 4
+            ;;
+        *) exit 4 ;;
+    esac
+    is_in_place || { say "$program is refused: it was exchanged while it was looked at; run this again"; exit 4; }
+    # A file that would pass the limit of `ulimit -f` is then a write that fails, and not a signal that ends the program.
+    trap '' XFSZ
+    exec "$program" "$@" {opened}<&-
 }
 
 # Sets `program` to the released one, if it is made of the sources with this checksum. Returns as find_program does.

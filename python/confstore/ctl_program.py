@@ -5,8 +5,9 @@ from __future__ import annotations
 import os
 import signal
 
+import confstore  # which imports an exception once it is asked for, as where one is raised
+
 from .ctl_faults import Fault, TextFault, fault_of, hint_of, shown
-from .faults import ConfstoreError, MissingProgram
 from .places import find_program
 
 TYPE_CHECKING = False
@@ -33,14 +34,14 @@ def program() -> str:
     """The path of the program. Raises a `Fault` where there is none."""
     try:
         return find_program(None)
-    except ConfstoreError as error:
+    except confstore.ConfstoreError as error:
         raise fault_of(error) from None
 
 
 def program_if_any() -> str | None:
     try:
         return find_program(None)
-    except MissingProgram:
+    except confstore.MissingProgram:
         return None
 
 

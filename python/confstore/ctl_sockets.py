@@ -7,9 +7,7 @@ of the closing line, which is no command for it, is not read.
 
 from __future__ import annotations
 
-import contextlib
 import errno
-import json
 import os
 import re
 import socket
@@ -43,6 +41,9 @@ LONGEST_PATH = 107
 # What JSON and YAML both have to have escaped, or what a reader of the one might not take as the other does.
 _ESCAPED = re.compile("[\x80-\x9f\u2028\u2029\ufeff\ufffe\uffff]")
 _KEY = re.compile(rb"---\n([a-z]+):")
+
+# A pair of a mapping in JSON.
+_PAIR = '"%s": "%s"'
 
 # The start of a line of a document that is not under the key of its first line.
 _BESIDE = re.compile(rb"(?m)^(?!  |$)")
@@ -120,6 +121,8 @@ class NodeReply(Reply):
     """An answer of a node."""
 
     def __init__(self, line: bytes) -> None:
+        import json  # which a session does not speak
+
         try:
             answer = json.loads(line)
         except (ValueError, RecursionError):
@@ -136,8 +139,17 @@ class NodeReply(Reply):
 
 def line_of(command: Command) -> bytes:
     """A command as a line of JSON that is YAML too."""
+    if all(_is_plain(value) for value in command.values()):
+        return f"{{{', '.join([_PAIR % pair for pair in command.items()])}}}\n".encode()
+    import json  # for what has to be escaped, or is no text
+
     line = json.dumps(command, ensure_ascii=False, separators=(", ", ": "))
     return _ESCAPED.sub(lambda found: f"\\u{ord(found.group()):04x}", line).encode() + b"\n"
+
+
+def _is_plain(tree: Tree) -> bool:
+    """Whether this is a text that stands in double quotes as it is."""
+    return isinstance(tree, str) and tree.isascii() and tree.isprintable() and '"' not in tree and "\\" not in tree
 
 
 class Connection:
@@ -282,8 +294,10 @@ class Connection:
     def _answer_to(self, sent: bytes) -> SessionReply | NodeReply:
         self._count = 0
         try:
-            with contextlib.suppress(BrokenPipeError, ConnectionResetError):  # what it said before it went is read
+            try:
                 self._socket.sendall(sent)
+            except (BrokenPipeError, ConnectionResetError):
+                pass  # what it said before it went is read
             if not self._heard:
                 self._hear()
             self._is_node = self._heard[:1] == b"{"

@@ -6,23 +6,29 @@ import errno
 import itertools
 import os
 import stat
-from .faults import ConfstoreError, Device, MissingFolder, MissingProgram, UnusablePath, folder_fault
 
+# The exceptions are imported where one is raised: who only looks for the program has no other need of them.
 TYPE_CHECKING = False
 if TYPE_CHECKING:
     from collections.abc import Iterator
+
+    from .faults import ConfstoreError
 
 
 def path_of(path: str | bytes | os.PathLike[str]) -> str:
     """A path from the root, as a str of no other class."""
     wanted = str.__str__(os.fsdecode(path))
     if "\0" in wanted:
+        from .faults import UnusablePath
+
         raise UnusablePath(errno.EINVAL, "a path can't have the character 0", wanted)
     return os.path.abspath(wanted)
 
 
 def need_folder(folder: str) -> None:
     """Raises `MissingFolder` or `UnusablePath` unless the folder is there."""
+    from .faults import MissingFolder, folder_fault
+
     try:
         found = os.stat(folder)
     except OSError as error:
@@ -35,6 +41,8 @@ def find_program(program: str | os.PathLike[str] | None) -> str:
     """The path of the program: the one that is given, or that of the environment's CONFSTORE, or of the PATH."""
     wanted = str.__str__(os.fsdecode(program or os.environ.get("CONFSTORE") or "confstore"))
     if "\0" in wanted:
+        from .faults import UnusablePath
+
         raise UnusablePath(errno.EINVAL, "a path can't have the character 0", wanted)
     found = _which(wanted)
     if found is None:
@@ -57,6 +65,8 @@ def _may_run(path: str) -> bool:
 
 def _missing(program: str) -> ConfstoreError:
     """Why there is no such program: mostly because nothing is there, or what is there may not be run."""
+    from .faults import MissingProgram, UnusablePath
+
     try:
         os.stat(program if os.path.dirname(program) else os.path.join(os.sep, program))
     except OSError as error:
@@ -89,6 +99,8 @@ def _levels(folder: str) -> Iterator[str]:
 
 def _make_missing(folder: str) -> list[str]:
     """Makes a folder and those above it that are missing, and returns those that were made."""
+    from .faults import MissingFolder, folder_fault
+
     missing = list(itertools.takewhile(lambda level: not os.path.isdir(level), _levels(folder)))
     for path in reversed(missing):
         try:
@@ -104,6 +116,8 @@ def _make_missing(folder: str) -> list[str]:
 
 
 def _sync(folder: str, is_needed: bool) -> None:
+    from .faults import Device
+
     opened: int | None = None
     try:
         opened = os.open(folder, os.O_RDONLY | os.O_DIRECTORY | os.O_CLOEXEC)

@@ -2,6 +2,7 @@
 
 from __future__ import annotations
 
+import json
 import os
 import pathlib
 import random
@@ -15,7 +16,7 @@ from unittest import mock
 
 import confstore
 from confstore import MissingProgram, Tree, document
-from confstore.ctl_sockets import SessionReply
+from confstore.ctl_sockets import SessionReply, line_of
 from confstore.pieces import simple_value
 from confstore.places import find_program
 from confstore.trees import trees_of
@@ -25,16 +26,16 @@ from .places import StoreTest
 
 # What none of the words below imports: each takes a tenth of a start or more, or brings something of that kind.
 SLOW = {
-    "argparse", "ast", "asyncio", "concurrent", "copy", "dataclasses", "datetime", "email", "hashlib", "inspect",
-    "importlib.metadata", "importlib.resources", "logging", "pathlib", "shutil", "subprocess", "tempfile", "textwrap",
-    "threading", "typing", "unittest", "yaml", "zipfile",
+    "argparse", "ast", "asyncio", "concurrent", "contextlib", "copy", "dataclasses", "datetime", "email", "hashlib",
+    "importlib.metadata", "importlib.resources", "inspect", "json", "logging", "pathlib", "shutil", "subprocess",
+    "tempfile", "textwrap", "threading", "typing", "unittest", "yaml", "zipfile",
 }  # fmt: skip
 
 # What a word imports moreover that goes to a socket, and what no other word does.
-OF_SOCKETS = {"contextlib", "json", "re", "selectors", "socket"}
+OF_SOCKETS = {"re", "selectors", "socket"}
 
 # The modules of the package that a word imports which the program does.
-OF_PACKAGE = {"confstore", "confstore.faults", "confstore.places"} | {
+OF_PACKAGE = {"confstore", "confstore.places"} | {
     f"confstore.ctl{part}" for part in ("", "_asked", "_faults", "_places", "_program", "_streams", "_words")
 }
 
@@ -88,6 +89,7 @@ class Starts(StoreTest):
             (("get", "any", "web", "/port"), b'value: "80"\n', '"80"\n'),
             (("get", "any", "web"), b"value:\n  a: b\n", "a: b\n"), (("names", "any"), b"names:\n  - web\n", "web\n"),
             (("set", "any", "web", "/port", "81"), b'ok: "2"\n', ""),
+            (("exists", "any", "web", "/port"), b'value: "80"\n', ""), (("delete", "any", "web"), b'ok: "3"\n', ""),
         ]  # fmt: skip
         for number, (words, answer, output) in enumerate(rows):
             path = os.path.join(self.top, f"socket-{number}")
@@ -123,6 +125,20 @@ class Starts(StoreTest):
 
     def test_the_package(self) -> None:
         self.assertEqual(imported(PACKAGE), (0, "", {"confstore"}))
+
+
+class Lines(unittest.TestCase):
+    def test_commands_are_json(self) -> None:
+        """The line of a command is what `json` writes, also where that is not imported for it."""
+        texts = ["", "a b", "/n", '"', "\\", "a\tb", "\n", "\0", "\x7f", "\x80", "\u00e9", "\u2028", "%s", "{}", "~"]
+        values: list[Tree] = [*texts, list(texts), {"k": "v"}, [{"put": "a"}]]
+        for value in values:
+            for command in ({"get": value}, {"set": "web", "path": "/a/b", "value": value}):
+                line = line_of(command)
+                self.assertEqual(json.loads(line), command)
+                self.assertEqual((line.count(b"\n"), line[-1:]), (1, b"\n"), value)
+                if line.isascii() and b"\\" not in line:
+                    self.assertEqual(line.decode(), json.dumps(command, ensure_ascii=False) + "\n")
 
 
 class Names(unittest.TestCase):
