@@ -1,4 +1,5 @@
 pub mod Prelude
+pub mod AboutLemmas
 pub mod AcceptedLemmas
 pub mod PathLemmas
 pub mod PointerLemmas
