@@ -1,5 +1,4 @@
 pub mod Prelude
-pub mod AboutLemmas
 pub mod AcceptedLemmas
 pub mod PathLemmas
 pub mod PointerLemmas

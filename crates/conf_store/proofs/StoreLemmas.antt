@@ -3,10 +3,10 @@ use Rattle.std.{proofs.Common.{◌≡◌, ◌⊎◌, inl, ⊎_elim, refl, sym, �
 use Rattle.std.specs.Prelude.{◌+◌, ◌&&◌, min, Bool, nat_le, nat_lt, if◌then◌else◌, List, [], ◌∷◌, ◌++◌, length, Some, option_map, Ok, Err}
 use Rattle.conf_store.proofs.Prelude.{false≢true, ClosesOnce, byte_len, byte_len-encoded, Folder, with_pending, Image, IsImage, synced_file}
 use Rattle.conf_store.proofs.Prelude.{DiskModel, LeavesOnly, greatest, LeavesOnly-start, LeavesOnly-weaker, HoldsStore, HeldIsNoted}
-use Rattle.conf_store.proofs.Prelude.{SyncedIsLeft, IsStoreOf, store_limit, Command, single, batch, noted, may_be_long, Contents}
-use Rattle.conf_store.proofs.Prelude.{count_limit, IsState, step, after, Room, Enough, LongRecord, IsRecord, IsBase, BasesAreRead}
-use Rattle.conf_store.proofs.Prelude.{IsLeftNoted, several_waited, several_after, file_at, BasesClose, BasesFit, RecordsAreRead}
-use Rattle.conf_store.proofs.Prelude.{RecordsClose, base_bytes, FitsRecord, record_text, record_bytes, IsCommand, nat_tests, StoreFault}
+use Rattle.conf_store.proofs.Prelude.{SyncedIsLeft, IsStoreOf, store_limit, Command, single, batch, is_batch, Contents, count_limit}
+use Rattle.conf_store.proofs.Prelude.{IsState, step, after, Room, Enough, LongRecord, IsRecord, IsBase, BasesAreRead, IsLeftNoted}
+use Rattle.conf_store.proofs.Prelude.{several_waited, several_after, file_at, BasesClose, BasesFit, RecordsAreRead, RecordsClose}
+use Rattle.conf_store.proofs.Prelude.{base_bytes, FitsRecord, record_text, record_bytes, IsCommand, nat_tests, StoreFault}
 use Rattle.conf_store.proofs.{MeaningLemmas.{whole-means, base-whole, ok-same}, StagedLemmas.means-waiting, StepLemmas.StepsNeedRoom}
 use Rattle.conf_store.proofs.{StepLemmas.{StepsCount, accepted-anyway, accepted-number}, HeldLemmas.{held-journal, held-images}}
 use Rattle.conf_store.proofs.HeldLemmas.{held-stores, journal-more, journal-synced, none-noted, appended-noted, appended-left}
@@ -88,32 +88,32 @@ room-cut is bytes size =
 
 -- the room for a record whose length was measured
 pub room-measured : (command : Command) (number longest bytes : ℕ) (room : Room)
-    → room ≡ room_of (may_be_long command) bytes longest store_limit → bytes ≡ min (byte_len (record_text command number)) greatest
-    → room ≡ room_of (may_be_long command) (length (record_bytes command number)) longest store_limit
+    → room ≡ room_of (is_batch command) bytes longest store_limit → bytes ≡ min (byte_len (record_text command number)) greatest
+    → room ≡ room_of (is_batch command) (length (record_bytes command number)) longest store_limit
 unfolding record_bytes
 room-measured command number longest bytes room is measured =
     is
-    ∙ ap (λ n. room_of (may_be_long command) n longest store_limit) measured
-    ∙ room-cut (may_be_long command) (byte_len (record_text command number)) longest
-    ∙ ap (λ n. room_of (may_be_long command) n longest store_limit) (byte_len-encoded (record_text command number))
+    ∙ ap (λ n. room_of (is_batch command) n longest store_limit) measured
+    ∙ room-cut (is_batch command) (byte_len (record_text command number)) longest
+    ∙ ap (λ n. room_of (is_batch command) n longest store_limit) (byte_len-encoded (record_text command number))
 
 -- a record that was made before its length was known
 pub made-measured : (command : Command) (number longest bytes : ℕ) (text : List ℕ) (room : Room) → IsCommand command
-    → room ≡ room_of (may_be_long command) bytes longest store_limit → bytes ≡ length text → text ≡ record_bytes command number
+    → room ≡ room_of (is_batch command) bytes longest store_limit → bytes ≡ length text → text ≡ record_bytes command number
     → IsMeasured command number longest text room
 made-measured command number longest bytes text room kept is long same = record {
-  measured = is ∙ ap (λ n. room_of (may_be_long command) n longest store_limit) (long ∙ ap length same);
+  measured = is ∙ ap (λ n. room_of (is_batch command) n longest store_limit) (long ∙ ap length same);
   made = λ enough. (kept, same);
 }
 
 -- the room for the next record
 pub room-next : (size : ℕ) (s : Contents) (command : Command) (room : Room) (number longest : ℕ)
-    → room ≡ room_of (may_be_long command) (length (record_bytes command number)) longest store_limit
+    → room ≡ room_of (is_batch command) (length (record_bytes command number)) longest store_limit
     → number ≡ next_number s → longest ≡ size → room ≡ room_for size s command
 room-next size s command room number longest is next same =
     is
-    ∙ ap (λ n. room_of (may_be_long command) (length (record_bytes command n)) longest store_limit) next
-    ∙ ap (λ n. room_of (may_be_long command) (length (record_bytes command (next_number s))) n store_limit) same
+    ∙ ap (λ n. room_of (is_batch command) (length (record_bytes command n)) longest store_limit) next
+    ∙ ap (λ n. room_of (is_batch command) (length (record_bytes command (next_number s))) n store_limit) same
 
 -- where there is room, the file with the record is within its limit, and so is the record of a batch
 room-fits : (is : Bool) (bytes size : ℕ) → room_of is bytes size store_limit ≡ Enough
@@ -131,15 +131,11 @@ room-fits is bytes size e = by is (nat_lt record_limit bytes) refl (nat_le (size
 
 -- the record of a batch that has room is read again
 fits-record : (command : Command) (number : ℕ)
-    → (may_be_long command ≡ true → length (record_bytes command number) ≤ record_limit) → FitsRecord command number
+    → (is_batch command ≡ true → length (record_bytes command number) ≤ record_limit) → FitsRecord command number
 unfolding record_bytes
 fits-record (single edit) number short = tt
 fits-record (batch edits) number short =
     let same = byte_len-encoded (record_text (batch edits) number) in
-    let most = short refl in
-    omega (arith, same, most)
-fits-record (noted command about) number short =
-    let same = byte_len-encoded (record_text (noted command about) number) in
     let most = short refl in
     omega (arith, same, most)
 
@@ -156,7 +152,7 @@ pub accepted : StepsNeedRoom → StepsCount → RecordsAreRead → RecordsClose
 accepted need_room counts are_read close s new command room bytes size kept kept_new made done is_room =
     let enough = need_room s new command room done in
     let is = (made enough).1 in
-    let fits = room-fits (may_be_long command) (length (next_record s command)) size (sym is_room ∙ enough) in
+    let fits = room-fits (is_batch command) (length (next_record s command)) size (sym is_room ∙ enough) in
     let number : next_number s ≡ s.count + 1 = accepted-number counts s new command room done kept_new in
     let small : next_number s ≤ count_limit = omega arith in
     let one = are_read s new command room (next_number s) kept (made enough).0 done small (fits-record command (next_number s) fits.1) in

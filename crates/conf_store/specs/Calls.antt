@@ -1,6 +1,6 @@
 -- What the calls of an open store return, and how they change it.
 use Rattle.std.specs.Prelude.{◌≡◌, ◌⊎◌, ℕ, ◌+◌, ◌<◌, ◌≤◌, min, max, false, if◌then◌else◌, List, length, Result, Ok, Err}
-use Rattle.conf_store.specs.Prelude.{greatest, store_limit, Command, may_be_long, Contents, config_named, count_limit, Tree, style_text, at}
+use Rattle.conf_store.specs.Prelude.{greatest, store_limit, Command, is_batch, Contents, config_named, count_limit, Tree, style_text, at}
 use Rattle.conf_store.specs.Prelude.{good_name, room_of, step, and_then, found, by_path, StoreFault, BadName, Reopen, Device, OutOfMemory}
 use Rattle.conf_store.specs.{Prelude.{Room, record_bytes}, Staged.{staged_length, with_more}, View.StoreView}
 
@@ -20,7 +20,7 @@ RecordsAreMeasured = (s : Contents) (command : Command) → s.count ≤ count_li
 
 -- the room for the command's record in a `store.yaml` of `size` bytes
 abbrev pub room_for : ℕ → Contents → Command → Room
-room_for size s command = room_of (may_be_long command) (length (next_record s command)) size store_limit
+room_for size s command = room_of (is_batch command) (length (next_record s command)) size store_limit
 
 -- the state after the command, or the first refusal that holds
 abbrev pub outcome : ℕ → Contents → Command → Result Contents StoreFault

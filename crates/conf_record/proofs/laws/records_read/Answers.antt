@@ -36,7 +36,7 @@ unfolding record_text
 small_reads reads command number is ok numbered fits = record {
   tree = record_tree command number;
   gives = document_gives reads (record_tree command number) (record_good command number is ok numbered fits);
-  tells = record_tells command number is ok numbered;
+  tells = record_tells command number ok numbered;
 }
 
 pub returns-clause-small : goal.returns-clause-small
@@ -54,5 +54,5 @@ returns-clause-one_record c = λ s new command other room number read kept is do
     let same = c.one_tree.ensures (closed_document (record_tree command number)) own_limits own_limits
     (record_tree command number) reads.tree own reads.gives in
     let pair = same_Some (other, read) (command, number)
-    (sym reads.tells ∙ sym (ap record_of same) ∙ record_tells command number is ok numbered) in
+    (sym reads.tells ∙ sym (ap record_of same) ∙ record_tells command number ok numbered) in
     (ap (λ p. p.0) pair, ap (λ p. p.1) pair)
