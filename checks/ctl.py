@@ -47,7 +47,7 @@ from concurrent.futures import ThreadPoolExecutor
 from typing import Any, NamedTuple
 
 from lib.ctl_rows import NODE_ROWS, ROWS, Row
-from lib.ctl_table import Table, common_of_ctl, table_of_ctl, table_of_program
+from lib.ctl_table import OPTIONAL, OPTIONAL_OF, Table, common_of_ctl, table_of_ctl, table_of_program
 from lib.keys import SHELLS, press_for_last_word, press_keys, put_stand_in
 from lib.store_runs import PROGRAM, TOP, Failures, need_program, read_file, write_file
 from lib.typed_pointers import LINES_OF_POINTERS, MADE, put_keys
@@ -314,7 +314,8 @@ def try_table(_top: str, failures: Failures) -> None:
     failures.expect("the words", sorted(mine), sorted(theirs))
     for word in sorted(mine & theirs):
         common, options = common_of_ctl(word), of_program[word].options
-        wanted = {name: value for name, value in options.items() if name not in common}
+        optional = OPTIONAL | OPTIONAL_OF.get(word, set())
+        wanted = {name: value for name, value in options.items() if name not in common | optional}
         failures.expect(f"the options of {word}", of_ctl[word].options, wanted)
         failures.expect(f"the arguments of {word}", of_ctl[word].arguments, of_program[word].arguments)
 

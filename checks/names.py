@@ -17,7 +17,7 @@
 - docs/OPERATING.md: the table of faults has each fault for which docs/FAULTS.md points to it, and no name that is none.
 - PAGES: each page, script and picture that they name is there: beside the page, from the top, in checks/ or bench/.
 - crates.txt: a library that a line names is in the files of the line's crate, and from no crate are there more than
-  32,000 ways down through these lines: a toolchain may read the sources once for each.
+  70,000 ways down through these lines: a toolchain may read the sources once for each.
 - docs/*.svg: the pictures that packaging/pictures draws are as it would draw them.
 - checks/ and bench/: no two scripts have one name, and none imports another: what they share is in lib/.
 - The Ansible collection says what to do about a refused text as the program does.
@@ -50,7 +50,7 @@ READ_ITEM = re.compile(r"(?ms)^\d+\. (.*?)(?=^\d+\. |^$)")
 RULE = re.compile("(?ms)^- ((?:(?!^- |^$).)*\u2192.*?)(?=^- |^$)")
 # The libraries that no file of a crate names, but whose types its contracts speak of.
 UNNAMED = {"example_edit": {"yaml_data"}, "conf_history": {"yaml_data"}}
-MOST_WAYS = 32000
+MOST_WAYS = 70000
 # The pages whose names of other files are looked up.
 PAGES = (
     "[!C]*.md", "CONTRIBUTING.md", "docs/*.md", "python/GUIDE.md", "[!c]*/README.md", "checks/README.md",
@@ -58,6 +58,7 @@ PAGES = (
 )  # fmt: skip
 # Files that have to be the same: each stands by itself where the other one is not.
 COPIES = (
+    ("python/confstore/abouts.py", "clients/ansible/ansible_collections/confstore/store/plugins/module_utils/abouts.py"),
     ("python/confstore/written.py", "clients/ansible/ansible_collections/confstore/store/plugins/module_utils/written.py"),
 )  # fmt: skip
 # The faults of Ansible's tasks, and an arm of the program's table of what to do: names, and a text.
@@ -66,7 +67,7 @@ REMEDY = re.compile(r'(?m)^        ((?:ReadFault|Why)::[^=]*?) => (?:\{\s*)?("(?
 # The enums of faults that the program prints, and the names that it prints for what isn't a variant of that name.
 FAULTS = ["Why", "ReadFault", "StoreFault", "PathFault", "OpenFault", "FolderFault", "SessionFault", "HistoryFault",
           "ReadingFault", "ConditionFault", "NewFileFault"]
-PRINTED = {"BadCommand", "Comments", "Input", "OneValue", "Output", "StoreExists", "Unsettled"}
+PRINTED = {"AboutLarge", "BadCommand", "Comments", "Input", "OneValue", "Output", "StoreExists", "Unsettled"}
 # A line of the drawing of a command's way: a crate or none, functions of it, words, and the files that have them.
 DRAWN = re.compile(r"^ +(\w+)? {2,}([a-zA-Z_:, ]+?)(?::| {2,}).*? {2,}([\w., ]+\.rt)$", re.M)
 # The status of the script `./confstore`, and the words that are clap's.

@@ -154,6 +154,7 @@ def walk_python(room: Room) -> None:
     page.take(">>> from confstore import Store")  # a doctest: python/tests/test_mapping.py
     page.take(">>> from confstore import Absent")  # the same
     room.shell("confstore import /var/lib/app dns dns.yaml")
+    page.take('with Store("/var/lib/app", about')  # python/tests/test_abouts.py tries it, by a program that takes abouts
     walk_asyncio(room, page.take("async with"))
     walk_following(room, page.take("from confstore import Cut"))
     printed = room.python(page.take("from confstore import Reader\n\nfor"))
@@ -272,7 +273,19 @@ def walk_operating(room: Room) -> None:
     if has("curl"):
         with room.serving(server):
             room.failures.expect("the health of the server", room.shell(asked), "ok\n")
+    walk_archives(room, page)
     room.failures.expect("examples of docs/OPERATING.md that are not walked", page.left, [])
+
+
+def walk_archives(room: Room, page: Page) -> None:
+    """A checkpoint at the end of each of two days, whose folders have the log."""
+    checkpoint = page.take("confstorectl checkpoint --wait 60")
+    room.shell("confstore init /var/lib/shop; mkdir /var/lib/shop-log; printf 'port: 80\\n' | confstore import /var/lib/shop web")
+    room.shell(checkpoint.replace("$(date +%F)", "monday"))
+    room.shell("confstore set /var/lib/shop web /port 81")
+    room.shell(checkpoint.replace("$(date +%F)", "tuesday"))
+    said = room.shell(page.take("confstorectl log /var/lib/shop web --archive"))
+    room.failures.expect("the log of two days", said, '1 import web\n2 set web "/port"\n')
 
 
 # ---- release/README.md

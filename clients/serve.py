@@ -40,6 +40,9 @@ Those commands that the session has are performed and answered. For two seconds 
 With `--check COMMAND` each change is first tried in a copy of the store, and COMMAND judges each configuration that it
 gives. One that is refused changes nothing (`serve_check.py`).
 
+Of an about, which notes who makes a change, when and why, the server writes `by` and `when` itself: the user that has
+connected, and the time. It does so for each change of a store that has or had one (`serve_abouts.py`).
+
 With `--metrics` the server tells its health and counters (`serve_metrics.py`). A client that sends `watch: N` is told
 the changes from the number N on, as they are made (`serve_watch.py`).
 """
@@ -66,6 +69,7 @@ from typing import Callable, NamedTuple, Optional, Sequence
 sys.path.insert(0, os.path.dirname(os.path.realpath(__file__)))
 sys.dont_write_bytecode = True
 
+from serve_abouts import GROWTH, Abouts  # noqa: E402
 from serve_check import Check, Judge  # noqa: E402
 from serve_clients import LONGEST, Client, Places, Work  # noqa: E402
 from serve_metrics import Monitor, address, listening, mode_of  # noqa: E402
@@ -118,6 +122,7 @@ class Server:
         self.long_answers = Places(bounds.long_answers)
         self.monitor = Monitor(inside(store.folder), self.clients, self.hindrance)
         self.watchers = Watchers(store)
+        self.abouts = Abouts(words[0], store)
         self.others_since: Optional[float] = None  # when others began to wait to be taken
         self.takes_none_until = 0.0
         self.complained = -float(QUIET)
@@ -176,7 +181,7 @@ class Server:
         self.store.look()
         peer = peer_of(connection)
         if may_write(peer, self.store.folder):
-            self.clients.append(Client(connection, self.monitor, self.work, self.serve_client))
+            self.clients.append(Client(connection, peer.user, self.monitor, self.work, self.serve_client))
         else:
             connection.close()
             lost = f"user {peer.user} is not taken, since it may not write in the store's folder any more"
@@ -238,6 +243,8 @@ class Server:
             if client.waits_for_long and len(answer) <= PART:
                 self.long_answers.leave(client)
             client.answer(answer)
+        if self.abouts.is_due:
+            self.abouts.look_again(is_idle=self.session.is_idle())
         if not may_be_more:
             self.session.is_over = True
             self.store.leave()
@@ -271,7 +278,10 @@ class Server:
                     return
                 if client.may_hear > PART:
                     self.long_commands.leave(client)
-                session.send(client.next_command(), client)
+                command = client.next_command()
+                if self.abouts.is_kept or client.may_note:
+                    command = self.abouts.noted(command, client.user)
+                session.send(command, client)
                 self.monitor.command(client.asked)
                 was_sent = True
             was_sent = was_sent or (bool(self.long_answers.waiting) and bool(self.long_answers.give()))
@@ -453,6 +463,7 @@ class Server:
                 if self.opens() and (not is_barred or self.session.let_write()):
                     if self.store.goes_on():
                         self.store.hold(self.session.process.pid)
+                        self.abouts.look()
                         self.monitor.renew()
                     return True
                 self.session.wait()
@@ -619,7 +630,8 @@ def words_of(arguments: argparse.Namespace) -> list[str]:
 def bounds_of(arguments: argparse.Namespace) -> Bounds:
     return Bounds(
         clients_with_room(arguments.max_clients), arguments.max_wait, arguments.max_unread,
-        arguments.max_long_commands, arguments.max_long_answers, arguments.max_lock_wait, arguments.renew_after,
+        arguments.max_long_commands, arguments.max_long_answers, arguments.max_lock_wait,
+        min(arguments.renew_after, SESSION - GROWTH),
     )  # fmt: skip
 
 
@@ -654,6 +666,7 @@ def take_clients(server: Server, listener: Listener) -> int:
     if not server.opens():
         return server.why_not_opened()
     server.store.hold(server.session.process.pid)
+    server.abouts.look()
     listener.open(server.store.folder)
     server.listener = listener
     tell_manager()

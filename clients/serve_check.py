@@ -42,12 +42,12 @@ import stat
 import subprocess
 import tempfile
 import time
-from typing import Any, Container, Generator, Iterator, NamedTuple, Optional, Sequence, TypeVar
+from typing import Any, BinaryIO, Container, Generator, Iterator, NamedTuple, Optional, Sequence, TypeVar
 
 from serve_clients import Client
 from serve_metrics import Monitor, Watch
 from serve_socket import PART, Session, inside, reason
-from serve_watch import OK, STORE_FILE, Store, mark_of
+from serve_watch import OK, STORE_FILE, Identity, Store, identity_of, mark_of
 
 LAST_LINES = 10  # of what COMMAND said
 LONGEST_LINE = 300  # characters of each of them that are told
@@ -255,6 +255,7 @@ class Copy:
         self.run: Optional[Run] = None
         self.count = 0  # of the commands that it has accepted
         self.length = self.base = 0  # bytes of its file, and of that after its last checkpoint
+        self.file: Optional[Identity] = None
 
     def next_folder(self) -> str:
         self.number += 1
@@ -288,7 +289,7 @@ class Copy:
         self.watch(session.errors_end, READ, self.take_errors)
         while not session.has_opened:
             yield from self.go_on(session)
-        self.length = os.stat(self.path).st_size
+        self.note_length()
 
     def shorten(self) -> Steps[None]:
         """Has the file written anew, without a history, which tells the count, too."""
@@ -296,7 +297,13 @@ class Copy:
         if answered is None:
             raise Lost("the copy of the store takes no checkpoint")
         self.count = int(answered[1])
-        self.base = self.length = os.stat(self.path).st_size
+        self.note_length()
+        self.base = self.length
+
+    def note_length(self) -> None:
+        """Notes which file it has, and how long that is."""
+        found = os.stat(self.path)
+        self.file, self.length = identity_of(found), found.st_size
 
     @property
     def path(self) -> str:
@@ -345,15 +352,25 @@ class Copy:
             return answer, None
         count = int(answered[1])
         if count == self.count:  # a checkpoint
-            self.base = self.length = os.stat(self.path).st_size
+            self.note_length()
+            self.base = self.length
             return answer, []
         with open(self.path, "rb") as source:
-            source.seek(self.length)
+            self.find_record(source)
             names = names_in(source.read(), count)
         if count != self.count + 1:
             raise Lost("the copy of the store has another count")
         self.count = count
         return answer, names
+
+    def find_record(self, source: BinaryIO) -> None:
+        """Reads the file up to where its last record begins. The first record with an about stands behind a new base,
+        in another file."""
+        found = os.fstat(source.fileno())
+        if identity_of(found) != self.file:
+            self.file = identity_of(found)
+            self.base = self.length = source.read().find(CLOSING) + len(CLOSING)
+        source.seek(self.length)
 
     def text(self, name: bytes) -> Steps[Optional[bytes]]:
         """The text of a configuration, or None if none has the name."""
@@ -361,7 +378,7 @@ class Copy:
 
     def keep(self) -> Steps[None]:
         """Keeps the change that was performed last. The copy needs no history: a checkpoint drops it now and then."""
-        self.length = os.stat(self.path).st_size
+        self.note_length()
         if self.length > 2 * self.base + GROWTH:
             yield from self.shorten()
 

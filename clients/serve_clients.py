@@ -20,6 +20,9 @@ MOST_DUE = 16  # commands of a client in the session
 # How commands begin whose answers are short.
 SHORT = re.compile(rb"(?:---\n)?(?:set|delete|import|batch|if):[ \n]")
 
+# Escapes that may spell a letter of a key, in a command that doesn't have the key as it is.
+SPELLED = re.compile(rb"\\[xuU\r\n]")
+
 # What is answered where another store stands in the place of the one that the server holds.
 REFUSED = b"---\nrefused: Replaced\n...\n"
 
@@ -49,9 +52,10 @@ class Client:
     """A client: what it sent and is not in the session, and what it has to read."""
 
     def __init__(
-        self, connection: socket.socket, monitor: Monitor, work: Work, serve: Callable[[Client, int], None]
+        self, connection: socket.socket, user: int, monitor: Monitor, work: Work, serve: Callable[[Client, int], None]
     ) -> None:
         self.connection = connection
+        self.user = user  # who is at the other end
         self.monitor = monitor
         self.work = work
         self.descriptor = connection.fileno()
@@ -63,6 +67,7 @@ class Client:
         self.due = 0
         self.wants_long = False  # whether the answer to its next command may be long, if that is here
         self.waits_for_long = False
+        self.may_note = False  # whether the command that it gave last may have an about
         self.has_sent_all = False
         self.is_gone = False
         self.watcher: Optional[Watcher] = None
@@ -88,6 +93,7 @@ class Client:
         self.due += 1
         self.may_hear = PART
         command = self.heard.take()
+        self.may_note = b"about" in command or (b"\\" in command and SPELLED.search(command) is not None)
         del self.work.waiting[self]  # its next turn is behind those of the others
         if self.heard.end:
             self.has_command()

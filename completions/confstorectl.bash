@@ -6,24 +6,24 @@ _confstorectl_words='import set delete copy rename move edit batch undo rollback
 
 _confstorectl_options() {
     case $1 in
-    import) echo '--init --any-root --explain --edits --if-value --if-absent --if-count --check --dry-run --from --document --split --dir --socket --wait --help' ;;
-    set) echo '--yaml --file --whole --explain --parents --insert --if-value --if-absent --if-count --check --dry-run --socket --wait --help' ;;
-    delete) echo '--whole --if-value --if-absent --if-count --check --dry-run --socket --wait --help' ;;
-    copy) echo '--replace --if-value --if-absent --if-count --check --dry-run --socket --wait --help' ;;
-    rename) echo '--if-value --if-absent --if-count --check --dry-run --socket --wait --help' ;;
-    move) echo '--if-value --if-absent --if-count --check --dry-run --socket --wait --help' ;;
-    edit) echo '--check --socket --wait --help' ;;
-    batch) echo '--explain --if-count --check --dry-run --socket --wait --help' ;;
-    undo) echo '--archive --if-count --check --dry-run --socket --wait --help' ;;
-    rollback) echo '--to --archive --if-count --check --dry-run --socket --wait --help' ;;
-    sync) echo '--delete --explain --if-count --check --dry-run --socket --wait --help' ;;
+    import) echo '--init --any-root --explain --edits --if-value --if-absent --if-count --check --dry-run --about --no-by --no-when --from --document --split --dir --socket --wait --help' ;;
+    set) echo '--yaml --file --whole --explain --parents --insert --if-value --if-absent --if-count --check --dry-run --about --no-by --no-when --socket --wait --help' ;;
+    delete) echo '--whole --if-value --if-absent --if-count --check --dry-run --about --no-by --no-when --socket --wait --help' ;;
+    copy) echo '--replace --if-value --if-absent --if-count --check --dry-run --about --no-by --no-when --socket --wait --help' ;;
+    rename) echo '--if-value --if-absent --if-count --check --dry-run --about --no-by --no-when --socket --wait --help' ;;
+    move) echo '--if-value --if-absent --if-count --check --dry-run --about --no-by --no-when --socket --wait --help' ;;
+    edit) echo '--check --about --no-by --no-when --socket --wait --help' ;;
+    batch) echo '--explain --if-count --check --dry-run --about --no-by --no-when --socket --wait --help' ;;
+    undo) echo '--archive --if-count --check --dry-run --about --no-by --no-when --socket --wait --help' ;;
+    rollback) echo '--to --archive --if-count --check --dry-run --about --no-by --no-when --socket --wait --help' ;;
+    sync) echo '--delete --explain --if-count --check --dry-run --about --no-by --no-when --socket --wait --help' ;;
     checkpoint) echo '--archive --socket --wait --help' ;;
     export) echo '--json --plain --all --socket --wait --help' ;;
     names) echo '--json --at --archive --socket --wait --help' ;;
     keys) echo '--at --archive --socket --wait --help' ;;
     get) echo '--raw --no-newline --json --plain --env --default --at --archive --socket --wait --help' ;;
     exists) echo '--at --archive --socket --wait --help' ;;
-    log) echo '--values --hide --yaml --from --to --at --archive --socket --wait --help' ;;
+    log) echo '--values --hide --yaml --json --about --from --to --at --archive --socket --wait --help' ;;
     diff) echo '--from --to --lines --hide --files --explain --archive --wait --help' ;;
     page) echo '--hide --archive --wait --help' ;;
     verify) echo '--keep-dropped --socket --wait --help' ;;
@@ -47,7 +47,7 @@ _confstorectl_names() {
 
 # The options with a value, and the words and places that are pointers: the word, the folder and the name come before
 # them.
-_confstorectl_valued='--all --archive --at --check --checkpoint-after --default --dir --document --file --from --hide --if-count --if-value --keep-dropped --settle --socket --to --wait'
+_confstorectl_valued='--about --all --archive --at --check --checkpoint-after --default --dir --document --file --from --hide --if-count --if-value --keep-dropped --settle --socket --to --wait'
 _confstorectl_is_pointer() {
     case $1:$2 in
     set:3 | delete:3 | move:3 | move:4 | keys:3 | exists:3 | watch:3) ;;
@@ -229,7 +229,7 @@ _confstorectl() {
     for ((index = 1; index < COMP_CWORD; index++)); do
         case "$word ${COMP_WORDS[index]}" in
         'format --check') ;;
-        *' --all' | *' --archive' | *' --at' | *' --check' | *' --checkpoint-after' | *' --default' | *' --dir' | *' --document' | *' --file' | *' --from' | *' --hide' | *' --if-count' | *' --if-value' | *' --keep-dropped' | *' --settle' | *' --socket' | *' --to' | *' --wait') index=$((index + 1)) ;;
+        *' --about' | *' --all' | *' --archive' | *' --at' | *' --check' | *' --checkpoint-after' | *' --default' | *' --dir' | *' --document' | *' --file' | *' --from' | *' --hide' | *' --if-count' | *' --if-value' | *' --keep-dropped' | *' --settle' | *' --socket' | *' --to' | *' --wait') index=$((index + 1)) ;;
         *' -'?*) ;;
         *)
             place=$((place + 1))
@@ -245,7 +245,7 @@ _confstorectl() {
         mapfile -t COMPREPLY < <(compgen -f -- "$current")
         return
         ;;
-    *' --at' | *' --check' | *' --checkpoint-after' | *' --default' | *' --document' | *' --from' | *' --hide' | *' --if-count' | *' --if-value' | *' --settle' | *' --to' | *' --wait') return ;;
+    *' --about' | *' --at' | *' --check' | *' --checkpoint-after' | *' --default' | *' --document' | *' --from' | *' --hide' | *' --if-count' | *' --if-value' | *' --settle' | *' --to' | *' --wait') return ;;
     esac
     if [[ $current == -* ]]; then
         [ -n "$word" ] || more=--version

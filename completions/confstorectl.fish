@@ -8,7 +8,7 @@ function __confstorectl_places
     for word in (commandline -opc)[2..-1]
         if test $is_value = 1
             set is_value 0
-        else if contains -- $word --all --archive --at --check --checkpoint-after --default --dir --document --file --from --hide --if-count --if-value --keep-dropped --settle --socket --to --wait; and not contains -- "$places[1] $word" 'format --check'
+        else if contains -- $word --about --all --archive --at --check --checkpoint-after --default --dir --document --file --from --hide --if-count --if-value --keep-dropped --settle --socket --to --wait; and not contains -- "$places[1] $word" 'format --check'
             set is_value 1
         else if not string match -q -- '-?*' $word
             set -a places $word
@@ -188,6 +188,10 @@ complete -c confstorectl -n '__confstorectl_is import' -l check -x \
     -d 'Makes the change only if COMMAND, of a shell, takes the text that comes of it'
 complete -c confstorectl -n '__confstorectl_is import' -l dry-run \
     -d 'Writes what would change, as `diff -u` does, and changes nothing'
+complete -c confstorectl -n '__confstorectl_is import' -l about -x \
+    -d 'Notes a text of the change under a key, as why=TEXT; may be given again'
+complete -c confstorectl -n '__confstorectl_is import' -l no-by -d 'Does not note the login name as `by`'
+complete -c confstorectl -n '__confstorectl_is import' -l no-when -d 'Does not note the time as `when`'
 complete -c confstorectl -n '__confstorectl_is import' -l from -x \
     -d 'Reads a text of another format, as yaml, toml, ini, env, properties or json5'
 complete -c confstorectl -n '__confstorectl_is import' -l document -x \
@@ -218,6 +222,10 @@ complete -c confstorectl -n '__confstorectl_is set' -l check -x \
     -d 'Makes the change only if COMMAND, of a shell, takes the text that comes of it'
 complete -c confstorectl -n '__confstorectl_is set' -l dry-run \
     -d 'Writes what would change, as `diff -u` does, and changes nothing'
+complete -c confstorectl -n '__confstorectl_is set' -l about -x \
+    -d 'Notes a text of the change under a key, as why=TEXT; may be given again'
+complete -c confstorectl -n '__confstorectl_is set' -l no-by -d 'Does not note the login name as `by`'
+complete -c confstorectl -n '__confstorectl_is set' -l no-when -d 'Does not note the time as `when`'
 complete -c confstorectl -n '__confstorectl_is delete' -l whole \
     -d 'Allows the pointer "", which stands for the whole configuration'
 complete -c confstorectl -n '__confstorectl_is delete' -l if-value -x \
@@ -230,6 +238,10 @@ complete -c confstorectl -n '__confstorectl_is delete' -l check -x \
     -d 'Makes the change only if COMMAND, of a shell, takes the text that comes of it'
 complete -c confstorectl -n '__confstorectl_is delete' -l dry-run \
     -d 'Writes what would change, as `diff -u` does, and changes nothing'
+complete -c confstorectl -n '__confstorectl_is delete' -l about -x \
+    -d 'Notes a text of the change under a key, as why=TEXT; may be given again'
+complete -c confstorectl -n '__confstorectl_is delete' -l no-by -d 'Does not note the login name as `by`'
+complete -c confstorectl -n '__confstorectl_is delete' -l no-when -d 'Does not note the time as `when`'
 complete -c confstorectl -n '__confstorectl_is copy' -l replace \
     -d 'Replaces a configuration that has the name TO'
 complete -c confstorectl -n '__confstorectl_is copy' -l if-value -x \
@@ -242,6 +254,10 @@ complete -c confstorectl -n '__confstorectl_is copy' -l check -x \
     -d 'Makes the change only if COMMAND, of a shell, takes the text that comes of it'
 complete -c confstorectl -n '__confstorectl_is copy' -l dry-run \
     -d 'Writes what would change, as `diff -u` does, and changes nothing'
+complete -c confstorectl -n '__confstorectl_is copy' -l about -x \
+    -d 'Notes a text of the change under a key, as why=TEXT; may be given again'
+complete -c confstorectl -n '__confstorectl_is copy' -l no-by -d 'Does not note the login name as `by`'
+complete -c confstorectl -n '__confstorectl_is copy' -l no-when -d 'Does not note the time as `when`'
 complete -c confstorectl -n '__confstorectl_is rename' -l if-value -x \
     -d 'Changes the store only if this text is at the place that is changed'
 complete -c confstorectl -n '__confstorectl_is rename' -l if-absent \
@@ -252,6 +268,10 @@ complete -c confstorectl -n '__confstorectl_is rename' -l check -x \
     -d 'Makes the change only if COMMAND, of a shell, takes the text that comes of it'
 complete -c confstorectl -n '__confstorectl_is rename' -l dry-run \
     -d 'Writes what would change, as `diff -u` does, and changes nothing'
+complete -c confstorectl -n '__confstorectl_is rename' -l about -x \
+    -d 'Notes a text of the change under a key, as why=TEXT; may be given again'
+complete -c confstorectl -n '__confstorectl_is rename' -l no-by -d 'Does not note the login name as `by`'
+complete -c confstorectl -n '__confstorectl_is rename' -l no-when -d 'Does not note the time as `when`'
 complete -c confstorectl -n '__confstorectl_is move' -l if-value -x \
     -d 'Changes the store only if this text is at the place that is changed'
 complete -c confstorectl -n '__confstorectl_is move' -l if-absent \
@@ -262,8 +282,16 @@ complete -c confstorectl -n '__confstorectl_is move' -l check -x \
     -d 'Makes the change only if COMMAND, of a shell, takes the text that comes of it'
 complete -c confstorectl -n '__confstorectl_is move' -l dry-run \
     -d 'Writes what would change, as `diff -u` does, and changes nothing'
+complete -c confstorectl -n '__confstorectl_is move' -l about -x \
+    -d 'Notes a text of the change under a key, as why=TEXT; may be given again'
+complete -c confstorectl -n '__confstorectl_is move' -l no-by -d 'Does not note the login name as `by`'
+complete -c confstorectl -n '__confstorectl_is move' -l no-when -d 'Does not note the time as `when`'
 complete -c confstorectl -n '__confstorectl_is edit' -l check -x \
     -d 'Makes the change only if COMMAND, of a shell, takes the text that comes of it'
+complete -c confstorectl -n '__confstorectl_is edit' -l about -x \
+    -d 'Notes a text of the change under a key, as why=TEXT; may be given again'
+complete -c confstorectl -n '__confstorectl_is edit' -l no-by -d 'Does not note the login name as `by`'
+complete -c confstorectl -n '__confstorectl_is edit' -l no-when -d 'Does not note the time as `when`'
 complete -c confstorectl -n '__confstorectl_is batch' -l explain \
     -d 'Shows the line at fault of a refused text, and says what to do'
 complete -c confstorectl -n '__confstorectl_is batch' -l if-count -x \
@@ -272,6 +300,10 @@ complete -c confstorectl -n '__confstorectl_is batch' -l check -x \
     -d 'Makes the change only if COMMAND, of a shell, takes the text that comes of it'
 complete -c confstorectl -n '__confstorectl_is batch' -l dry-run \
     -d 'Writes what would change, as `diff -u` does, and changes nothing'
+complete -c confstorectl -n '__confstorectl_is batch' -l about -x \
+    -d 'Notes a text of the change under a key, as why=TEXT; may be given again'
+complete -c confstorectl -n '__confstorectl_is batch' -l no-by -d 'Does not note the login name as `by`'
+complete -c confstorectl -n '__confstorectl_is batch' -l no-when -d 'Does not note the time as `when`'
 complete -c confstorectl -n '__confstorectl_is undo' -l archive -r -F \
     -d 'Looks into the store DIR, too, which `checkpoint --archive` made; may be given again'
 complete -c confstorectl -n '__confstorectl_is undo' -l if-count -x \
@@ -280,6 +312,10 @@ complete -c confstorectl -n '__confstorectl_is undo' -l check -x \
     -d 'Makes the change only if COMMAND, of a shell, takes the text that comes of it'
 complete -c confstorectl -n '__confstorectl_is undo' -l dry-run \
     -d 'Writes what would change, as `diff -u` does, and changes nothing'
+complete -c confstorectl -n '__confstorectl_is undo' -l about -x \
+    -d 'Notes a text of the change under a key, as why=TEXT; may be given again'
+complete -c confstorectl -n '__confstorectl_is undo' -l no-by -d 'Does not note the login name as `by`'
+complete -c confstorectl -n '__confstorectl_is undo' -l no-when -d 'Does not note the time as `when`'
 complete -c confstorectl -n '__confstorectl_is rollback' -l to -x -d 'Goes as far as command number N'
 complete -c confstorectl -n '__confstorectl_is rollback' -l archive -r -F \
     -d 'Looks into the store DIR, too, which `checkpoint --archive` made; may be given again'
@@ -289,6 +325,10 @@ complete -c confstorectl -n '__confstorectl_is rollback' -l check -x \
     -d 'Makes the change only if COMMAND, of a shell, takes the text that comes of it'
 complete -c confstorectl -n '__confstorectl_is rollback' -l dry-run \
     -d 'Writes what would change, as `diff -u` does, and changes nothing'
+complete -c confstorectl -n '__confstorectl_is rollback' -l about -x \
+    -d 'Notes a text of the change under a key, as why=TEXT; may be given again'
+complete -c confstorectl -n '__confstorectl_is rollback' -l no-by -d 'Does not note the login name as `by`'
+complete -c confstorectl -n '__confstorectl_is rollback' -l no-when -d 'Does not note the time as `when`'
 complete -c confstorectl -n '__confstorectl_is sync' -l delete \
     -d 'Removes each configuration that has no file'
 complete -c confstorectl -n '__confstorectl_is sync' -l explain \
@@ -299,6 +339,10 @@ complete -c confstorectl -n '__confstorectl_is sync' -l check -x \
     -d 'Makes the change only if COMMAND, of a shell, takes the text that comes of it'
 complete -c confstorectl -n '__confstorectl_is sync' -l dry-run \
     -d 'Writes what would change, as `diff -u` does, and changes nothing'
+complete -c confstorectl -n '__confstorectl_is sync' -l about -x \
+    -d 'Notes a text of the change under a key, as why=TEXT; may be given again'
+complete -c confstorectl -n '__confstorectl_is sync' -l no-by -d 'Does not note the login name as `by`'
+complete -c confstorectl -n '__confstorectl_is sync' -l no-when -d 'Does not note the time as `when`'
 complete -c confstorectl -n '__confstorectl_is checkpoint' -l archive -r -F \
     -d 'Makes the new store NEW before, which has all that the checkpoint drops'
 complete -c confstorectl -n '__confstorectl_is export' -l json \
@@ -339,9 +383,13 @@ complete -c confstorectl -n '__confstorectl_is exists' -l archive -r -F \
 complete -c confstorectl -n '__confstorectl_is log' -l values \
     -d 'Writes the value of each import and set, too, as a JSON text'
 complete -c confstorectl -n '__confstorectl_is log' -l hide -x \
-    -d 'Writes `hidden` for what is at POINTER, or below it; needs --values, and may be given again' -a '(__confstorectl_pointers | string split0)'
+    -d 'Writes `hidden` for what is at POINTER, or below it; needs --values or --json; may be given again' -a '(__confstorectl_pointers | string split0)'
 complete -c confstorectl -n '__confstorectl_is log' -l yaml \
     -d 'Writes the records as they stand in store.yaml'
+complete -c confstorectl -n '__confstorectl_is log' -l json \
+    -d 'Writes each command as a JSON object on one line, with its values'
+complete -c confstorectl -n '__confstorectl_is log' -l about -x \
+    -d 'Shows what is noted under KEY, in place of `by`, `when` and `why`; may be given again'
 complete -c confstorectl -n '__confstorectl_is log' -l from -x -d 'Begins with command number N'
 complete -c confstorectl -n '__confstorectl_is log' -l to -x -d 'Goes as far as command number N'
 complete -c confstorectl -n '__confstorectl_is log' -l at -x \

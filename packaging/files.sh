@@ -13,6 +13,7 @@ put_files() { # PROGRAM FOLDER
     local page
     put 755 "$1" "$2/bin/confstore" &&
         put 755 "$top/clients/serve.py" "$2/lib/confstore/serve.py" &&
+        put 644 "$top/clients/serve_abouts.py" "$2/lib/confstore/serve_abouts.py" &&
         put 644 "$top/clients/serve_check.py" "$2/lib/confstore/serve_check.py" &&
         put 644 "$top/clients/serve_clients.py" "$2/lib/confstore/serve_clients.py" &&
         put 644 "$top/clients/serve_metrics.py" "$2/lib/confstore/serve_metrics.py" &&

@@ -20,7 +20,8 @@ TOP = os.path.dirname(HERE)
 sys.path.insert(0, HERE)
 
 from confstore import __version__  # noqa: E402
-from confstore.ctl_words import COMMON, DESCRIPTION, FAULTS, GROUPS, HELP, OWN_FAULTS, STATUSES  # noqa: E402
+from confstore.ctl_description import DESCRIPTION, FAULTS, OWN_FAULTS, STATUSES  # noqa: E402
+from confstore.ctl_words import COMMON, GROUPS, HELP  # noqa: E402
 from confstore.ctl_words import VERSION, WORDS, Argument, Option, Word  # noqa: E402
 
 MADE = "# python/pages_of_confstorectl.py makes this file of the table of words."
@@ -459,6 +460,7 @@ def for_man() -> str:
     parts += [escaped(line) for word in ALL for line in word.examples]
     parts.append(".EE\n.SH ENVIRONMENT\n.TP\n.B CONFSTORE_SOCKET\nThe socket, where\n.B \\-\\-socket\nnames none.")
     parts.append(".TP\n.B CONFSTORE\nThe program confstore.")
+    parts.append(".TP\n.B CONFSTORE_ABOUT\nWhat is noted of each change: KEY=TEXT, a line each.")
     parts.append(".SH FILES\n.TP\n.I FOLDER/confstore.sock\nThe socket of a server, where none is named.")
     parts.append(".SH SEE ALSO\n.BR confstore (1),\n.BR confstore\\-store (5)")
     return "\n".join(parts) + "\n"

@@ -8,7 +8,7 @@ from collections.abc import Sequence
 from .store_runs import Failures, session
 
 # The refusals of a command that no edit is refused by.
-OF_NO_EDIT = ("refused: Unmet", "refused: BadCommand", "refused: EmptyBatch")
+OF_NO_EDIT = ("refused: Unmet", "refused: BadCommand", "refused: AboutLarge", "refused: EmptyBatch")
 
 
 def answers_in(output: str) -> list[str]:

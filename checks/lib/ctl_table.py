@@ -13,12 +13,17 @@ from lib.store_runs import TOP
 sys.path.insert(0, os.path.join(TOP, "python"))
 
 from confstore.ctl_words import (  # noqa: E402
-    ARCHIVE, ARCHIVES, EDITS, ENVIRONMENT, EXPLAIN, FOREIGN, HIDE_VALUES, LINES, PLANNED, WORDS,
+    ARCHIVE, ARCHIVES, EDITS, ENVIRONMENT, EXPLAIN, FOREIGN, HIDE_VALUES, JSON_RECORDS, LINES, NOTE_SHOWN, NOTED,
+    PLANNED, WORDS,
 )  # fmt: skip
 
 # The options of words of confstore that it does not have, and those that it has of other words alone.
-ALONE = (*FOREIGN, *PLANNED, ARCHIVE, ARCHIVES, EDITS, ENVIRONMENT, LINES, HIDE_VALUES)
-ALONE_OF = {"diff": (EXPLAIN,)}
+ALONE = (*FOREIGN, *PLANNED, *NOTED, ARCHIVE, ARCHIVES, EDITS, ENVIRONMENT, LINES, HIDE_VALUES)
+ALONE_OF = {"diff": (EXPLAIN,), "log": (NOTE_SHOWN, JSON_RECORDS)}
+
+# Those that confstore may have or not: what notes and shows who makes a change, when and why.
+OPTIONAL = {option.name for option in (*NOTED, NOTE_SHOWN)}
+OPTIONAL_OF = {"log": {JSON_RECORDS.name}}
 
 # A row of the help of a word: an argument, or an option, and a row of the words in the help of all.
 ARGUMENT = re.compile(r"(?m)^  (<|\[)([A-Z]+)[>\]](?:\.\.\.)?  +\S")

@@ -6,13 +6,19 @@ So it may read a piece that the program refuses, or the other way round; where b
 
 from __future__ import annotations
 
+import os
 import re
+import sys
 from collections.abc import Callable, Sequence
 from typing import Any
 
 import yaml
 
-from .trees import NAME, NUMBER, Configs, Refused, Tree, edited, steps_of
+from .store_runs import TOP
+from .trees import NAME, NUMBER, Configs, Refused, Tree, as_json, edited, steps_of
+
+sys.path.insert(0, os.path.join(TOP, "python"))
+from confstore.style import to_text  # noqa: E402
 
 # PyYAML's function has no types.
 compose_all: Callable[..., Any] = yaml.compose_all
@@ -22,10 +28,15 @@ CLOSING = re.compile(rb"^\.\.\.\n", re.MULTILINE)
 # The characters x85, x2028 and x2029 are breaks in YAML 1.1, and none in YAML 1.2.
 OLD_BREAKS = re.compile(rb"\xc2\x85|\xe2\x80[\xa8\xa9]")
 
-# The names of the formats that a base may have. The second is the one that is written.
-FORMATS = ("confstore-1", "confstore-2")
+# The names of the formats that a base may have. The second is written in a store without abouts, and the third once a
+# command with an about was accepted. In the third a base begins so, or the next about renews the file.
+FORMATS = ("confstore-1", "confstore-2", "confstore-3")
+THIRD = b"---\nstore: confstore-3\n"
 
 GREATEST = 2**64 - 1
+
+# The most pairs of an about, the most characters of a key, and the most bytes in the one style.
+PAIRS_OF_ABOUT, KEY_OF_ABOUT, BYTES_OF_ABOUT = 16, 64, 4_096
 
 
 class NotAStore(Exception):
@@ -99,8 +110,33 @@ def read_base(piece: bytes) -> tuple[Configs, int]:
     return dict(values[2]), number_of(values[1])
 
 
+def fault_of_about(tree: Tree) -> str | None:
+    """The refusal of a command with this about, by its first fault: of a pair, and then of the whole."""
+    if not isinstance(tree, tuple):
+        return "BadCommand"
+    for key, value in tree:
+        if len(key) > KEY_OF_ABOUT:
+            return "AboutLarge"
+        if not key or not isinstance(value, str):
+            return "BadCommand"
+    if not tree or len(dict(tree)) < len(tree):
+        return "BadCommand"
+    is_large = len(tree) > PAIRS_OF_ABOUT or len(to_text(as_json(tree)).encode()) > BYTES_OF_ABOUT
+    return "AboutLarge" if is_large else None
+
+
+def without_about(keys: tuple[str, ...], values: Sequence[Tree]) -> tuple[tuple[str, ...], Sequence[Tree]]:
+    """The keys and the values of a command before its about, if it has one."""
+    if keys[-1:] != ("about",) or fault_of_about(values[-1]):
+        return keys, values
+    return keys[:-1], values[:-1]
+
+
 def perform(configs: Configs, keys: tuple[str, ...], values: Sequence[Tree]) -> Configs:
-    """The configurations after a record's command: an edit, or a batch of at least one."""
+    """The configurations after a record's command: an edit, or a batch of at least one, and perhaps an about."""
+    keys, values = without_about(keys, values)
+    if not values:
+        raise Refused
     if keys != ("batch",):
         return edited(configs, keys, values)
     if not isinstance(values[0], list) or not values[0]:
@@ -136,6 +172,7 @@ def is_record(piece: bytes) -> bool:
         number_of(values[0])
     except Refused:
         return False
+    keys, values = without_about(keys, values)
     if keys[0] != "at" or keys[1:] != ("batch",):
         return keys[0] == "at" and is_edit(keys[1:], values[1:])
     edits = values[1]

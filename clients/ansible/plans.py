@@ -1,16 +1,20 @@
 """Tries the parts of the Ansible collection by themselves: texts in the one style beside `confstore format`, planned
-edits beside a store, what plans stand on where another user comes between, and what is shown of them."""
+edits beside a store, what plans stand on where another user comes between, what is shown of them, and what is noted of
+a change."""
 
 from __future__ import annotations
 
 import functools
 import os
+import pwd
 import random
 import subprocess
 from typing import Any
+from unittest import mock
 
-from ansible_collections.confstore.store.plugins.module_utils import differences, edits, faults, grounds, style
+from ansible_collections.confstore.store.plugins.module_utils import differences, edits, faults, grounds, stores, style
 from confstore import Absent, Condition, Refused, Store, Test
+from confstore.trees import trees_of
 from lib.store_runs import PROGRAM, Failures
 
 SECRET = "s3cret-of-the-trial"
@@ -275,7 +279,60 @@ def try_differences(failures: Failures) -> None:
         failures.expect(f"what is shown of {one} and {other_one}", [tuple(place) for place in found], wanted)
 
 
+def noted(target: stores.Target, kind: str) -> Any:
+    """What the store notes of one more change of a task, with the length of `when`. `kind` is how it is made."""
+    assert target.folder is not None
+    if kind == "package":
+        store: stores.Store = stores.ByPackage(Store, target.folder, target, about=target.given())
+    else:
+        store = stores.BySession(stores.Program(target), target).begun()
+    try:
+        store.perform([edits.Edit("import", "web", "", {"n": "1"})])
+    finally:
+        store.close()
+    with open(os.path.join(target.folder, "store.yaml"), "rb") as source:
+        record = trees_of(source.read())[-1]
+    assert isinstance(record, dict)
+    about: Any = record.get("about")
+    return about and {**about, "when": len(about["when"]) if "when" in about else 0}
+
+
+def try_abouts(top: str, failures: Failures) -> None:
+    """What a task gives, and its name, where it asks for an about, or the store keeps them; by a program that takes
+    abouts, or by a stand-in of one (`python/tests/about_program.py`)."""
+    os.environ.setdefault("CONFSTORE", PROGRAM)
+    from tests.about_program import program_with_abouts
+
+    environment = program_with_abouts()
+    with mock.patch.dict(os.environ, environment):
+        for kind in ("package", "session"):
+            folder = os.path.join(top, f"abouts-{kind}")
+            os.mkdir(folder)
+            try_abouts_by(kind, stores.Target(folder, None, environment["CONFSTORE"], 60.0, None, "A task"), failures)
+
+
+def try_abouts_by(kind: str, target: stores.Target, failures: Failures) -> None:
+    own = {"by": pwd.getpwuid(os.getuid()).pw_name, "when": len("2026-12-01T10:00:00Z"), "why": "A task"}
+    rows: list[tuple[stores.Given | None, Any]] = [
+        (None, None), ({"ticket": "7"}, {**own, "ticket": "7"}), (None, own),
+        ({"why": "mine", "by": None}, {"when": own["when"], "why": "mine"}), ({}, own),
+        ({"by": None, "when": None, "why": None}, None),
+    ]  # fmt: skip
+    for given, wanted in rows:
+        failures.expect(f"{given} by the {kind}", noted(target._replace(about=given), kind), wanted)
+    wrongs: list[tuple[stores.Given, str]] = [
+        ({"": "x"}, "BadCommand"), ({"k" * 65: "x"}, "AboutLarge"), ({"k": "x" * 5000}, "AboutLarge")
+    ]  # fmt: skip
+    for given, name in wrongs:
+        try:
+            noted(target._replace(about=given), kind)
+            failures.expect(f"{name} by the {kind}", "done", name)
+        except stores.Fault as fault:
+            failures.expect(f"{name} by the {kind}", fault.name, name)
+
+
 def try_parts(top: str, failures: Failures) -> None:
+    try_abouts(top, failures)
     try_style(failures)
     try_plans(os.path.join(top, "plans"), failures)
     try_wishes(failures)

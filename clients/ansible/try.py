@@ -53,7 +53,7 @@ Result = dict[str, Any]
 
 
 def try_names(failures: Failures) -> None:
-    """The names of docs/FAULTS.md are those of the module. `Comments` is only refused in a file of `format -i`."""
+    """The names of docs/FAULTS.md are those of the module, but for those of words that it does not use."""
     page = read_file(os.path.join(TOP, "docs", "FAULTS.md")).decode()
     tables = {
         part.split("\n", 1)[0].strip(): re.findall(r"(?m)^\| (`[A-Z].*?`) \|", part) for part in page.split("\n## ")
@@ -61,10 +61,11 @@ def try_names(failures: Failures) -> None:
     found = {title: set(re.findall(r"`(\w+)`", " ".join(rows))) for title, rows in tables.items()}
     reasons = set(faults.REASONS)
     of_get = {"NotText", "NotCollection"}  # of the program's words that write a value in another form
-    refusals = (found["Of a text"] | found["Of a command"]) - reasons - {"Comments"} - of_get
+    of_files = {"Comments", "Unsettled", "OneValue", "FileExists"}  # of `format`, `import` and `--keep-dropped`
+    refusals = (found["Of a text"] | found["Of a command"]) - reasons - of_files - of_get
     failures.expect("refusals", refusals, set(faults.REFUSALS))
     failures.expect("reasons", found["Of a text"] & reasons, reasons)
-    ends = found["Of a store and of the program"] - {"TooLong", "Reopen", "Unmet"} - of_get
+    ends = found["Of a store and of the program"] - {"TooLong", "Reopen", "Unmet"} - of_files - of_get
     failures.expect("ends", ends, set(faults.ENDS))
 
 

@@ -41,6 +41,7 @@ struct confstore {
     size_t whole;                /* where the last answer that is whole ends */
     size_t answers;              /* how many are whole and were not taken */
     struct confstore_bytes command, answer; /* of the last call that was a command from its first byte to its answer */
+    struct confstore_bytes about;           /* as it stands in each change by such a call */
     size_t error_length;
     char error_text[ERRORS_KEPT]; /* the end of standard error */
     struct confstore *before, *after; /* in the list of those that are open */
@@ -373,18 +374,15 @@ enum confstore_status confstore_ask(struct confstore *store, const char *command
 /* How many bytes the answer to a change has at most. */
 #define SHORT_ANSWER 4096
 
-/* A line of a command. */
-struct pair {
-    const char *key, *text;
-    size_t length;
-};
-
-/* Writes a command, and has room for its answer if that is short, so that there is memory for all that a change takes
- * before it is sent. */
-static enum confstore_status write_command(struct confstore *store, const struct pair *pairs, size_t count) {
+/* Writes a command, which may have the about of the store, and has room for its answer if that is short, so that there
+ * is memory for all that a change takes before it is sent. */
+static enum confstore_status write_command(struct confstore *store, const struct confstore_pair *pairs, size_t count,
+                                           bool may_have_about) {
     enum confstore_status status = confstore_begin(&store->command);
     for (size_t at = 0; at < count && status == CONFSTORE_OK; at++)
         status = confstore_write_pair(&store->command, pairs[at].key, pairs[at].text, pairs[at].length);
+    if (status == CONFSTORE_OK && may_have_about)
+        status = confstore_bytes_add(&store->command, store->about.data, store->about.length);
     if (status == CONFSTORE_OK) status = confstore_end(&store->command);
     store->answer.length = 0;
     if (status == CONFSTORE_OK) status = confstore_bytes_reserve(&store->answer, SHORT_ANSWER);
@@ -392,13 +390,13 @@ static enum confstore_status write_command(struct confstore *store, const struct
 }
 
 /* Has a command performed, to which the answer is of this kind, or a refusal. */
-static enum confstore_status perform(struct confstore *store, const struct pair *pairs, size_t count,
+static enum confstore_status perform(struct confstore *store, const struct confstore_pair *pairs, size_t count,
                                      enum confstore_said kind, struct confstore_answer *said) {
     *said = (struct confstore_answer){0};
     if (is_forked(store)) return CONFSTORE_FORKED;
     if (store->ended != CONFSTORE_OK) return store->ended;
     if (store->due > 0) return CONFSTORE_TIMED_OUT;
-    enum confstore_status status = write_command(store, pairs, count);
+    enum confstore_status status = write_command(store, pairs, count, kind == CONFSTORE_SAID_OK);
     if (status == CONFSTORE_OK)
         status = confstore_ask(store, store->command.data, store->command.length, &store->answer);
     if (status != CONFSTORE_OK) return status;
@@ -412,26 +410,38 @@ static enum confstore_status perform(struct confstore *store, const struct pair 
 
 enum confstore_status confstore_set(struct confstore *store, const char *name, const char *path, const char *text,
                                     size_t length, struct confstore_answer *said) {
-    const struct pair pairs[] = {{"set", name, strlen(name)}, {"path", path, strlen(path)}, {"value", text, length}};
+    const struct confstore_pair pairs[] = {
+        {"set", name, strlen(name)}, {"path", path, strlen(path)}, {"value", text, length}};
     return perform(store, pairs, 3, CONFSTORE_SAID_OK, said);
 }
 
 enum confstore_status confstore_import(struct confstore *store, const char *name, const char *text, size_t length,
                                        struct confstore_answer *said) {
-    const struct pair pairs[] = {{"import", name, strlen(name)}, {"text", text, length}};
+    const struct confstore_pair pairs[] = {{"import", name, strlen(name)}, {"text", text, length}};
     return perform(store, pairs, 2, CONFSTORE_SAID_OK, said);
 }
 
 enum confstore_status confstore_delete(struct confstore *store, const char *name, const char *path,
                                        struct confstore_answer *said) {
-    const struct pair pairs[] = {{"delete", name, strlen(name)}, {"path", path, strlen(path)}};
+    const struct confstore_pair pairs[] = {{"delete", name, strlen(name)}, {"path", path, strlen(path)}};
     return perform(store, pairs, 2, CONFSTORE_SAID_OK, said);
 }
 
 enum confstore_status confstore_get(struct confstore *store, const char *name, const char *path,
                                     struct confstore_answer *said) {
-    const struct pair pairs[] = {{"get", name, strlen(name)}, {"path", path, strlen(path)}};
+    const struct confstore_pair pairs[] = {{"get", name, strlen(name)}, {"path", path, strlen(path)}};
     return perform(store, pairs, 2, CONFSTORE_SAID_VALUE, said);
+}
+
+enum confstore_status confstore_set_about(struct confstore *store, const struct confstore_pair *pairs, size_t count) {
+    if (is_forked(store)) return CONFSTORE_FORKED;
+    if (store->ended != CONFSTORE_OK) return store->ended;
+    struct confstore_bytes about = {0};
+    enum confstore_status status = confstore_write_about(&about, pairs, count);
+    struct confstore_bytes *old = status == CONFSTORE_OK ? &store->about : &about;
+    confstore_bytes_free(old);
+    if (status == CONFSTORE_OK) store->about = about;
+    return status;
 }
 
 /* A store of these ends. The lock of the stores is held. */
@@ -677,6 +687,7 @@ enum confstore_status confstore_close_counted(struct confstore *store, int *stat
     confstore_bytes_free(&store->got);
     confstore_bytes_free(&store->command);
     confstore_bytes_free(&store->answer);
+    confstore_bytes_free(&store->about);
     free(store);
     return ended;
 }

@@ -47,8 +47,8 @@ extern "C" {
 #endif
 
 /* The version of this library. Its number has three digits each for the second and the third part: 1.2.3 is 1002003. */
-#define CONFSTORE_VERSION "0.6.1"
-#define CONFSTORE_VERSION_NUMBER 2000
+#define CONFSTORE_VERSION "0.7.0"
+#define CONFSTORE_VERSION_NUMBER 7000
 
 /* The longest command that a session takes, with its closing line. */
 #define CONFSTORE_LONGEST_COMMAND ((size_t)16777216)
@@ -210,6 +210,25 @@ enum confstore_status confstore_begin_when(struct confstore_bytes *command,
 enum confstore_status confstore_begin_batch_when(struct confstore_bytes *command,
                                                  const struct confstore_condition *conditions, size_t count);
 
+/* A key of an about, which ends in a zero byte, and its text. */
+struct confstore_pair {
+    const char *key, *text;
+    size_t length;
+};
+
+/* Writes an about, which says who makes a change, when and why: so many pairs, in this order, as the last lines of a
+ * command that changes something, or behind the edits of a batch. confstore_end comes next. Any keys may stand there;
+ * usual ones are `by`, `when` and `why`. Where the count is 0 nothing is written.
+ *
+ *     const struct confstore_pair about[] = {{"by", "ann", 3}, {"why", "open the port", 13}};
+ *     confstore_write_about(&command, about, 2);
+ *
+ * The program looks at the limits. It refuses more than 16 pairs, a key of more than 64 characters, and an about of
+ * more than 4,096 bytes in the one style as AboutLarge; a program before 0.7 refuses each about as BadCommand. Once a
+ * store has accepted one, such a program can't read it any more. */
+enum confstore_status confstore_write_about(struct confstore_bytes *command, const struct confstore_pair *pairs,
+                                            size_t count);
+
 /* Reads back a scalar of the one style, with the line feed that ends it, and writes its text at the end of the bytes.
  * What is there already stays. Where a text ends in at most one line feed, the one that ends the scalar may be missing.
  */
@@ -256,6 +275,10 @@ enum confstore_status confstore_delete(struct confstore *store, const char *name
                                        struct confstore_answer *said);
 enum confstore_status confstore_get(struct confstore *store, const char *name, const char *path,
                                     struct confstore_answer *said);
+
+/* Gives each later change by one of the first three calls above an about of so many pairs, as confstore_write_about
+ * does, or none if the count is 0. What the pairs say is copied. Unless this returns CONFSTORE_OK, all is as before. */
+enum confstore_status confstore_set_about(struct confstore *store, const struct confstore_pair *pairs, size_t count);
 
 /* A watch of the changes of a store. It takes no lock and writes nothing, so it runs beside whoever holds the store,
  * and goes on over checkpoints and over sessions that end and begin. It is used by one thread at a time, and by the
@@ -310,10 +333,22 @@ struct confstore_edit {
 };
 
 /* Reads the edit at a place of a record, and moves the place behind it. The place of the first edit is 0; only the
- * record of a batch has more than one. Returns CONFSTORE_NOTHING_DUE behind the last one, and CONFSTORE_NOT_IN_STYLE
- * for what the program did not write. */
+ * record of a batch has more than one. Returns CONFSTORE_NOTHING_DUE behind the last one, where an about may stand, and
+ * CONFSTORE_NOT_IN_STYLE for what the program did not write. */
 enum confstore_status confstore_read_edit(const char *record, size_t length, size_t *place,
                                           struct confstore_edit *edit);
+
+/* A pair of the about of a record. Both parts point into the record, and are scalars, for confstore_read_text. */
+struct confstore_about_pair {
+    struct confstore_part key, text;
+};
+
+/* Reads the pair at a place of a record's about, and moves the place behind it. The place of the first pair is 0, or
+ * where confstore_read_edit has returned CONFSTORE_NOTHING_DUE. Returns CONFSTORE_NOTHING_DUE behind the last pair, and
+ * of a record without an about; and CONFSTORE_NOT_IN_STYLE for what the program did not write. It does not look at the
+ * limits. */
+enum confstore_status confstore_read_about(const char *record, size_t length, size_t *place,
+                                           struct confstore_about_pair *pair);
 
 #ifdef __cplusplus
 }

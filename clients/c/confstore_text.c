@@ -292,6 +292,25 @@ enum confstore_status confstore_begin_batch_when(struct confstore_bytes *command
     return begin_when(command, conditions, count, "batch:\n");
 }
 
+/* Abouts. */
+
+/* The line before an about, and the start of each of its own. */
+#define ABOUT "about:\n"
+#define OF_ABOUT "  "
+
+enum confstore_status confstore_write_about(struct confstore_bytes *command, const struct confstore_pair *pairs,
+                                            size_t count) {
+    size_t before = command->length;
+    bool is_begun = count == 0 || push(command, ABOUT, strlen(ABOUT));
+    enum confstore_status status = is_begun ? CONFSTORE_OK : CONFSTORE_NO_MEMORY;
+    for (size_t at = 0; status == CONFSTORE_OK && at < count; at++)
+        status = write_pair(command, OF_ABOUT, pairs[at].key, pairs[at].text, pairs[at].length);
+    if (status != CONFSTORE_OK) command->length = before;
+    return status;
+}
+
+/* Reading texts. */
+
 /* Writes a character in UTF-8. */
 static bool push_character(struct confstore_bytes *to, uint32_t number) {
     if (number < 0x80) return push_byte(to, (char)number);
@@ -490,17 +509,80 @@ static bool take_edit(const char **at, const char *end, const char *first, const
     return false;
 }
 
+/* The place behind a scalar of one line: a word that a sign ends, or what is in double quotes. NULL: there is none. */
+static const char *after_scalar(const char *at, const char *end, char sign) {
+    const char *from = at;
+    bool is_quoted = at < end && *at == '"';
+    if (is_quoted) at++;
+    while (at < end && *at != (is_quoted ? '"' : sign)) at += is_quoted && *at == '\\' ? 2 : 1;
+    if (at >= end) return NULL;
+    if (is_quoted) return at + 1;
+    return is_word(from, (size_t)(at - from)) ? at : NULL;
+}
+
+/* Takes a pair of an about: a key, and a text as its value, which is no collection. */
+static bool take_about_pair(const char **at, const char *end, struct confstore_about_pair *pair) {
+    size_t margin = strlen(OF_ABOUT);
+    const char *line = *at, *next = after_line(line, end);
+    if ((size_t)(next - line) <= margin || memcmp(line, OF_ABOUT, margin)) return false;
+    const char *key = line + margin, *colon = after_scalar(key, next, ':');
+    if (!colon || next - colon < 3 || memcmp(colon, ": ", 2)) return false;
+    const char *text = colon + 2;
+    if (*text != '|' && after_scalar(text, next, '\n') != next - 1) return false;
+    while (*text == '|' && next < end && is_deeper(next, end, margin)) next = after_line(next, end);
+    *pair = (struct confstore_about_pair){{key, (size_t)(colon - key)}, {text, (size_t)(next - text)}};
+    *at = next;
+    return next[-1] == '\n';
+}
+
+/* Whether an about begins at a place of a record. What is in a value does not, since its lines begin with spaces. */
+static bool is_about(const char *at, const char *end) {
+    size_t length = strlen(ABOUT);
+    return (size_t)(end - at) > length && !memcmp(at, ABOUT, length);
+}
+
+/* What is behind the edits of a record: an about, or what the program did not write. */
+static enum confstore_status look_at_about(const char *at, const char *end) {
+    struct confstore_about_pair pair;
+    at += strlen(ABOUT);
+    while (at < end)
+        if (!take_about_pair(&at, end, &pair)) return CONFSTORE_NOT_IN_STYLE;
+    return CONFSTORE_NOTHING_DUE;
+}
+
+/* Whether the bytes end as a record does. */
+static bool is_closed(const char *record, size_t length) {
+    return length >= 4 && !memcmp(record + length - 4, "...\n", 4);
+}
+
 enum confstore_status confstore_read_edit(const char *record, size_t length, size_t *place,
                                           struct confstore_edit *edit) {
-    if (length < 4 || memcmp(record + length - 4, "...\n", 4)) return CONFSTORE_NOT_IN_STYLE;
+    if (!is_closed(record, length)) return CONFSTORE_NOT_IN_STYLE;
     if (*place > 0 && *place >= length - 4) return CONFSTORE_NOTHING_DUE;
     const char *end = record + length - 4, *at = record + *place;
+    if (*place > 0 && is_about(at, end)) return look_at_about(at, end);
     if (*place == 0 && !take_head(&at, end)) return CONFSTORE_NOT_IN_STYLE;
     size_t margin = strlen(FIRST_OF_EDIT);
     bool is_of_batch = (size_t)(end - at) > margin && !memcmp(at, FIRST_OF_EDIT, margin);
     if (*place > 0 && !is_of_batch) return CONFSTORE_NOT_IN_STYLE;
     const char *first = is_of_batch ? FIRST_OF_EDIT : "", *other = is_of_batch ? OTHER_OF_EDIT : "";
     if (!take_edit(&at, end, first, other, edit)) return CONFSTORE_NOT_IN_STYLE;
+    *place = (size_t)(at - record);
+    return CONFSTORE_OK;
+}
+
+enum confstore_status confstore_read_about(const char *record, size_t length, size_t *place,
+                                           struct confstore_about_pair *pair) {
+    size_t from = *place;
+    enum confstore_status status = from == 0 ? CONFSTORE_OK : CONFSTORE_NOTHING_DUE;
+    struct confstore_edit passed;
+    while (status == CONFSTORE_OK) status = confstore_read_edit(record, length, &from, &passed);
+    if (status != CONFSTORE_NOTHING_DUE) return status;
+    if (!is_closed(record, length)) return CONFSTORE_NOT_IN_STYLE;
+    if (from >= length - 4) return CONFSTORE_NOTHING_DUE;
+    const char *end = record + length - 4, *at = record + from;
+    if (is_about(at, end)) at += strlen(ABOUT);
+    if (!take_about_pair(&at, end, pair)) return CONFSTORE_NOT_IN_STYLE;
     *place = (size_t)(at - record);
     return CONFSTORE_OK;
 }

@@ -261,7 +261,8 @@ static bool is_end(enum confstore_status status) {
 
 enum confstore_status confstore_watch_next(struct confstore_watch *watch, int timeout,
                                            struct confstore_change *change) {
-    int64_t deadline = now() + (timeout > 0 ? timeout : 0);
+    /* A millisecond more, since now() cuts off a part of one. */
+    int64_t deadline = now() + (timeout > 0 ? (int64_t)timeout + 1 : 0);
     while (watch->ended == CONFSTORE_OK) {
         enum confstore_status status = look(watch, change);
         if (status == CONFSTORE_OK) watch->pause = LOOK_SOON;

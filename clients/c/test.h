@@ -43,6 +43,14 @@ void conditions_written(void);
 void conditions(struct confstore *store);
 void adders(const char *served);
 
+/* What is tried of abouts: as they are written and read, by watches, and over a store. */
+void abouts_written(void);
+void abouts_read(void);
+void hostile_abouts(void);
+void changed_abouts(void);
+void renewed_files(void);
+void abouts(const char *program);
+
 /* What is tried of the calls that are one command each. */
 void single_calls(struct confstore *store);
 void single_calls_without_memory(const char *program);

@@ -400,6 +400,10 @@ int main(int count, char **words) {
     scalars();
     changed();
     conditions_written();
+    abouts_written();
+    abouts_read();
+    hostile_abouts();
+    changed_abouts();
     expect_status("open", confstore_open(program, folder_of("store"), PATIENCE, &store), CONFSTORE_OK);
     if (store) all_of(store);
     expect_status("close", confstore_close(store, &status), CONFSTORE_OK);
@@ -419,6 +423,8 @@ int main(int count, char **words) {
     closing(program);
     statuses_of_children(program);
     watches(program);
+    renewed_files();
+    abouts(program);
     if (count > 3) {
         expect_status("connect", confstore_connect(words[3], PATIENCE, &store), CONFSTORE_OK);
         if (store) all_of(store);

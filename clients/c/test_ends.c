@@ -37,7 +37,8 @@ static int in_child(struct confstore *store) {
     wrong |= (confstore_take(store, &answer) != CONFSTORE_FORKED) << 2;
     wrong |= (confstore_set(store, "c", "", "x", 1, &said) != CONFSTORE_FORKED) << 3;
     wrong |= (confstore_get(store, "c", "", &said) != CONFSTORE_FORKED) << 4;
-    wrong |= (confstore_close(store, &status) != CONFSTORE_FORKED) << 5;
+    wrong |= (confstore_set_about(store, NULL, 0) != CONFSTORE_FORKED) << 5;
+    wrong |= (confstore_close(store, &status) != CONFSTORE_FORKED) << 6;
     confstore_bytes_free(&answer);
     return wrong;
 }

@@ -8,6 +8,8 @@ import os
 import time
 from typing import Any, Callable, Dict, List, Mapping, Optional, Sequence, Tuple, Type, Union, overload
 
+from .abouting import PROBE as ABOUT_PROBE, Abouting, Given
+from .abouts import ABOUT
 from .answers import Answers
 from .commands import CHECKPOINT, NAMES, delete_of, get_of, import_of, lines_of, put_of, refused_as, set_of
 from .conditions import PROBE, Condition, Test, at_place, move_of, under
@@ -38,7 +40,7 @@ class AsyncBatch(Edits):
             self.count = await self._store._perform_batch(self._edits, self._when)
 
 
-class AsyncStore(Answers):
+class AsyncStore(Abouting, Answers):
     """A store whose calls are coroutines, over one session. Use it in `async with`, which opens it.
 
     It has the calls of a `Store` but `log`, `at` and those that only a mapping has. Those that are awaited at once go
@@ -56,16 +58,21 @@ class AsyncStore(Answers):
         timeout: float = 60.0,
         checkpoint_after: Optional[int] = None,
         make: bool = False,
+        about: Optional[Given] = None,
     ) -> None:
+        self._give(about)
         self._timeout = timeout
         self._words = words_of(path, program, checkpoint_after)
         self._program, self._makes, self._socket = self._words[0], make, ""
         self._session: Optional[Session] = None
 
     @classmethod
-    def connect(cls, path: "str | os.PathLike[str]", *, timeout: float = 60.0) -> "AsyncStore":
+    def connect(
+        cls, path: "str | os.PathLike[str]", *, timeout: float = 60.0, about: Optional[Given] = None
+    ) -> "AsyncStore":
         """A client of the server at a Unix socket, opened by `async with`."""
         store = cls.__new__(cls)
+        store._give(about)
         store._timeout, store._words, store._makes = timeout, [], False
         store._socket, store._session = os.fsdecode(path), None
         return store
@@ -83,6 +90,8 @@ class AsyncStore(Answers):
         self._session = session
         try:
             await self.names()
+            if not self._socket:
+                self._look_at_format(self._words[-1])
         except BaseException:
             session.distrust_soon(ConfstoreError("the session did not open the store"))
             raise
@@ -128,14 +137,18 @@ class AsyncStore(Answers):
         return self._value_in(await self._ask(command), "value", command)
 
     async def _change(self, command: Dict[str, Tree], conditions: Sequence[Condition]) -> int:
-        """Has a command performed where conditions hold. The new count."""
-        if not conditions:
-            return await self._count(command)
+        """Has a command performed where conditions hold, with its about. The new count."""
+        command = self._with_about(under(conditions, command))
         try:
-            return await self._count(under(conditions, command))
+            count = await self._count(command)
         except BadCommand:
-            await self._need_conditions()
+            if conditions:
+                await self._need_conditions()
+            if ABOUT in command:
+                await self._need_abouts()
             raise
+        self._keeps_abouts = self._keeps_abouts or (ABOUT in command and not self._socket)
+        return count
 
     async def import_text(
         self, name: str, text: str, *,
@@ -314,6 +327,14 @@ class AsyncStore(Answers):
             pass
         except BadCommand:
             raise Unsupported("this program has no conditions (`if`)") from None
+
+    async def _need_abouts(self) -> None:
+        try:
+            await self._count(ABOUT_PROBE)
+        except BadName:
+            pass
+        except BadCommand:
+            raise Unsupported("this program takes no abouts (`about`): use a newer one, or give none") from None
 
     async def _need_batches(self) -> None:
         try:

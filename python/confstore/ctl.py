@@ -23,15 +23,16 @@ from .ctl_places import NO_SERVER, Place, place_of
 from .ctl_program import Source, is_without_store, program_if_any, run_shown, styled
 from .ctl_streams import ClosedPipe, hold_closed, is_error_terminal, read_text, write, write_error
 from .ctl_words import ALL, ANY_ROOT, ARCHIVE, AT, BATCH, CHECKPOINT, DIFF, EDIT, EDITS, ENVIRONMENT, EXISTS, EXPLAIN
-from .ctl_words import FED, FOREIGN, FROM_FILE, GET, HIDE, IMPORT, LOG, LOOKING_BACK, MOVING, OF_PROGRAM, PAGE
-from .ctl_words import PLANNED, READING, READING_AT, RENDER, ROLLBACK, RUN, SET, SHAPED, SYNC, UNDO, WATCH, YAML_VALUE, Option
+from .ctl_words import FED, FOREIGN, FROM_FILE, GET, HIDE, IMPORT, JSON_RECORDS, LOG, LOOKING_BACK, MOVING, NOTE
+from .ctl_words import NOTED, OF_PROGRAM, PAGE, PLANNED, READING, READING_AT, RENDER, ROLLBACK, RUN, SET, SHAPED, SYNC
+from .ctl_words import UNDO, WATCH, YAML_VALUE, Option
 
 TYPE_CHECKING = False  # `typing` takes as long to import as all of this
 if TYPE_CHECKING:
     from collections.abc import Callable, Sequence
 
     from .ctl_changes import Ask
-    from .ctl_sockets import Command
+    from .ctl_sockets import Command, Reply
 
 # How many seconds lie between two tries of a word.
 PAUSE = 0.1
@@ -103,8 +104,30 @@ class Work:
         """Whether it may be done once more: nothing was done, or it only reads and the server went."""
         return fault.may_try_again or (fault.kind == NO_SERVER and self.asked.word in READING)
 
+    @property
+    def _is_noted(self) -> bool:
+        """Whether it is a change that has an about, where no server holds the store."""
+        asked = self.asked
+        if NOTE not in asked.word.options:
+            return False
+        from .abouts import ABOUT, VARIABLE, keeps_abouts  # by words that change something
+
+        if not asked.abouts and VARIABLE not in os.environ and not keeps_abouts(asked.folder):
+            return False
+        return ABOUT in self._noted(None, {"batch": []})
+
+    def _noted(self, place: Place | None, command: Command) -> Command:
+        """A command with the about of the word, if it has one."""
+        if NOTE not in self.asked.word.options:
+            return command
+        from .ctl_abouts import noted
+
+        return noted(self.asked, place, command)
+
     def by_program(self) -> int:
         """Has the program do it. The status."""
+        if self._is_noted:
+            return self._noted_by_program()
         if self.asked.word is BATCH:
             return self._batch_by_program()
         ended = run_shown(self._words(), self.text, is_fed=self.asked.word in FED)
@@ -128,10 +151,25 @@ class Work:
             answer_of(SessionReply(ended.output), self.command, program_if_any())
         return ended.status if ended.status >= 0 else BY_SIGNAL - ended.status
 
+    def _noted_by_program(self) -> int:
+        """Has a session of the program make the change with its about. The status."""
+        from .ctl_exchange import Exchange
+
+        exchange = Exchange(self.asked)
+        if self.asked.word in MOVING or self._is_placed:
+            self._change_read(exchange.ask)
+            return 0
+        try:
+            exchange.ask(self.command)
+        except Fault as fault:
+            raise self._with_place(fault) from None
+        return 0
+
     def _words(self) -> list[str]:
         """The words for the program. What is read is on its standard input."""
         asked = self.asked
-        options = [part for option in asked.word.options if asked.has(option) for part in self._parts(option)]
+        given = [option for option in asked.word.options if asked.has(option) and option not in NOTED]
+        options = [part for option in given for part in self._parts(option)]
         arguments = dict(asked.arguments)
         if self.text is not None:
             arguments.pop("FILE", None)
@@ -155,13 +193,19 @@ class Work:
 
         with Connection(place) as connection:
             if self.asked.word in MOVING or self._is_placed:
-                self._change_read(lambda command: answer_of(connection.ask(command), command, program_if_any()))
+
+                def ask(command: Command) -> Reply:
+                    command = self._noted(place, command)
+                    return answer_of(connection.ask(command), command, program_if_any())
+
+                self._change_read(ask)
                 connection.finish()
                 return 0
-            answer = connection.ask(self.command)
+            command = self._noted(place, self.command)
+            answer = connection.ask(command)
             connection.finish()
         try:
-            reply = answer_of(answer, self.command, program_if_any())
+            reply = answer_of(answer, command, program_if_any())
         except Fault as fault:
             return self._without(fault)
         write(output_of(self.asked, reply))
@@ -250,6 +294,8 @@ def composed_of(asked: Asked) -> Callable[[Asked], int] | None:
         name = "ctl_values.get_values"
     if name is None and asked.has(ALL):
         name = "ctl_values.export_all"
+    if name is None and asked.word is LOG and (asked.shown_keys or asked.has(JSON_RECORDS)):
+        name = "ctl_log.log"
     if name is None and asked.word is LOG and asked.archives:
         name = "ctl_archives.log"
     if name is None and asked.word is CHECKPOINT and asked.has(ARCHIVE):

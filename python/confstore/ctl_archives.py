@@ -9,9 +9,10 @@ from __future__ import annotations
 
 import contextlib
 import os
+import re
 import tempfile
 from itertools import zip_longest
-from typing import Callable, Iterator, List, NamedTuple, Optional, Sequence, TypeVar
+from typing import Callable, Iterator, List, NamedTuple, Optional, Sequence, Tuple, TypeVar
 
 from .ctl_asked import Asked
 from .ctl_faults import REFUSED, Fault, TextFault, fault_of, shown
@@ -33,6 +34,9 @@ TRIES = 10
 
 # How many folders a fault names at most.
 MOST_FOLDERS = 10
+
+# The line of a base that says in which format it is.
+_FORMAT = re.compile(rb"(?:---\n)?store: .*\n")
 
 # The name of the store's file in an archive whose checkpoint was cut off (see `ctl_archiving`).
 KEPT = "kept.yaml"
@@ -222,14 +226,15 @@ def _records_to(file: StoreFile, last: int) -> "Iterator[tuple[int, bytes]]":
 
 
 def _state_of(file: StoreFile) -> bytes:
-    """The text of the state after what was read of a file: the base that the program makes of it."""
+    """The text of the state after what was read of a file: the base that the program makes of it, without the format,
+    which is another one once the store has an about."""
     with tempfile.TemporaryDirectory(prefix="confstorectl-") as folder:
         path = os.path.join(folder, NAME)
         with open(path, "wb") as target:
             file.copy_read(target)
         performed(["checkpoint", "--", folder])
         with open(path, "rb") as source:
-            return source.read()
+            return _FORMAT.sub(b"", source.read(), count=1)
 
 
 # ---- the words
@@ -245,11 +250,32 @@ def log(asked: Asked) -> int:
     return again(lambda: _log(asked))
 
 
-def _log(asked: Asked) -> int:
+def records_of(asked: Asked) -> bytes:
+    """The records of a store and its archives that are asked for, as they stand there. Raises a `Fault`."""
+    if not asked.archives:
+        return performed(_words_for(asked, asked.folder, [YAML_RECORDS.name, *_numbers_asked(asked)])).output
+    return again(lambda: _records_of(asked))
+
+
+def _records_of(asked: Asked) -> bytes:
+    history, parts = _parts_asked(asked)
+    words = [_words_for(asked, part.folder, [YAML_RECORDS.name, *_numbers_of(part)]) for part in parts]
+    records = b"".join(performed(one).output for one in words)
+    if not history.is_as_it_was():
+        raise Moved
+    return records
+
+
+def _parts_asked(asked: Asked) -> Tuple[History, List[Part]]:
+    """The history of a store and its archives, and the commands of it that are asked for."""
     history = History(asked.folder, asked.archives)
     last = int(asked.options.get(TO_NUMBER.name, asked.options.get(AT.name, history.numbers.last)))
     history.need(last)
-    parts = history.parts(int(asked.options.get(FIRST.name, 0)), last)
+    return history, history.parts(int(asked.options.get(FIRST.name, 0)), last)
+
+
+def _log(asked: Asked) -> int:
+    history, parts = _parts_asked(asked)
     own = b"".join(_of_own(asked, history, part) for part in parts if history.is_own(part))  # before any is written
     for part in parts:
         if not history.is_own(part):
@@ -275,9 +301,23 @@ def _words(asked: Asked, part: Part) -> List[str]:
     """The words for the program that write some commands."""
     options = [option.name for option in (VALUES, YAML_RECORDS) if asked.has(option)]
     options += [f"{HIDE.name}={pointer}" for pointer in asked.hidden]
-    options += [FIRST.name, str(part.first), TO_NUMBER.name, str(part.last)]
+    return _words_for(asked, part.folder, [*options, *_numbers_of(part)])
+
+
+def _words_for(asked: Asked, folder: str, options: Sequence[str]) -> List[str]:
+    """The words for the program that write commands of a folder, with options."""
     name = [asked.arguments["NAME"]] if "NAME" in asked.arguments else []
-    return ["log", *options, "--", part.folder, *name]
+    return ["log", *options, "--", folder, *name]
+
+
+def _numbers_of(part: Part) -> List[str]:
+    return [FIRST.name, str(part.first), TO_NUMBER.name, str(part.last)]
+
+
+def _numbers_asked(asked: Asked) -> List[str]:
+    """The options of a word that say which commands are asked for."""
+    given = [(option.name, asked.options.get(option.name)) for option in (FIRST, TO_NUMBER, AT)]
+    return [part for name, number in given if number is not None for part in (name, number)]
 
 
 def _need_done(ended: Ended) -> None:

@@ -3,11 +3,11 @@
 from __future__ import annotations
 
 from .ctl_faults import Fault, shown
-from .ctl_words import ALL, AT, COMMON, DEFAULT, DIFF, EDITS, ENVIRONMENT, EXPORT, FORMAT, FROM_FILE, GET, HELP, HIDE
-from .ctl_words import ARCHIVE, ARCHIVES, CHECKPOINT, IF_ABSENT, IF_VALUE, IN_PLACE, INSERT, JSON, LINES, LOG, MOVE
-from .ctl_words import NO_NEWLINE, OF_FILES, OTHER_NAMES, PAGE, PARENTS, PLAIN, RAW, READING_AT, RENDER, ROLLBACK, SET
-from .ctl_words import SETTLE, SINCE, SOCKET, TO_NUMBER, UNDO, VALUES, VERSION, WAIT, WHOLE, WORDS, YAML_RECORDS
-from .ctl_words import YAML_VALUE, Option, Word
+from .ctl_words import ALL, ARCHIVE, ARCHIVES, AT, CHECKPOINT, COMMON, DEFAULT, DIFF, EDITS, ENVIRONMENT, EXPORT
+from .ctl_words import FORMAT, FROM_FILE, GET, HELP, HIDE, IF_ABSENT, IF_VALUE, INSERT, IN_PLACE, JSON, JSON_RECORDS
+from .ctl_words import LINES, LOG, MOVE, NOTE, NOTE_SHOWN, NO_BY, NO_NEWLINE, NO_WHEN, OF_FILES, OTHER_NAMES, PAGE
+from .ctl_words import PARENTS, PLAIN, RAW, READING_AT, RENDER, ROLLBACK, SET, SETTLE, SINCE, SOCKET, TO_NUMBER, UNDO
+from .ctl_words import VALUES, VERSION, WAIT, WHOLE, WORDS, YAML_RECORDS, YAML_VALUE, Option, Word
 
 TYPE_CHECKING = False
 if TYPE_CHECKING:
@@ -37,6 +37,8 @@ _EXCLUDING = (
     (RAW, PLAIN),
     (JSON, PLAIN),
     (VALUES, YAML_RECORDS),
+    (VALUES, JSON_RECORDS),
+    (YAML_RECORDS, JSON_RECORDS),
     (PARENTS, INSERT),
     (WHOLE, PARENTS),
     (WHOLE, INSERT),
@@ -108,6 +110,16 @@ class Asked:
         arguments = {**self.arguments, "FOLDER": folder}
         options = {name: value for name, value in self.options.items() if name != ARCHIVES.name}
         return Asked(self.word, arguments, options, self.command, self.repeated)
+
+    @property
+    def abouts(self) -> list[str]:
+        """What is given for the about of a change, as `KEY=TEXT`."""
+        return self._several.get(NOTE.name, []) if NOTE in self.word.options else []
+
+    @property
+    def shown_keys(self) -> list[str]:
+        """The keys of abouts that are shown."""
+        return self._several.get(NOTE_SHOWN.name, []) if NOTE_SHOWN in self.word.options else []
 
     @property
     def socket(self) -> str:
@@ -256,6 +268,7 @@ def asked_of(words: Sequence[str]) -> Asked | Help | Version:
     _check_history(asked)
     _check_archives(asked, len(cut.several.get(ARCHIVE.name, ())))
     _check_several(asked)
+    _check_abouts(asked)
     return asked
 
 
@@ -316,7 +329,7 @@ def _check_together(asked: Asked) -> None:
     for one, other in _EXCLUDING:
         if asked.has(one) and asked.has(other):
             raise wrong(f"{one.name} beside {other.name}", asked.word)
-    if asked.word is LOG and asked.has(HIDE) and not asked.has(VALUES):
+    if asked.word is LOG and asked.has(HIDE) and not (asked.has(VALUES) or asked.has(JSON_RECORDS)):
         raise wrong(f"{HIDE.name} needs {VALUES.name}", asked.word)
     if asked.has(NO_NEWLINE) and not asked.has(RAW):
         raise wrong(f"{NO_NEWLINE.name} needs {RAW.name}", asked.word)
@@ -351,6 +364,25 @@ def _check_archives(asked: Asked, count: int) -> None:
         raise wrong(f"{ARCHIVE.name} wants a folder", asked.word)
     if asked.archives and asked.word in READING_AT and not asked.has(AT):
         raise wrong(f"{ARCHIVES.name} needs {AT.name}", asked.word)
+
+
+def _check_abouts(asked: Asked) -> None:
+    """Raises `WrongWords` for what gives no key and text of an about, and for a key that has no name."""
+    for given in asked.abouts:
+        key, mark, _ = given.partition("=")
+        if not key or not mark:
+            raise wrong(f"{NOTE.name} wants {NOTE.value}, as why=TEXT, not {shown(given)}", asked.word)
+    keys = [given.partition("=")[0] for given in asked.abouts]
+    for key, option in (("by", NO_BY), ("when", NO_WHEN)):
+        if key in keys and asked.has(option):
+            raise wrong(f"{NOTE.name} {key}=TEXT beside {option.name}", asked.word)
+    if len(set(keys)) < len(keys):
+        raise wrong(f"{NOTE.name} has a key twice", asked.word)
+    if "" in asked.shown_keys:
+        raise wrong(f"{NOTE_SHOWN.name} wants a key", asked.word)
+    other = next((option for option in (YAML_RECORDS, JSON_RECORDS) if asked.has(option)), None)
+    if asked.shown_keys and other:
+        raise wrong(f"{NOTE_SHOWN.name} beside {other.name}, which writes all keys", asked.word)
 
 
 def range_of(text: str) -> tuple[int, int]:

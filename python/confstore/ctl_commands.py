@@ -6,14 +6,16 @@ import os
 import shlex
 import subprocess
 import time
-from typing import Dict, List, Optional, Sequence
+from typing import Dict, List, Optional, Sequence, Tuple
 
 from .ctl_asked import Asked
 from .ctl_faults import Fault, shown
-from .ctl_outputs import json_text
+from .ctl_outputs import json_shown
 from .ctl_streams import write_error
 from .ctl_words import SETTLE, YAML_RECORDS
 from .following import Event, Told
+from .hidden import Hidden
+from .pointers import steps_of
 from .records import Record
 
 # How many bytes of changes the environment of a command has at most. Its standard input has all of them.
@@ -35,12 +37,14 @@ def failure_of(command: Sequence[str], status: int) -> Fault:
     return Fault("CommandFailed", f"{shown(shlex.join(command))} ended {how}")
 
 
-def line_with_values(record: Record) -> str:
-    """The line of a change with the value of each import and set, as of `confstore log --values`."""
+def line_with_values(record: Record, hidden: Hidden = [], shown_keys: Optional[Tuple[str, ...]] = None) -> str:
+    """The line of a change with the value of each import and set, as of `confstore log --values`: without what is
+    hidden, and with these keys of its about in place of `by`, `when` and `why`."""
     done = "; ".join(
-        edit.line if edit.tree is None else f"{edit.line} {json_text(edit.tree)}" for edit in record.edits
+        edit.line if edit.tree is None else f"{edit.line} {json_shown(steps_of(edit.path), edit.tree, hidden)}"
+        for edit in record.edits
     )
-    return f"{record.number} batch {done}" if record.is_batch else f"{record.number} {done}"
+    return record.line_of(done, shown_keys)
 
 
 def _last_of(event: Event) -> int:

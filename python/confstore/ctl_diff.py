@@ -11,21 +11,16 @@ from .ctl_archives import History, Moved, again, history_of
 from .ctl_asked import Asked
 from .ctl_faults import REFUSED, Fault, fault_of, shown, unread
 from .ctl_history import names_at
-from .ctl_outputs import json_text
+from .ctl_outputs import json_shown
 from .ctl_program import Source
 from .ctl_streams import is_output_terminal, read_text, write
 from .ctl_texts import tree_of
 from .ctl_words import EXPLAIN, LINES, OF_FILES, SINCE, TO_NUMBER
 from .differences import Difference, differences, edit_of, keys_between
 from .faults import ConfstoreError
-from .hidden import Hidden, Hiding
-from .hidden import shown as shown_tree
+from .hidden import Hidden
 from .pointers import steps_of
 from .style import Tree, quoted, to_text
-
-# What stands for a value that is hidden, and what it is in a tree until it is written.
-MARK = "hidden"
-_HIDDEN = "\0hidden"
 
 # The colours of what is taken out and put in, on a terminal, and the end of a colour.
 COLOURS, END = {"-": "\033[31m", "+": "\033[32m"}, "\033[0m"
@@ -121,12 +116,9 @@ def _lines(asked: Asked, found: Sequence[Named], is_one: bool) -> Iterator[str]:
 
 
 def _place_and_value(steps: Sequence[str], tree: Tree, hidden: Hidden) -> List[str]:
-    hiding = Hiding(steps, hidden)
     path = Difference(tuple(steps), None, None).path
     place = [] if not path else [path if _PLAIN.fullmatch(path) else quoted(path)]
-    if hiding.is_whole:
-        return [*place, MARK]
-    return [*place, json_text(shown_tree(tree, hiding.hidden, _HIDDEN)).replace(json_text(_HIDDEN), MARK)]
+    return [*place, json_shown(steps, tree, hidden)]
 
 
 def page(asked: Asked) -> int:

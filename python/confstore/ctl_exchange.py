@@ -6,6 +6,7 @@ import time
 from typing import List, Optional
 
 from .commands import get_of
+from .ctl_abouts import noted
 from .ctl_asked import Asked
 from .ctl_faults import REFUSED, Fault, TextFault, shown
 from .ctl_places import Place, place_of
@@ -82,6 +83,7 @@ class Exchange:
         return self._ask_program(command)  # the server that was there has ended
 
     def _ask_server(self, place: Place, command: Command) -> Reply:
+        command = noted(self._asked, place, command)
         with Connection(place) as connection:
             answer = connection.ask(command)
             connection.finish()
@@ -90,7 +92,7 @@ class Exchange:
     def _ask_program(self, command: Command) -> Reply:
         if is_without_store(self._asked.folder) and not self._asked.has(INIT):
             raise Fault("NotAStore")
-        return answer_by_program(self._asked.folder, command)
+        return answer_by_program(self._asked.folder, noted(self._asked, None, command))
 
 
 def names_in(tree: Tree) -> List[str]:

@@ -35,6 +35,7 @@ _HINTS: dict[str, str] = {
     "JournalLong": "the store file is too long: `confstorectl checkpoint` makes it short",
     "StoreFull": "use a second store",
     "RecordLong": "make two batches of it",
+    "AboutLarge": "an about has at most 16 keys of 64 characters, and 4,096 bytes",
     "NotAStore": "the folder has no store; `confstore init` makes one",
     "StoreExists": "the folder has a store; take another folder",
     "FileExists": "take the name of a new file",

@@ -5,7 +5,8 @@ from __future__ import annotations
 import re
 import textwrap
 
-from .ctl_words import ABOUT, COMMON, DESCRIPTION, FAULTS, GROUPS, STATUSES, VERSION, WORDS, Option, Word
+from .ctl_description import ABOUT, DESCRIPTION, FAULTS, STATUSES
+from .ctl_words import COMMON, GROUPS, VERSION, WORDS, Option, Word
 
 TYPE_CHECKING = False
 if TYPE_CHECKING:

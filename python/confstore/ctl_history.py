@@ -14,6 +14,9 @@ from .style import Tree
 _EDIT = re.compile(r'(?:import|set|delete) ([a-z][a-z0-9_-]*)(?: "(?:[^"\\]|\\.)*")?(?:; |$)')
 _NUMBER = re.compile(r'(base|commands): "([0-9]+)"')
 
+# Who made a command, when and why, before what it does.
+_ABOUT = re.compile(r'(?:(?:by|when|why) "(?:[^"\\]|\\.)*" )*')
+
 
 class Numbers(NamedTuple):
     """The numbers of the commands that the file of a store knows of: it has the states from the first to the last."""
@@ -67,7 +70,8 @@ def names_changed(folder: str, first: int, last: int) -> List[str]:
     """The names of what the commands from one number to another have changed, in the order of their changes. Raises a
     `Fault`, as where the file does not have them."""
     lines = performed(["log", "--at", str(last), "--", folder]).output.decode().splitlines()
-    changes = [done for number, _, done in (line.partition(" ") for line in lines) if int(number) >= first]
+    split = [line.partition(" ") for line in lines]
+    changes = [_ABOUT.sub("", done, count=1) for number, _, done in split if int(number) >= first]
     if len(changes) != last - first + 1:
         raise Fault("NoSuchCommand", f"a checkpoint dropped what came before number {last - len(changes) + 1}")
     return list(dict.fromkeys(name for done in changes for name in _names_in(done.removeprefix("batch "))))

@@ -9,10 +9,15 @@ from .ctl_words import DEFAULT, JSON, NO_NEWLINE, PLAIN, RAW
 TYPE_CHECKING = False  # `style` is imported by what writes another form than the one that came
 if TYPE_CHECKING:
     import re
-    from collections.abc import Callable
+    from collections.abc import Callable, Sequence
 
     from .ctl_sockets import Reply
+    from .hidden import Hidden
     from .style import Tree
+
+# What stands for a value that is hidden, and what it is in a tree until it is written.
+MARK = "hidden"
+_HIDDEN = "\0hidden"
 
 # The letters of JSON's escapes (RFC 8259, 7).
 _LETTERS = {"\b": "b", "\t": "t", "\n": "n", "\f": "f", "\r": "r", '"': '"', "\\": "\\"}
@@ -32,6 +37,16 @@ def json_text(tree: Tree) -> str:
 def _json_escape(found: re.Match[str]) -> str:
     sign = found.group()
     return f"\\{_LETTERS[sign]}" if sign in _LETTERS else f"\\u{ord(sign):04X}"
+
+
+def json_shown(steps: Sequence[str], tree: Tree, hidden: Hidden) -> str:
+    """The value at a place as a JSON text, but for what is hidden of it."""
+    from .hidden import Hiding, shown
+
+    hiding = Hiding(steps, hidden)
+    if hiding.is_whole:
+        return MARK
+    return json_text(shown(tree, hiding.hidden, _HIDDEN)).replace(json_text(_HIDDEN), MARK)
 
 
 def json_line(tree: Tree) -> bytes:

@@ -13,7 +13,7 @@ import re
 import socket
 import time
 
-from .ctl_faults import Fault, shown, shown_line
+from .ctl_faults import Fault, hint_of, shown, shown_line
 from .ctl_places import NO_SERVER, Place
 from .pieces import LONGEST_ANSWER, LONGEST_COMMAND, Cutter, simple_value
 
@@ -394,6 +394,9 @@ def _refusal_of(reply: Reply, command: Command, program: str | None) -> Fault:
             return Fault(word, "a text has a lone surrogate")
     if reply.about:
         return Fault(shown(word), "\n".join(map(shown_line, reply.about.split("\n"))))
+    if word == "BadCommand" and "about" in command:
+        about = "the program or the server may be one that takes no abouts: leave out --about and CONFSTORE_ABOUT"
+        return Fault(word, about if "batch" not in command else f"{hint_of(word)}; {about}")
     if word == "BadCommand" and "if" in command:
         return Fault(word, "the server takes no such command; its program may be one without conditions")
     try:

@@ -81,8 +81,8 @@ FROM_FILE = Option(
 YAML_RECORDS = Option("--yaml", "Writes the records as they stand in store.yaml")
 VALUES = Option("--values", "Writes the value of each import and set, too, as a JSON text")
 HIDE = Option(
-    "--hide", "Writes `hidden` for what is at POINTER, or below it; needs --values, and may be given again", "POINTER",
-    is_repeated=True,
+    "--hide", "Writes `hidden` for what is at POINTER, or below it; needs --values or --json; may be given again",
+    "POINTER", is_repeated=True,
 )  # fmt: skip
 SETTLE = Option("--settle", "Runs COMMAND once for the changes that come within so many seconds", "SECONDS")
 DEFAULT = Option(
@@ -98,6 +98,21 @@ REPLACE = Option("--replace", "Replaces a configuration that has the name TO")
 
 # Those of each word that changes what is at one place.
 CONDITIONS = (IF_VALUE, IF_ABSENT, IF_COUNT)
+
+# Those of each word that changes a configuration: who changes it, when and why.
+NOTE = Option(
+    "--about", "Notes a text of the change under a key, as why=TEXT; may be given again", "KEY=TEXT", is_repeated=True
+)
+NO_BY = Option("--no-by", "Does not note the login name as `by`")
+NO_WHEN = Option("--no-when", "Does not note the time as `when`")
+NOTED = (NOTE, NO_BY, NO_WHEN)
+
+# That of the words that tell of abouts.
+NOTE_SHOWN = Option(
+    "--about", "Shows what is noted under KEY, in place of `by`, `when` and `why`; may be given again", "KEY",
+    is_repeated=True,
+)  # fmt: skip
+JSON_RECORDS = Option("--json", "Writes each command as a JSON object on one line, with its values")
 
 # Those of the words that change a configuration, which confstore does not have.
 CHECKED = (CHECK,)
@@ -163,7 +178,7 @@ WATCHED_NAME = Argument("NAME", "The configuration; all of them if it is left ou
 IMPORT = Word(
     "import",
     "Reads a YAML text, and puts its tree under a name",
-    (INIT, ANY_ROOT, EXPLAIN, EDITS, *CONDITIONS, *PLANNED, *FOREIGN),
+    (INIT, ANY_ROOT, EXPLAIN, EDITS, *CONDITIONS, *PLANNED, *NOTED, *FOREIGN),
     (FOLDER, NAME, FILE),
     (
         "A configuration that has the name is replaced. Nothing is printed where it is done. Comments and quotes are"
@@ -198,7 +213,7 @@ IMPORT = Word(
 SET = Word(
     "set",
     "Sets the value at a JSON Pointer of a configuration",
-    (YAML_VALUE, FROM_FILE, WHOLE, EXPLAIN, *SHAPED, *CONDITIONS, *PLANNED),
+    (YAML_VALUE, FROM_FILE, WHOLE, EXPLAIN, *SHAPED, *CONDITIONS, *PLANNED, *NOTED),
     (FOLDER, NAME, POINTER, VALUE),
     (
         "VALUE is the text itself. With `--yaml` it is read as a YAML text, so that a list or a mapping can be set;"
@@ -220,13 +235,14 @@ SET = Word(
         "confstorectl set store web /tags/0 first --insert",
         "confstorectl set store web /tls/cert /etc/cert.pem --parents",
         "confstorectl set store web /port 81 --if-value 80",
+        "confstorectl set store web /port 81 --about why='a second server' --about ticket=OPS-7",
         "confstorectl set store web /key --file key.pem",
     ),
 )
 DELETE = Word(
     "delete",
     "Removes a configuration, or what is at a JSON Pointer of it",
-    (WHOLE, *CONDITIONS, *PLANNED),
+    (WHOLE, *CONDITIONS, *PLANNED, *NOTED),
     (FOLDER, NAME, WHOLE_POINTER),
     (
         "Nothing is printed where it is done. Without POINTER the whole configuration is removed; the pointer \"\""
@@ -241,7 +257,7 @@ DELETE = Word(
 COPY = Word(
     "copy",
     "Puts a copy of a configuration under another name",
-    (REPLACE, *CONDITIONS, *PLANNED),
+    (REPLACE, *CONDITIONS, *PLANNED, *NOTED),
     (FOLDER, NAME, TO),
     (
         "A configuration that has the name TO is replaced only with `--replace`, or where `--if-value` holds of it; else"
@@ -256,7 +272,7 @@ COPY = Word(
 RENAME = Word(
     "rename",
     "Gives a configuration another name",
-    (*CONDITIONS, *PLANNED),
+    (*CONDITIONS, *PLANNED, *NOTED),
     (FOLDER, NAME, TO),
     (
         "A configuration that has the name TO is replaced, unless `--if-absent` is given; it keeps the place of TO"
@@ -272,7 +288,7 @@ RENAME = Word(
 MOVE = Word(
     "move",
     "Moves what is at a JSON Pointer of a configuration to another place of it",
-    (*CONDITIONS, *PLANNED),
+    (*CONDITIONS, *PLANNED, *NOTED),
     (FOLDER, NAME, FROM_POINTER, TO_POINTER),
     (
         "What is at FROM is deleted, and then set at TO, in place of what is there, unless `--if-absent` is given. The"
@@ -289,7 +305,7 @@ MOVE = Word(
 EDIT = Word(
     "edit",
     "Opens a configuration in an editor, and imports what is saved",
-    CHECKED,
+    (*CHECKED, *NOTED),
     (FOLDER, NAME),
     (
         "The editor is VISUAL, else EDITOR, else vi. It has the text in a private file. A text that is refused is"
@@ -307,7 +323,7 @@ EDIT = Word(
 BATCH = Word(
     "batch",
     "Makes all edits of a list, or none of them",
-    (EXPLAIN, IF_COUNT, *PLANNED),
+    (EXPLAIN, IF_COUNT, *PLANNED, *NOTED),
     (FOLDER, FILE),
     (
         "The text is a YAML list. Each edit is a mapping with the keys `import` and `text`, or `import` and `tree`; or"
@@ -322,14 +338,15 @@ BATCH = Word(
 UNDO = Word(
     "undo",
     "Takes back what commands have changed",
-    (ARCHIVES, IF_COUNT, *PLANNED),
+    (ARCHIVES, IF_COUNT, *PLANNED, *NOTED),
     (FOLDER, Argument("N", "The number of a command, or `N..M` for those from N to M"), WATCHED_NAME),
     (
         "Each place that the commands changed gets the value that it had before, by one batch, which is recorded and"
         " can be undone. Where a place has another value than they left there, nothing is changed (Unmet), and the fault"
         " says which places these are. Mappings are compared key by key, and lists element by element where none was"
         " added or taken out; another list is one place. A change that comes meanwhile is looked at in the same way."
-        " Commands that a checkpoint dropped need their archive (see `log`).",
+        " Commands that a checkpoint dropped need their archive (see `log`). Where the change is noted, `why` is"
+        " `undo of N`, unless it is given.",
     ),
     (
         "confstorectl undo store 12",
@@ -340,7 +357,7 @@ UNDO = Word(
 ROLLBACK = Word(
     "rollback",
     "Makes a configuration what it was after a command",
-    (TO_NUMBER, ARCHIVES, IF_COUNT, *PLANNED),
+    (TO_NUMBER, ARCHIVES, IF_COUNT, *PLANNED, *NOTED),
     (FOLDER, NAME),
     (
         "`--to` is needed. The edits that this takes are one batch, which is recorded and can be undone. All changes of"
@@ -356,7 +373,7 @@ ROLLBACK = Word(
 SYNC = Word(
     "sync",
     "Makes the configurations what the files of a folder have",
-    (DELETE_MISSING, EXPLAIN, IF_COUNT, *PLANNED),
+    (DELETE_MISSING, EXPLAIN, IF_COUNT, *PLANNED, *NOTED),
     (FOLDER, Argument("DIR", "The folder of the files, each NAME.yaml")),
     (
         "What will change is written first, as `diff -u` does. Then it is changed by one batch of edits, all or"
@@ -499,10 +516,13 @@ RENDER = Word(
 LOG = Word(
     "log",
     "Writes the commands since the last checkpoint",
-    (VALUES, HIDE, YAML_RECORDS, FIRST, TO_NUMBER, AT, ARCHIVES),
+    (VALUES, HIDE, YAML_RECORDS, JSON_RECORDS, NOTE_SHOWN, FIRST, TO_NUMBER, AT, ARCHIVES),
     (FOLDER, Argument("NAME", "The configuration of which the commands are written; all if it is left out", True)),
     (
-        "Each command is one line, as `2 set web \"/port\"`: its number, what it did, and where. With `--values` the"
+        "Each command is one line, as `2 set web \"/port\"`: its number, what it did, and where. Who made it, when and"
+        " why stand behind the number where they are noted, as `2 by \"ann\" why \"a trial\" set web \"/port\"`. With"
+        " `--about` other keys stand there. With `--json` a command is a JSON object: `at`, `by`, `when` and `why`, all"
+        " of `about`, and `edits` as `batch` takes them; `(hidden)` stands for what `--hide` leaves out. With `--values` the"
         " value of an import or a set follows as a JSON text, as `2 set web \"/port\" \"80\"`. With NAME only commands"
         " are written that change this configuration; a batch that does is written whole. `--to` and `--at` are the"
         " same.",
@@ -517,6 +537,8 @@ LOG = Word(
         "confstorectl log store",
         "confstorectl log store web --from 12",
         "confstorectl log store --values",
+        "confstorectl log store --about ticket --about by",
+        "confstorectl log store --json",
         "confstorectl log store --values --hide /key",
         "confstorectl log store --yaml",
         "confstorectl log store web --archive store-until-may --archive store-until-june",
@@ -596,8 +618,9 @@ PAGE = Word(
     (HIDE_VALUES, ARCHIVES),
     (FOLDER,),
     (
-        "It has each command since the last checkpoint with the values before and after it, and the store at each"
-        " number. It asks nothing of a network. Whoever may read it sees all values but those that `--hide` leaves out.",
+        "It has each command since the last checkpoint with who made it, when and why, with the values before and after"
+        " it, and the store at each number. It asks nothing of a network. Whoever may read it sees all values but those"
+        " that `--hide` leaves out.",
         "With `--archive` it has those of the archives, too (see `log`).",
     ),
     (
@@ -718,71 +741,4 @@ GROUPS = (
     ("read a store", READING),
     ("look into its file", LOOKING_BACK),
     ("go to no server", OF_PROGRAM),
-)
-
-ABOUT = "Changes and reads a store of confstore, also one that a server holds."
-
-# What is said of all words, a paragraph each.
-DESCRIPTION = (
-    "The words are those of confstore, with the same arguments, output and statuses, and a few more. Each goes to the"
-    " server or the replicated node that holds the store, through its socket, if there is one; else it is done by the"
-    " program confstore, as the words always are that go to no server.",
-    "The socket is the one of `--socket`, else that of the environment's CONFSTORE_SOCKET, else"
-    " FOLDER/confstore.sock if a server listens there; and of a FOLDER in /var/lib/confstore it is"
-    " /run/confstore/NAME/socket. With one that is given FOLDER only counts for the words and options that look into"
-    " the file of a store: `log`, `diff`, `page`, `verify`, `watch` and `--at`, and those that change something back,"
-    " `undo`, `rollback` and `sync`, and for `checkpoint --archive`. These read the folder, also beside a server, by the"
-    " program, which is CONFSTORE or confstore on the PATH; where the folder can't be read, `watch` asks the server."
-    " Where one that changes the store finds a server that has another store than FOLDER, nothing is changed"
-    " (OtherStore).",
-    "A socket that is not given is only used where its server has the store in FOLDER, and not where a copy of a folder"
-    " has a link to the socket of the first one.",
-    "With `--wait SECONDS` a word that finds the store locked, or no server at a socket that is given, tries again for"
-    " so long. An argument that begins with `-` comes after `--`.",
-    "With `--check COMMAND` a change is first made in a store of its own by the program, and each configuration that it"
-    " gives is the standard input of COMMAND, in the one style, with its name in CONFSTORE_NAME. If COMMAND ends with"
-    " another status than 0 nothing is changed (CheckFailed), and its last lines follow. The change is made only while"
-    " the configurations are as COMMAND has seen them; else it is tried again. One that is removed is not looked at.",
-)
-
-# Each status, with what it means.
-STATUSES = (
-    ("0", "Done."),
-    ("1", "A text, a command or a store was refused, or memory ran out."),
-    ("2", "Wrong words."),
-    ("3", "Reading or writing failed, the folder is missing or held, or no server answered."),
-)
-
-FAULTS = (
-    "A fault is a line on standard error, as `confstorectl: Locked: ..`: its name, and what to do where that isn't"
-    " plain. The names are those of confstore, and a few more. Another line may say the cause, as"
-    " `store.yaml: No space left on device`. A text that is refused is named by its file, `-` for standard input, or"
-    " VALUE, as `web.yaml:501:1: KeyTwice \"key250\" (first at 17:1)`. With `--explain`, or where standard error is a"
-    " terminal, the line of the text follows, with a mark under the place, and what to do. Through a socket this needs"
-    " the program, which looks at the text."
-)
-
-# The faults that confstore does not have, each with its status and with what it says.
-OWN_FAULTS = (
-    ("WrongWords", "2", "the words are none that confstorectl takes"),
-    ("Disconnected", "3", "no server answers at the socket; a change that was sent was made or not"),
-    ("TimedOut", "3", "no answer came within a minute; a change was made or not, or will be"),
-    ("BadAnswer", "3", "what the server said is no answer to the command, or more than that"),
-    ("OtherStore", "3", "the server has another store than FOLDER, where it has to have that; nothing was sent"),
-    ("Replaced", "1", "another store stands in the place of the one that the server held; nothing was changed"),
-    ("Failed", "3", "a replicated node could not perform a command; the word behind it says why"),
-    ("MissingProgram", "3", "there is no program confstore where it was looked for"),
-    ("MissingModule", "3", "Python has no PyYAML, which some words need"),
-    ("NotStarted", "3", "the system did not start the program"),
-    ("Unknown", "3", "nobody says how the program ended"),
-    ("Unsupported", "1", "a replicated node has no such word"),
-    ("EditorFailed", "3", "the editor could not be started, or ended with another status than 0"),
-    ("CheckFailed", "1", "the command of `--check`, or that of the server, has refused a text; nothing was changed"),
-    ("CommandFailed", "1", "a command that was run has ended with another status than 0"),
-    ("NothingToImport", "1", "no file of the folder has an ending of the format"),
-    ("NothingToUndo", "1", "the commands have changed nothing of what was named"),
-    ("Gap", "1", "commands are in none of the archives, and not in the store; nothing was written"),
-    ("OtherArchive", "1", "an archive is one of another store; nothing was written"),
-    ("NameTwice", "1", "two places would be one variable; nothing was written"),
-    ("NoVariable", "1", "a text can't be a variable; nothing was written"),
 )

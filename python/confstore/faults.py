@@ -14,13 +14,13 @@ if TYPE_CHECKING:
     from .texts import Place
 
 __all__ = [
-    "AnswerCut", "AnswerLong", "BadAnswer", "BadCommand", "BadName", "BadPath", "CheckFailed", "Closed", "CommandLong",
-    "ConfigLarge", "ConfstoreError", "CountFull", "Damaged", "Device", "Disconnected", "Documents", "EmptyBatch",
-    "InputFailed", "JournalLong", "KeyNotText", "KeyTwice", "LargeInStyle", "Locked", "MissingFolder", "MissingProgram",
-    "NoConfig", "NoSuchCommand", "NoSuchPlace", "NotAStore", "NotAText", "NotATree", "NotIndex", "NotStarted",
-    "NotText", "NotUtf8", "OutOfMemory", "OutputFailed", "RecordLong", "Refused", "SessionEnded", "SessionLong",
-    "StoreFull", "StoreReplaced", "Syntax", "TimedOut", "TooDeep", "TooLong", "TooLongToSend", "Unknown", "Unmet",
-    "Unsupported", "UnusablePath", "Unwritten",
+    "AboutLarge", "AnswerCut", "AnswerLong", "BadAnswer", "BadCommand", "BadName", "BadPath", "CheckFailed", "Closed",
+    "CommandLong", "ConfigLarge", "ConfstoreError", "CountFull", "Damaged", "Device", "Disconnected", "Documents",
+    "EmptyBatch", "InputFailed", "JournalLong", "KeyNotText", "KeyTwice", "LargeInStyle", "Locked", "MissingFolder",
+    "MissingProgram", "NoConfig", "NoSuchCommand", "NoSuchPlace", "NotAStore", "NotAText", "NotATree", "NotIndex",
+    "NotStarted", "NotText", "NotUtf8", "OutOfMemory", "OutputFailed", "RecordLong", "Refused", "SessionEnded",
+    "SessionLong", "StoreFull", "StoreReplaced", "Syntax", "TimedOut", "TooDeep", "TooLong", "TooLongToSend", "Unknown",
+    "Unmet", "Unsupported", "UnusablePath", "Unwritten",
 ]  # fmt: skip
 
 
@@ -187,6 +187,12 @@ class RecordLong(Refused):
     """The record of a batch would be too long."""
 
     because = "the record of the batch would be too long"
+
+
+class AboutLarge(Refused, ValueError):
+    """The about of the command has too many keys or bytes, or a key that is too long."""
+
+    because = "an about has at most 16 keys of 64 characters, and 4,096 bytes"
 
 
 class NoSuchCommand(Refused, LookupError):
@@ -406,7 +412,7 @@ REFUSALS: dict[str, type[Refused]] = {
     for kind in (
         BadCommand, Unmet, BadName, NoConfig, BadPath, NoSuchPlace, NotIndex, TooLong, NotUtf8, Syntax, Documents,
         KeyNotText, KeyTwice, TooDeep, LargeInStyle, ConfigLarge, StoreFull, JournalLong, CountFull, EmptyBatch,
-        RecordLong, NoSuchCommand, CheckFailed,
+        RecordLong, AboutLarge, NoSuchCommand, CheckFailed,
     )
 }  # fmt: skip
 REFUSALS["Replaced"] = StoreReplaced

@@ -1,5 +1,5 @@
-"""A page of a store's log: one file of HTML with each command, the values before and after it, and the store at each
-number. Its policy lets it reach no network."""
+"""A page of a store's log: one file of HTML with each command, who made it, when and why, the values before and after
+it, and the store at each number. Its policy lets it reach no network."""
 
 from __future__ import annotations
 
@@ -10,6 +10,7 @@ import os
 import re
 from typing import Any, Dict, List, Optional, Sequence, Tuple
 
+from .abouts import SHOWN
 from .faults import ConfstoreError, NoSuchCommand
 from .hidden import Hidden, Hiding, shown
 from .pointers import steps_of
@@ -47,6 +48,14 @@ def _edit_of(edit: Edit) -> Dict[str, Any]:
     return {"kind": edit.kind, "name": edit.name, "path": edit.path, "tree": tree}
 
 
+def _record_of(record: Record, hidden: Hidden) -> Dict[str, Any]:
+    """A record without what is hidden. What is noted of it are pairs: who, when and why come first."""
+    edits = [_edit_of(shown_edit(edit, hidden)) for edit in record.edits]
+    keys = dict.fromkeys([*(key for key in SHOWN if key in record.about), *record.about])
+    about = [[key, record.about[key]] for key in keys]
+    return {"number": record.number, **({"about": about} if about else {}), "edits": edits}
+
+
 def _records(readers: Sequence[Reader]) -> Tuple[Reader, List[Record]]:
     """The records that files have one after the other, each once, and the reader of the first of them."""
     found: List[Record] = []
@@ -70,8 +79,7 @@ def _history(readers: Sequence[Reader], hidden: Hidden) -> Dict[str, Any]:
             configs = [[name, _packed(shown(first.get(name, at=start), hidden, MARK))] for name in names]
         except NoSuchCommand:
             continue
-        edits = [[_edit_of(shown_edit(edit, hidden)) for edit in record.edits] for record in records]
-        told = [{"number": record.number, "edits": made} for record, made in zip(records, edits)]
+        told = [_record_of(record, hidden) for record in records]
         title = os.path.basename(readers[-1].folder) or readers[-1].folder
         return {"title": title, "start": start or 0, "configs": {"pairs": configs}, "records": told}
     raise ConfstoreError("checkpoints come faster than the log is read")

@@ -3,8 +3,9 @@
 from __future__ import annotations
 
 from dataclasses import dataclass, field
-from typing import List, Optional, Tuple
+from typing import Dict, List, Optional, Tuple
 
+from .abouts import ABOUT, is_about, words_of
 from .faults import BadAnswer
 from .style import Tree, quoted
 
@@ -53,18 +54,25 @@ def _moves(kind: str, step: str, asked: str) -> bool:
 
 @dataclass(frozen=True)
 class Record:
-    """An accepted command: its number, and its edits. Only that of a batch has more than one."""
+    """An accepted command: its number, its edits, and who made it, when and why. Only that of a batch has more than one
+    edit."""
 
     number: int
     edits: Tuple[Edit, ...]
     #: Whether it is that of a batch, which may have one edit too.
     is_batch: bool = field(default=False, compare=False, repr=False)
+    #: What the command said of itself, as `by`, `when` and `why`. It is empty where that is nothing.
+    about: Dict[str, str] = field(default_factory=dict, hash=False, repr=False)
 
     @property
     def line(self) -> str:
-        """The number, what was done, and where, as `confstore log` writes it."""
-        done = "; ".join(edit.line for edit in self.edits)
-        return f"{self.number} batch {done}" if self.is_batch else f"{self.number} {done}"
+        """The number, who, when and why, what was done, and where, as `confstore log` writes it."""
+        return self.line_of("; ".join(edit.line for edit in self.edits))
+
+    def line_of(self, done: str, shown: Optional[Tuple[str, ...]] = None) -> str:
+        """The line for what is said of its edits. It shows these keys of the about, or else `by`, `when` and `why`."""
+        about = words_of(self.about) if shown is None else words_of(self.about, shown)
+        return f"{self.number} {about}{'batch ' if self.is_batch else ''}{done}"
 
     def may_change(self, name: str, path: str = "") -> bool:
         """Whether one of its edits may change what is at a path of a configuration."""
@@ -81,12 +89,23 @@ def _edit_of(pairs: Tree) -> Edit:
     raise BadAnswer("a record has no edit that is known here")
 
 
+def _about_in(rest: Dict[str, Tree]) -> Dict[str, str]:
+    """Takes the about out of a record, whose last key it is. An empty one where there is none."""
+    if ABOUT not in rest:
+        return {}
+    if next(reversed(rest)) != ABOUT or not is_about(rest[ABOUT]):
+        raise BadAnswer("a record has an about that is no mapping of texts, or not its last key")
+    about = rest.pop(ABOUT)
+    return {key: str(text) for key, text in about.items()} if isinstance(about, dict) else {}
+
+
 def record_of(tree: Tree) -> Record:
     """The record that a document of a journal is. Raises `BadAnswer` for what is none."""
     if not isinstance(tree, dict) or not isinstance(number := tree.get("at"), str) or not number.isdecimal():
         raise BadAnswer("a record has no number")
     rest = {key: value for key, value in tree.items() if key != "at"}
+    about = _about_in(rest)
     batch = rest.get("batch")
     if tuple(rest) == ("batch",) and isinstance(batch, list):
-        return Record(int(number), tuple(_edit_of(edit) for edit in batch), True)
-    return Record(int(number), (_edit_of(rest),))
+        return Record(int(number), tuple(_edit_of(edit) for edit in batch), True, about)
+    return Record(int(number), (_edit_of(rest),), False, about)

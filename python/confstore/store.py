@@ -9,6 +9,8 @@ import time
 from types import TracebackType
 from typing import Any, Callable, Dict, List, MutableMapping, Optional, Sequence, Tuple, Type, TypeVar, overload
 
+from .abouting import PROBE as ABOUT_PROBE, Abouting, Given
+from .abouts import ABOUT
 from .answers import Answers
 from .commands import CHECKPOINT, NAMES, delete_of, get_of, import_of, lines_of, put_of, refused_as, set_of
 from .conditions import PROBE, Condition, Test, at_place, move_of, under
@@ -51,7 +53,7 @@ class Batch(Edits):
             self.count = self._perform(self._edits, self._when)
 
 
-class Store(Answers, Configurations, MutableMapping[str, Tree]):
+class Store(Abouting, Answers, Configurations, MutableMapping[str, Tree]):
     """A store in a folder, held by one session until it is closed. Use it in `with`.
 
     It is a mapping of names to configurations, whose values are dicts, lists and texts:
@@ -83,7 +85,8 @@ class Store(Answers, Configurations, MutableMapping[str, Tree]):
 
     `program` is the program to run: by default what the environment has as `CONFSTORE`, else `confstore` on the PATH.
     With `checkpoint_after` the session writes a checkpoint beside the commands whenever `store.yaml` has grown by so
-    many bytes. With `make` the folder is made if it is missing.
+    many bytes. With `make` the folder is made if it is missing. With `about`, a mapping, each change says who makes it,
+    when, and what the mapping has (see the method `about`).
     """
 
     def __init__(
@@ -94,7 +97,9 @@ class Store(Answers, Configurations, MutableMapping[str, Tree]):
         timeout: float = TIMEOUT,
         checkpoint_after: Optional[int] = None,
         make: bool = False,
+        about: Optional[Given] = None,
     ) -> None:
+        self._give(about)
         self._reader: Optional[Reader] = Reader(path, program=program, timeout=timeout)
         self._timeout = timeout
         folder = self._reader.folder
@@ -107,13 +112,16 @@ class Store(Answers, Configurations, MutableMapping[str, Tree]):
         self._begin()
 
     @classmethod
-    def connect(cls, path: "str | os.PathLike[str]", *, timeout: float = TIMEOUT) -> "Store":
+    def connect(
+        cls, path: "str | os.PathLike[str]", *, timeout: float = TIMEOUT, about: Optional[Given] = None
+    ) -> "Store":
         """A client of the server at a Unix socket, as `clients/serve.py` is one, which holds the store.
 
         It has no `log` and no `at`: they read a folder, which a `Reader` does. Raises `Disconnected` if no server is
-        there.
+        there. Of an `about` the server writes `by` and `when` itself.
         """
         store = cls.__new__(cls)
+        store._give(about)
         store._reader, store._timeout = None, timeout
         store._words, store._socket = (), os.fsdecode(path)
         store._begin()
@@ -130,9 +138,15 @@ class Store(Answers, Configurations, MutableMapping[str, Tree]):
         self._session = session = self._new_session()
         try:
             self.names()
+            self._look()
         except BaseException:
             session.distrust(ConfstoreError("the session did not open the store"))
             raise
+
+    def _look(self) -> None:
+        """Looks how the file of a store begins that a session holds now."""
+        if self._reader is not None:
+            self._look_at_format(self._reader.folder)
 
     def reopen(self) -> None:
         """Starts another session over the same folder or socket if the last one is over, or was closed.
@@ -148,6 +162,7 @@ class Store(Answers, Configurations, MutableMapping[str, Tree]):
             self._session = session
             try:
                 self.names()
+                self._look()
             except ConfstoreError:
                 session.distrust(ConfstoreError("the session did not open the store"))
                 raise
@@ -201,14 +216,18 @@ class Store(Answers, Configurations, MutableMapping[str, Tree]):
         return self._value_in(self._ask(command), "value", command)
 
     def _change(self, command: Dict[str, Tree], conditions: Sequence[Condition]) -> int:
-        """Has a command performed where conditions hold. The new count."""
-        if not conditions:
-            return self._count(command)
+        """Has a command performed where conditions hold, with its about. The new count."""
+        command = self._with_about(under(conditions, command))
         try:
-            return self._count(under(conditions, command))
+            count = self._count(command)
         except BadCommand:
-            self._need_conditions()
+            if conditions:
+                self._need_conditions()
+            if ABOUT in command:
+                self._need_abouts()
             raise
+        self._note(command, count)
+        return count
 
     def import_text(
         self, name: str, text: str, *,
@@ -325,7 +344,7 @@ class Store(Answers, Configurations, MutableMapping[str, Tree]):
         before the first is answered, so they share syncs; a batch that is refused keeps none of the others back. Where
         the session ended, its end is in the place of each batch that got no answer: it was performed or not.
         """
-        commands: List[Tree] = [{"batch": list(edits)} for edits in batches]
+        commands: List[Tree] = [self._with_about({"batch": list(edits)}) for edits in batches]
         counts: List[int | ConfstoreError] = []
         answers = self._session.ask_all([document(command) for command in commands], self._timeout)
         for command, answer in zip(commands, answers):
@@ -333,7 +352,13 @@ class Store(Answers, Configurations, MutableMapping[str, Tree]):
                 counts.append(answer if isinstance(answer, ConfstoreError) else self._counted(answer, command))
             except ConfstoreError as fault:
                 counts.append(fault)
+            self._note(command, counts[-1])
         return counts
+
+    def _note(self, command: Tree, answer: "int | ConfstoreError") -> None:
+        """Notes that the file of the store has an about, once a command with one was performed."""
+        if isinstance(answer, int) and ABOUT in command and self._reader is not None:
+            self._keeps_abouts = True
 
     def _need_batches(self) -> None:
         """Raises `Unsupported` if the program has no batches: one that has them refuses an empty one by name."""
@@ -352,6 +377,15 @@ class Store(Answers, Configurations, MutableMapping[str, Tree]):
             pass
         except BadCommand:
             raise Unsupported("this program has no conditions (`if`)") from None
+
+    def _need_abouts(self) -> None:
+        """Raises `Unsupported` if the program takes no abouts: one that does refuses the name in this one."""
+        try:
+            self._count(ABOUT_PROBE)
+        except BadName:
+            pass
+        except BadCommand:
+            raise Unsupported("this program takes no abouts (`about`): use a newer one, or give none") from None
 
     def _need_reader(self) -> Reader:
         if self._reader is None:

@@ -39,6 +39,9 @@ OF_PACKAGE = {"confstore", "confstore.places"} | {
     f"confstore.ctl{part}" for part in ("", "_asked", "_faults", "_places", "_program", "_streams", "_words")
 }
 
+# What a word imports moreover that changes something, to see whether its store keeps abouts.
+OF_CHANGES = {"confstore.abouts"}
+
 # Does a word in a process without `site`, which may import anything, and writes what it has imported.
 WORD = """
 import sys
@@ -82,7 +85,8 @@ class Starts(StoreTest):
             status, written, modules = imported(WORD, *words)
             self.assertEqual((status, written), (0, output), words)
             self.assertEqual(modules & (SLOW | OF_SOCKETS), set(), words)
-            self.assertEqual({name for name in modules if name.startswith("confstore")}, OF_PACKAGE, words)
+            wanted = OF_PACKAGE | OF_CHANGES if words[0] in ("set", "delete") else OF_PACKAGE
+            self.assertEqual({name for name in modules if name.startswith("confstore")}, wanted, words)
 
     def test_words_by_a_socket(self) -> None:
         rows = [

@@ -18,7 +18,7 @@ KEPT = 100_000
 # How many bytes of a file are read at once, and how many of a record's start and end are looked at.
 PART = 1_048_576
 START = 64
-END = 512
+END = 16_384  # so that it has an about, and the two edits before it
 
 CLOSING = b"\n...\n"
 
@@ -27,7 +27,8 @@ Answer = Dict[str, str]
 _COUNT = re.compile(rb'(?:---\n)?(?:store: \S+\n)?at: "([0-9]+)"\n')
 _BATCH = re.compile(rb'(?:---\n)?at: "([0-9]+)"\nbatch:\n')
 _NUMBER = rf'  - set: {RESERVED}\n    path: "/([0-9]{{20}})"\n    value: '.encode()
-_ENTRY = re.compile(rb"(?:" + _NUMBER + rb"(\w+)\n)?" + _NUMBER + rb'("{2}|\S*)\n\Z')
+_ABOUT = rb"(?:about:\n(?:(?:  .*)?\n)+)?"
+_ENTRY = re.compile(rb"(?m)(?:^" + _NUMBER + rb"(\w+)\n)?^" + _NUMBER + rb'("{2}|\S*)\n' + _ABOUT + rb"\Z")
 
 
 class Performed(NamedTuple):

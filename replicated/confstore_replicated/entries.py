@@ -1,9 +1,10 @@
 """Entries of the log: what a client asks to be changed, and the batches that perform an entry on a store.
 
-A command is a JSON object, `{"edits": [..]}`, or `{"if": [..], "edits": [..]}` where it has conditions. Each edit and
-each condition is an object of strings, in the form that it has for a session, but that a value may be a tree: a string,
-a list of trees, or an object of trees. An entry is a command with one more key, `nonce`, which no two requests to etcd
-have in common. Its number is the revision of etcd that made it, so later entries have greater numbers.
+A command is a JSON object, `{"edits": [..]}`, with the key `if` before that where it has conditions, and the key
+`about` behind it where it notes who makes the change, when and why. Each edit and each condition is an object of
+strings, in the form that it has for a session, but that a value may be a tree: a string, a list of trees, or an object
+of trees. An entry is a command with one more key, `nonce`, which no two requests to etcd have in common. Its number is
+the revision of etcd that made it, so later entries have greater numbers.
 
 A store keeps the number of the last entry that it performed under a name of its own, with a mark (`history.py`). The
 batch of an entry takes out the number of the entry before it, makes the entry's edits, and puts its own number, all or
@@ -20,9 +21,10 @@ import hashlib
 import json
 import re
 import secrets
-from typing import Any, Dict, List, NamedTuple, Sequence, Tuple, Union
+from typing import Any, Dict, List, Mapping, NamedTuple, Sequence, Tuple, Union
 
 from confstore import ConfstoreError, NotATree, NotText, TooDeep, document
+from confstore.abouts import ABOUT, BY, WHEN, NotAbout, check, is_about
 from confstore.session import LONGEST_COMMAND
 
 # The name under which each store keeps the number of the last entry that it performed. No command may touch it.
@@ -44,8 +46,11 @@ _NONCE = re.compile(rb',"nonce":"[0-9a-f]{32}"}\Z')
 KEYS = (("import", "text"), ("set", "path", "value"), ("delete", "path"))
 CONDITION_KEYS = (("test", "path", "value"), ("absent", "path"), ("absent",), ("count",))
 
-# The keys of an entry, where it has conditions and where it has none. One of an older version has no nonce.
-ENTRY_KEYS = (("edits", "nonce"), ("edits",), ("if", "edits", "nonce"))
+# The keys of an entry, with conditions and an about, and without. One of an older version has no nonce.
+ENTRY_KEYS = (
+    ("edits", "nonce"), ("edits",), ("if", "edits", "nonce"), ("edits", "about", "nonce"),
+    ("if", "edits", "about", "nonce"),
+)  # fmt: skip
 
 Tree = Union[str, List["Tree"], Dict[str, "Tree"]]
 Edit = Dict[str, Tree]
@@ -54,10 +59,11 @@ Command = Dict[str, Tree]
 
 
 class Change(NamedTuple):
-    """What a command changes: its edits, and the conditions under which it makes them."""
+    """What a command changes: its edits, the conditions under which it makes them, and what it notes of itself."""
 
     edits: List[Edit]
     conditions: Sequence[Condition] = ()
+    about: Mapping[str, str] = {}
 
 
 class Refused(Exception):
@@ -92,14 +98,30 @@ def _are_of(items: Any, keys: Tuple[Tuple[str, ...], ...]) -> bool:
     return isinstance(items, list) and all(_is_one_of(item, keys) for item in items)
 
 
+def _about_in(command: Dict[str, Any]) -> Dict[str, str]:
+    """What a command notes of itself, under its last key. Raises `Refused`."""
+    if ABOUT not in command:
+        return {}
+    about = command[ABOUT]
+    if next(reversed(command)) != ABOUT or not is_about(about):
+        raise Refused("BadCommand")
+    try:
+        check(about)
+    except NotAbout as fault:
+        raise Refused(fault.name) from None
+    return dict(about)
+
+
 def change_of(command: Any) -> Change:
-    """What a client's command changes: an edit, or `{"batch": [..]}`, with `if` before it where it has conditions.
-    Raises `Refused`.
+    """What a client's command changes: an edit, or `{"batch": [..]}`, with `if` before it where it has conditions, and
+    `about` behind it where it notes something of itself. Raises `Refused`.
 
     A batch without edits is refused, but where it has conditions: then its entry says whether they hold.
     """
     if not isinstance(command, dict):
         raise Refused("BadCommand")
+    about = _about_in(command)
+    command = {key: value for key, value in command.items() if key != ABOUT}
     conditions: Any = ()
     if next(iter(command), None) == "if":
         conditions = command["if"]
@@ -113,14 +135,15 @@ def change_of(command: Any) -> Change:
         raise Refused("EmptyBatch")
     if any(next(iter(item.values())) == RESERVED for item in (*edits, *conditions) if "count" not in item):
         raise Refused("BadName")
-    return Change(edits, conditions)
+    return Change(edits, conditions, about)
 
 
 def command_of(change: Change) -> bytes:
     """The bytes of a command. Raises `Refused` if it, or its batch, is too long, or has a text that YAML can't hold."""
-    told = {"if": list(change.conditions)} if change.conditions else {}
+    before = {"if": list(change.conditions)} if change.conditions else {}
+    behind = {ABOUT: dict(change.about)} if change.about else {}
     try:
-        text = json.dumps({**told, "edits": change.edits}, ensure_ascii=False, separators=(",", ":"))
+        text = json.dumps({**before, "edits": change.edits, **behind}, ensure_ascii=False, separators=(",", ":"))
         command = text.encode("utf-8", "strict")
         batch = document(batch_of(change, 1, 1, NO_MARK))
     except (NotText, UnicodeEncodeError):
@@ -134,8 +157,11 @@ def command_of(change: Change) -> bytes:
     return command
 
 
-def digest_of(command: bytes) -> bytes:
-    """What etcd keeps of a command with its name."""
+def digest_of(change: Change, command: bytes) -> bytes:
+    """What etcd keeps of a command with its name, of which these are the bytes: nothing of who has sent it, and when,
+    which a node notes anew where it is sent again."""
+    if change.about:
+        command = command_of(change._replace(about={k: t for k, t in change.about.items() if k not in (BY, WHEN)}))
     return hashlib.sha256(command).digest()
 
 
@@ -155,6 +181,7 @@ def change_in(entry: bytes) -> Tuple[Change, bytes]:
     try:
         told = json.loads(entry)
         keys, edits, conditions = tuple(told), told["edits"], told.get("if")
+        about = {key: told[key] for key in keys if key == ABOUT}
     except (ValueError, KeyError, TypeError, AttributeError, RecursionError):
         raise Refused("BadCommand") from None
     if keys not in ENTRY_KEYS:
@@ -162,7 +189,8 @@ def change_in(entry: bytes) -> Tuple[Change, bytes]:
             f"an entry of the log has the keys {json.dumps(keys)[:200]}, which this version of confstore_replicated "
             "does not know: end this node, and start the version that the other nodes have"
         )
-    change = change_of({"batch": edits} if conditions is None else {"if": conditions, "batch": edits})
+    before: Dict[str, Any] = {} if conditions is None else {"if": conditions}
+    change = change_of({**before, "batch": edits, **about})
     return change, command_of(change)
 
 
@@ -187,7 +215,9 @@ def batch_of(change: Change, number: int, before: int, mark: str) -> Command:
     """The command of a session by which an entry is performed. Of one without edits it is refused in any case."""
     edits = marked(change.edits, number, before, mark) if change.edits else []
     conditions: Command = {"if": list(change.conditions)} if change.conditions else {}
-    return {**conditions, "batch": list(edits)}
+    texts: Dict[str, Tree] = dict(change.about)
+    about: Command = {ABOUT: texts} if texts else {}
+    return {**conditions, "batch": list(edits), **about}
 
 
 def refusal_of(word: str, number: int, before: int, mark: str) -> Command:

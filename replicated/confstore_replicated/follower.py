@@ -53,8 +53,8 @@ MOST_COUNTED = 1_000
 # same at all nodes. `JournalLong` is not one of them: it depends on the file of one node.
 WORDS = frozenset(
     (
-        "BadCommand", "BadName", "BadPath", "ConfigLarge", "CountFull", "Documents", "EmptyBatch", "KeyNotText",
-        "KeyTwice", "LargeInStyle", "NoConfig", "NoSuchPlace", "NotIndex", "NotUtf8", "RecordLong", "StoreFull",
+        "AboutLarge", "BadCommand", "BadName", "BadPath", "ConfigLarge", "CountFull", "Documents", "EmptyBatch",
+        "KeyNotText", "KeyTwice", "LargeInStyle", "NoConfig", "NoSuchPlace", "NotIndex", "NotUtf8", "RecordLong", "StoreFull",
         "Syntax", "TooDeep", "TooLong", "Unmet",
     )
 )  # fmt: skip
@@ -79,7 +79,7 @@ class _Turn:
     def __post_init__(self) -> None:
         try:
             self.change, command = change_in(self.entry.value)
-            self.digest = digest_of(command)
+            self.digest = digest_of(self.change, command)
         except Refused as fault:
             self.word = fault.word
 
@@ -437,6 +437,7 @@ class Follower(threading.Thread):
                         was_checkpoint = True
                         self._checkpoint(store)
                     else:
+                        self._need_abouts(store, turns[0], answer.word)
                         turns[0].refuse(answer.word)
                     break
                 if isinstance(answer, ConfstoreError):
@@ -446,6 +447,15 @@ class Follower(threading.Thread):
         self._pause, self._said = PAUSE, ""
         if self._length() - self._checkpoint_length >= CHECKPOINT_BYTES:
             self._checkpoint(store)
+
+    def _need_abouts(self, store: NodeStore, turn: _Turn, word: str) -> None:
+        """Raises `ConfstoreError` where a program that takes no abouts refuses an entry for its about: those of other
+        nodes may perform it."""
+        if word == "BadCommand" and turn.change.about and not store.takes_abouts():
+            raise ConfstoreError(
+                f"entry {turn.entry.created} has an about, which the program of this node does not take: end this "
+                "node, and start it with the program that the other nodes have"
+            )
 
     def _length(self) -> int:
         return os.path.getsize(os.path.join(self._folder, "store.yaml"))

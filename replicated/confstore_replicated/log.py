@@ -40,7 +40,7 @@ def entry_in(record: Record) -> Union[Record, str]:
         return word
     if any(edit.name == RESERVED for edit in inner):
         raise _fault_of(record)
-    return Record(record.number, inner, len(inner) > 1)
+    return Record(record.number, inner, len(inner) > 1, record.about)
 
 
 def line_of_entry(record: Record, line_of: Callable[[Record], str]) -> str:
@@ -68,7 +68,7 @@ def _parser() -> argparse.ArgumentParser:
 
 def main(words: Optional[Sequence[str]] = None) -> int:
     asked = _parser().parse_args(words)
-    line_of = line_with_values if asked.values else _line
+    line_of: Callable[[Record], str] = line_with_values if asked.values else _line
     try:
         records = Reader(asked.folder, program=asked.program).log(asked.after)
         lines = [line_of(record) if asked.all else line_of_entry(record, line_of) for record in records]

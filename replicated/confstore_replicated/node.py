@@ -14,6 +14,10 @@ A client sends one JSON object a line, and gets one back for each, in order. A l
 A condition is `{"test": NAME, "path": POINTER, "value": TREE}`, `{"absent": NAME, "path": POINTER}`,
 `{"absent": NAME}` or `{"count": COUNT}`, as a session has it. All nodes judge it at the command's place in the log.
 
+A change may have a last key `about`, an object of strings: who makes it, when and why (`by`, `when`, `why`), and what
+else is to be noted. The node writes `by`, the user at the other end of the socket, and `when` itself, also where a
+change has no about and the store has or had one.
+
 A refusal is `{"refused": WORD}`, with the words of a session, and three more: `NotText` of a text with a lone
 surrogate, which no YAML can hold, `TooLong` of a command that is too long for the log, and `IdTaken`. The name
 `replication` is the node's own: it is not among the names, and a command with it is refused with `BadName`.
@@ -39,11 +43,12 @@ from contextlib import ExitStack, contextmanager
 from typing import Any, Dict, Iterator, List, Optional, Tuple
 
 from confstore import ConfstoreError, NotATree, NotText, Refused as StoreRefused, Store
+from confstore.abouts import ABOUT, BY, WHEN, is_about, is_change, keeps_abouts, time_now, user_name
 
 from .answers import Answers
 from .bases import NAMES_KEPT
 from .beside import Fault, Sample, address, family, known, mode_of, tell_manager
-from .entries import RESERVED, Refused, change_in, change_of, command_of, digest_of, entry_of
+from .entries import RESERVED, Change, Refused, change_in, change_of, command_of, digest_of, entry_of
 from .etcd import Access, Created, Etcd, Item, Unavailable
 from .follower import Follower, NotReplicated
 from .history import Behind, OtherHistory, Place
@@ -90,6 +95,7 @@ class Node:
         names_kept: int = NAMES_KEPT,
         access: Optional[Access] = None,
     ) -> None:
+        self._folder, self._keeps_abouts = folder, False
         self._members, self._access = members, access or Access()
         self._log, self._ids = (f"/confstore/{cluster}/{kind}/".encode() for kind in ("log", "ids"))
         self._answers = Answers()
@@ -121,8 +127,8 @@ class Node:
         while self._idle:
             self._idle.pop().close()
 
-    def answer(self, request: Request) -> Dict[str, Any]:
-        """What is answered to a request."""
+    def answer(self, request: Request, user: Optional[int] = None) -> Dict[str, Any]:
+        """What is answered to a request of a user, if that is known."""
         identity, fresh = request.pop("id", None), request.pop("fresh", None) == "yes"
         try:
             self.follower.check()
@@ -130,7 +136,7 @@ class Node:
                 raise Refused("BadCommand")
             if tuple(request) in (("get", "path"), ("export",), ("names",)):
                 return self._read(request, fresh)
-            return self._change(request, identity)
+            return self._change(self._noted(request, user), identity)
         except (Refused, StoreRefused) as refused:
             return {"refused": refused.word}
         except (NotText, UnicodeEncodeError):
@@ -142,22 +148,45 @@ class Node:
 
     def _change(self, request: Request, identity: Optional[str]) -> Dict[str, Any]:
         """Puts a change into the log, and waits until it was performed here."""
-        command, wait = command_of(change_of(request)), Wait()
+        change, wait = change_of(request), Wait()
+        command = command_of(change)
+        digest = digest_of(change, command)
+        self._need_abouts(change)
         name = (identity or uuid.uuid4().hex).encode()
         self.follower.wait_for_look(wait.left())
-        created = self._create(name, command, wait)
+        created = self._create(name, command, digest, wait)
         if not self.follower.wait_for(created.number, wait.left()):
             return {"failed": "TimedOut"}
-        answer = self._answer_of(created, self._log + name, digest_of(command), wait)
+        answer = self._answer_of(created, self._log + name, digest, wait)
         if answer is not None:
             return answer
-        again = self._create(name, command, wait)  # so that the log that this node has now is known to have it
+        again = self._create(name, command, digest, wait)  # so that the log that this node has now is known to have it
         is_same = again.number == created.number and again.value in (None, created.value)
         return {"failed": "Forgotten" if is_same else "TimedOut"}
 
-    def _create(self, name: bytes, command: bytes, wait: Wait) -> Created:
+    def _noted(self, request: Request, user: Optional[int]) -> Request:
+        """A change with who makes it, and when, if it has an about, or the store has or had one."""
+        about = request.get(ABOUT)
+        if about is None and not (is_change(request) and self._has_abouts()):
+            return request
+        if about is not None and not is_about(about):
+            raise Refused("BadCommand")
+        own = {} if user is None else {BY: user_name(user)}
+        rest = {key: text for key, text in (about or {}).items() if key not in (BY, WHEN)}
+        return {**request, ABOUT: {**own, WHEN: time_now(), **rest}}
+
+    def _has_abouts(self) -> bool:
+        self._keeps_abouts = self._keeps_abouts or keeps_abouts(self._folder)
+        return self._keeps_abouts
+
+    def _need_abouts(self, change: Change) -> None:
+        """Raises `Refused` for a change with an about that the program of this node would not take."""
+        store = self.follower.store
+        if change.about and store is not None and not store.takes_abouts():
+            raise Refused("BadCommand")
+
+    def _create(self, name: bytes, command: bytes, digest: bytes, wait: Wait) -> Created:
         """Puts a command into the log under a name, unless it is there. Raises `Refused` if another one is."""
-        digest = digest_of(command)
         with self._etcd(wait) as etcd:
             created = etcd.create(self._ids + name, digest, self._log + name, lambda: entry_of(command))
         if _digest_in(created) != digest:
@@ -257,7 +286,7 @@ def _digest_in(created: Created) -> Optional[bytes]:
     if created.digest is not None:
         return created.digest
     try:
-        return digest_of(change_in(created.value or b"")[1])
+        return digest_of(*change_in(created.value or b""))
     except Refused:
         return None
 

@@ -39,7 +39,7 @@ LONG_ONES = 4
 # How many seconds lie between two looks at who waits.
 TURN = 0.2
 
-Answering = Callable[[Dict[str, Any]], Dict[str, Any]]
+Answering = Callable[[Dict[str, Any], int], Dict[str, Any]]
 
 
 class _Room:
@@ -84,8 +84,8 @@ class _Room:
 class _Client:
     """One client, which a thread of its own serves."""
 
-    def __init__(self, connection: socket.socket, server: "Server") -> None:
-        self._connection, self._server = connection, server
+    def __init__(self, connection: socket.socket, user: int, server: "Server") -> None:
+        self._connection, self._user, self._server = connection, user, server
         self._heard = bytearray()
         self._taken = 0
         self._is_asking = False
@@ -174,7 +174,7 @@ class _Client:
             request = json.loads(line)
         except (ValueError, RecursionError):
             request = None
-        return self._server.answer(request) if isinstance(request, dict) else {"refused": "BadCommand"}
+        return self._server.answer(request, self._user) if isinstance(request, dict) else {"refused": "BadCommand"}
 
     def _say(self, answer: Dict[str, Any]) -> bool:
         """Sends an answer. Whether the client took it in time."""
@@ -266,11 +266,12 @@ class Server:
         except OSError:  # as where there are no more descriptors
             self._pause(TURN)
             return
-        if not may_write(peer_of(connection), self._folder):  # its access was taken away since the start
+        peer = peer_of(connection)
+        if not may_write(peer, self._folder):  # its access was taken away since the start
             connection.close()
             return
         connection.setblocking(True)
-        client = _Client(connection, self)
+        client = _Client(connection, peer.user, self)
         with self._lock:
             self._clients.add(client)
             self.counts.put("clients", len(self._clients))

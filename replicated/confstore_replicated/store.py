@@ -2,15 +2,32 @@
 
 from __future__ import annotations
 
-from typing import List, Sequence, Union
+from typing import Dict, List, Optional, Sequence, Union
 
-from confstore import ConfstoreError, Store, document
+from confstore import ConfstoreError, Store, Unsupported, document
+from confstore.style import Tree
 
 from .entries import Command
 
 
 class NodeStore(Store):
-    """A store that performs many commands with one sync."""
+    """A store that performs many commands with one sync. It adds no about of its own: what each node performs is in the
+    log."""
+
+    _takes_abouts: Optional[bool] = None  # where that is known
+
+    def takes_abouts(self) -> bool:
+        """Whether its program takes abouts."""
+        if self._takes_abouts is None:
+            try:
+                self._need_abouts()
+                self._takes_abouts = True
+            except Unsupported:
+                self._takes_abouts = False
+        return self._takes_abouts
+
+    def _with_about(self, command: Dict[str, Tree]) -> Dict[str, Tree]:
+        return command
 
     def perform(self, commands: Sequence[Command]) -> List[Union[int, ConfstoreError]]:
         """Performs batches, one after the other, and returns the new count for each, or why it has none. It is what

@@ -112,7 +112,7 @@ class Access(FolderTest):
     def test_access_that_was_narrowed(self) -> None:
         """Counts for those who connect later."""
         self.give(self.folder, 0o770, "")
-        server = Server(self.path, self.folder, lambda _: {"ok": "1"})
+        server = Server(self.path, self.folder, lambda _request, _user: {"ok": "1"})
         thread = threading.Thread(target=server.serve, daemon=True)
         thread.start()
         self.addCleanup(thread.join, 10)

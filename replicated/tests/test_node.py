@@ -436,8 +436,9 @@ class StoresOfTheVersionBefore(NodeTest):
                     edits = [{"import": RESERVED, "text": "{}\n"}]
                 last: Tree = {"set": RESERVED, "path": f"/{number:020}", "value": "spare-room-for-the-count"}
                 store.perform_batches([[*edits, command, last]])
-                self.etcd.keys.put(LOG + b"k%d" % number, command_of(change_of(command)), number)
-                self.etcd.keys.put(IDS + b"k%d" % number, digest_of(command_of(change_of(command))), number)
+                change = change_of(command)
+                self.etcd.keys.put(LOG + b"k%d" % number, command_of(change), number)
+                self.etcd.keys.put(IDS + b"k%d" % number, digest_of(change, command_of(change)), number)
                 self.etcd.keys.revision = number
 
     def test_it_goes_on_and_is_tied_then(self) -> None:

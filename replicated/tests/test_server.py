@@ -35,7 +35,7 @@ class ServerTest(unittest.TestCase):
             self.addCleanup(patch.stop)
 
     def serve(self, answer: Answering = lambda request: {"asked": json.dumps(request)[:40]}) -> Server:
-        server = Server(self.path, self.folder, answer)
+        server = Server(self.path, self.folder, lambda request, _user: answer(request))
         thread = threading.Thread(target=server.serve, daemon=True)
         thread.start()
         self.addCleanup(thread.join, 10)

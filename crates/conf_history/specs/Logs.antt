@@ -1,11 +1,11 @@
 -- The log of a store's file: a line for each command that is asked for, without its values, with them, or with them but for
--- what is hidden; or the records as they stand.
+-- what is hidden; or the records as they stand. A line says who made the command, when and why, as far as it has an about.
 use Rattle.std.specs.Prelude.{◌≡◌, ◌<◌, ◌⊎◌, ℕ, ◌+◌, nat_le, Bool, true, false, ◌||◌, ◌&&◌, if◌then◌else◌, List, [], ◌∷◌, ◌++◌, length}
 use Rattle.std.specs.Prelude.{take, codes, decimal, encode_utf8_all, String, string_bytes, Option, Some, None, IfSome}
 use Rattle.std.specs.{declared.alloc.Global.Global, Borrow.Bor}
 use Rattle.conf_history.specs.Prelude.{MayBeDropped, StartsWithHole, Appends, Keeps, Pieces, in_double_quotes, store_limit, Edit, import_as}
-use Rattle.conf_history.specs.Prelude.{set_at, delete_at, Command, single, batch, Contents, PiecesMean, chars, name_of, same_text}
-use Rattle.conf_history.specs.declared.fault.HistoryFault.{HistoryFault, TheVariants.{Output, Damaged, OutOfMemory}}
+use Rattle.conf_history.specs.Prelude.{set_at, delete_at, Command, single, batch, noted, Contents, PiecesMean, chars, name_of, same_text}
+use Rattle.conf_history.specs.{Prelude.text_under, declared.fault.HistoryFault.{HistoryFault, TheVariants.{Output, Damaged, OutOfMemory}}}
 use Rattle.conf_history.specs.declared.{line.LineForm.{LineForm, TheVariants.{Names, Values, Hiding}}, log.LogForm.LogForm}
 use Rattle.conf_history.specs.{declared.log.{LogForm.TheVariants.{Lines, Records}, LogRequest.LogRequest}, Histories.ReadsAtMost}
 use Rattle.{conf_history.specs.Histories.RefusesReading, yaml_grammar.specs.Trees.Tree, yaml_forms.specs.Json.json_text}
@@ -30,10 +30,24 @@ abbrev pub edits_words : LineForm → List ℕ → List Edit → List ℕ
 edits_words form mark [] = []
 edits_words form mark (edit ∷ edits) = mark ++ edit_words form edit ++ edits_words form (codes ";") edits
 
--- a space and what a command does
+-- a space, a key, a space and a text in double quotes; nothing where there is no text
+abbrev pub label : List ℕ → Option (List ℕ) → List ℕ
+label key None = []
+label key (Some content) = codes " " ++ key ++ codes " " ++ in_double_quotes content
+
+-- the same with the text that an about has under the key
+abbrev pub labelled : List ℕ → Tree → List ℕ
+labelled key about = label key (text_under about key)
+
+-- who, when and why
+abbrev pub about_words : Tree → List ℕ
+about_words about = labelled (codes "by") about ++ labelled (codes "when") about ++ labelled (codes "why") about
+
+-- a space and what a command does; before it, who, when and why, if it has an about
 abbrev pub command_words : LineForm → Command → List ℕ
 command_words form (single edit) = edit_words form edit
 command_words form (batch edits) = codes " batch" ++ edits_words form [] edits
+command_words form (noted command about) = about_words about ++ command_words form command
 
 -- the line of a command with a number
 abbrev pub command_line : LineForm → ℕ → Command → List ℕ
@@ -44,10 +58,11 @@ abbrev pub any_changes : List ℕ → List Edit → Bool
 any_changes name [] = false
 any_changes name (edit ∷ edits) = same_text name (name_of edit) || any_changes name edits
 
--- whether a command changes the configuration with a name
+-- whether a command changes the configuration with a name, with an about or without
 abbrev pub changes : List ℕ → Command → Bool
 changes name (single edit) = same_text name (name_of edit)
 changes name (batch edits) = any_changes name edits
+changes name (noted command about) = changes name command
 
 -- the same; any command does, if no name is given
 abbrev pub is_of : Option (Bor (List ℕ)) → Command → Bool

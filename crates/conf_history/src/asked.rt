@@ -1,10 +1,10 @@
 // Which commands a log is asked for.
 ghost use Rattle.std.specs.Prelude.{◌≡◌, map};
-ghost use Rattle.conf_history.specs.Prelude.{chars, command_of, edit_of, same_text};
+ghost use Rattle.conf_history.specs.Prelude.{chars, command_of, command_with, edit_of, same_text};
 ghost use Rattle.conf_history.specs.Logs.{any_changes, changes, is_asked, is_of};
 
 use crate::log::LogRequest;
-use conf_state::{Command, Edit};
+use conf_state::{Command, Edit, Edits};
 
 /// Whether a log is asked for a command with a number.
 pub(crate) fn is_asked(request: LogRequest<'_>, number: u64, command: &Command) -> bool
@@ -23,7 +23,7 @@ fn is_of(name: Option<&str>, command: &Command) -> bool
     }
 }
 
-/// Whether a command has an edit of the configuration with a name.
+/// Whether a command has an edit of the configuration with a name, with an about or without.
 fn changes(name: &str, command: &Command) -> bool
     ensures { result ≡ changes (chars name.now) (command_of command.now) }
 {
@@ -32,6 +32,17 @@ fn changes(name: &str, command: &Command) -> bool
         Command::Set { name: other, .. } => is_same_name(name, other),
         Command::Delete { name: other, .. } => is_same_name(name, other),
         Command::Batch { edits } => any_changes(name, edits),
+        Command::Noted { edits, .. } => edits_change(name, edits),
+    }
+}
+
+/// Whether one of a command's edits is of the configuration with a name.
+fn edits_change(name: &str, edits: &Edits) -> bool
+    ensures { result ≡ changes (chars name.now) (command_with edits.now) }
+{
+    match edits {
+        Edits::Single(edit) => is_same_name(name, edit.name()),
+        Edits::Batch(edits) => any_changes(name, edits),
     }
 }
 

@@ -19,10 +19,11 @@ use yaml_recognizers::closings::one_list_of_pieces;
 /// Makes a store with the base and the records of a store's file, so with its state, its count and its history. Returns
 /// the disk.
 ///
-/// The file is read as by [`state_at`](crate::state_at), and can't be changed by this. The bytes after its last closing
-/// line are left out. The new store is made on `disk`, which may have no `store.yaml`, and is synced when this returns
-/// `Ok`. A crash at any moment of the call leaves what it could leave before, or the whole new file. It takes memory
-/// for the file, for the text of its base, and for the configurations that its records put or edit.
+/// The file is read as by [`state_at`](crate::state_at), and can't be changed by this. Its base and its records are
+/// copied as they stand, so the new store's base has the format of this one. The bytes after its last closing line are
+/// left out. The new store is made on `disk`, which may have no `store.yaml`, and is synced when this returns `Ok`. A
+/// crash at any moment of the call leaves what it could leave before, or the whole new file. It takes memory for the
+/// file, for the text of its base, and for the configurations that its records put or edit.
 ///
 /// # Errors
 /// The disk is returned with the fault. `History`: the file can't be read, is no store or is damaged; nothing is

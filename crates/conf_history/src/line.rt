@@ -1,9 +1,10 @@
 // The line of a command in a log.
 ghost use Rattle.std.specs.Prelude.{◌≡◌, ◌++◌, [], codes, decimal, encode_utf8_all, map, string_bytes, IfOk, OnOk};
-ghost use Rattle.conf_history.specs.Prelude.{chars, in_double_quotes, tree_of, command_of, edit_of};
-ghost use Rattle.conf_history.specs.Logs.{command_line, command_words, edit_words, edits_words, value_words};
+ghost use Rattle.conf_history.specs.Prelude.{chars, in_double_quotes, tree_of, command_of, command_with, edit_of};
+ghost use Rattle.conf_history.specs.Logs.{about_words, command_line, command_words, edit_words, edits_words, labelled, value_words};
 
-use conf_state::{Command, Edit};
+use conf_about::About;
+use conf_state::{Command, Edit, Edits};
 use itoa::Buffer;
 use std::alloc::{AllocError, Global};
 use tree_hidden::{Tokens, write_shown};
@@ -11,7 +12,7 @@ use yaml_config::Config;
 use yaml_forms::write_json;
 use yaml_writer::{Sink, write_quoted};
 
-/// What a line says of each edit.
+/// What a line says of each edit. Who made the command, when and why, it says in each form.
 #[derive(Clone, Copy)]
 pub enum LineForm<'h> {
     /// What it does, the name of the configuration, and the place in it.
@@ -55,7 +56,7 @@ fn write_line<S: Sink<Fault = AllocError>>(
     sink.put_char('\n')
 }
 
-/// Writes a space and what a command does.
+/// Writes a space and what a command does; before it, who, when and why, if it has an about.
 fn write_command<S: Sink<Fault = AllocError>>(
     alloc: Global,
     command: &Command,
@@ -70,6 +71,57 @@ fn write_command<S: Sink<Fault = AllocError>>(
         Command::Set { name, path, value } => write_set(alloc, name, path, value, form, sink),
         Command::Delete { name, path } => write_delete(name, path, sink),
         Command::Batch { edits } => write_batch(alloc, edits, form, sink),
+        Command::Noted { edits, about } => write_noted(alloc, edits, about, form, sink),
+    }
+}
+
+/// Writes who, when and why of a command, a space and what its edits do.
+fn write_noted<S: Sink<Fault = AllocError>>(
+    alloc: Global,
+    edits: &Edits,
+    about: &About,
+    form: LineForm<'_>,
+    sink: &mut S,
+) -> Result<(), AllocError>
+    ensures { OnOk result (S.Takes sink.old
+        (about_words (tree_of about.now) ++ command_words form.entry (command_with edits.now)) sink.new) }
+{
+    write_about(about, sink)?;
+    write_edits(alloc, edits, form, sink)
+}
+
+/// Writes who, when and why, as far as an about says so.
+fn write_about<S: Sink>(about: &About, sink: &mut S) -> Result<(), S::Fault>
+    ensures { OnOk result (S.Takes sink.old (about_words (tree_of about.now)) sink.new) }
+{
+    write_labelled("by", about, sink)?;
+    write_labelled("when", about, sink)?;
+    write_labelled("why", about, sink)
+}
+
+/// Writes a key of an about, and the text under it in double quotes; nothing where it has none.
+fn write_labelled<S: Sink>(key: &str, about: &About, sink: &mut S) -> Result<(), S::Fault>
+    ensures { OnOk result (S.Takes sink.old (labelled (chars key.now) (tree_of about.now)) sink.new) }
+{
+    match about.get(key) {
+        Some(text) => write_at(" ", key, text, sink),
+        None => Ok(()),
+    }
+}
+
+/// Writes a space and what the edits of a command do.
+fn write_edits<S: Sink<Fault = AllocError>>(
+    alloc: Global,
+    edits: &Edits,
+    form: LineForm<'_>,
+    sink: &mut S,
+) -> Result<(), AllocError>
+    ensures { OnOk result (S.Takes sink.old
+        (command_words form.entry (command_with edits.now)) sink.new) }
+{
+    match edits {
+        Edits::Single(edit) => write_edit(alloc, edit, form, sink),
+        Edits::Batch(edits) => write_batch(alloc, edits, form, sink),
     }
 }
 
@@ -151,7 +203,8 @@ fn write_delete<S: Sink>(name: &str, path: &str, sink: &mut S) -> Result<(), S::
     write_at(" delete ", name, path, sink)
 }
 
-/// Writes a word, the name of a configuration, and a pointer in double quotes as the one style writes it there.
+/// Writes a word, a name, and a text in double quotes as the one style writes it there: a pointer into the
+/// configuration with the name, or what an about has under the key.
 fn write_at<S: Sink>(word: &str, name: &str, path: &str, sink: &mut S) -> Result<(), S::Fault>
     ensures { OnOk result (S.Takes sink.old
         (chars word.now ++ chars name.now ++ codes " " ++ in_double_quotes (chars path.now))

@@ -28,7 +28,8 @@ pub struct LogRequest<'h> {
 /// How a command of a file is written.
 #[derive(Clone, Copy)]
 pub enum LogForm<'h> {
-    /// A line for each: its number, what it does, the configuration and the place in it, and its values if asked for.
+    /// A line for each: its number, who made it, when and why, what it does, the configuration and the place in it, and
+    /// its values if asked for.
     Lines(LineForm<'h>),
     /// The records as they stand in the file.
     Records,
@@ -37,17 +38,21 @@ pub enum LogForm<'h> {
 /// Writes the commands of a store's file that are asked for, in their order: of all of them, or of those up to the
 /// number `at`. The file is read as by [`state_at`](crate::state_at). It does not flush.
 ///
-/// A batch changes each configuration of which it has an edit, and it is written whole.
+/// A batch changes each configuration of which it has an edit, and it is written whole. An about makes no difference to
+/// what a command changes.
 ///
 /// Without a number, each command is written as soon as it was read and performed. With one, nothing is written before
 /// the command with the number was performed: until then what is to be written is held in memory.
 ///
 /// With [`LogForm::Lines`] a line has the number, the word `import`, `set` or `delete`, the name, and for a set or a
 /// delete the pointer in double quotes, as `2 set web "/port"`. A batch is one line: its number, the word `batch`, and
-/// its edits with `; ` between them, as `4 batch import web; set web "/port"`. With [`LineForm::Values`] each import
-/// and each set has a space and its value after it, as a JSON text (RFC 8259) without whitespace between its parts:
-/// `2 set web "/port" "81"`. With [`LineForm::Hiding`] the word `hidden` stands for what is at some paths, or below
-/// them, as `1 import web {"port":"80","key":hidden}`. With [`LogForm::Records`] the bytes of each record are written.
+/// its edits with `; ` between them, as `4 batch import web; set web "/port"`. If the command has an about, who made
+/// it, when and why stand behind the number, as far as the about says so: of its keys `by`, `when` and `why` those that
+/// it has, in this order, each with its text in double quotes, as `3 by "ann" why "open the port" set web "/port"`. Its
+/// other keys are not shown. With [`LineForm::Values`] each import and each set has a space and its value after it, as
+/// a JSON text (RFC 8259) without whitespace between its parts: `2 set web "/port" "81"`. With [`LineForm::Hiding`] the
+/// word `hidden` stands for what is at some paths, or below them, as `1 import web {"port":"80","key":hidden}`; an
+/// about is never hidden. With [`LogForm::Records`] the bytes of each record are written.
 ///
 /// # Errors
 /// Without a number, the commands before the fault are written, and at `Output` a part of the last one's text. With a

@@ -17,7 +17,9 @@ use std::io::Read;
 ///
 /// The file is read as by [`survey_store`], and can't be changed by this. The new store is made on `disk`, which may
 /// have no `store.yaml`. It keeps the count of commands, and is synced when this returns `Ok`. A crash at any moment of
-/// the call leaves what it could leave before, or the whole new file.
+/// the call leaves what it could leave before, or the whole new file. That is a base and no records. It is of the
+/// second format (`confstore-2`), whatever the base of the file that was read says: no record behind it has an about
+/// yet.
 ///
 /// # Errors
 /// The disk is returned with the fault. `History`: the file can't be read, or is no store; nothing is written.

@@ -2,8 +2,8 @@
 use Rattle.std.proofs.Common.{◌≡◌, ℕ, ◌≤◌, Bool, true, false, nat_lt, if◌then◌else◌, List, [], ◌∷◌, Option, Some, None, Result, Ok, Err}
 use Rattle.std.proofs.Common.{is_ok, refl, ap, subst, ◌∙◌, arith}
 use Rattle.conf_record.proofs.Prelude.{nat_tests, byte_len, same_text, Tree, depth, style_text, set, delete, path_of, PathFault, good_name}
-use Rattle.conf_record.proofs.Prelude.{Edit, import_as, set_at, delete_at, Command, single, batch, name_of, Entry, Contents, config_named}
-use Rattle.conf_record.proofs.{Prelude.{put_config, cut_config, config_limits, AreConfigs, IsState}, SizeLemmas.size}
+use Rattle.conf_record.proofs.Prelude.{Edit, import_as, set_at, delete_at, Command, single, batch, noted, name_of, Entry, Contents}
+use Rattle.conf_record.proofs.{Prelude.{config_named, put_config, cut_config, config_limits, AreConfigs, IsState}, SizeLemmas.size}
 use Rattle.conf_record.proofs.{PointerLemmas.pointer_bytes, PathLemmas.{tokens_size, set_holds, delete_holds}}
 use Rattle.conf_record.specs.SmallCommands.{IsSmallTree, IsShortPath, IsSmallEdit, AreSmallEdits, IsSmallCommand}
 use Rattle.conf_state.specs.Steps.{found, by_path, checked_tree, with_checked_config, configs_after_delete, configs_after, edited}
@@ -147,6 +147,7 @@ performed_accepted : (command : Command) (configs after : List Entry) → AreSho
 performed_accepted (single edit) configs after all is = (edit_accepted configs after all edit is).0
 performed_accepted (batch []) configs after all is = tt
 performed_accepted (batch (edit ∷ edits)) configs after all is = all_accepted (edit ∷ edits) configs after all is
+performed_accepted (noted command about) configs after all is = performed_accepted command configs after all is
 
 -- a command that some state accepts keeps that
 pub accepted : (s new : Contents) (command : Command) (room : Room) → IsState s → step s command room ≡ Ok new → IsSmallCommand command

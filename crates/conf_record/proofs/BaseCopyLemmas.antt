@@ -5,6 +5,7 @@ use Rattle.conf_record.proofs.Prelude.{encodes-append, Good, same_text, Tree, me
 use Rattle.conf_record.proofs.Prelude.{base_bytes, entry_lines, IsState, Entry, Contents, config_named, put_config, named-put-same}
 use Rattle.conf_record.{proofs.{BaseSpanLemmas.bytes_length, EntryLemmas.{within, whole_base}}, specs.BaseSpans.{entry_bytes, IsBuilt}}
 use Rattle.{conf_record.specs.{Entries.IsEntry, Documents.{IsBase, BasesAreRead, OneBase}}, conf_state.proofs.EditLemmas.found-good}
+use Rattle.conf_record.specs.{Formats.format_start, declared.format.Format.TheVariants.Second}
 use Rattle.conf_state.proofs.LimitLemmas.{AreConfigs-put, names_differ-put}
 
 -- configurations one of which is replaced by one with the same lines
@@ -53,12 +54,13 @@ built_is read one s name t u kept found good same =
     let other : Contents = record { configs = new; count = s.count } in
     let end = codes "...\n" in
     let lines = encode_utf8_all (members_after (members es) 2) ++ end in
-    let text = codes "---\nstore: confstore-2\nat: \"" ++ (encode_utf8_all (decimal s.count) ++ (codes "\"\nconfigs:\n" ++ lines)) in
-    let whole : text ≡ base_bytes s = whole_base text lines es s.count (none_there es name t found) kept.numbered refl refl in
-    let swapped : text ≡ base_bytes other = whole_base text lines new s.count (none_put es name u) kept.numbered refl
+    let text = format_start Second
+    ++ (codes "at: \"" ++ (encode_utf8_all (decimal s.count) ++ (codes "\"\nconfigs:\n" ++ lines))) in
+    let whole : text ≡ base_bytes s = whole_base Second text lines es s.count (none_there es name t found) kept.numbered refl refl in
+    let swapped : text ≡ base_bytes other = whole_base Second text lines new s.count (none_put es name u) kept.numbered refl
     (ap (λ bs. bs ++ end) (sym (same_lines es name t u found same))) in
     let bytes : base_bytes other ≡ base_bytes s = sym swapped ∙ whole in
-    let size = bytes_length other ∙ ap (λ bs. length bs) bytes ∙ sym (bytes_length s) in
+    let size = bytes_length Second other ∙ ap (λ bs. length bs) bytes ∙ sym (bytes_length Second s) in
     let short = kept.short in
     let keeps : IsState other = record {
       configs = AreConfigs-put es name u (found-good es name kept.configs (ap is_some found)) good kept.configs;
@@ -66,7 +68,7 @@ built_is read one s name t u kept found good same =
       short = omega (arith, size, short);
       numbered = kept.numbered;
     } in
-    let is : other ≡ s = one (base_bytes s) s other (read s kept) (subst (λ bs. IsBase bs other) bytes (read other keeps)) in
+    let is : other ≡ s = one (base_bytes s) s other (read Second s kept) (subst (λ bs. IsBase bs other) bytes (read Second other keeps)) in
     ap (λ c. config_named c.configs name) (sym is) ∙ named-put-same es name u
 
 -- what is read of lines, to their end, is built

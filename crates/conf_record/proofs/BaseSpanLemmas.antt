@@ -5,11 +5,12 @@ use Rattle.std.proofs.Common.{String, Global, IsUtf8, encode_utf8_all, append_as
 use Rattle.std.proofs.{lemmas.List.map-append, Math.Seq.{take-append_seam, drop-append_seam}}
 use Rattle.conf_record.proofs.Prelude.{IsUtf8-string_bytes, lookup, chars, Good, byte_len, same_text, Tree, key_lines, value_at}
 use Rattle.conf_record.proofs.Prelude.{members_after, byte_len-append, Size, byte_len-encoded, config_limits, same_text-true, GoesOn}
-use Rattle.conf_record.proofs.Prelude.{IsStyled, members, base_text, base_bytes, base_length, entry_lines, entry_length, entries_length}
-use Rattle.conf_record.proofs.Prelude.{text_of, is_name, lines_if_there, entry_named, AreConfigs, good_name, Entry, Contents, names_of}
-use Rattle.conf_record.proofs.Prelude.{config_named, has_name, names_differ, base_limit, count_limit, has_name-named, names_differ-push}
-use Rattle.conf_record.{proofs.EntryLemmas.{entry_lines_of, within, entries_and, whole_base}, specs.BaseSpans.{entry_bytes, IsSpan}}
-use Rattle.conf_record.specs.{BaseSpans.{bytes_at, AreSpans, IsGoodEntry, AreFound, IsFound, names_under}, declared.base_spans.Span.Span}
+use Rattle.conf_record.proofs.Prelude.{IsStyled, members, base_length, entry_lines, entry_length, entries_length, text_of, is_name}
+use Rattle.conf_record.proofs.Prelude.{lines_if_there, entry_named, AreConfigs, good_name, Entry, Contents, names_of, config_named}
+use Rattle.conf_record.proofs.Prelude.{has_name, names_differ, base_limit, count_limit, has_name-named, names_differ-push}
+use Rattle.conf_record.proofs.{FormatLemmas.{bytes_in, length_in}, EntryLemmas.{entry_lines_of, within, entries_and, whole_base}}
+use Rattle.conf_record.specs.{Formats.{format_start, base_text_in, base_in}, declared.{format.Format.Format, base_spans.Span.Span}}
+use Rattle.conf_record.specs.BaseSpans.{entry_bytes, IsSpan, bytes_at, AreSpans, IsGoodEntry, AreFound, IsFound, names_under}
 use Rattle.conf_state.proofs.EntryLemmas.{same_key}
 
 -- a span under a name
@@ -194,28 +195,33 @@ some_configs bytes [] es are some none = some refl
 some_configs bytes (p ∷ ps) [] are some none = are
 some_configs bytes (p ∷ ps) (e ∷ es) are some none = cc
 
-pub bytes_length : (s : Contents) → base_length s ≡ length (base_bytes s)
-unfolding base_length base_bytes
-bytes_length s = byte_len-encoded (base_text s)
+pub bytes_length : (format : Format) (s : Contents) → base_length s ≡ length (base_in format s)
+bytes_length format s =
+    sym (length_in format s) ∙ byte_len-encoded (base_text_in format s) ∙ ap length (sym (bytes_in format s))
 
 -- what is found on the lines of a base is the state whose base it is
-pub found_whole : (bytes lines : List ℕ) (ps : List Named) (es : List Entry) (count total : ℕ) → AreFound lines ps es (codes "...\n")
+pub found_whole : (format : Format) (bytes lines : List ℕ) (ps : List Named) (es : List Entry) (count total : ℕ)
+    → AreFound lines ps es (codes "...\n")
     → (length ps ≡ 0 → ⊥) → count ≤ count_limit → length bytes ≤ base_limit → total ≡ length lines - 4
-    → bytes ≡ codes "---\nstore: confstore-2\nat: \"" ++ (encode_utf8_all (decimal count) ++ (codes "\"\nconfigs:\n" ++ lines))
+    → bytes ≡ format_start format
+    ++ (codes "at: \"" ++ (encode_utf8_all (decimal count) ++ (codes "\"\nconfigs:\n" ++ lines)))
     → IsFound bytes ps count total (record { configs = es; count = count })
-found_whole bytes lines ps es count total so some small short total_is is =
+found_whole format bytes lines ps es count total so some small short total_is is =
     let s : Contents = record { configs = es; count = count } in
-    let written = whole_base bytes lines es count (some_configs lines ps es so.spans some) small is so.follows in
+    let written = whole_base format bytes lines es count (some_configs lines ps es so.spans some) small is so.follows in
     let ds = encode_utf8_all (decimal count) in
-    let frame = codes "---\nstore: confstore-2\nat: \"" ++ (ds ++ codes "\"\nconfigs:\n") in
+    let start = format_start format in
+    let frame = start ++ (codes "at: \"" ++ (ds ++ codes "\"\nconfigs:\n")) in
     let framed : bytes ≡ frame ++ lines = is
-    ∙ ap (λ bs. codes "---\nstore: confstore-2\nat: \"" ++ bs) (sym (append_assoc ds (codes "\"\nconfigs:\n") lines))
-    ∙ sym (append_assoc (codes "---\nstore: confstore-2\nat: \"") (ds ++ codes "\"\nconfigs:\n") lines) in
-    let size = bytes_length s ∙ ap length (sym written) in
+    ∙ ap (λ bs. start ++ (codes "at: \"" ++ bs)) (sym (append_assoc ds (codes "\"\nconfigs:\n") lines))
+    ∙ ap (λ bs. start ++ bs) (sym (append_assoc (codes "at: \"") (ds ++ codes "\"\nconfigs:\n") lines))
+    ∙ sym (append_assoc start (codes "at: \"" ++ (ds ++ codes "\"\nconfigs:\n")) lines) in
+    let size = bytes_length format s ∙ ap length (sym written) in
     let ms = members_after (members es) 2 in
     let long = ap length so.follows ∙ length-append (encode_utf8_all ms) (codes "...\n") in
     record {
       kept = record { configs = so.configs; distinct = so.distinct; short = omega (arith, size, short); numbered = small };
+      format = format;
       written = written;
       spans = subst (λ bs. AreSpans bs ps es) (sym framed) (spans_after frame lines ps es so.spans);
       counted = refl;

@@ -3,12 +3,12 @@ use Rattle.std.{proofs.{Common.{◌≡◌, refl, sym, ◌∙◌, ap, subst, arit
 use Rattle.std.specs.Prelude.{◌+◌, true, List, [], ◌∷◌, ◌++◌, length, take, drop, replicate, map, encode_utf8_all}
 use Rattle.conf_record.proofs.Prelude.{concat, chars, IsUtf8, all_scalars, and_parts, and_from, nat_tests, chars-encodes, code_point}
 use Rattle.conf_record.proofs.Prelude.{IsText, byte_len, Pieces, Tree, Limits, own_limits, IsRead, byte_len-chars, framed_text_bytes}
-use Rattle.conf_record.proofs.Prelude.{all_framed_bytes, TornInPieces, TornPieces, Command, Contents, base_limit, IsState, base_tree}
-use Rattle.conf_record.proofs.Prelude.{base_text, base_bytes, base_length}
+use Rattle.conf_record.proofs.Prelude.{all_framed_bytes, TornInPieces, TornPieces, Command, Contents, base_limit, IsState}
 use lib.Utf8.{scalar}
 use Rattle.conf_record.specs.{Records.{record_tree, record_text, record_bytes}, RecordsRead.{record_of, base_of, ReadsRecord, ReadsBase}}
 use Rattle.conf_record.specs.Documents.{IsRecord, IsBase, record_pieces, records_bytes, OneBase, OneRecord, RecordsTear}
-use Rattle.conf_record.proofs.RecordLemmas.{framed_document}
+use Rattle.conf_record.proofs.{RecordLemmas.framed_document, FormatLemmas.{bytes_in, length_in}}
+use Rattle.conf_record.specs.{Formats.{base_in, base_text_in}, declared.format.Format.Format}
 
 -- ---- texts as bytes
 
@@ -37,12 +37,14 @@ record_is command other n number reads = record {
 }
 
 -- bytes of a base's text are that base
-pub base_is : (s other : Contents) → ReadsBase (base_text s) other → IsBase (base_bytes s) other
-unfolding base_bytes
-base_is s other reads = record {
-  utf8 = text_utf8 (base_text s) reads.gives.reads.source;
-  reads = subst (λ cs. ReadsBase cs other) (sym (text_chars (base_text s) reads.gives.reads.source)) reads;
-}
+pub base_is : (format : Format) (s other : Contents) → ReadsBase (base_text_in format s) other → IsBase (base_in format s) other
+base_is format s other reads =
+    let text = base_text_in format s in
+    let is : IsBase (encode_utf8_all text) other = record {
+      utf8 = text_utf8 text reads.gives.reads.source;
+      reads = subst (λ cs. ReadsBase cs other) (sym (text_chars text reads.gives.reads.source)) reads;
+    } in
+    subst (λ bytes. IsBase bytes other) (sym (bytes_in format s)) is
 
 -- ---- one document at most
 
@@ -72,11 +74,6 @@ module _ (give_one : BytesGiveOne) where
 pub record_framed : (command : Command) (number : ℕ) → framed_text_bytes (record_tree command number) ≡ record_bytes command number
 unfolding record_bytes record_text
 record_framed command number = ap encode_utf8_all (framed_document (record_tree command number))
-
--- a base's bytes are those of its tree between `---` and `...`
-pub base_framed : (s : Contents) → framed_text_bytes (base_tree s) ≡ base_bytes s
-unfolding base_bytes base_text
-base_framed s = ap encode_utf8_all (framed_document (base_tree s))
 
 -- the trees of consecutive records
 abbrev trees : ℕ → List Command → List Tree
@@ -117,12 +114,13 @@ records_tear torn count commands kept zeros =
 -- ---- the length of a base
 
 -- the bytes of a state's base keep the limit
-pub base_fits : (s : Contents) → IsState s → ReadsBase (base_text s) s → length (base_bytes s) ≤ base_limit
-unfolding base_bytes base_length
-base_fits s kept reads =
-    let cs = base_text s in
+pub base_fits : (format : Format) (s : Contents) → IsState s → ReadsBase (base_text_in format s) s → length (base_in format s) ≤ base_limit
+base_fits format s kept reads =
+    let cs = base_text_in format s in
+    let long = length_in format s in
+    let bytes = ap length (bytes_in format s) in
     let size : byte_len (chars (encode_utf8_all cs)) ≡ length (encode_utf8_all cs) =
     byte_len-chars (encode_utf8_all cs) (text_utf8 cs reads.gives.reads.source) in
     let same : byte_len (chars (encode_utf8_all cs)) ≡ byte_len cs = ap byte_len (text_chars cs reads.gives.reads.source) in
     let short = kept.short in
-    omega (arith, size, same, short)
+    omega (arith, size, same, short, long, bytes)

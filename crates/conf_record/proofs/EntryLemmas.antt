@@ -1,12 +1,13 @@
 -- Lines of configurations make the base of a state.
 use Rattle.std.proofs.Common.{◌≡◌, ℕ, ◌≤◌, List, [], ◌∷◌, ◌++◌, codes, decimal, length, String, Global, encode_utf8_all, append_assoc}
-use Rattle.std.proofs.Common.{append-nil, refl, sym, ap, ap₂, subst, ◌∙◌, arith}
+use Rattle.std.proofs.Common.{append-nil, true, nat_lt, refl, sym, ap, ap₂, subst, ◌∙◌, arith}
 use Rattle.conf_record.proofs.Prelude.{decimal_is_IsNumeral, encodes-append, spaces, Tree, text, mapping, key_lines, value_at}
-use Rattle.conf_record.proofs.Prelude.{members_after, element_size, Size, tree_of, GoesOn, goes_on_both, IsStyled, members, base_text}
-use Rattle.conf_record.proofs.Prelude.{base_bytes, text_of, entries_of, Entry, count_limit, line, number_line, base_lines, Good}
-use Rattle.conf_record.proofs.{Prelude.config_limits, PieceLemmas.entries_of-one, SizeLemmas.element_least, WrittenLemmas.ascii_bytes}
-use Rattle.{conf_record.{proofs.WrittenLemmas.{before, after}, specs.Entries.{IsEntry, AreEntries}}, yaml_styled.specs.Parts.IsTree}
-use Rattle.yaml_styled.specs.Sounds.{Sound}
+use Rattle.conf_record.proofs.Prelude.{members_after, element_size, Size, tree_of, GoesOn, goes_on_both, IsStyled, members, text_of}
+use Rattle.conf_record.proofs.Prelude.{entries_of, Entry, Contents, count_limit, line, number_line, Good, list_all, config_limits}
+use Rattle.conf_record.proofs.{FormatLemmas.{lines_in, bytes_in}, PieceLemmas.entries_of-one, SizeLemmas.element_least}
+use Rattle.conf_record.{proofs.WrittenLemmas.{ascii_bytes, before, after}, specs.Formats.{format_start, base_in}}
+use Rattle.conf_record.specs.{declared.format.Format.{Format, TheVariants.{Second, Third}}, Entries.{IsEntry, AreEntries}}
+use Rattle.yaml_styled.specs.{Parts.IsTree, Sounds.Sound}
 use Rattle.yaml_data.specs.declared.tree.Tree as code
 
 -- a key after its spaces, and the value after it
@@ -85,25 +86,41 @@ regrouped ds ms =
     ∙ append_assoc (ds ++ codes "\"\n") (codes "configs:") ((codes "\n" ++ ms) ++ codes "...\n")
     ∙ append_assoc ds (codes "\"\n") (codes "configs:" ++ ((codes "\n" ++ ms) ++ codes "...\n")))
 
--- the lines of a count and of configurations make the base of their state
-pub whole_base : (bytes lines : List ℕ) (es : List Entry) (count : ℕ) → (es ≡ [] → ⊥) → count ≤ count_limit
-    → bytes ≡ codes "---\nstore: confstore-2\nat: \"" ++ (encode_utf8_all (decimal count) ++ (codes "\"\nconfigs:\n" ++ lines))
-    → AreEntries lines es (codes "...\n") → bytes ≡ base_bytes (record { configs = es; count = count })
-unfolding base_bytes base_text
-whole_base bytes lines es count some small is follows =
+-- the lines of the format are ASCII
+ascii_start : (format : Format) → list_all (λ c. nat_lt c 128) (format_start format) ≡ true
+ascii_start Second = refl
+ascii_start Third = refl
+
+-- lines after the first ones
+behind : (start number configs : List ℕ)
+    → start ++ (number ++ codes "configs:" ++ configs ++ codes "...\n") ≡ start ++ number ++ codes "configs:" ++ configs ++ codes "...\n"
+behind start number configs =
+    sym (append_assoc start (number ++ codes "configs:" ++ configs) (codes "...\n"))
+    ∙ ap (λ cs. cs ++ codes "...\n") (sym (append_assoc start (number ++ codes "configs:") configs)
+    ∙ ap (λ cs. cs ++ configs) (sym (append_assoc start number (codes "configs:"))))
+
+-- the lines of a format, a count and configurations make the base of their state
+pub whole_base : (format : Format) (bytes lines : List ℕ) (es : List Entry) (count : ℕ) → (es ≡ [] → ⊥) → count ≤ count_limit
+    → bytes ≡ format_start format
+    ++ (codes "at: \"" ++ (encode_utf8_all (decimal count) ++ (codes "\"\nconfigs:\n" ++ lines)))
+    → AreEntries lines es (codes "...\n") → bytes ≡ base_in format (record { configs = es; count = count })
+whole_base format bytes lines es count some small is follows =
     let ds = decimal count in
     let ms = members_after (members es) 2 in
     let ends = ms ++ codes "...\n" in
     let all = (decimal_is_IsNumeral count (omega arith)).0.1 in
     let closed = follows ∙ sym (after ms (codes "...\n") refl) in
+    let start = format_start format in
+    let number = line (codes "at") (text ds) in
+    let s : Contents = record { configs = es; count = count } in
     is
-    ∙ ap (λ bs. codes "---\nstore: confstore-2\nat: \"" ++ (encode_utf8_all ds ++ bs))
+    ∙ ap (λ bs. start ++ (codes "at: \"" ++ (encode_utf8_all ds ++ bs)))
     (ap (λ bs. codes "\"\nconfigs:\n" ++ bs) closed ∙ sym (before (codes "\"\nconfigs:\n") ends refl))
-    ∙ ap (λ bs. codes "---\nstore: confstore-2\nat: \"" ++ bs) (sym (encodes-append ds (codes "\"\nconfigs:\n" ++ ends)))
-    ∙ sym (before (codes "---\nstore: confstore-2\nat: \"") (ds ++ (codes "\"\nconfigs:\n" ++ ends)) refl)
-    ∙ ap (λ xs. encode_utf8_all (codes "---\nstore: confstore-2\nat: \"" ++ xs)) (regrouped ds ms)
-    ∙ ap (λ xs. encode_utf8_all (codes "---\n" ++ codes "store: confstore-2\n" ++ xs ++ codes "configs:"
-    ++ (codes "\n" ++ ms) ++ codes "...\n")) (number_line ds all)
-    ∙ ap (λ xs. encode_utf8_all (codes "---\n" ++ codes "store: confstore-2\n" ++ line (codes "at") (text ds)
-    ++ codes "configs:" ++ xs ++ codes "...\n")) (below_configs es some)
-    ∙ ap encode_utf8_all (base_lines (line (codes "at") (text ds)) (value_at (mapping (members es)) 0))
+    ∙ ap (λ bs. start ++ (codes "at: \"" ++ bs)) (sym (encodes-append ds (codes "\"\nconfigs:\n" ++ ends)))
+    ∙ ap (λ bs. start ++ bs) (sym (before (codes "at: \"") (ds ++ (codes "\"\nconfigs:\n" ++ ends)) refl))
+    ∙ sym (before start (codes "at: \"" ++ (ds ++ (codes "\"\nconfigs:\n" ++ ends))) (ascii_start format))
+    ∙ ap (λ xs. encode_utf8_all (start ++ (codes "at: \"" ++ xs))) (regrouped ds ms)
+    ∙ ap (λ xs. encode_utf8_all (start ++ (xs ++ codes "configs:" ++ (codes "\n" ++ ms) ++ codes "...\n"))) (number_line ds all)
+    ∙ ap (λ xs. encode_utf8_all (start ++ (number ++ codes "configs:" ++ xs ++ codes "...\n"))) (below_configs es some)
+    ∙ ap encode_utf8_all (behind start number (value_at (mapping (members es)) 0) ∙ lines_in format s)
+    ∙ sym (bytes_in format s)

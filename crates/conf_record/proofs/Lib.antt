@@ -1,14 +1,17 @@
 pub mod Prelude
+pub mod AboutLemmas
 pub mod AcceptedLemmas
 pub mod PathLemmas
 pub mod PointerLemmas
 pub mod RecordLemmas
+pub mod FormatLemmas
 pub mod SizeLemmas
 pub mod DocumentLemmas
 pub mod FieldLemmas
 pub mod PieceLemmas
 pub mod TreeLemmas
 pub mod WrittenLemmas
+pub mod ToldLemmas
 pub mod EditLines
 pub mod EntryLemmas
 pub mod BaseSpanLemmas

@@ -3,14 +3,14 @@ pub use Rattle.conf_state.proofs.DraftLemmas.{named-put-same, has_name-named, na
 pub use Rattle.conf_state.proofs.LineLemmas.{line, number_line, base_lines, ascii, framed_line}
 pub use Rattle.conf_state.specs.BaseTexts.{members, entry_lines, entries_length, base_tree, closed_document}
 unfoldable pub use Rattle.conf_state.specs.BaseTexts.{base_bytes, base_text, base_length, entry_length}
-pub use Rattle.conf_state.specs.Commands.{Edit, import_as, set_at, delete_at, Command, single, batch, name_of, text_of, edit_of, command_of}
-pub use Rattle.conf_state.specs.{Configs.is_name, EntryTexts.{lines_if_there, entry_named}, Kept.entries_of, Limits.{AreConfigs, IsState}}
-pub use Rattle.conf_state.specs.{Limits.AreWithin, Names.{good_name, small_letter, name_char}, States.{Entry, Contents, config_named}}
-pub use Rattle.conf_state.specs.States.{put_config, cut_config, names_of, has_name, names_differ, base_limit, count_limit}
-pub use Rattle.json_pointer.specs.Pointers.{path_of, slash, stray, first_stray, first_piece, pieces, token_from_text, tokens_or_place}
-pub use Rattle.{json_pointer.specs.declared.fault.PathFault.PathFault, tree_path.specs.Paths.{set, delete, digit, is_number, number_after}}
-pub use Rattle.tree_path.specs.Paths.{Index, number, after_last, no_index, index_of, at_index, present, put_element, cut_element}
-pub use Rattle.tree_path.specs.Paths.{push_element, value_of, put_member, cut_member, edit_from}
+pub use Rattle.conf_state.specs.Commands.{Edit, import_as, set_at, delete_at, Command, single, batch, noted, name_of, text_of, edit_of}
+pub use Rattle.conf_state.specs.{Commands.{command_of, command_with}, Configs.is_name, EntryTexts.{lines_if_there, entry_named}}
+pub use Rattle.conf_state.specs.{Kept.entries_of, Limits.{AreConfigs, IsState, AreWithin}, Names.{good_name, small_letter, name_char}}
+pub use Rattle.conf_state.specs.States.{Entry, Contents, config_named, put_config, cut_config, names_of, has_name, names_differ, base_limit}
+pub use Rattle.{conf_state.specs.States.count_limit, json_pointer.specs.Pointers.{path_of, slash, stray, first_stray, first_piece, pieces}}
+pub use Rattle.json_pointer.specs.{Pointers.{token_from_text, tokens_or_place}, declared.fault.PathFault.PathFault}
+pub use Rattle.tree_path.specs.Paths.{set, delete, digit, is_number, number_after, Index, number, after_last, no_index, index_of, at_index}
+pub use Rattle.tree_path.specs.Paths.{present, put_element, cut_element, push_element, value_of, put_member, cut_member, edit_from}
 pub use Rattle.std.proofs.lemmas.Bool.{and_parts, and_from, eqb-true, eqb-false, Decides.{nat_tests, same_from_decides}}
 pub use Rattle.std.proofs.lemmas.{Fmt.{decimal_is_IsNumeral, IsAscii-decimal, length-decimal-le, parse-decimal}, List.{drop_more, drop_all}}
 pub use Rattle.std.proofs.lemmas.{Result.{on_ok_weaker, IfOk-weaker}, Str.{encodes-append, IsUtf8-string_bytes, chars-encodes}}

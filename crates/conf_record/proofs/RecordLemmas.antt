@@ -1,6 +1,7 @@
 -- The trees of records and bases: they are good, within the limits, and tell what they were made of.
 use Rattle.std.proofs.Common.{◌≡◌, ℕ, ◌+◌, ◌<◌, ◌≤◌, true, not, ◌&&◌, ◌||◌, nat_le, if◌then◌else◌, List, [], ◌∷◌, ◌++◌, length, codes}
-use Rattle.std.proofs.{Common.{decimal, Some, None, option_map, append_assoc, refl, ap, sym, ◌∙◌, arith}, lemmas.Str.Parse.tells_digits}
+use Rattle.std.proofs.Common.{decimal, Some, None, option_map, append_assoc, refl, ap, sym, ◌∙◌, arith, ap₂}
+use Rattle.std.proofs.lemmas.Str.Parse.{tells_digits}
 use Rattle.conf_record.proofs.Prelude.{byte_len-encoded, encodes-IsAscii, every-IsAscii, and_parts, and_from, nat_tests}
 use Rattle.conf_record.proofs.Prelude.{decimal_is_IsNumeral, length-decimal-le, AllDigits, digits_value, code_point, in_range, list_all}
 use Rattle.conf_record.proofs.Prelude.{IsText, byte_len, first, same_text, Tree, text, Members, no_member, member, elements_depth}
@@ -9,11 +10,14 @@ use Rattle.conf_record.proofs.Prelude.{AreTextMembers, Good, scalar_lines, key_l
 use Rattle.conf_record.proofs.Prelude.{byte_len-append, own_limits, config_limits, same_text-self, small_letter, name_char, good_name, Edit}
 use Rattle.conf_record.proofs.Prelude.{import_as, set_at, delete_at, Command, single, batch, Entry, Contents, base_limit, count_limit}
 use Rattle.conf_record.proofs.Prelude.{names_of, has_name, names_differ, AreConfigs, IsState, members, base_tree, base_text, base_length}
-use Rattle.conf_record.{proofs.{Prelude.closed_document, SizeLemmas.{size, scalar_most, value_size}}, specs.Records.edit_members}
+use Rattle.conf_record.proofs.{Prelude.{closed_document, line, mapping, noted}, SizeLemmas.{size, scalar_most, value_size}}
+use Rattle.conf_record.{proofs.AboutLemmas.{about-last, without-last, is-about, texts-last, depth-last}, specs.Records.edit_members}
 use Rattle.conf_record.specs.Records.{edit_elements, command_members, record_tree, record_text, FitsRecord}
 use Rattle.conf_record.specs.RecordsRead.{number_from_digits, edit_from, ahead, edits_of, command_from, with_number, record_of, entries}
-use Rattle.conf_record.specs.{RecordsRead.{base_of, IsEdit, AreEdits, IsCommand}, SmallCommands.{IsSmallEdit, AreSmallEdits}}
-use Rattle.{conf_record.specs.SmallCommands.IsSmallCommand, conf_state.proofs.BaseLemmas.count_bytes, yaml_writer.proofs.SizeLaws.three}
+use Rattle.conf_record.specs.RecordsRead.{base_of, IsEdit, AreEdits, IsCommand, plain_from, with_about, about_in, without_about, IsPlain}
+use Rattle.conf_record.specs.{SmallCommands.{IsSmallEdit, AreSmallEdits, IsSmallCommand}, Formats.third_tree}
+use Rattle.{conf_state.proofs.BaseLemmas.count_bytes, yaml_writer.proofs.SizeLaws.three, conf_about.specs.Abouts.IsAbout}
+use Rattle.conf_about.proofs.ReadLemmas.{about-good}
 
 -- ---- numbers and names
 
@@ -93,18 +97,51 @@ edits_tell [] ok = refl
 edits_tell (edit ∷ edits) ok =
     ap (λ first. ahead first (edits_of (edit_elements edits))) (edit_tells edit ok.0) ∙ ap (ahead (Some edit)) (edits_tell edits ok.1)
 
-command_tells : (command : Command) → IsSmallCommand command → command_from (command_members command) ≡ Some command
-command_tells (single (import_as name tree)) ok = ap (option_map single) (edit_tells (import_as name tree) ok)
-command_tells (single (set_at name path value)) ok = ap (option_map single) (edit_tells (set_at name path value) ok)
-command_tells (single (delete_at name path)) ok = ap (option_map single) (edit_tells (delete_at name path) ok)
-command_tells (batch edits) ok = ap (option_map batch) (edits_tell edits ok)
+plain_tells : (command : Command) → IsPlain command → IsSmallCommand command → plain_from (command_members command) ≡ Some command
+plain_tells (single (import_as name tree)) plain ok = ap (option_map single) (edit_tells (import_as name tree) ok)
+plain_tells (single (set_at name path value)) plain ok = ap (option_map single) (edit_tells (set_at name path value) ok)
+plain_tells (single (delete_at name path)) plain ok = ap (option_map single) (edit_tells (delete_at name path) ok)
+plain_tells (batch edits) plain ok = ap (option_map batch) (edits_tell edits ok)
+plain_tells (noted command about) plain ok = absurd plain
+
+-- the members of a command without an about end with none
+record EndsPlain (command : Command) : Type 0 where
+  none : about_in (command_members command) ≡ None
+  whole : without_about (command_members command) ≡ command_members command
+
+ends_plain : (command : Command) → IsPlain command → EndsPlain command
+ends_plain (single (import_as name tree)) plain = record { none = refl; whole = refl }
+ends_plain (single (set_at name path value)) plain = record { none = refl; whole = refl }
+ends_plain (single (delete_at name path)) plain = record { none = refl; whole = refl }
+ends_plain (batch edits) plain = record { none = refl; whole = refl }
+ends_plain (noted command about) plain = absurd plain
+
+-- the members of a command are read as that command
+told_plain : (command : Command) → IsPlain command → IsSmallCommand command → command_from (command_members command) ≡ Some command
+told_plain command plain ok =
+    let ends = ends_plain command plain in
+    ap₂ (λ about ms. with_about about (plain_from ms)) ends.none ends.whole ∙ plain_tells command plain ok
+
+told_noted : (command : Command) (about : Tree) → IsPlain command → IsAbout about → IsSmallCommand command
+    → command_from (command_members (noted command about)) ≡ Some (noted command about)
+told_noted command about plain is ok =
+    let ms = command_members command in
+    let last = about-last ms (codes "about") about true (is-about about is) in
+    let before = without-last ms (codes "about") about true (is-about about is) in
+    ap₂ (λ found left. with_about found (plain_from left)) last before
+    ∙ ap (option_map (λ c. noted c about)) (plain_tells command plain ok)
+
+command_tells : (command : Command) → IsCommand command → IsSmallCommand command → command_from (command_members command) ≡ Some command
+command_tells (single edit) is ok = told_plain (single edit) tt ok
+command_tells (batch edits) is ok = told_plain (batch edits) tt ok
+command_tells (noted command about) is ok = told_noted command about is.0 is.2 ok
 
 -- the tree of an accepted command's record is read as that command and number
-pub record_tells : (command : Command) (number : ℕ) → IsSmallCommand command → number ≤ count_limit
+pub record_tells : (command : Command) (number : ℕ) → IsCommand command → IsSmallCommand command → number ≤ count_limit
     → record_of (record_tree command number) ≡ Some (command, number)
 unfolding record_of
-record_tells command number ok small =
-    ap (λ read. with_number read (decimal number)) (command_tells command ok)
+record_tells command number is ok small =
+    ap (λ read. with_number read (decimal number)) (command_tells command is ok)
     ∙ ap (option_map (λ n. (command, n))) (number_from_digits-decimal number small)
 
 -- the same parts, grouped otherwise
@@ -152,6 +189,9 @@ record_bytes (single edit) number ok small fits =
 record_bytes (batch edits) number ok small fits =
     let same = ap byte_len (framed_document (record_tree (batch edits) number)) in
     omega (arith, same, fits)
+record_bytes (noted command about) number ok small fits =
+    let same = ap byte_len (framed_document (record_tree (noted command about) number)) in
+    omega (arith, same, fits)
 
 edit_texts : (edit : Edit) → IsEdit edit → IsSmallEdit edit → AreTextMembers (edit_members edit)
 edit_texts (import_as name tree) is ok = (refl, name_is_text name ok.0, (refl, is.texts, tt))
@@ -162,9 +202,17 @@ edits_texts : (edits : List Edit) → AreEdits edits → AreSmallEdits edits →
 edits_texts [] are ok = tt
 edits_texts (edit ∷ edits) are ok = (edit_texts edit are.0 ok.0, edits_texts edits are.1 ok.1)
 
+-- an about keeps narrow limits
+about_fits : (about : Tree) → IsAbout about → Good about (record { bytes = 4096; depth = 2; style = 4096 })
+about_fits about is = about-good about (record { bytes = 4096; depth = 2; style = 4096 }) is
+    (record { bytes = omega arith; depth = omega arith; style = omega arith })
+
 command_texts : (command : Command) → IsCommand command → IsSmallCommand command → AreTextMembers (command_members command)
 command_texts (single edit) is ok = edit_texts edit is ok
 command_texts (batch edits) is ok = (refl, edits_texts edits is ok, tt)
+command_texts (noted command about) is ok =
+    texts-last (command_members command) (codes "about") about refl (refl, (about_fits about is.2).texts, tt)
+    (command_texts command is.1 ok)
 
 edit_depth : (edit : Edit) → IsSmallEdit edit → members_depth (edit_members edit) ≤ config_limits.depth
 edit_depth (import_as name tree) ok = let deep = ok.1.deep in omega arith
@@ -175,9 +223,14 @@ edits_depth : (edits : List Edit) → AreSmallEdits edits → elements_depth (ed
 edits_depth [] ok = omega arith
 edits_depth (edit ∷ edits) ok = omega (arith, edit_depth edit ok.0, edits_depth edits ok.1)
 
-command_depth : (command : Command) → IsSmallCommand command → members_depth (command_members command) ≤ 2 + config_limits.depth
-command_depth (single edit) ok = omega (arith, edit_depth edit ok)
-command_depth (batch edits) ok = omega (arith, edits_depth edits ok)
+command_depth : (command : Command) → IsCommand command → IsSmallCommand command
+    → members_depth (command_members command) ≤ 2 + config_limits.depth
+command_depth (single edit) is ok = omega (arith, edit_depth edit ok)
+command_depth (batch edits) is ok = omega (arith, edits_depth edits ok)
+command_depth (noted command about) is ok =
+    let flat = about_fits about is.2 in
+    depth-last (command_members command) (codes "about") about (2 + config_limits.depth) (command_depth command is.1 ok)
+    (omega (arith, flat.deep))
 
 edit_distinct : (edit : Edit) → IsEdit edit → members_distinct (edit_members edit) ≡ true
 edit_distinct (import_as name tree) is = let keys = is.keys in rw keys refl
@@ -190,11 +243,20 @@ edits_distinct (edit ∷ edits) are =
     and_from (members_distinct (edit_members edit)) (elements_distinct (edit_elements edits))
     (edit_distinct edit are.0) (edits_distinct edits are.1)
 
+noted_distinct : (command : Command) (about : Tree) (number : ℕ) → IsPlain command → IsCommand command → distinct about ≡ true
+    → distinct (record_tree (noted command about) number) ≡ true
+noted_distinct (single (import_as name tree)) about number plain is last = let keys = is.keys in rw (keys, last) refl
+noted_distinct (single (set_at name path value)) about number plain is last = let keys = is.1.keys in rw (keys, last) refl
+noted_distinct (single (delete_at name path)) about number plain is last = rw last refl
+noted_distinct (batch edits) about number plain is last = let keys = edits_distinct edits is in rw (keys, last) refl
+noted_distinct (noted command other) about number plain is last = absurd plain
+
 record_distinct : (command : Command) (number : ℕ) → IsCommand command → distinct (record_tree command number) ≡ true
 record_distinct (single (import_as name tree)) number is = edit_distinct (import_as name tree) is
 record_distinct (single (set_at name path value)) number is = edit_distinct (set_at name path value) is
 record_distinct (single (delete_at name path)) number is = refl
 record_distinct (batch edits) number is = and_from (elements_distinct (edit_elements edits)) true (edits_distinct edits is) refl
+record_distinct (noted command about) number is = noted_distinct command about number is.0 is.1 (about_fits about is.2).keys
 
 -- that tree keeps the limits of a text that is read
 pub record_good : (command : Command) (number : ℕ) → IsCommand command → IsSmallCommand command → number ≤ count_limit
@@ -202,7 +264,7 @@ pub record_good : (command : Command) (number : ℕ) → IsCommand command → I
     → FramedGood (record_tree command number)
 record_good command number is ok small fits =
     let short = record_bytes command number ok small fits in
-    let deep = command_depth command ok in
+    let deep = command_depth command is ok in
     record {
       good = record {
         texts = (refl, decimal_is_text number small, command_texts command is ok);
@@ -223,6 +285,11 @@ entries_members (e ∷ es) = ap (λ rest. e ∷ rest) (entries_members es)
 pub base_tells : (s : Contents) → s.count ≤ count_limit → base_of (base_tree s) ≡ Some s
 unfolding base_of
 base_tells s small = rw (number_from_digits-decimal s.count small, entries_members s.configs) refl
+
+-- the same in the third format
+pub third_tells : (s : Contents) → s.count ≤ count_limit → base_of (third_tree s) ≡ Some s
+unfolding base_of
+third_tells s small = rw (number_from_digits-decimal s.count small, entries_members s.configs) refl
 
 config_texts : (es : List Entry) → AreConfigs es → AreTextMembers (members es)
 config_texts [] all = tt
@@ -247,6 +314,9 @@ config_distinct (e ∷ es) all differ =
 base_distinct : (s : Contents) → IsState s → distinct (base_tree s) ≡ true
 base_distinct s kept = let keys = config_distinct s.configs kept.configs kept.distinct in rw keys refl
 
+third_distinct : (s : Contents) → IsState s → distinct (third_tree s) ≡ true
+third_distinct s kept = let keys = config_distinct s.configs kept.configs kept.distinct in rw keys refl
+
 base_bytes : (s : Contents) → IsState s → byte_len (framed_text (base_tree s)) ≤ base_limit
 unfolding base_length base_text
 base_bytes s kept =
@@ -267,4 +337,32 @@ base_good s kept =
         long = omega (arith, framed_bytes (base_tree s));
       };
       short = bytes;
+    }
+
+-- the two trees take as many bytes
+third_bytes : (s : Contents) → byte_len (framed_text (third_tree s)) ≡ byte_len (framed_text (base_tree s))
+third_bytes s =
+    let tail = line (codes "at") (text (decimal s.count)) ++ (codes "configs:" ++ value_at (mapping (members s.configs)) 0 ++ []) in
+    ap byte_len (framed_document (third_tree s)) ∙ same tail ∙ sym (ap byte_len (framed_document (base_tree s)))
+  where
+    same : (tail : List ℕ) → byte_len (codes "---\n" ++ (codes "store: confstore-3\n" ++ tail) ++ codes "...\n")
+        ≡ byte_len (codes "---\n" ++ (codes "store: confstore-2\n" ++ tail) ++ codes "...\n")
+    same tail =
+        byte_len-append (codes "---\nstore: confstore-3\n") (tail ++ codes "...\n")
+        ∙ sym (byte_len-append (codes "---\nstore: confstore-2\n") (tail ++ codes "...\n"))
+
+-- the tree of a base in the third format keeps the limits, too
+pub third_good : (s : Contents) → IsState s → FramedGood (third_tree s)
+third_good s kept =
+    let bytes = base_bytes s kept in
+    let same = third_bytes s in
+    let deep = config_depth s.configs kept.configs in
+    record {
+      good = record {
+        texts = (refl, refl, (refl, decimal_is_text s.count kept.numbered, (refl, config_texts s.configs kept.configs, tt)));
+        keys = third_distinct s kept;
+        deep = omega arith;
+        long = omega (arith, framed_bytes (third_tree s));
+      };
+      short = omega arith;
     }

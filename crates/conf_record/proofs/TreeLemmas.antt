@@ -4,8 +4,8 @@ use Rattle.std.proofs.{Common.{Option, Some, None, option_map, IfSome, IfNone}, 
 use Rattle.conf_record.proofs.Prelude.{and_parts, list_all, chars, same_text, Tree, text, sequence, mapping, Members, member, own_limits}
 use Rattle.conf_record.proofs.Prelude.{IsRead, Pair, members_of, Command, single, command_of, entries_of, IsState, Contents, ascii}
 use Rattle.conf_record.{proofs.{DocumentLemmas.BytesGiveOne, PieceLemmas.Named}, specs.RecordsRead.{number_from_digits, keys_are, values}}
-use Rattle.conf_record.specs.RecordsRead.{import_of, set_of, delete_of, edit_under, edit_from, batch_of, command_from, with_number}
-use Rattle.conf_record.specs.RecordsRead.{record_of, batch_keys, set_keys, delete_keys, base_keys, base_of, contents_of}
+use Rattle.conf_record.specs.RecordsRead.{import_of, set_of, delete_of, edit_under, edit_from, batch_of, command_from, plain_from}
+use Rattle.conf_record.specs.RecordsRead.{with_number, record_of, batch_keys, set_keys, delete_keys, base_keys, base_of, contents_of}
 use Rattle.conf_record.specs.{Documents.{IsRecord, IsNoRecord, IsBase, IsNoBase}, Reading.{texts, is_text, command_and_number}}
 use Rattle.conf_state.specs.declared.command.Command as code
 
@@ -54,12 +54,12 @@ record_numberless key digits ms told = by (same_text key (codes "at"))
 -- ---- edits and batches
 
 -- members with the keys of a batch are read as one
-pub command_batch : (ms : Members) → keys_are batch_keys ms ≡ true → command_from ms ≡ batch_of (values ms)
-command_batch ms e = rw e refl
+pub plain_batch : (ms : Members) → keys_are batch_keys ms ≡ true → plain_from ms ≡ batch_of (values ms)
+plain_batch ms e = rw e refl
 
 -- others are read as an edit
-pub command_single : (ms : Members) → keys_are batch_keys ms ≡ false → command_from ms ≡ option_map single (edit_from ms)
-command_single ms e = rw e refl
+pub plain_single : (ms : Members) → keys_are batch_keys ms ≡ false → plain_from ms ≡ option_map single (edit_from ms)
+plain_single ms e = rw e refl
 
 module _ (key : List ℕ) (ms : Members) where
   -- members with the keys of an import are read as one

@@ -7,7 +7,7 @@ use Rattle.conf_record.proofs.Prelude.{list_all, chars, digits_value, line_feed,
 use Rattle.conf_record.proofs.Prelude.{value_at, elements_after, members_at, members_after, IsText, byte_len, same_text, spaces, Tree, text}
 use Rattle.conf_record.proofs.Prelude.{Members, no_member, member, stands_alone, element_size, Size, byte_len-encoded, every-IsAscii}
 use Rattle.conf_record.proofs.Prelude.{same_text-true, tree_of, text_bytes, Text, tree_of-Text, config_limits, chars-IsText, count_limit}
-use Rattle.conf_record.proofs.Prelude.{Edit, import_as, set_at, delete_at, Command, single, batch, line, number_line}
+use Rattle.conf_record.proofs.Prelude.{Edit, import_as, set_at, delete_at, Command, single, batch, noted, line, number_line}
 use Rattle.conf_record.{proofs.{DocumentLemmas.record_is, EditLines.edit_lines}, specs.{Documents.IsRecord, LineValues.IsValueLine}}
 use Rattle.conf_record.specs.{LineValues.FollowsNumber, declared.lines.LineValue.LineValue, EditLines.{member_line, lines_of}}
 use Rattle.conf_record.specs.Records.{edit_members, edit_elements, command_members, record_text, record_bytes, FitsRecord}
@@ -305,6 +305,10 @@ unfolding record_bytes
 short_fits bytes (single edit) number is short = tt
 short_fits bytes (batch edits) number is short =
     let counted = byte_len-encoded (record_text (batch edits) number) in
+    let same = ap length is in
+    omega (arith, counted, same)
+short_fits bytes (noted command about) number is short =
+    let counted = byte_len-encoded (record_text (noted command about) number) in
     let same = ap length is in
     omega (arith, counted, same)
 

@@ -1,8 +1,8 @@
 -- Where the configurations of a base are in its bytes.
 use Rattle.std.specs.Prelude.{◌≡◌, ◌-◌, ℕ, true, List, [], ◌∷◌, ◌++◌, length, take, drop, String, encode_utf8_all}
-use Rattle.conf_record.specs.Prelude.{Global, Good, Tree, config_limits, GoesOn, entry_lines, entries_length, base_bytes, text_of}
+use Rattle.conf_record.specs.Prelude.{Global, Good, Tree, config_limits, GoesOn, entry_lines, entries_length, text_of}
 use Rattle.conf_record.specs.{Prelude.{AreConfigs, IsState, good_name, Entry, Contents, names_of, names_differ}, Entries.AreEntries}
-use Rattle.conf_record.specs.declared.base_spans.Span.{Span}
+use Rattle.conf_record.specs.{Formats.base_in, declared.{base_spans.Span.Span, format.Format.Format}}
 
 -- a configuration's lines as bytes
 abbrev pub entry_bytes : List ℕ → Tree → List ℕ
@@ -42,11 +42,12 @@ pub record AreFound (lines : List ℕ) (ps : List (String Global × Span)) (es :
   pub configs : AreConfigs es
   pub distinct : names_differ (names_of es) ≡ true
 
--- the bytes are the base of a state, whose configurations have these spans, and so many bytes in all
+-- the bytes are the base of a state in some format, whose configurations have these spans, and so many bytes in all
 pub record IsFound (bytes : List ℕ) (ps : List (String Global × Span)) (count sum : ℕ)
     (s : Contents) : Type 0 where
   pub kept : IsState s
-  pub written : bytes ≡ base_bytes s
+  pub format : Format
+  pub written : bytes ≡ base_in format s
   pub spans : AreSpans bytes ps s.configs
   pub counted : count ≡ s.count
   pub total : sum ≡ entries_length s.configs

@@ -1,8 +1,8 @@
 -- Records and bases as bytes: which bytes are one, and what is left of written ones that a crash cuts.
 use Rattle.std.specs.{Prelude.{◌≡◌, ◌≤◌, ℕ, ◌+◌, List, [], ◌∷◌, ◌++◌, length, take, replicate, Ok}, List.concat}
-use Rattle.conf_record.specs.Prelude.{chars, IsUtf8, Command, Contents, count_limit, base_limit, IsState, step, base_bytes, Room}
-use Rattle.conf_record.specs.{Records.{FitsRecord, record_bytes}, RecordsRead.{IsCommand, ReadsRecord, ReadsBase}}
-use Rattle.yaml_grammar.specs.Closings.{ClosesOnce, Pieces}
+use Rattle.conf_record.specs.{Prelude.{chars, IsUtf8, Command, Contents, count_limit, base_limit, IsState, step, Room}, Records.FitsRecord}
+use Rattle.conf_record.specs.{Records.record_bytes, RecordsRead.{IsCommand, ReadsRecord, ReadsBase}, Formats.base_in}
+use Rattle.{conf_record.specs.declared.format.Format.Format, yaml_grammar.specs.Closings.{ClosesOnce, Pieces}}
 
 -- the bytes are a text that reads as a command with a number
 pub record IsRecord (bytes : List ℕ) (command : Command) (number : ℕ) : Type 0 where
@@ -39,9 +39,9 @@ pub record TornRecords (count : ℕ) (commands : List Command) (bytes : List ℕ
 
 -- ---- laws
 
--- the base of a state reads as that state
+-- the base of a state, in each format, reads as that state
 abbrev pub BasesAreRead : Type 0
-BasesAreRead = (s : Contents) → IsState s → IsBase (base_bytes s) s
+BasesAreRead = (format : Format) (s : Contents) → IsState s → IsBase (base_in format s) s
 
 -- The record of a command that some state accepts reads as that command with its number. That of a batch has to be of
 -- at most 67,108,864 bytes.
@@ -52,7 +52,7 @@ RecordsAreRead = (s new : Contents) (command : Command) (room : Room) (number : 
 
 -- a base has at most 67,108,864 bytes
 abbrev pub BasesFit : Type 0
-BasesFit = (s : Contents) → IsState s → length (base_bytes s) ≤ base_limit
+BasesFit = (format : Format) (s : Contents) → IsState s → length (base_in format s) ≤ base_limit
 
 -- any bytes are the base of at most one state
 abbrev pub OneBase : Type 0
@@ -65,7 +65,7 @@ OneRecord = (bytes : List ℕ) (command other : Command) (number another : ℕ)
 
 -- a base closes once, at its end
 abbrev pub BasesClose : Type 0
-BasesClose = (s : Contents) → ClosesOnce (base_bytes s)
+BasesClose = (format : Format) (s : Contents) → ClosesOnce (base_in format s)
 
 -- a record closes once, at its end
 abbrev pub RecordsClose : Type 0

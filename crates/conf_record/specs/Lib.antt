@@ -6,6 +6,7 @@ pub mod Documents
 pub mod Reading
 pub mod EditLines
 pub mod BaseStart
+pub mod Formats
 pub mod Written
 pub mod Entries
 pub mod BaseSpans

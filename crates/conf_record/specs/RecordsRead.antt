@@ -1,10 +1,11 @@
 -- Which texts are records and bases, and what they hold. The document may be spelled in any way. With other keys, keys
 -- in another order, or a number, a name or a path that is not good, it is neither.
 use Rattle.std.specs.Prelude.{◌≡◌, ℕ, Bool, true, false, ◌&&◌, ◌||◌, nat_le, if◌then◌else◌, List, [], ◌∷◌, codes, decimal, Option, Some}
-use Rattle.std.specs.{Prelude.{None, option_map, is_ok}, Str.Parse.digits_value}
+use Rattle.std.specs.{Prelude.{None, option_map, is_ok, is_none}, Str.Parse.digits_value}
 use Rattle.conf_record.specs.Prelude.{IsText, same_text, Tree, text, sequence, mapping, Elements, no_element, element, Members, no_member}
 use Rattle.conf_record.specs.Prelude.{member, Gives, IsKept, own_limits, path_of, good_name, Edit, import_as, set_at, delete_at, Command}
-use Rattle.conf_record.specs.Prelude.{single, batch, name_of, Entry, Contents, count_limit, IsState}
+use Rattle.conf_record.specs.Prelude.{single, batch, noted, name_of, Entry, Contents, count_limit, IsState}
+use Rattle.conf_about.specs.Abouts.{IsAbout, fault_of}
 
 -- ---- the parts of a document
 
@@ -95,9 +96,34 @@ abbrev pub batch_of : List Tree → Option Command
 batch_of (sequence ts ∷ []) = option_map batch (edits_of ts)
 batch_of ts = None
 
+-- the command of the members after the number, without an about
+abbrev pub plain_from : Members → Option Command
+plain_from ms = if keys_are batch_keys ms then batch_of (values ms) else option_map single (edit_from ms)
+
+-- the member is an about: who makes a change, when and why
+abbrev pub is_about : List ℕ → Tree → Bool
+is_about key t = same_text key (codes "about") && is_none (fault_of t)
+
+-- the about that is the last of some members, if one is
+abbrev pub about_in : Members → Option Tree
+about_in no_member = None
+about_in (member key t no_member) = if is_about key t then Some t else None
+about_in (member key t (member other u ms)) = about_in (member other u ms)
+
+-- the members without an about as the last of them
+abbrev pub without_about : Members → Members
+without_about no_member = no_member
+without_about (member key t no_member) = if is_about key t then no_member else member key t no_member
+without_about (member key t (member other u ms)) = member key t (without_about (member other u ms))
+
+-- a command with an about, if there is one
+abbrev pub with_about : Option Tree → Option Command → Option Command
+with_about None read = read
+with_about (Some about) read = option_map (λ command. noted command about) read
+
 -- the command of the members after the number
 abbrev pub command_from : Members → Option Command
-command_from ms = if keys_are batch_keys ms then batch_of (values ms) else option_map single (edit_from ms)
+command_from ms = with_about (about_in ms) (plain_from (without_about ms))
 
 abbrev pub with_number : Option Command → List ℕ → Option (Command × ℕ)
 with_number None digits = None
@@ -131,9 +157,13 @@ abbrev pub entries : Members → List Entry
 entries no_member = []
 entries (member name t ms) = (name, t) ∷ entries ms
 
--- the names of the formats that a base may have; the second is the one that is written
+-- the names of the formats in which bases are written
+abbrev pub is_written_format : List ℕ → Bool
+is_written_format mark = same_text mark (codes "confstore-2") || same_text mark (codes "confstore-3")
+
+-- the names of the formats that a base may have; the first is written no more
 abbrev pub is_format : List ℕ → Bool
-is_format mark = same_text mark (codes "confstore-1") || same_text mark (codes "confstore-2")
+is_format mark = same_text mark (codes "confstore-1") || is_written_format mark
 
 abbrev pub contents_of : List Tree → Option Contents
 contents_of (text mark ∷ text digits ∷ mapping configs ∷ []) =
@@ -168,6 +198,12 @@ abbrev pub AreEdits : List Edit → Type 0
 AreEdits [] = Unit {0}
 AreEdits (edit ∷ edits) = IsEdit edit × AreEdits edits
 
+-- it has no about
+abbrev pub IsPlain : Command → Type 0
+IsPlain (noted command about) = ⊥
+IsPlain command = Unit {0}
+
 abbrev pub IsCommand : Command → Type 0
 IsCommand (single edit) = IsEdit edit
 IsCommand (batch edits) = AreEdits edits
+IsCommand (noted command about) = IsPlain command × IsCommand command × IsAbout about

@@ -2,7 +2,7 @@
 -- configurations are.
 use Rattle.std.specs.Prelude.{◌≡◌, ◌*◌, ◌≤◌, true, List, [], ◌∷◌, ℕ, is_ok}
 use Rattle.conf_record.specs.Prelude.{byte_len, Tree, depth, style_text, config_limits, path_of, good_name, Edit, import_as, set_at}
-use Rattle.conf_record.specs.Prelude.{delete_at, Command, single, batch}
+use Rattle.conf_record.specs.Prelude.{delete_at, Command, single, batch, noted}
 
 -- a tree within the limits of a store's configuration
 pub record IsSmallTree (t : Tree) : Type 0 where
@@ -27,3 +27,4 @@ AreSmallEdits (edit ∷ edits) = IsSmallEdit edit × AreSmallEdits edits
 abbrev pub IsSmallCommand : Command → Type 0
 IsSmallCommand (single edit) = IsSmallEdit edit
 IsSmallCommand (batch edits) = AreSmallEdits edits
+IsSmallCommand (noted command about) = IsSmallCommand command

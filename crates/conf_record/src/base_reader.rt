@@ -1,7 +1,7 @@
 // The configurations and the count of a base's tree.
 ghost use Rattle.std.specs.Prelude.{◌≡◌, [], ◌∷◌, None, IfSome, MatchOption};
 ghost use Rattle.conf_record.specs.Prelude.{chars, IsKept, text_bytes, tree_of, members_of, text, mapping};
-ghost use Rattle.conf_record.specs.RecordsRead.{values, is_format, contents_of, base_of};
+ghost use Rattle.conf_record.specs.RecordsRead.{values, is_format, is_written_format, contents_of, base_of};
 ghost use Rattle.conf_record.specs.Reading.{AreKept, state_of_parts};
 
 use crate::fields::{is_same, keys_are, next_pairs, next_text, next_value, number_from};
@@ -59,5 +59,12 @@ fn base_values(pairs: Vec<(Text, Tree)>) -> Option<(Text, Text, Vec<(Text, Tree)
 fn is_format(text: &str) -> bool
     ensures { result ≡ is_format (chars text.now) }
 {
-    is_same(text, "confstore-1") || is_same(text, "confstore-2")
+    is_same(text, "confstore-1") || is_written_format(text)
+}
+
+/// Whether a text is the name of a format in which bases are written.
+fn is_written_format(text: &str) -> bool
+    ensures { result ≡ is_written_format (chars text.now) }
+{
+    is_same(text, "confstore-2") || is_same(text, "confstore-3")
 }

@@ -61,14 +61,14 @@ impl Found {
         if text.len() as u64 > Limits::KEPT.bytes {
             return Err(Miss::OtherForm);
         }
-        let Some((count, lines)) = cut_frame(text) else {
+        let Some(frame) = cut_frame(text) else {
             return Err(Miss::OtherForm);
         };
-        let spans = find_spans(alloc, lines)?;
+        let spans = find_spans(alloc, frame.lines)?;
         if spans.is_empty() {
             return Err(Miss::OtherForm);
         }
-        Ok(Found::new(spans, count, lines))
+        Ok(Found::new(spans, frame.count, frame.lines))
     }
 
     /// These spans on the lines of a base's configurations, which end with the document.

@@ -1,14 +1,16 @@
 // The command and the number of a record's tree.
-ghost use Rattle.std.specs.Prelude.{◌≡◌, ◌&&◌, [], ◌∷◌, Some, None, map, option_map, is_ok, IfOk, IfSome, MatchOption};
+ghost use Rattle.std.specs.Prelude.{◌≡◌, ◌&&◌, [], ◌∷◌, Some, None, map, option_map, is_ok, true, false, IfOk, IfErr, IfSome, MatchOption};
 ghost use Rattle.conf_record.specs.Prelude.{chars, sequence, mapping, IsKept, Pair, tree_of, elements_of, members_of};
-ghost use Rattle.conf_record.specs.Prelude.{path_of, edit_of, command_of, good_name};
+ghost use Rattle.conf_record.specs.Prelude.{path_of, edit_of, command_of, command_with, good_name};
 ghost use Rattle.conf_record.specs.RecordsRead.{values, if_good, edit_from, edit_in, edits_of, batch_of, command_from, record_of};
+ghost use Rattle.conf_record.specs.RecordsRead.{about_in, is_about, plain_from, without_about};
 ghost use Rattle.conf_record.specs.Reading.{AreKept, AreKeptElements, KeepsTree, edit_seen, command_and_number};
 
 use crate::edit_members::{EditMembers, members_from};
 use crate::fields::{is_same, keys_are, last_value, number_from, split_first, text_in};
 use crate::parts::part;
-use conf_state::{Command, Edit, good_name};
+use conf_about::About;
+use conf_state::{Command, Edit, Edits, good_name};
 use json_pointer::is_pointer;
 use std::alloc::{AllocError, Global};
 use yaml_tree::{Text, Tree};
@@ -54,20 +56,73 @@ fn command_from(alloc: Global, pairs: Vec<(Text, Tree)>) -> Result<Option<Comman
     ensures { IfOk result (λ read. option_map command_of read
         ≡ command_from (members_of pairs.items)) }
 {
+    let (pairs, about) = split_about(pairs)?;
+    let Some(edits) = plain_from(alloc, pairs)? else {
+        return Ok(None);
+    };
+    match about {
+        Some(about) => Ok(Some(Command::Noted { edits, about })),
+        None => Ok(Some(Command::from(edits))),
+    }
+}
+
+/// The about that is the last of some pairs, if one is, and the pairs without it.
+fn split_about(
+    mut pairs: Vec<(Text, Tree)>,
+) -> Result<(Vec<(Text, Tree)>, Option<About>), AllocError>
+    ensures rest { IfOk result (λ split.
+        members_of split.0.items ≡ without_about (members_of pairs.items)) }
+    ensures about { IfOk result (λ split.
+        option_map tree_of split.1 ≡ about_in (members_of pairs.items)) }
+{
+    let Some((key, tree)) = pairs.pop() else {
+        return Ok((pairs, None));
+    };
+    match about_under(&key, tree) {
+        Ok(about) => Ok((pairs, Some(about))),
+        Err(tree) => {
+            pairs.push((key, tree))?;
+            Ok((pairs, None))
+        }
+    }
+}
+
+/// The about that a tree under a key is, or the tree.
+fn about_under(key: &str, tree: Tree) -> Result<About, Tree>
+    ensures about { IfOk result (λ about.
+        (about ≡ tree) × (is_about (chars key.now) (tree_of tree) ≡ true)) }
+    ensures other { IfErr result (λ other.
+        (other ≡ tree) × (is_about (chars key.now) (tree_of tree) ≡ false)) }
+{
+    if !is_same(key, "about") {
+        return Err(tree);
+    }
+    match About::of(tree) {
+        Ok(about) => Ok(about),
+        Err((tree, _)) => Err(tree),
+    }
+}
+
+/// The edits of the pairs after the number, without an about; `None` if they are no command's.
+fn plain_from(alloc: Global, pairs: Vec<(Text, Tree)>) -> Result<Option<Edits>, AllocError>
+    requires kept { AreKept (values (members_of pairs.items)) }
+    ensures { IfOk result (λ read. option_map command_with read
+        ≡ plain_from (members_of pairs.items)) }
+{
     if keys_are(&["batch"], &pairs) {
         return batch_from(alloc, pairs);
     }
     let read = edit_from(alloc, pairs)?;
     match read {
-        Some(edit) => Ok(Some(Command::from(edit))),
+        Some(edit) => Ok(Some(Edits::Single(edit))),
         None => Ok(None),
     }
 }
 
 /// The batch with this value; `None` if it is no sequence, or an element of it is no edit.
-fn batch_from(alloc: Global, pairs: Vec<(Text, Tree)>) -> Result<Option<Command>, AllocError>
+fn batch_from(alloc: Global, pairs: Vec<(Text, Tree)>) -> Result<Option<Edits>, AllocError>
     requires kept { AreKept (values (members_of pairs.items)) }
-    ensures { IfOk result (λ read. option_map command_of read
+    ensures { IfOk result (λ read. option_map command_with read
         ≡ batch_of (values (members_of pairs.items))) }
 {
     let Some(items) = batch_items(pairs) else {
@@ -76,7 +131,7 @@ fn batch_from(alloc: Global, pairs: Vec<(Text, Tree)>) -> Result<Option<Command>
     let Some(edits) = edits_from(alloc, items)? else {
         return Ok(None);
     };
-    Ok(Some(Command::Batch { edits }))
+    Ok(Some(Edits::Batch(edits)))
 }
 
 /// The one value, if it is a sequence: its elements.

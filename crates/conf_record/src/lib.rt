@@ -1,9 +1,9 @@
 //! The texts of a store: a base holds a whole state, and a record one command with its number.
 //!
-//! [`base_text`] and [`record_text`] write them, [`read_base`] and [`read_record`] read them, in any spelling. The laws
-//! say that what is written is read back, and that bytes are at most one base and one record. They also say where
-//! documents end, even in a file that a crash has cut. [`BaseText`] keeps a base as its text, and builds a
-//! configuration only when it is asked for.
+//! A base has a [`Format`]. [`base_text`] and [`record_text`] write them, [`read_base`] and [`read_record`] read them,
+//! in any spelling. The laws say that what is written is read back, and that bytes are at most one base and one record.
+//! They also say where documents end, even in a file that a crash has cut. [`BaseText`] keeps a base as its text, and
+//! builds a configuration only when it is asked for.
 //!
 //! The states and commands are those of `conf_state`, which can be named from here too.
 //!
@@ -21,6 +21,7 @@ mod edit_lines;
 mod edit_members;
 mod entries;
 mod fields;
+mod format;
 mod held_base;
 mod laws;
 pub mod lines;
@@ -38,8 +39,9 @@ pub use documents::{documents_are_read, documents_close};
 pub use edit_lines::{Place, cut_edit, cut_element};
 pub use edit_members::{EditMembers, members_from};
 pub use fields::{is_same, keys_are, last_text, last_value, next_text, number_from, split_first};
+pub use format::Format;
 pub use held_base::BaseText;
-pub use laws::records_read;
+pub use laws::{formats_are_told, records_read};
 pub use next_record::{NoNext, read_next};
 pub use parts::part;
 pub use read::{read_base, read_record};

@@ -40,8 +40,8 @@ pub fn read_record(alloc: Global, bytes: &[u8]) -> Result<Option<(Command, u64)>
 ///
 /// It returns `None` if the bytes are no base:
 /// - they are not such a document, as for [`read_record`];
-/// - the mapping has other keys, or the same in another order, or the format is neither `confstore-1` nor
-///   `confstore-2`;
+/// - the mapping has other keys, or the same in another order, or the format is none of `confstore-1`, `confstore-2`
+///   and `confstore-3`;
 /// - the count is not decimal digits without a leading zero, or is more than 18,446,744,073,709,551,615;
 /// - no state holds the configurations, as for [`State::from_parts`].
 ///

@@ -1,16 +1,18 @@
 // The text of a record: the document that holds a command and the number under which it was accepted.
 ghost use Rattle.std.specs.Prelude.{◌≡◌, ◌≤◌, ◌+◌, ◌++◌, min, map, codes, decimal, string_bytes, IfOk, IfSome, OnOk};
 ghost use Rattle.conf_record.specs.Prelude.{chars, IsText, byte_len, spaces, text, key_lines, scalar_lines, value_at};
-ghost use Rattle.conf_record.specs.Prelude.{members_at, members_after, IsKept, tree_of, command_of, edit_of, batch};
+ghost use Rattle.conf_record.specs.Prelude.{members_at, members_after, IsKept, tree_of, command_of, command_with, edit_of, batch};
 ghost use Rattle.conf_record.specs.Prelude.{import_as, set_at, delete_at};
 ghost use Rattle.conf_record.specs.Records.{edit_members, command_members, record_text, record_bytes};
-ghost use Rattle.conf_record.specs.RecordsRead.{IsEdit, AreEdits, IsCommand};
+ghost use Rattle.conf_record.specs.RecordsRead.{IsEdit, AreEdits, IsCommand, IsPlain};
+ghost use Rattle.conf_about.specs.Abouts.{IsAbout};
 
 use crate::record_sink::{EDIT_INDENT, RecordSink};
-use conf_state::{Command, Edit};
+use conf_about::About;
+use conf_state::{Command, Edit, Edits};
 use itoa::Buffer;
 use std::alloc::{AllocError, Global};
-use yaml_tree::{ByteCount, Config, Sink};
+use yaml_tree::{ByteCount, Config, Sink, write_value};
 use yaml_writer::write_scalar;
 
 /// The text of a command's record: an explicit document (YAML 1.2.2, 9.1.4). It is a line of `---`, a mapping in the
@@ -87,6 +89,7 @@ fn likely_length(command: &Command) -> Option<u64> {
         }
         Command::Delete { name, path } => (name.len().saturating_add(path.len()), 0),
         Command::Batch { .. } => return None,
+        Command::Noted { .. } => return None,
     };
     Some(
         value
@@ -141,7 +144,35 @@ fn write_command<S: RecordSink>(command: &Command, sink: &mut S) -> Result<(), S
         Command::Set { name, path, value } => write_set(name, path, value, 0, sink),
         Command::Delete { name, path } => write_delete(name, path, 0, sink),
         Command::Batch { edits } => write_batch(edits, sink),
+        Command::Noted { edits, about } => {
+            write_edits(edits, sink)?;
+            write_about(about, sink)
+        }
     }
+}
+
+/// Writes the edits of a command with an about.
+fn write_edits<S: RecordSink>(edits: &Edits, sink: &mut S) -> Result<(), S::Fault>
+    ensures takes { OnOk result (S.Takes sink.old
+        (members_after (command_members (command_with edits.now)) 0) sink.new) }
+    ensures kept { OnOk result (IsCommand (command_with edits.now)) }
+    ensures plain { IsPlain (command_with edits.now) }
+{
+    match edits {
+        Edits::Single(edit) => write_edit(edit, 0, sink),
+        Edits::Batch(edits) => write_batch(edits, sink),
+    }
+}
+
+/// Writes the key and the lines of an about.
+fn write_about<S: Sink>(about: &About, sink: &mut S) -> Result<(), S::Fault>
+    ensures takes { OnOk result (S.Takes sink.old
+        (key_lines 0 (codes "about") ++ value_at (tree_of about.now) 0) sink.new) }
+    ensures kept { IsAbout (tree_of about.now) }
+{
+    let tree = about.tree();
+    sink.put_text("about:")?;
+    write_value(tree, 0, sink)
 }
 
 /// Writes a batch: a mapping for each edit, in a sequence.

@@ -3,7 +3,7 @@ use Rattle.std.proofs.Common.{◌≡◌, ◌≢◌, ℕ, Bool, true, false, if�
 use Rattle.std.proofs.Common.{take, zero}
 use Rattle.{conf_session.specs.Answers.value_at_path, conf_state.proofs.DraftLemmas.{named-cut-other, named-put-other}}
 use Rattle.conf_state.{proofs.{Prelude.same_text-true, RunLaws.and_then-Ok}, specs.Commands.{Command, Edit, batch, delete_at, import_as}}
-use Rattle.conf_state.specs.{Commands.{name_of, set_at, single}, Names.good_name, States.{Contents, Entry, config_named, cut_config}}
+use Rattle.conf_state.specs.{Commands.{name_of, noted, set_at, single}, Names.good_name, States.{Contents, Entry, config_named, cut_config}}
 use Rattle.conf_state.specs.{States.put_config, Steps.{after, all_edited, and_then, by_path, checked_tree, configs_after}}
 use Rattle.conf_state.specs.Steps.{configs_after_delete, edited, found, next_state, performed, step, with_checked_config}
 use Rattle.conf_state.specs.declared.{fault.StoreFault.TheVariants.{BadName, EmptyBatch}, room.Room.TheVariants.Enough}
@@ -75,6 +75,7 @@ performed-same : (command : Command) (configs made : List Entry) (name : List �
 performed-same (single edit) configs made name (apart, none) is = edited-same configs made name edit apart is
 performed-same (batch []) configs made name spares is = let refused : Err EmptyBatch ≡ Ok made = is in cc
 performed-same (batch (edit ∷ edits)) configs made name spares is = all-same (edit ∷ edits) configs made name spares is
+performed-same (noted command about) configs made name spares is = performed-same command configs made name spares is
 
 step-same : (from to : Contents) (command : Command) (name : List ℕ) → Spares name command → step from command Enough ≡ Ok to
     → Same name from.configs to.configs

@@ -5,6 +5,7 @@ use Rattle.conf_disk.specs.{Folder.{bytes_under, several_waited}, Image.{Image, 
 use Rattle.{conf_disk.specs.{Models.DiskModel, declared.disk.Name.TheVariants.Store}, conf_history.specs.Copies.{BacksUp, IsCopied}}
 use Rattle.conf_history.specs.{Copies.{LeavesOldOrCopy, disk_handed_back as copied_disk}, Salvages.{IsSaved, LeavesOldOrSaved, Saves}}
 use Rattle.conf_history.specs.{Salvages.disk_of as saved_disk, declared.{fault.SalvageFault.SalvageFault, survey.Findings.Findings}}
+use Rattle.conf_record.specs.declared.format.Format.TheVariants.{Second}
 use Rattle.{conf_journal.specs.Store.IsStoreOf, conf_state.specs.{Commands.Command, States.Contents, Steps.after, BaseTexts.base_bytes}}
 use Rattle.{conf_record.specs.Documents.{BasesAreRead, BasesClose, BasesFit}, conf_store.specs.Meaning.{FileMeans, ImageMeans, empty_state}}
 use Rattle.conf_store.{specs.Opens.OneMeaning, proofs.StoreLemmas.{base-file-means, base-of}}
@@ -117,7 +118,7 @@ module _ {W D F P : Type 0} (world : WorldModel W D F P) (disk : DiskModel D) (r
     state = saved.s;
     makes = record { findings = saved.findings; reads = saved.reads };
     means = base-file-means saved.s (base_bytes saved.s)
-        (base-of read close fit saved.s (base_bytes saved.s) saved.reads.kept refl) image saved.is;
+        (base-of read close fit Second saved.s (base_bytes saved.s) saved.reads.kept refl) image saved.is;
   })
 
   salvage-done : (end : Ended) (held written : Option (List ℕ)) (several : Bool) (given left : Option (List ℕ)) (first : D)

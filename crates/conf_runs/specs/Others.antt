@@ -1,6 +1,6 @@
 -- Commands that are of other configurations than the one under a name.
 use Rattle.std.specs.Prelude.{◌≢◌, ℕ, List, [], ◌∷◌}
-use Rattle.conf_state.specs.Commands.{Command, Edit, batch, name_of, single}
+use Rattle.conf_state.specs.Commands.{Command, Edit, batch, name_of, noted, single}
 
 module _ (name : List ℕ) where
   -- no edit is of the configuration under the name
@@ -11,6 +11,7 @@ module _ (name : List ℕ) where
   abbrev pub Spares : Command → Type 0
   Spares (single edit) = AreElsewhere (edit ∷ [])
   Spares (batch edits) = AreElsewhere edits
+  Spares (noted command about) = Spares command
 
   abbrev pub AllSpare : List Command → Type 0
   AllSpare [] = Unit {0}

@@ -3,17 +3,18 @@ use Rattle.std.{proofs.Common.{◌≡◌, ◌≢◌, ⊎_elim, refl, sym, ap, �
 use Rattle.std.specs.Prelude.{if◌then◌else◌, List, [], ◌∷◌, Option, Some, None, Result, Ok, Err, is_some, is_ok}
 use Rattle.conf_session.proofs.Prelude.{byte_len, style_text, Tree, depth, ReadFault, path_of, tokens_or_place, bad_place, PathFault, at}
 use Rattle.conf_session.proofs.Prelude.{at_from, at_step, child, put, cut, set, delete, edit_from, Miss, config_limits, base_length, Edit}
-use Rattle.conf_session.proofs.Prelude.{import_as, set_at, delete_at, Command, single, batch, name_of, good_name, Entry, Contents}
+use Rattle.conf_session.proofs.Prelude.{import_as, set_at, delete_at, Command, single, batch, noted, name_of, good_name, Entry, Contents}
 use Rattle.conf_session.proofs.Prelude.{config_named, base_limit, count_limit, step, edited, all_edited, performed, configs_after}
 use Rattle.conf_session.proofs.Prelude.{with_room, next_state, and_then, checked_tree, with_checked_config, found, by_path}
 use Rattle.conf_session.proofs.Prelude.{configs_after_delete, StoreFault, Room, Enough, LongRecord, Missing, outcome, room_for, tree_named}
 use Rattle.conf_session.proofs.Prelude.{RefusesText, Condition, first_fault, ConditionFault, IsTold, told-first}
 use Rattle.conf_session.specs.{declared.{fault.SessionFault.SessionFault, words.Refusal.Refusal}, Said.{Part, import_text, plain, Said}}
-use Rattle.conf_session.specs.Said.{single_part, batch_of_parts, get_at, export_of, all_names, checkpoint_now, conditional, nothing}
-use Rattle.conf_session.specs.Requests.{Request, changing, unread, getting, exporting, naming, checkpointing, if_met, bad, RefusesPart}
-use Rattle.conf_session.specs.{Requests.{MeansRequest, Asks}, Answers.{Stored, longest, answer, answered, path_answered, read_answered}}
-use Rattle.conf_session.specs.Answers.{refused_answer, answer_or_refusal, value_at_path, condition_answered, unless_failed}
-use Rattle.tree_path.specs.{Paths.and_then as then_path, declared.place.Miss.TheVariants.{Absent, NoIndex}}
+use Rattle.conf_session.specs.Said.{single_part, batch_of_parts, get_at, export_of, all_names, checkpoint_now, conditional, noted_said}
+use Rattle.conf_session.specs.{Said.{large_about, nothing}, Requests.{Request, changing, unread, getting, exporting, naming, checkpointing}}
+use Rattle.conf_session.specs.{Requests.{if_met, overlong_about, bad, RefusesPart, MeansRequest, noted_request, Asks}, Answers.Stored}
+use Rattle.conf_session.specs.Answers.{longest, answer, answered, path_answered, read_answered, refused_answer, answer_or_refusal}
+use Rattle.{conf_session.specs.Answers.{value_at_path, condition_answered, unless_failed}, tree_path.specs.Paths.and_then as then_path}
+use Rattle.tree_path.specs.declared.place.Miss.TheVariants.{Absent, NoIndex}
 use Rattle.yaml_events.specs.declared.read_fault.ReadFault.TheVariants as read
 use Rattle.conf_state.specs.declared.fault.StoreFault.TheVariants as store
 use Rattle.conf_conditions.specs.declared.fault.ConditionFault.TheVariants as condition
@@ -150,6 +151,7 @@ unfolding is_answered
 performed-answered configs (single edit) = edited-answered configs edit
 performed-answered configs (batch []) = refl
 performed-answered configs (batch (edit ∷ edits)) = all_edited-answered configs (edit ∷ edits)
+performed-answered configs (noted command about) = performed-answered configs command
 
 room-answered : {A : Type 0} (room : Room) (r : Result A StoreFault) → is_answered r ≡ true → is_answered (with_room room r) ≡ true
 unfolding is_answered
@@ -254,6 +256,19 @@ conditional-answer now conditions met some = by (first_fault now.state condition
     by None is = some
     by (Some fault) is = some-answer (condition_answered fault) (condition-told fault (told-first now.state conditions fault is))
 
+-- an about makes no difference to whether there is an answer
+noted-answer : (now : Stored) (about : Tree) (request : Request) → is_some (answer now request) ≡ true
+    → is_some (answer now (noted_request about request)) ≡ true
+noted-answer now about (changing command) some = change-answer-some now (noted command about)
+noted-answer now about (unread why) some = some
+noted-answer now about (getting name p) some = some
+noted-answer now about (exporting name) some = some
+noted-answer now about naming some = some
+noted-answer now about checkpointing some = some
+noted-answer now about (if_met conditions request) some = some
+noted-answer now about overlong_about some = some
+noted-answer now about bad some = some
+
 said-answer : (now : Stored) (said : Said) (request : Request) → MeansRequest said request → is_some (answer now request) ≡ true
 said-answer now (single_part (import_text name source)) request means =
     ⊎_elim (λ read. at-request now request (changing read.0) read.2 (change-answer-some now read.0))
@@ -274,6 +289,10 @@ said-answer now checkpoint_now request means = at-request now request checkpoint
 said-answer now (conditional conditions said) request means =
     at-request now request (if_met conditions means.0) means.2
     (conditional-answer now conditions means.0 (said-answer now said means.0 means.1))
+said-answer now (noted_said about said) request means =
+    at-request now request (noted_request about means.0) means.2
+    (noted-answer now about means.0 (said-answer now said means.0 means.1))
+said-answer now large_about request means = at-request now request overlong_about means refl
 said-answer now nothing request means = at-request now request bad means refl
 
 -- each request that a piece asks for has an answer

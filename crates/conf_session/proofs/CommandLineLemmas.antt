@@ -1,7 +1,7 @@
 -- What commands that are spelled one key a line say.
 use Rattle.std.{proofs.Common.{◌≡◌, refl, sym, ap, subst, ◌∙◌, inl, arith, ◌<◌, ◌≤◌, append_assoc, append-nil}, specs.Prelude.{ℕ, zero}}
 use Rattle.std.specs.Prelude.{suc, ◌+◌, ◌*◌, ◌==◌, Bool, true, false, nat_lt, if◌then◌else◌, List, [], ◌∷◌, ◌++◌, codes, length, Option}
-use Rattle.std.specs.{Prelude.{Some, option_map}, Borrow.Bor}
+use Rattle.std.specs.{Prelude.{Some, None, option_map}, Borrow.Bor}
 use Rattle.conf_session.proofs.Prelude.{list_all, chars, IsUtf8, IsAscii, and_parts, and_from, ltb-true, nat_tests, chars-IsAscii}
 use Rattle.conf_session.proofs.Prelude.{code_point, is_in, IsText, byte_len, spaces, text, sequence, mapping, Elements, no_member, member}
 use Rattle.conf_session.proofs.Prelude.{AreTextMembers, AreTextElements, members_depth, elements_depth, members_distinct, elements_distinct}
@@ -11,15 +11,16 @@ use Rattle.conf_session.proofs.Prelude.{elements_after, style_text, Good, Gives,
 use Rattle.conf_session.proofs.Prelude.{byte_len-chars, IsKept, set_at, delete_at, member_line, lines_of, scalar_most, Tree, element}
 use Rattle.conf_session.proofs.Prelude.{Members, has_key, not_from_false, number_from_digits, Condition, test_at, absent_at, count_is}
 use Rattle.conf_session.proofs.{Prelude.length-append, LinesPresented.{Unambiguous, KeysAreText, AllKeysAreText, LayoutIsText, marker_text}}
-use Rattle.conf_session.{proofs.LinesPresented.{document_of, lines_give}, specs.Said.{Part, Said, Says, command_limits, piece_limit}}
-use Rattle.conf_session.specs.Said.{import_text, plain, single_part, batch_of_parts, get_at, said_by, part_from, part_of, parts_of}
-use Rattle.conf_session.specs.{Said.{parts_said, change_said, with_conditions}, SaidConditions.{first_and_rest, all_in, condition_from}}
-use Rattle.conf_session.specs.{SaidConditions.{condition_in, all_conditions_in}, CommandLines.{Spelling, bare, quoted, Line, spelled}}
-use Rattle.conf_session.specs.CommandLines.{bare_char, begins_bare, stands, IsField, line_text, lines_text, members_of_lines, IsSpelled}
-use Rattle.conf_session.specs.CommandLines.{IsLine, AreLines, Entry, entry_text, entry_members, elements_text, elements_of_entries, IsEntry}
-use Rattle.conf_session.specs.CommandLines.{AreEntries, AreSaid, AreElementLines, SaysPart, SpellsPart, ArePartLines, AreConditionLines}
-use Rattle.conf_session.specs.CommandLines.{IsConditionLines, Layout, single, batch_of, after_if, layout_text, layout_members, IsLayout}
-use Rattle.{conf_session.specs.CommandLines.{IsCommandLines, IsChangeLines, SayChangeAfter}, yaml_config.proofs.TextTreeLemmas.chars-IsText}
+use Rattle.conf_session.{proofs.{LinesPresented.{document_of, lines_give}, SaidLemmas.{said-without, none-before}}, specs.Said.{Part, Said}}
+use Rattle.conf_session.specs.Said.{Says, command_limits, piece_limit, import_text, plain, single_part, batch_of_parts, get_at, said_by}
+use Rattle.conf_session.specs.Said.{last_about, part_from, part_of, parts_of, command_said, parts_said, change_said, with_conditions}
+use Rattle.conf_session.specs.SaidConditions.{first_and_rest, all_in, condition_from, condition_in, all_conditions_in}
+use Rattle.conf_session.specs.CommandLines.{Spelling, bare, quoted, Line, spelled, bare_char, begins_bare, stands, IsField, line_text}
+use Rattle.conf_session.specs.CommandLines.{lines_text, members_of_lines, IsSpelled, IsLine, AreLines, Entry, entry_text, entry_members}
+use Rattle.conf_session.specs.CommandLines.{elements_text, elements_of_entries, IsEntry, AreEntries, AreSaid, AreElementLines, SaysPart}
+use Rattle.conf_session.specs.CommandLines.{SpellsPart, ArePartLines, AreConditionLines, IsConditionLines, Layout, single, batch_of}
+use Rattle.conf_session.specs.CommandLines.{after_if, layout_text, layout_members, IsLayout, IsCommandLines, IsChangeLines, SayChangeAfter}
+use Rattle.yaml_config.proofs.TextTreeLemmas.{chars-IsText}
 use Rattle.conf_record.specs.declared.edit_members.EditMembers.TheVariants as cut
 
 -- ---- all is ASCII
@@ -330,7 +331,7 @@ member_of key value spelling rest = key ++ (codes ": " ++ (spelled spelling valu
 -- the lines of an import
 pub import_spelled : (n v : Bor (List ℕ)) (name source : List ℕ) → IsSpelled n.now name → IsSpelled v.now source
     → SpellsPart (lines_of (cut.Import n v) (codes "text: ")) (import_text (chars name) (chars source))
-unfolding said_by part_from
+unfolding said_by command_said part_from
 import_spelled n v name source one two =
     let a : Line = record { key = codes "import"; spelling = one.spelling; value = name } in
     let b : Line = record { key = codes "text"; spelling = two.spelling; value = source } in
@@ -347,6 +348,7 @@ import_spelled n v name source one two =
       alone = refl;
       change = refl;
       apart = refl;
+      no_about = refl;
     } in
     let name_is = sym (spelled_chars one.spelling name one.stands) in
     let source_is = sym (spelled_chars two.spelling source two.stands) in
@@ -359,7 +361,7 @@ import_spelled n v name source one two =
 -- the lines of a set
 pub set_spelled : (n p v : Bor (List ℕ)) (name path value : List ℕ) → IsSpelled n.now name → IsSpelled p.now path → IsSpelled v.now value
     → SpellsPart (lines_of (cut.Set n p v) (codes "text: ")) (plain (set_at (chars name) (chars path) (text (chars value))))
-unfolding said_by part_from
+unfolding said_by command_said part_from
 set_spelled n p v name path value one two three =
     let a : Line = record { key = codes "set"; spelling = one.spelling; value = name } in
     let b : Line = record { key = codes "path"; spelling = two.spelling; value = path } in
@@ -377,6 +379,7 @@ set_spelled n p v name path value one two three =
       alone = refl;
       change = refl;
       apart = refl;
+      no_about = refl;
     } in
     let name_is = sym (spelled_chars one.spelling name one.stands) in
     let path_is = sym (spelled_chars two.spelling path two.stands) in
@@ -392,7 +395,7 @@ set_spelled n p v name path value one two three =
 -- the lines of a delete
 pub delete_spelled : (n p : Bor (List ℕ)) (name path : List ℕ) → IsSpelled n.now name → IsSpelled p.now path
     → SpellsPart (lines_of (cut.Delete n p) (codes "text: ")) (plain (delete_at (chars name) (chars path)))
-unfolding said_by part_from
+unfolding said_by command_said part_from
 delete_spelled n p name path one two =
     let a : Line = record { key = codes "delete"; spelling = one.spelling; value = name } in
     let b : Line = record { key = codes "path"; spelling = two.spelling; value = path } in
@@ -409,6 +412,7 @@ delete_spelled n p name path one two =
       alone = refl;
       change = refl;
       apart = refl;
+      no_about = refl;
     } in
     let name_is = sym (spelled_chars one.spelling name one.stands) in
     let path_is = sym (spelled_chars two.spelling path two.stands) in
@@ -424,7 +428,7 @@ delete_spelled n p name path one two =
 pub get_lines : (name path lines after_name : List ℕ) → IsField lines (codes "get: ") name after_name
     → IsField after_name (codes "path: ") path (codes "...\n")
     → IsCommandLines lines (get_at name path)
-unfolding said_by part_from
+unfolding said_by command_said part_from
 get_lines name path lines after_name one two =
     let a : Line = record { key = codes "get"; spelling = one.spelling; value = name } in
     let b : Line = record { key = codes "path"; spelling = two.spelling; value = path } in
@@ -454,6 +458,7 @@ single_lines lines end own part is ends spells = record {
   };
   change = sym spells.says.change;
   apart = spells.says.apart;
+  no_about = spells.says.no_about;
 }
 
 -- ---- elements
@@ -533,7 +538,7 @@ one_part_line lines left after own parts part so is spells =
 
 batch_says : (ts : Elements) (parts : List Part) → parts_of ts ≡ Some parts
     → batch_of_parts parts ≡ said_by (mapping (member (codes "batch") (sequence ts) no_member))
-unfolding said_by
+unfolding said_by command_said
 batch_says ts parts is = ap parts_said (sym is)
 
 -- all elements of a batch, and the closing line
@@ -556,6 +561,7 @@ batch_lines elements parts some so = by so.entries parts some so.said so.is
           };
           change = ap parts_said (sym read);
           apart = refl;
+          no_about = refl;
         }
 
 -- ---- conditions
@@ -649,11 +655,14 @@ count_line digits lines rest count number one =
     (field_line (codes "count") digits (member_of (codes "count") digits one.spelling rest) rest one.spelling refl))
 
 conditional_says : (t : Tree) (ts : Elements) (ms : Members) (conditions : List Condition) (change said : Said)
-    → all_conditions_in (element t ts) ≡ Some conditions → change ≡ change_said ms
+    → last_about ms ≡ None → all_conditions_in (element t ts) ≡ Some conditions → change ≡ change_said ms
     → said ≡ with_conditions (Some conditions) change
     → said ≡ said_by (mapping (member (codes "if") (sequence (element t ts)) ms))
-unfolding said_by
-conditional_says t ts ms conditions change said read is says = says ∙ λ i. with_conditions (sym read i) (is i)
+unfolding command_said
+conditional_says t ts ms conditions change said none read is says =
+    let whole = member (codes "if") (sequence (element t ts)) ms in
+    let same : said ≡ command_said whole = says ∙ λ i. with_conditions (sym read i) (is i) in
+    same ∙ sym (said-without whole (none-before (codes "if") (sequence (element t ts)) ms refl none))
 
 -- conditions, and the command after them
 pub conditional_lines : (lines left : List ℕ) (conditions : List Condition) (said : Said) → AreConditionLines lines conditions left
@@ -674,7 +683,7 @@ conditional_lines lines left conditions said so after = by so.entries conditions
               (is ∙ ap (λ t. elements_text (e ∷ es) ++ t) command.is
               ∙ sym (append_assoc (elements_text (e ∷ es)) (layout_text layout) (codes "...\n")));
           says = conditional_says (mapping (entry_members e)) (elements_of_entries es) (layout_members layout) cs
-              after.change said (all_said condition_in (e ∷ es) cs are) after.command.change after.says;
+              after.change said after.command.no_about (all_said condition_in (e ∷ es) cs are) after.command.change after.says;
         }
 
 -- ---- a short text is a configuration

@@ -1,24 +1,27 @@
 -- A command with conditions: it is as it is without them, or it is refused and changes nothing.
-use Rattle.std.{proofs.Common.{◌≡◌, ◌≢◌, inl, inr, refl, sym, ap, subst, ◌∙◌, ◌≤◌}, specs.Prelude.{ℕ, true, false, if◌then◌else◌, List, []}}
-use Rattle.std.specs.Prelude.{◌∷◌, ◌++◌, length, Option, Some, None, Result, Ok, Err, IfOk, IfErr, is_ok}
+use Rattle.std.{proofs.Common.{◌≡◌, ◌≢◌, inl, inr, ⊎_elim, refl, sym, ap, subst, ◌∙◌, ◌≤◌}, specs.Prelude.{ℕ, true, false, if◌then◌else◌}}
+use Rattle.std.specs.Prelude.{List, [], ◌∷◌, ◌++◌, length, Option, Some, None, Result, Ok, Err, IfOk, IfErr, is_ok}
 use Rattle.conf_session.proofs.Prelude.{false≢true, append-nil, chars, IsUtf8, ReadFault, bytes_under, Image, IsImage, DiskModel}
 use Rattle.conf_session.proofs.Prelude.{LeavesOnly, Store, Command, command_of, Contents, StoreFault, MeansPrefix, HasFlushed, staged_text}
 use Rattle.conf_session.proofs.Prelude.{IsImportOf, RefusesText, StoreView, Condition, first_fault, ConditionFault, first-none, first-some}
-use Rattle.conf_session.proofs.{Prelude.told-first, AnsweredLemmas.condition-told, LengthLemmas.refused-short, RefusalLemmas.OnlyMemory}
-use Rattle.conf_session.proofs.{RefusalLemmas.{path-memory, text-memory}, RequestLemmas.{unchanged, handles-none, handles-same, text-given}}
-use Rattle.conf_session.{proofs.RequestLemmas.text-refused, specs.declared.{fault.SessionFault.SessionFault, reply.Reply.Reply}}
-use Rattle.conf_session.specs.{declared.{reply.Reply.TheVariants.Refused, words.Refusal.Refusal}, Said.{import_text, single_part}}
-use Rattle.conf_session.specs.{Conditional.{RefusesFirst, IsGuarded, ConditionsGuard}, Runs.stored_of, Requests.{Request, MeansRequest}}
-use Rattle.conf_session.specs.{Requests.{changing, unread, if_met}, Answers.{Stored, answer, answer_limit, document_bytes, answered}}
-use Rattle.conf_session.specs.Answers.{read_answered, condition_answered, refused_answer, unless_failed, stored_after, file_after}
-use Rattle.conf_session.specs.Answers.{staged_after, accepted_command, refused_of, syncs, flushed_after, waiting_after}
-use Rattle.conf_session.specs.{ReadChanges.{IsRequest, EndsByMemory, ReadsAsked, IfMet}, Replies.{DidAsked, Handles, MeansPrefixes}}
-use Rattle.conf_session.specs.Replies.{Performs, Replies, refused_as, unmet_after, unmet_as}
+use Rattle.conf_session.proofs.{Prelude.{told-first, edit_of, single, batch, has_about}, AnsweredLemmas.condition-told}
+use Rattle.conf_session.proofs.{LengthLemmas.refused-short, RefusalLemmas.{OnlyMemory, path-memory, text-memory}, RequestLemmas.unchanged}
+use Rattle.conf_session.{proofs.RequestLemmas.{handles-none, handles-same, text-given, text-refused}, specs.Said.{change_seen, import_text}}
+use Rattle.conf_session.specs.{Said.single_part, declared.{fault.SessionFault.SessionFault, reply.Reply.{Reply, TheVariants.Refused}}}
+use Rattle.conf_session.specs.{declared.words.Refusal.Refusal, Conditional.{RefusesFirst, IsGuarded, ConditionsGuard}, Runs.stored_of}
+use Rattle.conf_session.specs.{Requests.{Request, MeansRequest, changing, unread, if_met}, Answers.{Stored, answer, answer_limit}}
+use Rattle.conf_session.specs.Answers.{document_bytes, answered, read_answered, condition_answered, refused_answer, unless_failed}
+use Rattle.conf_session.specs.Answers.{stored_after, file_after, staged_after, accepted_command, refused_of, syncs, flushed_after}
+use Rattle.conf_session.specs.{Answers.waiting_after, ReadChanges.{IsRequest, EndsByMemory, ReadsAsked, IfMet}, Replies.{DidAsked, Handles}}
+use Rattle.conf_session.specs.Replies.{MeansPrefixes, Performs, Replies, refused_as, unmet_after, unmet_as}
 use Rattle.yaml_events.specs.declared.read_fault.ReadFault.TheVariants as read_faults
 use Rattle.conf_state.specs.declared.command.Command as code
 use Rattle.conf_state.specs.declared.fault.StoreFault.TheVariants as store_faults
 use Rattle.conf_conditions.specs.declared.fault.ConditionFault.TheVariants as condition
 use Rattle.conf_session.specs.declared.fault.SessionFault.TheVariants as fault
+use Rattle.conf_session.specs.declared.parts.Part.TheVariants as parts
+use Rattle.conf_session.specs.declared.said.Change as code_change
+use Rattle.conf_session.specs.declared.said.Change.TheVariants as changes
 
 -- ---- where no condition fails
 
@@ -285,3 +288,16 @@ reads-import name bytes utf8 (Err why) given refuses = record {
       (text-refused name bytes why utf8 (answered-fault why is.1) refuses);
   memory = text-memory name bytes why refuses;
 }
+
+-- ---- a command that gets an about has none yet
+
+-- the command that a part or a batch asks for has none
+pub plain-asked : (change : code_change.Change) (command : Command) → MeansRequest (change_seen change) (changing command)
+    → has_about command ≡ false
+plain-asked (changes.Single (parts.Import name source)) command asked =
+    ⊎_elim (λ read. let same : command ≡ read.0 = (let e = read.2 in cc) in ap has_about (same ∙ read.1.is))
+    (λ why. let never = why.3 in absurd (cc never)) asked
+plain-asked (changes.Single (parts.Plain edit)) command asked = let same : command ≡ single (edit_of edit) = cc in ap has_about same
+plain-asked (changes.Batch ps) command asked =
+    ⊎_elim (λ read. let same : command ≡ batch read.0 = (let e = read.2 in cc) in ap has_about same)
+    (λ why. let never = why.2 in absurd (cc never)) asked

@@ -279,6 +279,7 @@ module _ {D : Type 0} (model : DiskModel D) where
     state = same.state i;
     size = same.size i;
     staged = option_map (λ (t : Staged). t.written + length t.left) (same.staged i);
+    format = same.format i;
   }
 
   -- a flush, or a slice, that fails

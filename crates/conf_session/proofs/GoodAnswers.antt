@@ -12,8 +12,8 @@ use Rattle.conf_session.proofs.Prelude.{StoreFault, ConditionFault, and_then-Ok,
 use Rattle.conf_session.proofs.{Prelude.first_fault, WordLemmas.word_plain, AnswerLemmas.texts-shallow, LengthLemmas.answer-short}
 use Rattle.conf_session.{proofs.LengthLemmas.{by_path-Ok, step-few, tree_named-good}, specs.declared.fault.SessionFault.SessionFault}
 use Rattle.conf_session.specs.{declared.words.Refusal.Refusal, Requests.{Request, changing, unread, getting, exporting, naming}}
-use Rattle.conf_session.specs.{Requests.{checkpointing, if_met, bad}, Answers.{Stored, longest, one, text_elements, answered}}
-use Rattle.conf_session.specs.Answers.{refused_answer, answer_or_refusal, value_at_path, change_answer, document_bytes, answer}
+use Rattle.conf_session.specs.{Requests.{checkpointing, if_met, overlong_about, bad}, Answers.{Stored, longest, one, text_elements}}
+use Rattle.conf_session.specs.Answers.{answered, refused_answer, answer_or_refusal, value_at_path, change_answer, document_bytes, answer}
 use Rattle.conf_session.specs.{Answers.{answer_limit, condition_answered, unless_failed, word}, AnswersRead.{IsDocumentOf, AnswersAreRead}}
 use Rattle.{conf_record.proofs.RecordLemmas.{name_is_text, decimal_is_text}, tree_path.proofs.EditLaws.child-distinct}
 use Rattle.tree_path.{proofs.StepLaws.present-Ok, specs.Paths.{child, Index, number, after_last, no_index, index_of, at_index, element_at}}
@@ -168,6 +168,7 @@ answer-fine now (if_met conditions request) kept = by (first_fault now.state con
         → IsFine (unless_failed failed (answer now request) (λ fault. refused_answer (condition_answered fault)))
     by None fine = fine
     by (Some fault) fine = refused-fine (condition_answered fault)
+answer-fine now overlong_about kept = refused-fine (Ok why.AboutLarge)
 answer-fine now bad kept = refused-fine (Ok why.BadCommand)
 
 -- ---- texts as bytes

@@ -14,8 +14,8 @@ use Rattle.conf_session.proofs.Prelude.{entries_length, StoreFault, count_bytes,
 use Rattle.conf_session.proofs.Prelude.{scalar_most, value_size, byte_len-encoded, outcome, room_for, tree_named, first_fault}
 use Rattle.conf_session.{proofs.{Prelude.ConditionFault, WordLemmas.refusal-short}, specs.declared.fault.SessionFault.SessionFault}
 use Rattle.conf_session.specs.{declared.words.Refusal.Refusal, Requests.{Request, changing, unread, getting, exporting, naming}}
-use Rattle.conf_session.specs.{Requests.{checkpointing, if_met, bad}, Answers.{Stored, longest, one, text_elements, answered}}
-use Rattle.conf_session.specs.Answers.{refused_answer, answer_or_refusal, value_at_path, change_answer, document_bytes, answer}
+use Rattle.conf_session.specs.{Requests.{checkpointing, if_met, overlong_about, bad}, Answers.{Stored, longest, one, text_elements}}
+use Rattle.conf_session.specs.Answers.{answered, refused_answer, answer_or_refusal, value_at_path, change_answer, document_bytes, answer}
 use Rattle.conf_session.specs.Answers.{answer_bytes, answer_limit, condition_answered, unless_failed}
 use Rattle.tree_path.specs.Paths.{refusal as step_refusal}
 use Rattle.conf_state.specs.declared.fault.StoreFault.TheVariants as store
@@ -283,4 +283,5 @@ answer-short now (if_met conditions request) kept = by (first_fault now.state co
         (λ fault. refused_answer (condition_answered fault)))) ≤ answer_limit
     by None short = short
     by (Some fault) short = refused-short (condition_answered fault)
+answer-short now overlong_about kept = refusal-short why.AboutLarge
 answer-short now bad kept = refusal-short why.BadCommand

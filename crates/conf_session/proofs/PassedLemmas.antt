@@ -6,11 +6,11 @@ use Rattle.conf_session.proofs.Prelude.{LeavesOnly-start, LeavesOnly-joined, Com
 use Rattle.conf_session.proofs.Prelude.{tree_named, MeansPrefix, HasFlushed, staged_text, StoreView, accepted-room, accepted-anyway}
 use Rattle.conf_session.{proofs.Prelude.{after-done, after-joined, prefix-longer, first_fault, ConditionFault}, specs.Said.piece_limit}
 use Rattle.conf_session.specs.{Runs.{stored_of, ArePieces, AfterAtLeast}, Replies.{LeavesPrefixes, Performs, PerformsAll}, Requests.Request}
-use Rattle.conf_session.specs.Requests.{Asks, AllAsk, changing, unread, getting, exporting, naming, checkpointing, if_met, bad}
-use Rattle.conf_session.specs.Answers.{Stored, longest, syncs, flushed_after, waiting_after, AllAreAcknowledged, answer_bytes, output}
-use Rattle.conf_session.specs.Answers.{stored_after, stored_after_all, file_after, file_after_all, staged_after, staged_after_all}
-use Rattle.conf_session.specs.Answers.{accepted_commands, accepted_command, accepted_by, stored_after_change, refused_of, refusals}
-use Rattle.conf_session.specs.Answers.{is_refused, value_at_path, unless_failed}
+use Rattle.conf_session.specs.Requests.{Asks, AllAsk, changing, unread, getting, exporting, naming, checkpointing, if_met, overlong_about}
+use Rattle.conf_session.specs.{Requests.bad, Answers.{Stored, longest, syncs, flushed_after, waiting_after, AllAreAcknowledged}}
+use Rattle.conf_session.specs.Answers.{answer_bytes, output, stored_after, stored_after_all, file_after, file_after_all, staged_after}
+use Rattle.conf_session.specs.Answers.{staged_after_all, accepted_commands, accepted_command, accepted_by, stored_after_change, refused_of}
+use Rattle.conf_session.specs.Answers.{refusals, is_refused, value_at_path, unless_failed}
 
 -- ---- what the definitions give for one request more
 
@@ -95,6 +95,7 @@ few-accepted now (if_met conditions r) = by (first_fault now.state conditions) (
         → length (unless_failed failed (accepted_command now r) (λ fault. [])) ≤ 1
     by None few = few
     by (Some fault) few = omega arith
+few-accepted now overlong_about = omega arith
 few-accepted now bad = omega arith
 
 -- a request is refused once at most
@@ -110,6 +111,7 @@ few-refused now (if_met conditions r) = by (first_fault now.state conditions) (f
     by : (failed : Option ConditionFault) → refused_of now r ≤ 1 → unless_failed failed (refused_of now r) (λ fault. 1) ≤ 1
     by None few = few
     by (Some fault) few = omega arith
+few-refused now overlong_about = omega arith
 few-refused now bad = omega arith
 
 -- ---- the states after them
@@ -134,6 +136,7 @@ leads-one now (if_met conditions r) = by (first_fault now.state conditions) (lea
         ≡ Ok (unless_failed failed (stored_after now r) (λ fault. now)).state
     by None leads = leads
     by (Some fault) leads = refl
+leads-one now overlong_about = refl
 leads-one now bad = refl
 
 -- ---- what is flushed, and what waits

@@ -8,9 +8,11 @@ pub use Rattle.conf_record.proofs.{PieceLemmas.{parts_kept, items_kept}, SizeLem
 pub use Rattle.conf_record.specs.{EditLines.{member_line, lines_of}, Reading.{AreKeptElements, texts, edit_seen, AreKept}}
 pub use Rattle.{conf_record.specs.RecordsRead.{keys_are, values, edit_under, number_from_digits}, conf_state.proofs.BaseLemmas.count_line}
 pub use Rattle.conf_state.proofs.{BaseLemmas.{count_bytes, base_length-framed}, LineLemmas.ascii, RefusalLemmas.accepted-room}
-pub use Rattle.conf_state.{proofs.RunLaws.{and_then-Ok, step-one}, specs.BaseTexts.{base_length, entries_length, base_bytes}}
+pub use Rattle.conf_state.{proofs.RunLaws.{and_then-Ok, step-one}, specs.BaseTexts.{base_length, entries_length}}
 unfoldable pub use Rattle.conf_state.specs.BaseTexts.{entry_length}
-pub use Rattle.conf_state.specs.Commands.{Edit, import_as, set_at, delete_at, Command, single, batch, name_of, command_of, edit_of, text_of}
+pub use Rattle.{conf_about.{proofs.FaultLemmas.about-None, specs.Abouts.fault_of}, conf_record.proofs.AboutLemmas.pairs-last}
+pub use Rattle.{conf_record.specs.{Formats.base_in, Records.with_last}, conf_state.specs.Commands.{noted, has_about, Edit, import_as}}
+pub use Rattle.conf_state.specs.Commands.{set_at, delete_at, Command, single, batch, name_of, command_of, edit_of, text_of}
 pub use Rattle.conf_state.specs.{Limits.{IsState, AreConfigs}, Names.{good_name, small_letter, name_char}, States.{Contents, Entry}}
 pub use Rattle.conf_state.specs.{States.{config_named, base_limit, count_limit, names_of}, Steps.{step, edited, all_edited, performed}}
 pub use Rattle.conf_state.specs.Steps.{configs_after, with_room, next_state, and_then, checked_tree, with_checked_config, found, by_path}
@@ -18,14 +20,14 @@ pub use Rattle.conf_state.specs.{Steps.{configs_after_delete, after}, declared.f
 pub use Rattle.conf_state.specs.declared.{fault.StoreFault.TheVariants.{Device, OutOfMemory}, room.Room.{Room, TheVariants.Enough}}
 pub use Rattle.{conf_state.specs.declared.room.Room.TheVariants.{LongRecord, Missing}, conf_store.proofs.HeldLemmas.prefix-longer}
 pub use Rattle.conf_store.proofs.{HeldLemmas.after-nothing, MeaningLemmas.{after-done, after-joined}, StepLemmas.accepted-anyway}
-pub use Rattle.conf_store.specs.Calls.{tree_named, tree_at, outcome, room_for, HasFailed, next_record, journal_length, Accepts}
-pub use Rattle.conf_store.specs.{Calls.RefusesCommand, Durable.{MeansPrefix, HasFlushed, staged_text, AllImagesMean}, Imports.RefusesText}
-pub use Rattle.conf_store.specs.{Imports.IsImportOf, Meaning.ImageMeans, Slices.{StaysTheSame, Begins, SlicesPart, SlicesLast, Slices}}
-pub use Rattle.conf_store.specs.{Slices.{SliceReads, SliceFlushes}, Staged.{Staged, staged_length, with_more, slice_limit, after_slice}}
-pub use Rattle.{conf_store.specs.View.StoreView, json_pointer.specs.Pointers.{path_of, tokens_or_place, bad_place}}
-pub use Rattle.{json_pointer.specs.declared.fault.PathFault.PathFault, tree_path.specs.Paths.{at, at_from, at_step, child, refusal, put}}
-pub use Rattle.{tree_path.specs.{Paths.{cut, set, delete, edit_from}, declared.place.Miss.Miss}, yaml_chars.specs.Classes.code_point}
-pub use Rattle.{yaml_chars.specs.Classes.{is_in, ns, white, indicator, line_break}, yaml_config.proofs.Located.child-within}
+pub use Rattle.conf_store.specs.Calls.{tree_named, tree_at, outcome, room_for, HasFailed, next_record, journal_length, AcceptsBy, renews}
+pub use Rattle.conf_store.specs.{Calls.{staged_with, RefusesCommand}, Changing.{file_with, new_file_with, flushed_with, waiting_with}}
+pub use Rattle.conf_store.specs.{Durable.{MeansPrefix, HasFlushed, staged_text, AllImagesMean}, Imports.{RefusesText, IsImportOf}}
+pub use Rattle.conf_store.specs.{Meaning.ImageMeans, Slices.{StaysTheSame, Begins, SlicesPart, SlicesLast, Slices, SliceReads}}
+pub use Rattle.conf_store.specs.{Slices.SliceFlushes, Staged.{Staged, staged_length, with_more, slice_limit, after_slice}, View.StoreView}
+pub use Rattle.json_pointer.specs.{Pointers.{path_of, tokens_or_place, bad_place}, declared.fault.PathFault.PathFault}
+pub use Rattle.tree_path.specs.{Paths.{at, at_from, at_step, child, refusal, put, cut, set, delete, edit_from}, declared.place.Miss.Miss}
+pub use Rattle.{yaml_chars.specs.Classes.{code_point, is_in, ns, white, indicator, line_break}, yaml_config.proofs.Located.child-within}
 pub use Rattle.{yaml_config.specs.{Kept.{own_limits, IsKept}, Limits.config_limits}, yaml_data.proofs.CharacterLemmas.every-IsAscii}
 pub use Rattle.yaml_data.{proofs.SeenLemmas.{tree_of-Text, join_elements, elements_of-append, tree_of-Seq, tree_of-Map}, specs.Seen.tree_of}
 pub use Rattle.yaml_data.specs.{Seen.{elements_of, Pair, members_of}, TextBytes.text_bytes, declared.tree.Tree.{Text, Seq}}

@@ -1,22 +1,23 @@
 -- What one request does.
 use Rattle.std.{proofs.Common.{◌≡◌, ◌≢◌, ◌≤◌, ◌⊎◌, inl, inr, ⊎_elim, refl, sym, ◌∙◌, ap, subst, arith, length-append}, specs.Prelude.ℕ}
-use Rattle.std.specs.Prelude.{◌+◌, min, max, false, List, [], ◌∷◌, ◌++◌, length, decimal, codes, Option, Some, None, option_map, unwrap_or}
-use Rattle.std.specs.Prelude.{Result, Ok, Err, IfOk, String, string_bytes}
+use Rattle.std.specs.Prelude.{◌+◌, min, max, Bool, true, false, ◌&&◌, if◌then◌else◌, is_ok, List, [], ◌∷◌, ◌++◌, length, decimal, codes}
+use Rattle.std.specs.Prelude.{Option, Some, None, option_map, unwrap_or, Result, Ok, Err, IfOk, String, string_bytes}
 use Rattle.conf_session.proofs.Prelude.{chars, IsUtf8, Global, cases_lt, encodes-chars, append-nil, take_all, text, framed_text_bytes}
 use Rattle.conf_session.proofs.Prelude.{Folder, bytes_under, Image, IsImage, DiskModel, LeavesOnly, greatest, Store, LeavesOnly-start}
-use Rattle.conf_session.proofs.Prelude.{LeavesOnly-weaker, base_bytes, Command, Edit, single, IsState, Contents, count_limit, step, after}
-use Rattle.conf_session.proofs.Prelude.{StoreFault, Room, HasFailed, outcome, room_for, next_record, journal_length, Accepts}
-use Rattle.conf_session.proofs.Prelude.{RefusesCommand, IsImportOf, RefusesText, Staged, staged_length, with_more, ImageMeans, MeansPrefix}
-use Rattle.conf_session.proofs.Prelude.{AllImagesMean, HasFlushed, staged_text, StoreView, accepted-room, accepted-anyway, after-done}
-use Rattle.conf_session.proofs.{Prelude.{after-joined, prefix-longer}, LengthLemmas.{step-few, answer-short, refused-short}}
-use Rattle.conf_session.proofs.RefusalLemmas.{OnlyMemory, answered-memory, is-device, no-device}
-use Rattle.conf_session.specs.declared.{fault.SessionFault.SessionFault, words.Refusal.Refusal, reply.Reply.{Reply, TheVariants.Accepted}}
-use Rattle.conf_session.specs.{declared.reply.Reply.TheVariants.Refused, Runs.stored_of, Said.{Part, Says, import_text, plain, single_part}}
-use Rattle.conf_session.specs.Requests.{Asks, MeansRequest, Request, changing, unread, getting, exporting, naming, checkpointing, if_met}
-use Rattle.conf_session.specs.{Requests.bad, Answers.{Stored, longest, one, change_answer, stored_after_change, stored_after}}
-use Rattle.conf_session.specs.Answers.{file_after_change, accepted_by, accepted_command, is_refused, answered, refused_answer}
-use Rattle.conf_session.specs.{Answers.document_bytes, Replies.{OnlyReads, LeavesPrefixes, MeansPrefixes, Performs, Replies, Did, DidAsked}}
-use Rattle.{conf_session.specs.Replies.{CountsFailures, Handles, refused_as}, conf_journal.specs.Store.file_with_bytes}
+use Rattle.conf_session.proofs.Prelude.{LeavesOnly-weaker, base_in, Command, Edit, single, IsState, Contents, count_limit, step, after}
+use Rattle.conf_session.proofs.Prelude.{StoreFault, Room, HasFailed, outcome, room_for, next_record, journal_length, AcceptsBy, renews}
+use Rattle.conf_session.proofs.Prelude.{staged_with, file_with, new_file_with, flushed_with, waiting_with, RefusesCommand, IsImportOf}
+use Rattle.conf_session.proofs.Prelude.{RefusesText, Staged, staged_length, with_more, ImageMeans, MeansPrefix, AllImagesMean, HasFlushed}
+use Rattle.conf_session.proofs.Prelude.{staged_text, StoreView, accepted-room, accepted-anyway, after-done, after-joined, prefix-longer}
+use Rattle.conf_session.proofs.{LengthLemmas.{step-few, answer-short, refused-short}, RefusalLemmas.{OnlyMemory, answered-memory}}
+use Rattle.conf_session.{proofs.RefusalLemmas.{is-device, no-device}, specs.declared.fault.SessionFault.SessionFault}
+use Rattle.conf_session.specs.{declared.{words.Refusal.Refusal, reply.Reply.{Reply, TheVariants.{Accepted, Refused}}}, Runs.stored_of}
+use Rattle.conf_session.specs.{Said.{Part, Says, import_text, plain, single_part}, Requests.{Asks, MeansRequest, Request, changing, unread}}
+use Rattle.conf_session.specs.{Requests.{getting, exporting, naming, checkpointing, if_met, overlong_about, bad}, Answers.{Stored, longest}}
+use Rattle.conf_session.specs.Answers.{one, change_answer, stored_after_change, stored_after, length_with, staged_after_change}
+use Rattle.conf_session.specs.Answers.{waiting_after, file_after_change, accepted_by, accepted_command, is_refused, answered}
+use Rattle.conf_session.specs.{Answers.{refused_answer, document_bytes}, Replies.{OnlyReads, LeavesPrefixes, MeansPrefixes, Performs}}
+use Rattle.conf_session.specs.Replies.{Replies, Did, DidAsked, CountsFailures, Handles, refused_as}
 use Rattle.conf_state.specs.declared.fault.StoreFault.TheVariants as state
 use Rattle.conf_session.specs.declared.fault.SessionFault.TheVariants as fault
 
@@ -39,13 +40,20 @@ lengths-more bytes (Some s) =
     let same : s.written + length (s.left ++ bytes) ≡ s.written + length s.left + length bytes = omega (arith, parts) in
     ap Some same
 
--- an accepted command adds the length of its record to both files
-stored-accepted : {D : Type 0} (old new : StoreView D) (command : Command) → Accepts old command new
+-- the length of the new file with a record, which is appended or not
+lengths-with : (renewed : Bool) (bytes : List ℕ) (staged : Option Staged)
+    → option_map (λ (s : Staged). s.written + length s.left) (staged_with renewed staged bytes)
+    ≡ length_with renewed (option_map (λ (s : Staged). s.written + length s.left) staged) bytes
+lengths-with false bytes staged = lengths-more bytes staged
+lengths-with true bytes staged = refl
+
+-- an accepted command adds the length of its record to both files, or renews one and gives up the other
+stored-accepted : {D : Type 0} (old new : StoreView D) (command : Command) → AcceptsBy (renews old.format command) old command new
     → stored_of new ≡ stored_after_change (stored_of old) command (Ok new.state)
 stored-accepted old new command accepts =
     let lengths = ap (option_map (λ (s : Staged). s.written + length s.left)) accepts.staged
-    ∙ lengths-more (next_record old.state command) old.staged in
-    λ i. record { state = new.state; size = accepts.size i; staged = lengths i }
+    ∙ lengths-with (renews old.format command) (next_record old.state command) old.staged in
+    λ i. record { state = new.state; size = accepts.size i; staged = lengths i; format = accepts.format i }
 
 -- ---- what a crash leaves
 
@@ -78,7 +86,27 @@ all-after flushed s end waiting command image leads done means =
       means = means;
     }
 
--- ---- what waits after a command
+-- ---- what is flushed after a command, and what waits
+
+-- the state after it is flushed where the file is renewed
+flushed-by : (renewed : Bool) (flushed s : Contents) → flushed_with renewed flushed s ≡ (if renewed then s else flushed)
+flushed-by false flushed s = refl
+flushed-by true flushed s = refl
+
+-- and else it waits
+waiting-by : (renewed : Bool) (waiting : List Command) (command : Command)
+    → waiting_with renewed waiting command ≡ (if renewed then [] else waiting ++ command ∷ [])
+waiting-by false waiting command = refl
+waiting-by true waiting command = refl
+
+-- what an outcome makes of what is flushed
+abbrev flushed-then : Stored → Contents → Command → Result Contents StoreFault → Contents
+flushed-then now flushed command r =
+    if is_ok r && renews now.format command then (stored_after_change now command r).state else flushed
+
+-- and of what waits
+abbrev waiting-then : Stored → List Command → Command → Result Contents StoreFault → List Command
+waiting-then now waiting command r = if is_ok r && renews now.format command then [] else waiting ++ accepted_by r command
 
 -- the commands that wait, where none is added
 pub still : (folder : Folder) (flushed s : Contents) (waiting : List Command) → HasFlushed folder flushed waiting s
@@ -170,26 +198,30 @@ module _ {D : Type 0} (model : DiskModel D) where
           { state = refl; stored = λ on. refl; reads = λ h on. refl; stages = λ h on. refl; any_moment = any_moment; waits = waits }
       by naming is = record
           { state = refl; stored = λ on. refl; reads = λ h on. refl; stages = λ h on. refl; any_moment = any_moment; waits = waits }
+      by overlong_about is = record
+          { state = refl; stored = λ on. refl; reads = λ h on. refl; stages = λ h on. refl; any_moment = any_moment; waits = waits }
       by bad is = record
           { state = refl; stored = λ on. refl; reads = λ h on. refl; stages = λ h on. refl; any_moment = any_moment; waits = waits }
 
   -- ---- a command
 
-  -- a command that is accepted is performed, and its record appended
+  -- a command that is accepted is performed, and its record is in the file
   pub command-performed : (old new : StoreView D) (command : Command) → outcome (journal_length old) old.state command ≡ Ok new.state
-      → (new.reopen ≡ false → Accepts old command new)
+      → (new.reopen ≡ false → AcceptsBy (renews old.format command) old command new)
       → (model.honest → new.reopen ≡ false → bytes_under (model.folder new.disk) Store
-      ≡ file_with_bytes (bytes_under (model.folder old.disk) Store) (next_record old.state command))
+      ≡ file_with (renews old.format command) (bytes_under (model.folder old.disk) Store) old.state command)
       → (model.honest → new.reopen ≡ false → staged_text (model.folder new.disk) new.staged
-      ≡ file_with_bytes (staged_text (model.folder old.disk) old.staged) (next_record old.state command))
+      ≡ new_file_with (renews old.format command) (staged_text (model.folder old.disk) old.staged) (next_record old.state command))
       → (model.honest → (flushed : Contents) (waiting : List Command) → HasFlushed (model.folder old.disk) flushed waiting old.state
       → LeavesOnly model old.disk new.disk (λ image. MeansPrefix flushed waiting image ⊎ ImageMeans image new.state))
       → (model.honest → new.reopen ≡ false → (flushed : Contents) (waiting : List Command)
       → HasFlushed (model.folder old.disk) flushed waiting old.state
-      → HasFlushed (model.folder new.disk) flushed (waiting ++ command ∷ []) new.state)
+      → HasFlushed (model.folder new.disk) (flushed_with (renews old.format command) flushed new.state)
+      (waiting_with (renews old.format command) waiting command) new.state)
       → Performs model old new (changing command)
   command-performed old new command done accepts grown staged moments flushes =
       let now = stored_of old in
+      let renewed = renews old.format command in
       let here : outcome (longest now) now.state command ≡ Ok new.state = ap (λ n. outcome n old.state command) (longest-of old) ∙ done in
       let goes : stored_after now (changing command) ≡ stored_after_change now command (Ok new.state) =
       ap (stored_after_change now command) here in
@@ -201,14 +233,17 @@ module _ {D : Type 0} (model : DiskModel D) where
         state = sym (ap (λ (t : Stored). t.state) goes);
         stored = λ on. stored-accepted old new command (accepts on) ∙ sym goes;
         reads = λ h on. grown h on ∙ sym (ap (file_after_change (bytes_under (model.folder old.disk) Store) now command) here);
-        stages = λ h on. staged h on ∙ sym (ap (file_after_change (staged_text (model.folder old.disk) old.staged) now command) here);
+        stages = λ h on. staged h on ∙ sym (ap (staged_after_change (staged_text (model.folder old.disk) old.staged) now command) here);
         any_moment = λ h flushed waiting has. subst
             (λ cs. LeavesOnly model old.disk new.disk (λ image. MeansPrefix flushed (waiting ++ cs) image)) (sym one)
             (LeavesOnly-weaker model old.disk new.disk _ _ (moments h flushed waiting has)
             (λ image. ⊎_elim (prefix-longer flushed waiting (command ∷ []) image)
             (all-after flushed old.state new.state waiting command image has.journal.leads leads)));
         waits = λ h on flushed waiting has.
-            subst (λ cs. HasFlushed (model.folder new.disk) flushed (waiting ++ cs) new.state) (sym one) (flushes h on flushed waiting has);
+            subst (λ s. HasFlushed (model.folder new.disk) s (waiting_after false now waiting (changing command ∷ [])) new.state)
+            (flushed-by renewed flushed new.state ∙ sym (ap (flushed-then now flushed command) here))
+            (subst (λ cs. HasFlushed (model.folder new.disk) (flushed_with renewed flushed new.state) cs new.state)
+            (waiting-by renewed waiting command ∙ sym (ap (waiting-then now waiting command) here)) (flushes h on flushed waiting has));
       }
 
   pub command-refused : (store : StoreView D) → store.reopen ≡ false → (command : Command) (f : StoreFault)
@@ -224,18 +259,20 @@ module _ {D : Type 0} (model : DiskModel D) where
         state = sym (ap (λ (t : Stored). t.state) goes);
         stored = λ on. sym goes;
         reads = λ h on. sym (ap (file_after_change (bytes_under (model.folder store.disk) Store) now command) here);
-        stages = λ h on. sym (ap (file_after_change (staged_text (model.folder store.disk) store.staged) now command) here);
+        stages = λ h on. sym (ap (staged_after_change (staged_text (model.folder store.disk) store.staged) now command) here);
         any_moment = unchanged store off (accepted_command now (changing command)) only means;
         waits = λ h on flushed waiting has.
-            subst (λ cs. HasFlushed (model.folder store.disk) flushed (waiting ++ cs) store.state)
-            (sym (ap (λ r. accepted_by r command) here)) (still (model.folder store.disk) flushed store.state waiting has);
+            subst (λ s. HasFlushed (model.folder store.disk) s (waiting_after false now waiting (changing command ∷ [])) store.state)
+            (sym (ap (flushed-then now flushed command) here))
+            (subst (λ cs. HasFlushed (model.folder store.disk) flushed cs store.state)
+            (sym (ap (waiting-then now waiting command) here)) (still (model.folder store.disk) flushed store.state waiting has));
       }
 
   -- ---- a checkpoint
 
   pub checkpointed : (old new : StoreView D) → new.state ≡ old.state
-      → (new.reopen ≡ false → (new.staged ≡ None) × (new.size ≡ length (base_bytes old.state)))
-      → (model.honest → new.reopen ≡ false → bytes_under (model.folder new.disk) Store ≡ Some (base_bytes old.state))
+      → (new.reopen ≡ false → (new.staged ≡ None) × (new.size ≡ length (base_in old.format old.state)) × (new.format ≡ old.format))
+      → (model.honest → new.reopen ≡ false → bytes_under (model.folder new.disk) Store ≡ Some (base_in old.format old.state))
       → (model.honest → (flushed : Contents) (waiting : List Command) → HasFlushed (model.folder old.disk) flushed waiting old.state
       → LeavesOnly model old.disk new.disk (λ image. MeansPrefix flushed waiting image))
       → (model.honest → new.reopen ≡ false → HasFlushed (model.folder new.disk) new.state [] new.state)
@@ -246,6 +283,7 @@ module _ {D : Type 0} (model : DiskModel D) where
       state = same i;
       size = (long on).1 i;
       staged = option_map (λ (s : Staged). s.written + length s.left) ((long on).0 i);
+      format = (long on).2 i;
     });
     reads = base;
     stages = λ h on. ap (staged_text (model.folder new.disk)) (long on).0;

@@ -1,10 +1,14 @@
 -- What a command document says, case by case.
-use Rattle.std.{proofs.Common.{◌≡◌, false, true, length, get_or, refl, ap}, specs.Prelude.{ℕ, Bool, if◌then◌else◌, List, [], ◌∷◌, codes}}
-use Rattle.std.specs.Prelude.{Option, option_and_then}
+use Rattle.std.{proofs.Common.{◌≡◌, false, true, length, get_or, refl, sym, ap, subst, ◌∙◌, arith}, specs.Prelude.{ℕ, Bool, if◌then◌else◌}}
+use Rattle.std.specs.Prelude.{List, [], ◌∷◌, ◌++◌, codes, Option, Some, None, is_some, option_and_then}
 use Rattle.conf_session.proofs.Prelude.{chars, same_text, Pair, members_of, text_bytes, Elements, Members, text, sequence, mapping, Edit}
+use Rattle.conf_session.proofs.Prelude.{Tree, no_member, member, with_last, pairs-last, AreKept, fault_of, false≢true, tree_of, Condition}
 use Rattle.conf_session.{proofs.Prelude.{keys_are, values, edit_under, ascii, texts}, specs.Said.{as_part, nothing, said_by, part_from}}
 use Rattle.conf_session.specs.Said.{part_said, batch_keys, get_keys, export_keys, names_keys, checkpoint_keys, batch_said, get_said}
-use Rattle.conf_session.specs.Said.{export_said, names_said, checkpoint_said, begins_with_if, conditional_said, change_said}
+use Rattle.conf_session.specs.Said.{last_about, without_last, about_said, said_before, command_said, conditional, noted_said, change_seen}
+use Rattle.conf_session.specs.Said.{with_about, export_said, names_said, checkpoint_said, begins_with_if, conditional_said, change_said}
+use Rattle.conf_session.specs.declared.said.Change as code_change
+use Rattle.conf_session.specs.declared.said.Change.TheVariants as changes
 
 -- a text says nothing
 pub said-text : (value : List ℕ) → said_by (text value) ≡ nothing
@@ -16,15 +20,101 @@ pub said-sequence : (ts : Elements) → said_by (sequence ts) ≡ nothing
 unfolding said_by
 said-sequence ts = refl
 
--- a mapping says what its keys are those of
-pub said-mapping : (ms : Members) {b0 b1 b2 b3 b4 b5 : Bool} → keys_are batch_keys ms ≡ b0 → keys_are get_keys ms ≡ b1
+-- a mapping says what it says as a command, without an about or with one
+pub said-before : (ms : Members) → said_by (mapping ms) ≡ said_before (last_about ms) ms
+unfolding said_by
+said-before ms = refl
+
+-- a command says what its keys are those of
+pub command-mapping : (ms : Members) {b0 b1 b2 b3 b4 b5 : Bool} → keys_are batch_keys ms ≡ b0 → keys_are get_keys ms ≡ b1
     → keys_are export_keys ms ≡ b2 → keys_are names_keys ms ≡ b3 → keys_are checkpoint_keys ms ≡ b4 → begins_with_if ms ≡ b5
-    → said_by (mapping ms)
+    → command_said ms
     ≡ (if b0 then batch_said (values ms) else if b1 then get_said (values ms) else if b2 then export_said (values ms)
     else if b3 then names_said (values ms) else if b4 then checkpoint_said (values ms) else if b5 then conditional_said ms
     else part_said (part_from ms))
-unfolding said_by
-said-mapping ms e0 e1 e2 e3 e4 e5 = rw (e0, e1, e2, e3, e4, e5) refl
+unfolding command_said
+command-mapping ms e0 e1 e2 e3 e4 e5 = rw (e0, e1, e2, e3, e4, e5) refl
+
+-- ---- a command with an about
+
+-- a mapping without an about is a command
+pub said-without : (ms : Members) → last_about ms ≡ None → said_by (mapping ms) ≡ command_said ms
+said-without ms none = said-before ms ∙ ap (λ o. said_before o ms) none
+
+-- a member before others is not the last
+pub none-before : (key : List ℕ) (t : Tree) (ms : Members) → same_text key (codes "about") ≡ false → last_about ms ≡ None
+    → last_about (member key t ms) ≡ None
+none-before key t no_member other none = rw other refl
+none-before key t (member another u ms) other none = none
+
+-- what is under the last key
+pub about-last : (ms : Members) (key : List ℕ) (t : Tree)
+    → last_about (with_last ms key t) ≡ (if same_text key (codes "about") then Some t else None)
+about-last no_member key t = refl
+about-last (member other u no_member) key t = refl
+about-last (member other u (member another v ms)) key t = about-last (member another v ms) key t
+
+-- what is before it
+pub without-end : (ms : Members) (key : List ℕ) (t : Tree) → without_last (with_last ms key t) ≡ ms
+without-end no_member key t = refl
+without-end (member other u no_member) key t = refl
+without-end (member other u (member another v ms)) key t = ap (member other u) (without-end (member another v ms) key t)
+
+-- the values before the last
+pub kept-before : (ms : Members) (key : List ℕ) (t : Tree) → AreKept (values (with_last ms key t)) → AreKept (values ms)
+kept-before no_member key t kept = tt
+kept-before (member other u ms) key t kept = (kept.0, kept-before ms key t kept.1)
+
+-- a test by itself
+pub some-if : (b : Bool) (t : Tree) → b ≡ is_some (if b then Some t else None)
+some-if true t = refl
+some-if false t = refl
+
+-- what is there is there
+pub none-there : {A : Type 0} (o : Option A) → is_some o ≡ false → o ≡ None
+none-there None e = refl
+none-there (Some x) e = cc
+
+-- a last key that is `about` has an about, or a tree that is none
+pub said-last : (ms : Members) (key : List ℕ) (t : Tree) → is_some (last_about (with_last ms key t)) ≡ true
+    → said_by (mapping (with_last ms key t)) ≡ about_said (fault_of t) t (command_said ms)
+said-last ms key t some = by (same_text key (codes "about")) (about-last ms key t)
+  where
+    whole : Members
+    whole = with_last ms key t
+
+    by : (b : Bool) → last_about whole ≡ (if b then Some t else None)
+        → said_by (mapping whole) ≡ about_said (fault_of t) t (command_said ms)
+    by true there =
+        said-before whole ∙ ap (λ o. said_before o whole) there
+        ∙ ap (λ l. about_said (fault_of t) t (command_said l)) (without-end ms key t)
+    by false none = absurd (false≢true (sym (ap is_some none) ∙ some))
+
+module _ (all before : List Pair) (p : Pair) (cut : all ≡ before ++ p ∷ []) where
+  -- pairs of which the last is cut off
+  ended : members_of all ≡ with_last (members_of before) (chars (text_bytes p.0)) (tree_of p.1)
+  ended = ap members_of cut ∙ pairs-last before p (chars (text_bytes p.0)) (tree_of p.1) refl
+
+  pub about-cut : last_about (members_of all)
+      ≡ (if same_text (chars (text_bytes p.0)) (codes "about") then Some (tree_of p.1) else None)
+  about-cut = ap last_about ended ∙ about-last (members_of before) (chars (text_bytes p.0)) (tree_of p.1)
+
+  pub kept-cut : AreKept (values (members_of all)) → AreKept (values (members_of before))
+  kept-cut kept = kept-before (members_of before) (chars (text_bytes p.0)) (tree_of p.1)
+      (subst (λ ms. AreKept (values ms)) ended kept)
+
+  pub said-cut : is_some (last_about (members_of all)) ≡ true
+      → said_by (mapping (members_of all)) ≡ about_said (fault_of (tree_of p.1)) (tree_of p.1) (command_said (members_of before))
+  said-cut some =
+      ap (λ ms. said_by (mapping ms)) ended
+      ∙ said-last (members_of before) (chars (text_bytes p.0)) (tree_of p.1)
+      (ap (λ ms. is_some (last_about ms)) (sym ended) ∙ some)
+
+-- a part or a batch with conditions gets an about behind them
+pub with-change : (conditions : List Condition) (about : Tree) (change : code_change.Change)
+    → conditional conditions (noted_said about (change_seen change)) ≡ with_about about (conditional conditions (change_seen change))
+with-change conditions about (changes.Single part) = refl
+with-change conditions about (changes.Batch parts) = refl
 
 -- ---- a command with conditions
 

@@ -2,7 +2,7 @@
 use Rattle.std.{proofs.Common.{◌≡◌, refl, sym, ◌∙◌, ap, subst, arith, ◌≤◌, length-drop}, specs.Prelude.{ℕ, ◌+◌, min, false, List, [], ◌∷◌}}
 use Rattle.std.specs.Prelude.{◌++◌, length, Option, Some, None, option_map, unwrap_or, Result, Ok, Err}
 use Rattle.conf_session.proofs.Prelude.{append-nil, take_all, bytes_under, Image, IsImage, DiskModel, LeavesOnly, Store, LeavesOnly-start}
-use Rattle.conf_session.proofs.Prelude.{base_bytes, Command, Contents, after, ImageMeans, MeansPrefix, AllImagesMean, HasFlushed}
+use Rattle.conf_session.proofs.Prelude.{base_in, Command, Contents, after, ImageMeans, MeansPrefix, AllImagesMean, HasFlushed}
 use Rattle.conf_session.proofs.Prelude.{staged_text, Begins, SlicesPart, SlicesLast, Slices, SliceReads, SliceFlushes, Staged}
 use Rattle.conf_session.proofs.{Prelude.{staged_length, slice_limit, after_slice, StoreView}, TurnLemmas.quiet-now}
 use Rattle.conf_session.specs.declared.{fault.SessionFault.SessionFault, groups.Checkpoints.{Checkpoints, TheVariants.{Asked, After}}}
@@ -80,18 +80,18 @@ module _ {D : Type 0} (model : DiskModel D) where
 
     -- a checkpoint is begun
     pub begins : Begins old new → (model.honest → bytes_under (model.folder new.disk) Store ≡ bytes_under (model.folder old.disk) Store)
-        → (model.honest → staged_text (model.folder new.disk) new.staged ≡ Some (base_bytes old.state))
+        → (model.honest → staged_text (model.folder new.disk) new.staged ≡ Some (base_in old.format old.state))
         → (model.honest → (from : Contents) (waiting : List Command)
         → HasFlushed (model.folder old.disk) from waiting old.state → HasFlushed (model.folder new.disk) from waiting new.state)
         → PerformsTurns model old new (begun ∷ [])
     begins is reads stages waits =
         let length_of : Option Staged → Option ℕ = option_map (λ (s : Staged). s.written + length s.left) in
-        let base = length (base_bytes old.state) in
+        let base = length (base_in old.format old.state) in
         let whole : 0 + base ≡ base = omega arith in
         let staged : length_of new.staged ≡ Some base = ap length_of is.staged ∙ ap Some whole in
         record {
           sound = is.reopen;
-          stored = λ i. record { state = state i; size = is.size i; staged = staged i };
+          stored = λ i. record { state = state i; size = is.size i; staged = staged i; format = is.format i };
           files = λ h i. record { store = reads h i; staged = stages h i };
           any_moment = moments-none;
           flushed = flushed-now waits;
@@ -109,7 +109,7 @@ module _ {D : Type 0} (model : DiskModel D) where
         ∙ ap Some (slice-size is.before) ∙ ap length_of (sym is.ran) in
         record {
           sound = is.reopen;
-          stored = λ i. record { state = state i; size = is.size i; staged = same i };
+          stored = λ i. record { state = state i; size = is.size i; staged = same i; format = is.format i };
           files = λ h i. record { store = (reads h).0 i; staged = (reads h).1 i };
           any_moment = moments-none;
           flushed = flushed-now waits;
@@ -130,6 +130,7 @@ module _ {D : Type 0} (model : DiskModel D) where
             state = state i;
             size = size i;
             staged = option_map (λ (s : Staged). s.written + length s.left) (is.staged i);
+            format = is.format i;
           };
           files = λ h i. record { store = reads h i; staged = staged_text (model.folder new.disk) (is.staged i) };
           any_moment = moments-none;

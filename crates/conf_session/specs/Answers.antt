@@ -1,13 +1,13 @@
 -- What a session answers, and what is stored then. All of it is computed from the requests.
-use Rattle.std.specs.Prelude.{◌≡◌, ◌≤◌, ℕ, ◌+◌, ◌-◌, max, Bool, true, false, if◌then◌else◌, List, [], ◌∷◌, ◌++◌, length, codes, decimal}
-use Rattle.std.specs.Prelude.{Option, Some, None, option_map, unwrap_or, Result, Ok, Err, is_some}
+use Rattle.std.specs.Prelude.{◌≡◌, ◌≤◌, ℕ, ◌+◌, ◌-◌, max, Bool, true, false, ◌&&◌, if◌then◌else◌, List, [], ◌∷◌, ◌++◌, length, codes}
+use Rattle.std.specs.Prelude.{decimal, Option, Some, None, option_map, unwrap_or, Result, Ok, Err, is_ok, is_some}
 use Rattle.conf_session.specs.Prelude.{concat, Tree, text, sequence, mapping, Elements, no_element, element, no_member, member, style_text}
 use Rattle.conf_session.specs.Prelude.{framed_text_bytes, ReadFault, Command, IsState, Contents, names_of, base_limit, and_then, by_path}
-use Rattle.conf_session.specs.Prelude.{StoreFault, base_bytes, outcome, next_record, tree_named, first_fault, ConditionFault}
+use Rattle.conf_session.specs.Prelude.{StoreFault, Format, base_in, outcome, next_record, renews, size_with, format_with, file_with}
+use Rattle.conf_session.specs.Prelude.{new_file_with, tree_named, first_fault, ConditionFault}
 use Rattle.conf_session.specs.{declared.{fault.SessionFault.SessionFault, words.Refusal.Refusal}, Requests.{Request, changing, unread}}
-use Rattle.conf_session.specs.Requests.{getting, exporting, naming, checkpointing, if_met, bad, Asks}
+use Rattle.conf_session.specs.Requests.{getting, exporting, naming, checkpointing, if_met, overlong_about, bad, Asks}
 use Rattle.{json_pointer.specs.{declared.fault.PathFault.PathFault, Pointers.path_of}, tree_path.specs.Paths.at}
-use Rattle.conf_journal.specs.Store.{file_with_bytes}
 use Rattle.yaml_events.specs.declared.read_fault.ReadFault.TheVariants as read
 use Rattle.json_pointer.specs.declared.fault.PathFault.TheVariants as path
 use Rattle.conf_state.specs.declared.fault.StoreFault.TheVariants as store
@@ -82,6 +82,7 @@ word refused.RecordLong = codes "RecordLong"
 word refused.JournalLong = codes "JournalLong"
 word refused.CountFull = codes "CountFull"
 word refused.Unmet = codes "Unmet"
+word refused.AboutLarge = codes "AboutLarge"
 
 -- ---- one answer: a mapping of one key
 
@@ -114,11 +115,13 @@ abbrev pub value_at_path : Contents → List ℕ → List ℕ → Result Tree St
 value_at_path s name p = and_then (tree_named s name)
     (λ t. and_then (by_path (path_of p)) (λ tokens. by_path (at t tokens)))
 
--- the state, how many bytes `store.yaml` has, and how many the new file of a running checkpoint will have
+-- the state, how many bytes `store.yaml` has, how many the new file of a running checkpoint will have, and the format of
+-- the base
 pub record Stored : Type 0 where
   pub state : Contents
   pub size : ℕ
   pub staged : Option ℕ
+  pub format : Format
 
 -- the length of the longer of the two files
 abbrev pub longest : Stored → ℕ
@@ -144,6 +147,7 @@ answer now checkpointing = Some (one (codes "ok") (text (decimal now.state.count
 answer now (if_met conditions request) =
     unless_failed (first_fault now.state conditions) (answer now request)
     (λ fault. refused_answer (condition_answered fault))
+answer now overlong_about = Some (refusal (word refused.AboutLarge))
 answer now bad = Some (refusal (word refused.BadCommand))
 
 -- the document of an answer, in bytes
@@ -171,20 +175,32 @@ EachIsAnswered = (now : Stored) (piece : List ℕ) (request : Request) → Asks 
 
 -- ---- what is stored after a request
 
+-- the length of the new file of a running checkpoint, with a record more; where `store.yaml` is renewed, there is none
+abbrev pub length_with : (renewed : Bool) → Option ℕ → List ℕ → Option ℕ
+length_with false staged bytes = option_map (λ (n : ℕ). n + length bytes) staged
+length_with true staged bytes = None
+
 abbrev pub stored_after_change : Stored → Command → Result Contents StoreFault → Stored
 stored_after_change now command (Ok new) = record {
   state = new;
-  size = now.size + length (next_record now.state command);
-  staged = option_map (λ (n : ℕ). n + length (next_record now.state command)) now.staged;
+  size = size_with (renews now.format command) now.size now.state command;
+  staged = length_with (renews now.format command) now.staged (next_record now.state command);
+  format = format_with (renews now.format command) now.format;
 }
 stored_after_change now command (Err fault) = now
 
--- An accepted command gives the next state, and adds the length of its record to both files. A checkpoint leaves the
--- state, and the file is as long as its base; one that runs is given up. All else leaves all, and so does a request one
--- of whose conditions fails.
+-- An accepted command gives the next state, and adds the length of its record to both files. Where it renews the file,
+-- that has a base of the third format and the record, and a checkpoint that runs is given up. A checkpoint leaves the
+-- state and the format, and the file is as long as its base; one that runs is given up. All else leaves all, and so does
+-- a request one of whose conditions fails.
 abbrev pub stored_after : Stored → Request → Stored
 stored_after now (changing command) = stored_after_change now command (outcome (longest now) now.state command)
-stored_after now checkpointing = record { state = now.state; size = length (base_bytes now.state); staged = None }
+stored_after now checkpointing = record {
+  state = now.state;
+  size = length (base_in now.format now.state);
+  staged = None;
+  format = now.format;
+}
 stored_after now (if_met conditions request) =
     unless_failed (first_fault now.state conditions) (stored_after now request) (λ fault. now)
 stored_after now request = now
@@ -192,22 +208,29 @@ stored_after now request = now
 -- ---- what `store.yaml` reads as after a request
 
 abbrev pub file_after_change : Option (List ℕ) → Stored → Command → Result Contents StoreFault → Option (List ℕ)
-file_after_change file now command (Ok new) = file_with_bytes file (next_record now.state command)
+file_after_change file now command (Ok new) = file_with (renews now.format command) file now.state command
 file_after_change file now command (Err fault) = file
 
--- an accepted command appends its record, a checkpoint puts a base in the file's place, and all else leaves it
+-- an accepted command appends its record or renews the file, a checkpoint puts a base in its place, and all else leaves
+-- it
 abbrev pub file_after : Option (List ℕ) → Stored → Request → Option (List ℕ)
 file_after file now (changing command) = file_after_change file now command (outcome (longest now) now.state command)
-file_after file now checkpointing = Some (base_bytes now.state)
+file_after file now checkpointing = Some (base_in now.format now.state)
 file_after file now (if_met conditions request) =
     unless_failed (first_fault now.state conditions) (file_after file now request) (λ fault. file)
 file_after file now request = file
 
 -- ---- what the new file of a running checkpoint will read as after a request
 
--- an accepted command appends its record to it too, a checkpoint gives it up, and all else leaves it
+abbrev pub staged_after_change : Option (List ℕ) → Stored → Command → Result Contents StoreFault → Option (List ℕ)
+staged_after_change file now command (Ok new) =
+    new_file_with (renews now.format command) file (next_record now.state command)
+staged_after_change file now command (Err fault) = file
+
+-- An accepted command appends its record to it too. A checkpoint, and a command that renews `store.yaml`, gives it up.
+-- All else leaves it.
 abbrev pub staged_after : Option (List ℕ) → Stored → Request → Option (List ℕ)
-staged_after file now (changing command) = file_after_change file now command (outcome (longest now) now.state command)
+staged_after file now (changing command) = staged_after_change file now command (outcome (longest now) now.state command)
 staged_after file now checkpointing = None
 staged_after file now (if_met conditions request) =
     unless_failed (first_fault now.state conditions) (staged_after file now request) (λ fault. file)
@@ -270,6 +293,7 @@ refused_of now (getting name p) = is_refused (value_at_path now.state name p)
 refused_of now (exporting name) = is_refused (tree_named now.state name)
 refused_of now (if_met conditions request) =
     unless_failed (first_fault now.state conditions) (refused_of now request) (λ fault. 1)
+refused_of now overlong_about = 1
 refused_of now bad = 1
 refused_of now request = 0
 
@@ -281,9 +305,11 @@ refusals now (request ∷ requests) = refused_of now request + refusals (stored_
 -- ---- what is flushed, and what waits
 
 -- Whether a request syncs `store.yaml`, so that no crash takes away what was submitted before. Each does where `each`
--- says that all that waits is flushed before its answer; otherwise only a checkpoint does.
+-- says that all that waits is flushed before its answer; otherwise only a checkpoint does, and an accepted command that
+-- renews the file.
 abbrev pub syncs : Bool → Stored → Request → Bool
 syncs true now request = true
+syncs false now (changing command) = is_ok (outcome (longest now) now.state command) && renews now.format command
 syncs false now checkpointing = true
 syncs false now (if_met conditions request) =
     unless_failed (first_fault now.state conditions) (syncs false now request) (λ fault. false)

@@ -1,10 +1,10 @@
 -- Commands that are spelled one key a line. Each text is ASCII, and so its bytes are its characters.
-use Rattle.std.specs.Prelude.{◌≡◌, ◌≢◌, ℕ, Bool, true, false, not, ◌&&◌, List, [], ◌∷◌, ◌++◌, codes, Option, Some}
+use Rattle.std.specs.Prelude.{◌≡◌, ◌≢◌, ℕ, Bool, true, false, not, ◌&&◌, List, [], ◌∷◌, ◌++◌, codes, Option, Some, None}
 use Rattle.conf_session.specs.Prelude.{list_all, double_quote, line_feed, first, spaces, plain_in_style, long_key, text, sequence, mapping}
 use Rattle.conf_session.specs.Prelude.{Elements, no_element, element, Members, no_member, member, Tree, has_key, members_distinct}
-use Rattle.conf_session.specs.{Prelude.Condition, Said.{Part, part_from, part_of, Said, single_part, change_said, with_conditions, said_by}}
-use Rattle.{conf_session.specs.SaidConditions.condition_in, yaml_chars.specs.Classes.{in_range, is_in, indicator}}
-use Rattle.yaml_writer.specs.Runs.{stands_alone}
+use Rattle.conf_session.specs.{Prelude.Condition, Said.{Part, part_from, part_of, Said, single_part, change_said, with_conditions}}
+use Rattle.{conf_session.specs.{Said.{last_about, said_by}, SaidConditions.condition_in}, yaml_chars.specs.Classes.{in_range, is_in}}
+use Rattle.{yaml_chars.specs.Classes.indicator, yaml_writer.specs.Runs.stands_alone}
 
 -- how a text is spelled after its key: as it is, or between double quotes
 pub data Spelling : Type 0 where
@@ -120,13 +120,14 @@ pub record AreElementLines {A : Type 0} (read : Tree → Option A) (lines : List
 
 -- ---- parts
 
--- the mapping says this part: in a batch, as a whole command, and after conditions
+-- the mapping says this part: in a batch, as a whole command, and after conditions; it has no about
 pub record SaysPart (e : Entry) (part : Part) : Type 0 where
   pub is : IsEntry e
   pub within : part_from (entry_members e) ≡ Some part
   pub alone : said_by (mapping (entry_members e)) ≡ single_part part
   pub change : change_said (entry_members e) ≡ single_part part
   pub apart : has_key (codes "if") (entry_members e) ≡ false
+  pub no_about : last_about (entry_members e) ≡ None
 
 -- the lines, at whatever indentation, are those of a mapping that says the part
 pub record SpellsPart (lines : ℕ → List ℕ) (part : Part) : Type 0 where
@@ -181,11 +182,12 @@ pub record IsCommandLines (lines : List ℕ) (said : Said) : Type 0 where
   pub is : lines ≡ layout_text layout ++ codes "...\n"
   pub says : said ≡ said_by (mapping (layout_members layout))
 
--- they are those of a command that changes configurations, and say the same after conditions
+-- they are those of a command without an about that changes configurations, and say the same after conditions
 pub record IsChangeLines (lines : List ℕ) (said : Said) : Type 0 where
   pub command : IsCommandLines lines said
   pub change : said ≡ change_said (layout_members command.layout)
   pub apart : has_key (codes "if") (layout_members command.layout) ≡ false
+  pub no_about : last_about (layout_members command.layout) ≡ None
 
 -- there are conditions, and the lines are those of a command that says this after them
 pub record SayChangeAfter (conditions : List Condition) (lines : List ℕ) (said : Said) : Type 0 where

@@ -204,8 +204,8 @@ pub record BreaksOff {D : Type 0} (model : DiskModel D) (bytes : List ℕ) (limi
       → LeavesOnly model old.disk new.disk
       (λ image. MeansPrefix flushed (waiting ++ accepted_commands (stored_of old) requests) image)
 
--- What became of a group before it is flushed, whose bytes are the piece in hand and those after it. Only a checkpoint
--- flushed something. If memory ran out, the pieces before are performed.
+-- What became of a group before it is flushed, whose bytes are the piece in hand and those after it. Only a checkpoint,
+-- or a command that renews the file, flushed something. If memory ran out, the pieces before are performed.
 abbrev pub SubmitsGroup : {D : Type 0} → DiskModel D → List ℕ → Input
     → StoreView D → StoreView D → Unwritten → Unwritten → Result (Unit {0}) SessionFault → Type 0
 SubmitsGroup model bytes input old new before after (Ok done) =

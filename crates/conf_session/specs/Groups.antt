@@ -1,14 +1,13 @@
 -- What a grouped session has read, answered and stored, for each of its results.
 use Rattle.std.specs.Prelude.{◌≡◌, ◌≢◌, ◌⊎◌, ℕ, zero, ◌+◌, ◌-◌, ◌*◌, ◌<◌, ◌≤◌, false, List, [], ◌∷◌, ◌++◌, length, take, map, Option, Some}
 use Rattle.std.specs.Prelude.{None, unwrap_or, Result, Err}
-use Rattle.conf_session.specs.Prelude.{Consumes, Keeps, Appends, Folder, bytes_under, Image, IsImage, DiskModel, LeavesOnly, Store}
-use Rattle.conf_session.specs.Prelude.{base_bytes, Command, Contents, MeansPrefix, AllImagesMean, HasFlushed, staged_text, HasGrown}
-use Rattle.conf_session.specs.{Prelude.StoreView, Requests.Request, declared.fault.SessionFault.SessionFault}
-use Rattle.conf_session.specs.declared.groups.{Checkpoints.{Checkpoints, TheVariants.{Asked, After}}, Grouping.{Grouping, TheVariants.Each}}
-use Rattle.conf_session.specs.{declared.{groups.Grouping.TheVariants.Read, session.Tally.Tally}, Streams.Streams, Handings.Handings}
-use Rattle.conf_session.specs.{Handings.{HoldsSince, taken_in}, Answers.{Stored, answer_bytes, answer_limit, stored_after, file_after}}
-use Rattle.conf_session.specs.{Answers.{staged_after, accepted_command, refused_of}, Runs.{AfterAtLeast, BeginsWith, EndsAnswered}}
-use Rattle.conf_session.specs.Runs.{EndsEarly, Runs, stored_of}
+use Rattle.conf_session.specs.Prelude.{Consumes, Keeps, Appends, Folder, bytes_under, Image, IsImage, DiskModel, LeavesOnly, Store, base_in}
+use Rattle.conf_session.specs.Prelude.{Command, Contents, MeansPrefix, AllImagesMean, HasFlushed, staged_text, HasGrown, StoreView}
+use Rattle.conf_session.specs.{Requests.Request, declared.{fault.SessionFault.SessionFault, groups.Checkpoints.Checkpoints}}
+use Rattle.conf_session.specs.declared.groups.{Checkpoints.TheVariants.{Asked, After}, Grouping.{Grouping, TheVariants.{Each, Read}}}
+use Rattle.conf_session.specs.{declared.session.Tally.Tally, Streams.Streams, Handings.{Handings, HoldsSince, taken_in}, Answers.Stored}
+use Rattle.conf_session.specs.Answers.{answer_bytes, answer_limit, stored_after, file_after, staged_after, accepted_command, refused_of}
+use Rattle.conf_session.specs.Runs.{AfterAtLeast, BeginsWith, EndsAnswered, EndsEarly, Runs, stored_of}
 use Rattle.conf_session.specs.declared.fault.SessionFault.TheVariants as fault
 
 -- ---- turns
@@ -34,8 +33,9 @@ all_asked requests = map asked requests
 -- finished puts that file in the place of `store.yaml`.
 abbrev pub stored_after_turn : Stored → Turn → Stored
 stored_after_turn now (asked request) = stored_after now request
-stored_after_turn now begun = record now { staged = Some (length (base_bytes now.state)) }
-stored_after_turn now finished = record { state = now.state; size = unwrap_or now.staged 0; staged = None }
+stored_after_turn now begun = record now { staged = Some (length (base_in now.format now.state)) }
+stored_after_turn now finished =
+    record { state = now.state; size = unwrap_or now.staged 0; staged = None; format = now.format }
 
 abbrev pub stored_after_turns : Stored → List Turn → Stored
 stored_after_turns now [] = now
@@ -58,7 +58,7 @@ files_after_turn files now (asked request) = record {
   store = file_after files.store now request;
   staged = staged_after files.staged now request;
 }
-files_after_turn files now begun = record { store = files.store; staged = Some (base_bytes now.state) }
+files_after_turn files now begun = record { store = files.store; staged = Some (base_in now.format now.state) }
 files_after_turn files now finished = record { store = files.staged; staged = None }
 
 abbrev pub files_after_turns : Files → Stored → List Turn → Files

@@ -54,7 +54,8 @@ LeavesPrefixes folder s =
     → AllImagesAfterPrefix folder flushed waiting
 
 -- A request is performed: the state, the lengths and the files are those after it. A crash leaves the state after a
--- prefix of the commands that waited and of this one. Nothing is flushed, but by a checkpoint.
+-- prefix of the commands that waited and of this one. Nothing is flushed, but by a checkpoint, or by a command that
+-- renews the file.
 pub record Performs {D : Type 0} (model : DiskModel D) (old new : StoreView D)
     (request : Request) : Type 0 where
   pub state : new.state ≡ (stored_after (stored_of old) request).state
@@ -99,7 +100,8 @@ pub record Replies (now : Stored) (request : Request) (reply : Reply) : Type 0 w
   pub refused : refuses reply ≡ refused_of now request
   pub short : length (answer_bytes now request) ≤ answer_limit
 
--- What became of a request. Nothing is flushed, but by a checkpoint. If memory ran out, nothing was changed.
+-- What became of a request. Nothing is flushed, but by a checkpoint, or by a command that renews the file. If memory ran
+-- out, nothing was changed.
 abbrev pub Did : {D : Type 0} → DiskModel D → StoreView D → StoreView D → Request → Result Reply SessionFault → Type 0
 Did model old new request (Ok reply) =
     Replies (stored_of old) request reply × (new.reopen ≡ false) × Performs model old new request

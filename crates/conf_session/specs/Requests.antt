@@ -1,8 +1,9 @@
 -- What the pieces of a session ask for. Each piece is one request; a piece that is no command is a bad one.
 use Rattle.std.specs.Prelude.{◌≡◌, ◌≢◌, ◌⊎◌, List, [], ◌∷◌, ◌++◌, ℕ, encode_utf8_all}
-use Rattle.conf_session.specs.Prelude.{Gives, Tree, Refuses, ReadFault, Edit, Command, import_as, single, batch, StoreFault, Condition}
+use Rattle.conf_session.specs.Prelude.{Gives, Tree, Refuses, ReadFault, Edit, Command, import_as, single, batch, StoreFault}
 use Rattle.conf_session.specs.Said.{Part, import_text, plain, Said, Says, single_part, batch_of_parts, get_at, export_of, all_names}
-use Rattle.{conf_session.specs.Said.{checkpoint_now, conditional, nothing}, yaml_config.specs.Limits.config_limits}
+use Rattle.conf_session.specs.{Prelude.{noted, Condition}, Said.{checkpoint_now, conditional, noted_said, large_about, nothing}}
+use Rattle.yaml_config.specs.Limits.{config_limits}
 use Rattle.{conf_state.specs.declared.fault.StoreFault.TheVariants.{Read, OutOfMemory}, conf_store.specs.Imports.{IsImportOf, RefusesText}}
 use Rattle.yaml_events.specs.declared.read_fault.ReadFault.TheVariants as read
 
@@ -16,6 +17,7 @@ pub data Request : Type 0 where
   naming : Request
   checkpointing : Request
   if_met : (conditions : List Condition) (request : Request) → Request
+  overlong_about : Request
   bad : Request
 
 -- ---- the parts of a batch
@@ -51,6 +53,11 @@ pub record IsFirstRefused (parts : List Part) (fault : ReadFault) : Type 0 where
 
 -- ---- what is asked for
 
+-- the same with an about: its command has it, if there is one to perform
+abbrev pub noted_request : Tree → Request → Request
+noted_request about (changing command) = changing (noted command about)
+noted_request about request = request
+
 -- Which request a document makes by what it says. Only imports ask for more reading. The name of a single import is
 -- good and its text gives a tree, or one of them is refused. Of a batch all texts are read, whatever the names are, or
 -- the first text that gives no tree is refused.
@@ -69,6 +76,9 @@ MeansRequest all_names request = request ≡ naming
 MeansRequest checkpoint_now request = request ≡ checkpointing
 MeansRequest (conditional conditions said) request =
     (met : Request) × MeansRequest said met × (request ≡ if_met conditions met)
+MeansRequest (noted_said about said) request =
+    (plain : Request) × MeansRequest said plain × (request ≡ noted_request about plain)
+MeansRequest large_about request = request ≡ overlong_about
 MeansRequest nothing request = request ≡ bad
 
 -- the bytes of a piece ask for this request

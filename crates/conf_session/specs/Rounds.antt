@@ -47,7 +47,8 @@ pub record EndsFlushed {D : Type 0} (model : DiskModel D) (old new : StoreView D
   pub flushed : model.honest → HasFlushed (model.folder new.disk) new.state [] new.state
   pub now : model.honest → AllImagesMean (model.folder new.disk) new.state
 
--- So many pieces are performed, from the first. Those up to the last checkpoint among them are flushed.
+-- So many pieces are performed, from the first. Those up to the last checkpoint among them, or the last command that
+-- renewed the file, are flushed.
 pub record EndsWaiting {D : Type 0} (model : DiskModel D) (old new : StoreView D) (count : ℕ)
     (requests : List Request) : Type 0 where
   pub all : length requests ≡ count
@@ -64,13 +65,14 @@ FailsAfter count before (last ∷ []) = length before < count
 FailsAfter count before (last ∷ other ∷ more) = ⊥
 
 -- How many commands no crash takes away once these requests are performed, of those that waited and those that are
--- accepted: all up to the last checkpoint.
+-- accepted: all up to the last checkpoint, or the last one that renewed the file.
 abbrev pub checkpointed : Stored → List Command → List Request → ℕ
 checkpointed now waiting requests =
     length (waiting ++ accepted_commands now requests) - length (waiting_after false now waiting requests)
 
 -- The device failed. No piece is answered. The state has the piece in hand, if there is one. A crash leaves the state
--- after a prefix of the commands, which has at least those up to the last checkpoint among the pieces before that one.
+-- after a prefix of the commands, which has at least those up to the last checkpoint among the pieces before that one, or
+-- up to the last command among them that renewed the file.
 pub record EndsBroken {D : Type 0} (model : DiskModel D) (old new : StoreView D) (count : ℕ)
     (requests : List Request) : Type 0 where
   pub before : List Request

@@ -9,12 +9,13 @@ use Rattle.conf_session.specs.Answers.{stored_after_all, file_after_all, staged_
 use Rattle.{conf_session.specs.Answers.{waiting_after, acknowledged}, conf_store.specs.{Meaning.ImageMeans, Staged.Staged}}
 use Rattle.conf_session.specs.declared.fault.SessionFault.TheVariants as fault
 
--- the state of a store, the length of its file, and that of the new file of a running checkpoint
+-- the state of a store, the length of its file, that of the new file of a running checkpoint, and the format of the base
 abbrev pub stored_of : {D : Type 0} → StoreView D → Stored
 stored_of seen = record {
   state = seen.state;
   size = seen.size;
   staged = option_map (λ (s : Staged). s.written + length s.left) seen.staged;
+  format = seen.format;
 }
 
 -- the pieces ask for these requests; each is closed once, at its end, and no longer than allowed
@@ -155,11 +156,11 @@ pub record Runs {D : Type 0} (model : DiskModel D)
   pub ends : Ends io (stored_of old) answered performed result
   pub state : new.state ≡ (stored_after_all (stored_of old) performed).state
   pub stored : new.reopen ≡ false → stored_of new ≡ stored_after_all (stored_of old) performed
-  -- each accepted command appended its record to `store.yaml`, and each checkpoint put a base in its place
+  -- each accepted command appended its record to `store.yaml` or renewed it, and each checkpoint put a base in its place
   pub reads : model.honest → new.reopen ≡ false
       → bytes_under (model.folder new.disk) Store
       ≡ file_after_all (bytes_under (model.folder old.disk) Store) (stored_of old) performed
-  -- the records were appended to the new file of a running checkpoint too
+  -- the records were appended to the new file of a running checkpoint too, unless one gave it up
   pub stages : model.honest → new.reopen ≡ false
       → staged_text (model.folder new.disk) new.staged
       ≡ staged_after_all (staged_text (model.folder old.disk) old.staged) (stored_of old) performed

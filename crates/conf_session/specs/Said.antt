@@ -3,7 +3,9 @@ use Rattle.std.specs.Prelude.{◌≡◌, ◌≢◌, ◌⊎◌, ℕ, Bool, true, 
 use Rattle.std.specs.Prelude.{if◌then◌else◌}
 use Rattle.conf_session.specs.Prelude.{chars, same_text, Tree, text, sequence, mapping, Elements, Members, no_member, member, Limits}
 use Rattle.conf_session.specs.Prelude.{text_bytes, own_limits, IsRead, Refuses, ReadFault, Edit, import_as, edit_of, keys_are, values}
-use Rattle.conf_session.specs.{Prelude.{edit_under, Condition, conditions_of}, SaidConditions.{all_in, conditions_in}}
+use Rattle.conf_session.specs.{Prelude.{edit_under, Condition, conditions_of, tree_of, AboutFault, fault_of}}
+use Rattle.conf_session.specs.SaidConditions.{all_in, conditions_in}
+use Rattle.conf_about.specs.declared.fault.AboutFault.TheVariants.{LongKey, TooMany, TooLarge}
 use Rattle.yaml_events.specs.declared.read_fault.ReadFault.TheVariants.{OutOfMemory}
 use Rattle.conf_session.specs.declared.parts.Part as code_part
 use Rattle.conf_session.specs.declared.parts.Part.TheVariants as code_parts
@@ -56,6 +58,8 @@ pub data Said : Type 0 where
   all_names : Said
   checkpoint_now : Said
   conditional : (conditions : List Condition) (said : Said) → Said
+  noted_said : (about : Tree) (said : Said) → Said
+  large_about : Said
   nothing : Said
 
 abbrev pub part_said : Option Part → Said
@@ -132,10 +136,8 @@ conditional_said no_member = nothing
 conditional_said (member key t ms) = with_conditions (conditions_in t) (change_said ms)
 
 -- a command is a part, or a mapping with exactly these keys; a part or a batch may have conditions before it
-unfoldable pub said_by : Tree → Said
-said_by (text value) = nothing
-said_by (sequence ts) = nothing
-said_by (mapping ms) =
+unfoldable pub command_said : Members → Said
+command_said ms =
     if keys_are batch_keys ms then batch_said (values ms)
     else if keys_are get_keys ms then get_said (values ms)
     else if keys_are export_keys ms then export_said (values ms)
@@ -143,6 +145,52 @@ said_by (mapping ms) =
     else if keys_are checkpoint_keys ms then checkpoint_said (values ms)
     else if begins_with_if ms then conditional_said ms
     else part_said (part_from ms)
+
+-- ---- a command with an about
+
+-- what is under the last key, if that is `about`
+abbrev pub last_about : Members → Option Tree
+last_about no_member = None
+last_about (member key t no_member) = if same_text key (codes "about") then Some t else None
+last_about (member key t (member other u ms)) = last_about (member other u ms)
+
+-- the members before the last
+abbrev pub without_last : Members → Members
+without_last no_member = no_member
+without_last (member key t no_member) = no_member
+without_last (member key t (member other u ms)) = member key t (without_last (member other u ms))
+
+-- only a command that changes configurations has an about
+abbrev pub with_about : Tree → Said → Said
+with_about about (single_part part) = noted_said about (single_part part)
+with_about about (batch_of_parts parts) = noted_said about (batch_of_parts parts)
+with_about about (conditional conditions (single_part part)) = conditional conditions (noted_said about (single_part part))
+with_about about (conditional conditions (batch_of_parts parts)) =
+    conditional conditions (noted_said about (batch_of_parts parts))
+with_about about said = nothing
+
+-- where a limit of abouts is broken, the document says so; with any other fault it is no command
+abbrev pub fault_said : AboutFault → Said
+fault_said LongKey = large_about
+fault_said TooMany = large_about
+fault_said TooLarge = large_about
+fault_said fault = nothing
+
+-- a command with an about; or what the about's fault says, whatever the command is
+abbrev pub about_said : Option AboutFault → Tree → Said → Said
+about_said None about said = with_about about said
+about_said (Some fault) about said = fault_said fault
+
+-- all members as a command; or those before the last, which has the key `about`
+abbrev pub said_before : Option Tree → Members → Said
+said_before None ms = command_said ms
+said_before (Some about) ms = about_said (fault_of about) about (command_said (without_last ms))
+
+-- a document is a command, which may have an about as its last member
+unfoldable pub said_by : Tree → Said
+said_by (text value) = nothing
+said_by (sequence ts) = nothing
+said_by (mapping ms) = said_before (last_about ms) ms
 
 -- the piece gives a tree that says so, or gives none and says nothing
 abbrev pub Says : List ℕ → Said → Type 0
@@ -171,4 +219,8 @@ said_of (code_said.Export name) = export_of (chars (text_bytes name))
 said_of code_said.Names = all_names
 said_of code_said.Checkpoint = checkpoint_now
 said_of (code_said.Conditional conditions change) = conditional (conditions_of conditions.items) (change_seen change)
+said_of (code_said.Noted change about) = noted_said (tree_of about) (change_seen change)
+said_of (code_said.ConditionalNoted conditions change about) =
+    conditional (conditions_of conditions.items) (noted_said (tree_of about) (change_seen change))
+said_of code_said.LargeAbout = large_about
 said_of code_said.Nothing = nothing

@@ -82,7 +82,7 @@ pub(crate) fn flush_all<D: Disk>(store: &mut Store<D>) -> Result<(), SessionFaul
 }
 
 /// Performs the piece in hand, and each further one that was read, until the answers are full. Nothing is flushed,
-/// unless a piece asks for a checkpoint.
+/// unless a piece asks for a checkpoint or renews the file.
 ///
 /// # Errors
 /// `OutOfMemory`: the pieces before the current one are performed, and that one changed nothing. `Device`: the pieces

@@ -3,6 +3,10 @@
 //! [`run`] reads the commands, performs them on a store, and hands out the answers. Input and output may be any reader
 //! and writer, and the store may be on any disk. [`SessionFault`] says why a session stops before the end of its input.
 //!
+//! A command that changes configurations may have an about ([`About`](conf_about::About)): who makes the change, when
+//! and why. It is the value of a last key `about`. Such a command renews a store whose base is not of the third format,
+//! which flushes all that waited.
+//!
 //! [`run_grouped`] does so in groups: it performs all commands that one read brought, syncs once for them, and then
 //! hands out their answers. A group promises less than [`run`] of commands after a cut answer, and of those in hand
 //! when the device fails. It can also write the checkpoints that nobody asked for, in slices between the groups

@@ -44,7 +44,8 @@ pub fn bytes_of(reply: &Reply) -> &[u8]
     }
 }
 
-/// Performs the piece in hand, and keeps its answer. Nothing is flushed, unless it asks for a checkpoint.
+/// Performs the piece in hand, and keeps its answer. Nothing is flushed, unless it asks for a checkpoint or renews the
+/// file.
 ///
 /// # Errors
 /// `Reopen` if the store has to be opened again. `OutOfMemory`: the piece changed nothing. `Device`: its command is

@@ -1,11 +1,14 @@
 // The texts of a command that changes configurations are read, before its conditions are judged.
+ghost use Rattle.std.specs.Prelude.{◌≡◌, false};
+ghost use Rattle.conf_session.specs.Prelude.{command_of, command_with, has_about, noted, tree_of};
 ghost use Rattle.conf_session.specs.ReadChanges.{ReadsAsked};
 ghost use Rattle.conf_session.specs.Requests.{MeansRequest};
-ghost use Rattle.conf_session.specs.Said.{batch_of_parts, change_seen, part_seen, parts_seen, single_part};
+ghost use Rattle.conf_session.specs.Said.{batch_of_parts, change_seen, noted_said, part_seen, parts_seen, single_part};
 
 use crate::parts::{Part, read_parts};
 use crate::said::Change;
-use conf_state::{Command, StoreFault};
+use conf_about::About;
+use conf_state::{Command, Edit, Edits, StoreFault};
 use conf_store::import_command;
 use std::alloc::Global;
 
@@ -35,7 +38,7 @@ pub(crate) fn read_batch(alloc: Global, parts: Vec<Part>) -> Result<Command, Sto
     }
 }
 
-/// The command after conditions: a part by itself, or a batch.
+/// The command after conditions, or before an about: a part by itself, or a batch.
 ///
 /// # Errors
 /// As [`read_single`] and [`read_batch`].
@@ -45,5 +48,41 @@ pub(crate) fn read_change(alloc: Global, change: Change) -> Result<Command, Stor
     match change {
         Change::Single(part) => read_single(alloc, part),
         Change::Batch(parts) => read_batch(alloc, parts),
+    }
+}
+
+/// The same with its about.
+///
+/// # Errors
+/// As [`read_change`].
+pub(crate) fn read_noted(alloc: Global, change: Change, about: About) -> Result<Command, StoreFault>
+    ensures { ReadsAsked (MeansRequest (noted_said (tree_of about) (change_seen change))) result }
+{
+    match read_change(alloc, change) {
+        Ok(command) => Ok(noted(command, about)),
+        Err(fault) => Err(fault),
+    }
+}
+
+/// A command with an about, where it has none yet.
+fn noted(command: Command, about: About) -> Command
+    requires { has_about (command_of command) ≡ false }
+    ensures { command_of result ≡ noted (command_of command) (tree_of about) }
+{
+    let edits = edits_of(command);
+    Command::Noted { edits, about }
+}
+
+/// The edits of a command that has no about.
+fn edits_of(command: Command) -> Edits
+    requires { has_about (command_of command) ≡ false }
+    ensures { command_with result ≡ command_of command }
+{
+    match command {
+        Command::Import { name, tree } => Edits::Single(Edit::Import { name, tree }),
+        Command::Set { name, path, value } => Edits::Single(Edit::Set { name, path, value }),
+        Command::Delete { name, path } => Edits::Single(Edit::Delete { name, path }),
+        Command::Batch { edits } => Edits::Batch(edits),
+        Command::Noted { edits, .. } => edits,
     }
 }

@@ -10,7 +10,7 @@ ghost use Rattle.conf_session.specs.Replies.{Handles, MeansPrefixes, refused_as,
 use crate::answer::{count_answer, export_answer, get_answer, names_answer};
 use crate::command_lines::edit_in_lines;
 use crate::fault::SessionFault;
-use crate::reading::{read_batch, read_change, read_single};
+use crate::reading::{read_batch, read_change, read_noted, read_single};
 use crate::said::{Said, read_said};
 use crate::words::{Refusal, answered, condition_answered};
 use conf_conditions::{Condition, ConditionFault, check, index_for};
@@ -41,7 +41,8 @@ pub fn refused(fault: StoreFault) -> Result<Reply, SessionFault>
     Ok(Reply::Refused(reason))
 }
 
-/// Performs a command that changes the state, without a flush. The memory for its answer is taken first.
+/// Performs a command that changes the state, without a flush, unless it renews the file. The memory for its answer is
+/// taken first.
 fn change<D: Disk>(
     alloc: Global,
     store: &mut Store<D>,
@@ -158,15 +159,29 @@ fn answer_said<D: Disk>(
             let read = read_change(alloc, change);
             change_if(alloc, store, &conditions, read)
         }
+        Said::Noted { change, about } => {
+            let read = read_noted(alloc, change, about);
+            change_read(alloc, store, read)
+        }
+        Said::ConditionalNoted {
+            conditions,
+            change,
+            about,
+        } => {
+            let read = read_noted(alloc, change, about);
+            change_if(alloc, store, &conditions, read)
+        }
         Said::Checkpoint => checkpoint(alloc, store),
         Said::Get { name, path } => get_answer(alloc, store, &name, &path),
         Said::Export(name) => export_answer(alloc, store, &name),
         Said::Names => Ok(names_answer(alloc, store)?),
+        Said::LargeAbout => Ok(Reply::Refused(Refusal::AboutLarge)),
         Said::Nothing => Ok(Reply::Refused(Refusal::BadCommand)),
     }
 }
 
-/// Performs what a piece asks for, and makes the answer. Nothing is flushed, unless it asks for a checkpoint.
+/// Performs what a piece asks for, and makes the answer. Nothing is flushed, unless it asks for a checkpoint or renews
+/// the file.
 pub fn answer_piece<D: Disk>(
     alloc: Global,
     store: &mut Store<D>,

@@ -28,8 +28,8 @@ pub struct Piece {
 /// Why a round has no answers.
 #[derive(Clone, Copy, Debug, PartialEq, Eq, Error)]
 pub enum RoundFault {
-    /// Out of memory. That many pieces, from the first, are performed. Those up to the last `checkpoint` among them are
-    /// flushed; those after it wait.
+    /// Out of memory. That many pieces, from the first, are performed. Those up to the last `checkpoint` among them, or
+    /// the last command that renewed the file, are flushed; those after it wait.
     #[error("OutOfMemory")]
     OutOfMemory { performed: u64 },
     /// The device failed. The pieces before the one in hand are performed, and that one is or isn't; the store has to
@@ -51,7 +51,7 @@ fn closes_once(bytes: &[u8]) -> bool
     }
 }
 
-/// Performs what a client's piece asks for, without a flush, and makes the answer.
+/// Performs what a client's piece asks for, without a flush, unless it renews the file, and makes the answer.
 fn submit_piece<D: Disk>(
     alloc: Global,
     store: &mut Store<D>,
@@ -89,7 +89,8 @@ fn round_fault(fault: SessionFault, performed: u64) -> RoundFault
     }
 }
 
-/// Performs one piece and appends its answer. Nothing is flushed, unless the piece asks for a checkpoint.
+/// Performs one piece and appends its answer. Nothing is flushed, unless the piece asks for a checkpoint or renews the
+/// file.
 ///
 /// # Errors
 /// As [`round`].
@@ -137,10 +138,11 @@ fn take_piece<D: Disk>(
 /// `Ok`, it leaves the state after all of them.
 ///
 /// # Errors
-/// - `OutOfMemory`: that many pieces, from the first, are performed. Those up to the last `checkpoint` among them are
-///   flushed; those after it wait for a flush.
+/// - `OutOfMemory`: that many pieces, from the first, are performed. Those up to the last `checkpoint` among them, or
+///   the last command that renewed the file, are flushed; those after it wait for a flush.
 /// - `Device`: the pieces before the current one are performed, and that one is or isn't. No crash takes back those up
-///   to the last `checkpoint` among the pieces before it. The store has to be opened again.
+///   to the last `checkpoint` among the pieces before it, or to the last command that renewed the file. The store has
+///   to be opened again.
 /// - `Reopen` comes only at the start, if the store has to be opened again. Nothing is done.
 pub fn round<D: Disk>(
     alloc: Global,

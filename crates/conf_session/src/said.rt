@@ -1,15 +1,16 @@
 // What command documents say.
-ghost use Rattle.std.specs.Prelude.{◌≡◌, [], ◌∷◌, false, Some, IfOk, MatchOption};
-ghost use Rattle.conf_session.specs.Prelude.{chars, sequence, text, IsKept, tree_of, elements_of, members_of};
+ghost use Rattle.std.specs.Prelude.{◌≡◌, [], ◌∷◌, false, Some, IfOk, MatchOption, is_some};
+ghost use Rattle.conf_session.specs.Prelude.{chars, mapping, sequence, text, IsKept, tree_of, elements_of, members_of};
 ghost use Rattle.conf_session.specs.Prelude.{text_bytes, values, AreKept, AreKeptElements, conditions_of};
 ghost use Rattle.conf_session.specs.Said.{Says, said_by, part_from, part_said, parts_of, parts_said, batch_said};
 ghost use Rattle.conf_session.specs.Said.{begins_with_if, change_said, conditional_said, with_conditions};
 ghost use Rattle.conf_session.specs.Said.{are_two_texts, get_said, export_said, names_said, checkpoint_said, is_empty_text, nothing};
-ghost use Rattle.conf_session.specs.Said.{said_of};
+ghost use Rattle.conf_session.specs.Said.{command_said, fault_said, last_about, said_of, with_about};
 
 use crate::command_lines::said_in_lines;
 use crate::conditions::conditions_in;
 use crate::parts::{Part, part_from, parts_of};
+use conf_about::{About, AboutFault};
 use conf_conditions::Condition;
 use conf_record::{is_same, keys_are, last_text, last_value, next_text, split_first};
 use std::alloc::{AllocError, Global};
@@ -48,11 +49,24 @@ pub(crate) enum Said {
         conditions: Vec<Condition>,
         change: Change,
     },
+    /// `import`, `set`, `delete` or `batch`, with an about.
+    Noted {
+        change: Change,
+        about: About,
+    },
+    /// The same after conditions.
+    ConditionalNoted {
+        conditions: Vec<Condition>,
+        change: Change,
+        about: About,
+    },
+    /// Its about has a longer key, more pairs or more bytes than an about may have.
+    LargeAbout,
     /// It is no command.
     Nothing,
 }
 
-/// A command that changes configurations, after its conditions.
+/// A command that changes configurations, without its conditions and its about.
 #[derive(Drop)]
 pub(crate) enum Change {
     /// `import`, `set` or `delete`.
@@ -65,6 +79,11 @@ pub(crate) enum Change {
 /// of the kinds that it takes. Any spelling of the document counts. A piece that gives no tree within the limits of a
 /// command (16,777,216 bytes, 131 deep, and 67,108,864 bytes in the one style), or another tree, says
 /// [`Nothing`](Said::Nothing). It fails only if memory runs out.
+///
+/// A command that changes configurations, with or without conditions, may have a last key `about`, whose value is an
+/// [`About`]. Where the first fault of that value is a limit of abouts (64 characters of a key, 16 pairs, 4,096 bytes),
+/// the document says [`LargeAbout`](Said::LargeAbout), whatever its other keys are. With any other fault, and where
+/// another command has such a key, it says [`Nothing`](Said::Nothing).
 pub(crate) fn read_said(alloc: Global, piece: &[u8]) -> Result<Said, AllocError>
     ensures { IfOk result (λ said. Says piece.now (said_of said)) }
 {
@@ -90,11 +109,87 @@ fn said_by(alloc: Global, tree: Tree) -> Result<Said, AllocError>
     requires { IsKept (tree_of tree) }
     ensures { IfOk result (λ said. said_of said ≡ said_by (tree_of tree)) }
 {
-    let pairs = match tree {
-        Tree::Text(_) => return Ok(Said::Nothing),
-        Tree::Seq(_) => return Ok(Said::Nothing),
-        Tree::Map(pairs) => pairs,
+    match tree {
+        Tree::Text(_) => Ok(Said::Nothing),
+        Tree::Seq(_) => Ok(Said::Nothing),
+        Tree::Map(pairs) => mapping_said(alloc, pairs),
+    }
+}
+
+/// What a mapping says: a command, which may have an about as its last pair. Whether that is one is looked at before
+/// the command.
+fn mapping_said(alloc: Global, mut pairs: Vec<(Text, Tree)>) -> Result<Said, AllocError>
+    requires { AreKept (values (members_of pairs.items)) }
+    ensures { IfOk result (λ said. said_of said ≡ said_by (mapping (members_of pairs.items))) }
+{
+    if !ends_with_about(&pairs) {
+        return command_said(alloc, pairs);
+    }
+    let Some((_, tree)) = pairs.pop() else {
+        return Ok(Said::Nothing);
     };
+    match About::of(tree) {
+        Ok(about) => {
+            let said = command_said(alloc, pairs)?;
+            Ok(with_about(about, said))
+        }
+        Err((_, fault)) => Ok(fault_said(fault)),
+    }
+}
+
+/// Whether the last key of a mapping's pairs is `about`.
+fn ends_with_about(pairs: &[(Text, Tree)]) -> bool
+    ensures { result ≡ is_some (last_about (members_of pairs.now)) }
+{
+    match pairs.split_last() {
+        Some(((key, _), _)) => is_same(key, "about"),
+        None => false,
+    }
+}
+
+/// A command that changes configurations, with an about; any other has none, and is no command then.
+fn with_about(about: About, said: Said) -> Said
+    ensures { said_of result ≡ with_about (tree_of about) (said_of said) }
+{
+    match said {
+        Said::Single(part) => Said::Noted {
+            change: Change::Single(part),
+            about,
+        },
+        Said::Batch(parts) => Said::Noted {
+            change: Change::Batch(parts),
+            about,
+        },
+        Said::Conditional { conditions, change } => Said::ConditionalNoted {
+            conditions,
+            change,
+            about,
+        },
+        _ => Said::Nothing,
+    }
+}
+
+/// What a command says whose last value is no about, for this reason.
+fn fault_said(fault: AboutFault) -> Said
+    ensures { said_of result ≡ fault_said fault }
+{
+    match fault {
+        AboutFault::LongKey => Said::LargeAbout,
+        AboutFault::TooMany => Said::LargeAbout,
+        AboutFault::TooLarge => Said::LargeAbout,
+        AboutFault::NoMapping => Said::Nothing,
+        AboutFault::NoText => Said::Nothing,
+        AboutFault::NoKey => Said::Nothing,
+        AboutFault::Twice => Said::Nothing,
+        AboutFault::OutOfMemory => Said::Nothing,
+    }
+}
+
+/// What a mapping says that is a command without an about, or else no command.
+fn command_said(alloc: Global, pairs: Vec<(Text, Tree)>) -> Result<Said, AllocError>
+    requires { AreKept (values (members_of pairs.items)) }
+    ensures { IfOk result (λ said. said_of said ≡ command_said (members_of pairs.items)) }
+{
     if keys_are(&["batch"], &pairs) {
         batch_said(alloc, pairs)
     } else if keys_are(&["get", "path"], &pairs) {

@@ -31,7 +31,8 @@ pub struct Tally {
 /// The input is cut into pieces after each closing line, a line of exactly `...` and a line feed. Each piece
 /// is one command. It is performed as soon as its closing line was read, and its answer is handed to the sink
 /// before anything else is read. At most 65,536 bytes are read at a time. A piece that is no command is answered
-/// by `refused: BadCommand`. Bytes after the last closing line are neither performed nor answered.
+/// by `refused: BadCommand`, and one whose about is too large by `refused: AboutLarge`. Bytes after the last closing
+/// line are neither performed nor answered.
 ///
 /// A crash at any moment leaves the state after a prefix of the accepted commands. Once an answer is handed to
 /// the sink, that prefix has every command that was accepted up to it: the sink requires so

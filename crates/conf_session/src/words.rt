@@ -9,8 +9,8 @@ use conf_state::StoreFault;
 use tree_path::PathFault;
 use yaml_tree::ReadFault;
 
-/// Why a request is refused. But for `BadCommand` it is one of the faults that a session answers, by the innermost
-/// fault's own name. `Unmet` is that of a condition.
+/// Why a request is refused. But for `BadCommand` and `AboutLarge` it is one of the faults that a session answers, by
+/// the innermost fault's own name. `Unmet` is that of a condition.
 #[derive(Clone, Copy)]
 pub enum Refusal {
     /// The piece is no command.
@@ -35,6 +35,8 @@ pub enum Refusal {
     JournalLong,
     CountFull,
     Unmet,
+    /// The about of a command has a longer key, more pairs or more bytes than an about may have.
+    AboutLarge,
 }
 
 /// The refusal that answers an import whose text is refused.
@@ -153,6 +155,7 @@ impl Refusal {
             Refusal::JournalLong => refused!("JournalLong"),
             Refusal::CountFull => refused!("CountFull"),
             Refusal::Unmet => refused!("Unmet"),
+            Refusal::AboutLarge => refused!("AboutLarge"),
         }
     }
 }

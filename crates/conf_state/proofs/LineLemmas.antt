@@ -29,10 +29,14 @@ pub framed_line : (first rest : List ℕ) → codes "---\n" ++ first ++ rest ++ 
     ≡ codes "---\n" ++ (first ++ rest) ++ codes "...\n"
 framed_line first rest = ap (λ cs. cs ++ codes "...\n") (append_assoc (codes "---\n") first rest)
 
--- the same of a base, whose mapping ends with the configurations
-pub base_lines : (number configs : List ℕ)
-    → codes "---\n" ++ codes "store: confstore-2\n" ++ number ++ codes "configs:" ++ configs ++ codes "...\n"
-    ≡ codes "---\n" ++ (codes "store: confstore-2\n" ++ (number ++ (codes "configs:" ++ configs ++ []))) ++ codes "...\n"
-base_lines number configs =
-    ap (λ cs. codes "---\n" ++ (codes "store: confstore-2\n" ++ cs) ++ codes "...\n")
-    (append_assoc number (codes "configs:") configs ∙ ap (λ cs. number ++ cs) (sym (append-nil (codes "configs:" ++ configs))))
+-- the same of a base, whose mapping begins with the format and ends with the configurations
+pub base_lines : (format number configs : List ℕ)
+    → codes "---\n" ++ format ++ number ++ codes "configs:" ++ configs ++ codes "...\n"
+    ≡ codes "---\n" ++ (format ++ (number ++ (codes "configs:" ++ configs ++ []))) ++ codes "...\n"
+base_lines format number configs =
+    ap (λ cs. cs ++ codes "configs:" ++ configs ++ codes "...\n") (append_assoc (codes "---\n") format number)
+    ∙ ap (λ cs. cs ++ configs ++ codes "...\n") (append_assoc (codes "---\n") (format ++ number) (codes "configs:"))
+    ∙ ap (λ cs. cs ++ codes "...\n") (append_assoc (codes "---\n") (format ++ number ++ codes "configs:") configs)
+    ∙ ap (λ cs. codes "---\n" ++ cs ++ codes "...\n")
+    (append_assoc (format ++ number) (codes "configs:") configs ∙ append_assoc format number (codes "configs:" ++ configs)
+    ∙ ap (λ cs. format ++ (number ++ cs)) (sym (append-nil (codes "configs:" ++ configs))))

@@ -5,9 +5,9 @@ use Rattle.conf_state.proofs.Prelude.{byte_len, style_text, Tree, depth, set, de
 use Rattle.conf_state.{proofs.RunLaws.and_then-Ok, specs.{BaseTexts.base_length, Names.good_name, declared.fault.StoreFault.StoreFault}}
 use Rattle.conf_state.specs.declared.{fault.StoreFault.TheVariants.{BadName, TooDeep, ConfigLarge, StoreFull, CountFull}, room.Room.Room}
 use Rattle.conf_state.specs.{declared.room.Room.TheVariants.{Enough, LongRecord, Missing}, Commands.{Edit, import_as, set_at, delete_at}}
-use Rattle.conf_state.specs.{Commands.{Command, single, batch, name_of}, States.{Entry, Contents, config_named, base_limit, count_limit}}
-use Rattle.conf_state.specs.Steps.{IsRefusal, step, edited, all_edited, performed, configs_after, with_room, next_state, and_then}
-use Rattle.conf_state.specs.Steps.{checked_tree, with_checked_config, found, by_path, configs_after_delete}
+use Rattle.conf_state.specs.{Commands.{Command, single, batch, noted, name_of}, States.{Entry, Contents, config_named, base_limit}}
+use Rattle.conf_state.specs.{States.count_limit, Steps.{IsRefusal, step, edited, all_edited, performed, configs_after, with_room}}
+use Rattle.conf_state.specs.Steps.{next_state, and_then, checked_tree, with_checked_config, found, by_path, configs_after_delete}
 
 -- ---- room in the journal
 
@@ -103,6 +103,7 @@ unfolding Refusals
 performed-refusals configs (single edit) = edited-refusals configs edit
 performed-refusals configs (batch []) = tt
 performed-refusals configs (batch (edit ∷ edits)) = all_edited-refusals configs (edit ∷ edits)
+performed-refusals configs (noted command about) = performed-refusals configs command
 
 room-refusals : {A : Type 0} (room : Room) (r : Result A StoreFault) → Refusals r → Refusals (with_room room r)
 unfolding Refusals

@@ -4,8 +4,8 @@ use Rattle.conf_state.proofs.{Prelude.{same_text, Tree, path_of, set, delete}, D
 use Rattle.conf_state.{proofs.RunLaws.and_then-Ok, specs.{Names.good_name, BaseTexts.base_length, Touched.touched, declared.room.Room.Room}}
 use Rattle.conf_state.specs.declared.{room.Room.TheVariants.{Enough, LongRecord, Missing}, fault.StoreFault.TheVariants.StoreFull}
 use Rattle.conf_state.specs.{declared.fault.StoreFault.TheVariants.{CountFull, BadName, EmptyBatch}, Commands.{Edit, import_as, set_at}}
-use Rattle.conf_state.specs.{Commands.{delete_at, Command, single, batch, name_of}, States.{Entry, Contents, config_named, put_config}}
-use Rattle.conf_state.specs.{States.{cut_config, base_limit, count_limit}, Steps.{and_then, found, by_path, checked_tree}}
+use Rattle.conf_state.specs.{Commands.{delete_at, Command, single, batch, noted, name_of}, States.{Entry, Contents, config_named}}
+use Rattle.conf_state.specs.{States.{put_config, cut_config, base_limit, count_limit}, Steps.{and_then, found, by_path, checked_tree}}
 use Rattle.conf_state.specs.Steps.{with_checked_config, configs_after_delete, configs_after, edited, all_edited, performed, with_room}
 use Rattle.conf_state.specs.Steps.{next_state, step}
 
@@ -69,6 +69,7 @@ module _ (n : List ℕ) where
   performed-other es new (single edit) other e = edited-other es new edit other.0 e
   performed-other es new (batch []) other e = (let refused : Err EmptyBatch ≡ Ok new = e in cc)
   performed-other es new (batch (edit ∷ edits)) other e = all-other es new (edit ∷ edits) other e
+  performed-other es new (noted command about) other e = performed-other es new command other e
 
 next_state-configs : (s new : Contents) (room : Room) (configs : List Entry) → next_state s room configs ≡ Ok new → new.configs ≡ configs
 next_state-configs s new room configs e =

@@ -6,8 +6,8 @@ use Rattle.conf_state.specs.{BaseTexts.base_length, declared.fault.StoreFault.{S
 use Rattle.conf_state.specs.declared.fault.StoreFault.TheVariants.{Path, Read, TooDeep, ConfigLarge, StoreFull, RecordLong, JournalLong}
 use Rattle.conf_state.specs.declared.{fault.StoreFault.TheVariants.{CountFull, Reopen, Device, OutOfMemory}, room.Room.Room}
 use Rattle.conf_state.specs.{declared.room.Room.TheVariants.{Enough, LongRecord, Missing}, Commands.{Edit, import_as, set_at, delete_at}}
-use Rattle.conf_state.specs.{Commands.{Command, single, batch, name_of}, States.{Entry, Contents, config_named, put_config, cut_config}}
-use Rattle.{conf_state.specs.States.{base_limit, count_limit}, tree_path.specs.Paths.{set, delete}}
+use Rattle.conf_state.specs.{Commands.{Command, single, batch, noted, name_of}, States.{Entry, Contents, config_named, put_config}}
+use Rattle.{conf_state.specs.States.{cut_config, base_limit, count_limit}, tree_path.specs.Paths.{set, delete}}
 
 -- the first refusal of two calls in a row, or what the second gives
 abbrev pub and_then : {A B : Type 0} → Result A StoreFault → (A → Result B StoreFault) → Result B StoreFault
@@ -64,11 +64,12 @@ abbrev pub all_edited : List Entry → List Edit → Result (List Entry) StoreFa
 all_edited configs [] = Ok configs
 all_edited configs (edit ∷ edits) = and_then (edited configs edit) (λ next. all_edited next edits)
 
--- after a command; a batch needs an edit
+-- after a command; a batch needs an edit, and an about makes no difference
 abbrev pub performed : List Entry → Command → Result (List Entry) StoreFault
 performed configs (single edit) = edited configs edit
 performed configs (batch []) = Err EmptyBatch
 performed configs (batch (edit ∷ edits)) = all_edited configs (edit ∷ edits)
+performed configs (noted command about) = performed configs command
 
 -- ---- the state after a command
 

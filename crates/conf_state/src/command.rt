@@ -1,7 +1,8 @@
 // Commands: what a user asks a store to change.
-ghost use Rattle.std.specs.Prelude.{◌≡◌};
+ghost use Rattle.std.specs.Prelude.{◌≡◌, List};
 ghost use Rattle.conf_state.specs.Prelude.{chars};
 
+use conf_about::About;
 use yaml_config::Config;
 
 /// A change of one configuration. Each tree in it is a [`Config`]; that it keeps the limits of one is said by the
@@ -43,7 +44,7 @@ impl Edit {
     }
 }
 
-/// What a store is asked to change: a single edit, or a batch of edits.
+/// What a store is asked to change: a single edit, or a batch of edits, and maybe by whom, when and why.
 #[derive(Debug, Drop)]
 pub enum Command {
     /// The edit [`Edit::Import`].
@@ -67,34 +68,51 @@ pub enum Command {
     Batch {
         edits: Vec<Edit>,
     },
+    /// The command with these edits, and an about: who makes it, when and why. The about changes no state.
+    Noted {
+        edits: Edits,
+        about: About,
+    },
 }
 
 /// The edits of a command: a single one, or those of a batch.
-#[derive(Drop)]
-pub(crate) enum Edits {
+#[derive(Debug, Drop)]
+pub enum Edits {
     Single(Edit),
     Batch(Vec<Edit>),
 }
 
 impl Command {
-    ghost use Rattle.conf_state.specs.Commands.{command_of, command_with, is_batch};
+    ghost use Rattle.conf_state.specs.Commands.{command_of, command_with, has_about, may_be_long};
+    ghost use Rattle.conf_state.specs.States.{Entry};
+    ghost use Rattle.conf_state.specs.Steps.{performed};
 
-    /// Whether the command is a batch, also of one edit or of none.
-    pub fn is_batch(&self) -> bool
-        ensures { result ≡ is_batch (command_of self.now) }
+    /// Whether the command's record may be longer than [`RECORD_LIMIT`](crate::RECORD_LIMIT): it is a batch, also of
+    /// one edit or of none, or has an about.
+    pub fn may_be_long(&self) -> bool
+        ensures { result ≡ may_be_long (command_of self.now) }
     {
-        matches!(self, Command::Batch { .. })
+        matches!(self, Command::Batch { .. } | Command::Noted { .. })
     }
 
-    /// The command's edits.
+    /// Whether the command has an about.
+    pub fn has_about(&self) -> bool
+        ensures { result ≡ has_about (command_of self.now) }
+    {
+        matches!(self, Command::Noted { .. })
+    }
+
+    /// The command's edits. They make of all configurations what the command makes of them.
     pub(crate) fn into_edits(self) -> Edits
-        ensures { command_with result ≡ command_of self }
+        ensures { (configs : List Entry)
+            → performed configs (command_of self) ≡ performed configs (command_with result) }
     {
         match self {
             Command::Import { name, tree } => Edits::Single(Edit::Import { name, tree }),
             Command::Set { name, path, value } => Edits::Single(Edit::Set { name, path, value }),
             Command::Delete { name, path } => Edits::Single(Edit::Delete { name, path }),
             Command::Batch { edits } => Edits::Batch(edits),
+            Command::Noted { edits, .. } => edits,
         }
     }
 }
@@ -110,6 +128,20 @@ impl From<Edit> for Command {
             Edit::Import { name, tree } => Command::Import { name, tree },
             Edit::Set { name, path, value } => Command::Set { name, path, value },
             Edit::Delete { name, path } => Command::Delete { name, path },
+        }
+    }
+}
+
+impl From<Edits> for Command {
+    ghost use Rattle.conf_state.specs.Commands.{command_of, command_with};
+
+    ghost from_gives = { λ edits command. command_of command ≡ command_with edits };
+
+    /// The command that has these edits, and no about.
+    fn from(edits: Edits) -> Command {
+        match edits {
+            Edits::Single(edit) => Command::from(edit),
+            Edits::Batch(edits) => Command::Batch { edits },
         }
     }
 }

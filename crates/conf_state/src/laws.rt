@@ -1,6 +1,7 @@
 // Laws of what commands make of states.
 ghost use Rattle.std.specs.Prelude.{◌≡◌, ◌+◌, ◌++◌, List, Ok, Err, length};
-ghost use Rattle.conf_state.specs.Commands.{Command};
+ghost use Rattle.conf_state.specs.Commands.{Command, noted};
+ghost use Rattle.conf_state.specs.Prelude.{Tree};
 ghost use Rattle.conf_state.specs.States.{Contents};
 ghost use Rattle.conf_state.specs.Steps.{IsRefusal, step, after, and_then};
 ghost use Rattle.conf_state.specs.declared.fault.StoreFault.{StoreFault};
@@ -23,6 +24,13 @@ pub fn steps_are_counted_or_refused()
         → step s command room ≡ Ok new → new.count ≡ s.count + 1 }
     ensures refused { (s : Contents) (command : Command) (room : Room) (fault : StoreFault)
         → step s command room ≡ Err fault → IsRefusal fault }
+{}
+
+/// An about changes no state: where there is room for its record, a command with one makes of each state what the same
+/// command makes of it without.
+pub fn about_changes_no_state()
+    ensures { (s : Contents) (command : Command) (about : Tree) (room : Room)
+        → step s (noted command about) room ≡ step s command room }
 {}
 
 /// Commands performed in one run leave the same state as in two runs, one after the other.

@@ -1,7 +1,8 @@
 //! The state of a store: configurations by name, and what each command makes of them.
 //!
 //! [`step`] performs a [`Command`] on a [`State`], or returns a [`StoreFault`], which says why it is refused.
-//! [`replay`] does so for a state that is dropped then. A command is a single [`Edit`] or a batch of them. A [`Room`]
+//! [`replay`] does so for a state that is dropped then. A command is a single [`Edit`] or a batch of them, with or
+//! without an about ([`About`](conf_about::About)), which changes no state ([`about_changes_no_state`]). A [`Room`]
 //! says whether the journal has room for the command's record. [`good_name`] says which texts name a configuration.
 //! The texts of states and commands are those of `conf_record`.
 //!
@@ -33,9 +34,12 @@ mod state;
 mod steps;
 
 pub use base::value_length;
-pub use command::{Command, Edit};
+pub use command::{Command, Edit, Edits};
 pub use fault::StoreFault;
-pub use laws::{accepted_commands_are_counted, runs_are_joined, steps_are_counted_or_refused};
+pub use laws::{
+    about_changes_no_state, accepted_commands_are_counted, runs_are_joined,
+    steps_are_counted_or_refused,
+};
 pub use name::good_name;
 pub use origin::Origin;
 pub use part::Part;

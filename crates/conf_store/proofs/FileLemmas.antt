@@ -4,10 +4,11 @@ use Rattle.std.specs.Prelude.{List, get_or, Option, Some, None, IsSome, option_m
 use Rattle.conf_store.proofs.Prelude.{false≢true, File, empty_file, file_bytes, Folder, bytes_at, bytes_under, Image, IsImage, image_now}
 use Rattle.conf_store.proofs.Prelude.{synced_file, ReadingIsAnImage, DiskModel, LeavesOnly, TimeGoesOn, DiskFault, Store, LeavesOnly-weaker}
 use Rattle.conf_store.proofs.Prelude.{LeavesOnly-joined, LeavesOnly-now, LeavesOnly-same, HoldsStore, OnlyHeldIsLeft, file_at, IsStoreOf}
-use Rattle.conf_store.proofs.{Prelude.{LeavesStoreOr, Contents, base_bytes, several_waited}, StagedLemmas.{text-of, text-length}}
+use Rattle.conf_store.proofs.{Prelude.{LeavesStoreOr, Contents, several_waited}, StagedLemmas.{text-of, text-length}}
 use Rattle.conf_store.{proofs.OpenLemmas.found-means, specs.{Faults.open_fault, Staged.{Staged, staged_length}, Durable.IsHeld}}
-use Rattle.conf_store.specs.{Durable.{IsStaging, staged_text}, Opens.IsFound, declared.fault.OpenFault.{OpenFault, TheVariants.Device}}
-use Rattle.conf_store.specs.Files.{HasLength, FilesStay, IsNewBase, IsOldOrBase, LeavesOldOrBase}
+use Rattle.conf_store.specs.{Durable.{IsStaging, staged_text}, Opens.{IsFound, file_format}, declared.fault.OpenFault.OpenFault}
+use Rattle.conf_store.specs.{declared.fault.OpenFault.TheVariants.Device, Files.{HasLength, FilesStay, IsNewBase, IsOldOrBase}}
+use Rattle.{conf_store.specs.Files.LeavesOldOrBase, conf_record.specs.Formats.base_in}
 use Rattle.conf_disk.specs.declared.disk.DiskFault.TheVariants as disk
 
 -- ---- lengths
@@ -90,7 +91,8 @@ disk-memory disk.OutOfMemory reason is some = refl
 -- ---- a base is written
 
 new-base : (several : Bool) (store file : Option (List ℕ)) (s : Contents) (records dropped : ℕ) (size : Option ℕ)
-    → IsFound several store s records dropped size → size ≡ None → file ≡ Some (base_bytes s) → IsNewBase several store file
+    → IsFound several store s records dropped size → size ≡ None → file ≡ Some (base_in (file_format store) s)
+    → IsNewBase several store file
 new-base several store file s records dropped size found is same = record {
   state = s;
   means = found-means several store s records dropped size found;
@@ -109,7 +111,7 @@ loaded-old entry now shrinks image is =
 
 module _ {D : Type 0} (model : DiskModel D) (old mid new : D) (s : Contents) (records dropped : ℕ) (size : Option ℕ)
     (found : IsFound (several_waited (model.folder old)) (bytes_under (model.folder old) Store) s records dropped size) (is : size ≡ None)
-    (writes : LeavesStoreOr model (Some (base_bytes s)) mid new) where
+    (writes : LeavesStoreOr model (Some (base_in (file_format (bytes_under (model.folder old) Store)) s)) mid new) where
   abbrev pub note : Bool
   note = several_waited (model.folder old)
 
@@ -121,7 +123,7 @@ module _ {D : Type 0} (model : DiskModel D) (old mid new : D) (s : Contents) (re
       → LeavesOnly model old mid (IsImage (model.folder old)) → LeavesOldOrBase model old new
   base-leaves shrinks loads =
       LeavesOnly-joined model old mid new (IsImage (model.folder old))
-      (λ image. IsStoreOf (model.folder mid) image ⊎ (image.store ≡ Some (base_bytes s)))
+      (λ image. IsStoreOf (model.folder mid) image ⊎ (image.store ≡ Some (base_in (file_format file) s)))
       (λ image. IsStoreOf (model.folder old) image ⊎ IsNewBase note file image.store) loads writes
       (λ image was. inl (own-store (model.folder old) image was))
       (λ image. ⊎_elim (λ was. inl (loaded-old (model.folder old) (model.folder mid) shrinks image was))
@@ -136,4 +138,4 @@ module _ {D : Type 0} (model : DiskModel D) (old mid new : D) (s : Contents) (re
       ⊎_elim (λ was. inl (only (model.folder mid) file image holds was))
       (λ same. inr (new-base note file image.store s records dropped size found is same))
       (LeavesOnly-now model mid new (λ (i : Image). IsStoreOf (model.folder mid) i
-      ⊎ (i.store ≡ Some (base_bytes s))) counts writes image (reading (model.folder new)))
+      ⊎ (i.store ≡ Some (base_in (file_format file) s))) counts writes image (reading (model.folder new)))

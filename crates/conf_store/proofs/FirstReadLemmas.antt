@@ -1,10 +1,11 @@
 -- What is read as a record or a base of the first format, and today as the same.
 use Rattle.std.proofs.Common.{◌≡◌, ℕ, Bool, true, false, ◌&&◌, if◌then◌else◌, List, [], ◌∷◌, codes, Option, Some, None, option_map, refl}
-use Rattle.std.proofs.Common.{ap, sym, subst}
+use Rattle.std.proofs.Common.{ap, ap₂, sym, subst}
 use Rattle.conf_store.proofs.Prelude.{and_parts, same_text, Tree, text, sequence, mapping, Members, no_member, member, good_name, Edit}
 use Rattle.conf_store.proofs.Prelude.{Command, single, name_of, Contents, keys_are, values, number_from_digits, entries, base_keys}
 use Rattle.conf_store.proofs.Prelude.{import_keys, set_keys, delete_keys, has_good_path, if_good, import_of, set_of, delete_of, with_number}
-use Rattle.conf_store.proofs.{Prelude.{numbered_of, record_of, contents_of, base_of}, FirstStepLemmas.as_edit}
+use Rattle.conf_store.proofs.Prelude.{is_about, about_in, without_about, plain_from, with_about, command_from, numbered_of, record_of}
+use Rattle.conf_store.proofs.{Prelude.{contents_of, base_of, same_text-true}, FirstStepLemmas.as_edit}
 use Rattle.conf_store.specs.First as first
 
 -- a mapping with more keys than one is no batch
@@ -83,6 +84,60 @@ delete-more (text digits) (mapping s ∷ us) d n is = cc
 delete-more (sequence s) us d n is = cc
 delete-more (mapping s) us d n is = cc
 
+-- a member under another key is no about
+other-key : (key wanted : List ℕ) (t : Tree) → same_text key wanted ≡ true → same_text wanted (codes "about") ≡ false
+    → is_about key t ≡ false
+other-key key wanted t same other = rw (same_text-true key wanted same, other) refl
+
+-- the members end with no about
+record IsWhole (ms : Members) : Type 0 where
+  none : about_in ms ≡ None
+  same : without_about ms ≡ ms
+
+whole-read : (ms : Members) → IsWhole ms → command_from ms ≡ plain_from ms
+whole-read ms whole = ap₂ (λ about left. with_about about (plain_from left)) whole.none whole.same
+
+-- the members of a command of the first format are such
+import-whole : (ms : Members) → keys_are import_keys ms ≡ true → IsWhole ms
+import-whole no_member e = cc
+import-whole (member key t no_member) e = let more = (and_parts (same_text key (codes "import")) false e).1 in cc
+import-whole (member key t (member other u no_member)) e =
+    let more = (and_parts (same_text key (codes "import")) (same_text other (codes "tree") && true) e).1 in
+    let last = (and_parts (same_text other (codes "tree")) true more).0 in
+    let other-one = other-key other (codes "tree") u last refl in record { none = rw other-one refl; same = rw other-one refl }
+import-whole (member key t (member other u (member another v ms))) e =
+    let more = (and_parts (same_text key (codes "import")) (same_text other (codes "tree") && false) e).1 in
+    let none = (and_parts (same_text other (codes "tree")) false more).1 in cc
+
+delete-whole : (ms : Members) → keys_are delete_keys ms ≡ true → IsWhole ms
+delete-whole no_member e = cc
+delete-whole (member key t no_member) e = let more = (and_parts (same_text key (codes "delete")) false e).1 in cc
+delete-whole (member key t (member other u no_member)) e =
+    let more = (and_parts (same_text key (codes "delete")) (same_text other (codes "path") && true) e).1 in
+    let last = (and_parts (same_text other (codes "path")) true more).0 in
+    let other-one = other-key other (codes "path") u last refl in record { none = rw other-one refl; same = rw other-one refl }
+delete-whole (member key t (member other u (member another v ms))) e =
+    let more = (and_parts (same_text key (codes "delete")) (same_text other (codes "path") && false) e).1 in
+    let none = (and_parts (same_text other (codes "path")) false more).1 in cc
+
+set-whole : (ms : Members) → keys_are set_keys ms ≡ true → IsWhole ms
+set-whole no_member e = cc
+set-whole (member key t no_member) e = let more = (and_parts (same_text key (codes "set")) false e).1 in cc
+set-whole (member key t (member other u no_member)) e =
+    let more = (and_parts (same_text key (codes "set")) (same_text other (codes "path") && false) e).1 in
+    let none = (and_parts (same_text other (codes "path")) false more).1 in cc
+set-whole (member key t (member other u (member another v no_member))) e =
+    let more = (and_parts (same_text key (codes "set"))
+    (same_text other (codes "path") && (same_text another (codes "value") && true)) e).1 in
+    let most = (and_parts (same_text other (codes "path")) (same_text another (codes "value") && true) more).1 in
+    let last = (and_parts (same_text another (codes "value")) true most).0 in
+    let other-one = other-key another (codes "value") v last refl in record { none = rw other-one refl; same = rw other-one refl }
+set-whole (member key t (member other u (member another v (member further w ms)))) e =
+    let more = (and_parts (same_text key (codes "set"))
+    (same_text other (codes "path") && (same_text another (codes "value") && false)) e).1 in
+    let most = (and_parts (same_text other (codes "path")) (same_text another (codes "value") && false) more).1 in
+    let none = (and_parts (same_text another (codes "value")) false most).1 in cc
+
 pub record-more : (t : Tree) (d : first.Command) (n : ℕ) → first.record_of t ≡ Some (d, n) → record_of t ≡ Some (single (as_edit d), n)
 unfolding record_of first.record_of
 record-more (text value) d n is = cc
@@ -100,15 +155,15 @@ record-more (mapping (member key t ms)) d n is =
     by true at true im s se x de e =
         let m = import-more t (values ms) d n e in
         subst (λ u. numbered_of key u ms ≡ Some (single (as_edit d), n)) (sym m.1)
-        (rw (at, not_batch (codes "import") (codes "tree") [] ms im, im) m.2)
+        (rw (at, whole-read ms (import-whole ms im), not_batch (codes "import") (codes "tree") [] ms im, im) m.2)
     by true at false im true se x de e =
         let m = set-more t (values ms) d n e in
         subst (λ u. numbered_of key u ms ≡ Some (single (as_edit d), n)) (sym m.1)
-        (rw (at, not_batch (codes "set") (codes "path") (codes "value" ∷ []) ms se, im, se) m.2)
+        (rw (at, whole-read ms (set-whole ms se), not_batch (codes "set") (codes "path") (codes "value" ∷ []) ms se, im, se) m.2)
     by true at false im false se true de e =
         let m = delete-more t (values ms) d n e in
         subst (λ u. numbered_of key u ms ≡ Some (single (as_edit d), n)) (sym m.1)
-        (rw (at, not_batch (codes "delete") (codes "path") [] ms de, im, se, de) m.2)
+        (rw (at, whole-read ms (delete-whole ms de), not_batch (codes "delete") (codes "path") [] ms de, im, se, de) m.2)
     by true at false im false se false de e = cc
 
 contents-more : (ts : List Tree) (s : Contents) → first.contents_of ts ≡ Some s → contents_of ts ≡ Some s

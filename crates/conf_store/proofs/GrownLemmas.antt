@@ -4,6 +4,7 @@ use Rattle.std.specs.Prelude.{ℕ, ◌-◌, Bool, List, [], ◌++◌, length, ta
 use Rattle.conf_store.proofs.Prelude.{append-nil, length-take-le, All-head, ClosesOnce, PieceBetween, IsNextClosing, StartsLine, Folder}
 use Rattle.conf_store.proofs.Prelude.{Tells, bytes_under, Missing, Next, file_with_bytes, store_limit, Contents, IsBase}
 use Rattle.conf_store.specs.{Accepting.IsBaseOf, Durable.staged_text, Files.HasLength, Opens.IsFound, Staged.Staged, Staged.with_more}
+use Rattle.conf_record.specs.declared.format.Format.{Format}
 use Rattle.conf_store.specs.Grown.{IsGrown, HasGrown, StartsWithBase, FileStartsWithBase, StagedStartsWithBase, FoundBase}
 use Rattle.conf_store.proofs.{PieceLemmas.closes-within, RecoveryLemmas.first-piece, StagedLemmas.text-more, StagedLemmas.text-same}
 
@@ -23,7 +24,7 @@ first-base piece_between bytes place s starts next is = record {
 }
 
 -- a base and nothing else
-pub base-alone : (s : Contents) (bytes : List ℕ) → IsBaseOf s bytes → StartsWithBase bytes (length bytes)
+pub base-alone : {format : Format} (s : Contents) (bytes : List ℕ) → IsBaseOf format s bytes → StartsWithBase bytes (length bytes)
 base-alone s bytes base = record {
   base = bytes;
   others = [];
@@ -63,6 +64,12 @@ pub file-grown : (file : Option (List ℕ)) (size base : ℕ) → FileStartsWith
 file-grown None size base starts long = absurd starts
 file-grown (Some bytes) size base starts long = subst (λ n. IsGrown bytes (n - base)) long (starts-grown bytes base starts)
 
+-- a base and a record
+pub base-and : {format : Format} (s : Contents) (base bytes more : List ℕ) → IsBaseOf format s base → bytes ≡ base ++ more
+    → StartsWithBase bytes (length base)
+base-and s base bytes more is joined =
+    subst (λ b. StartsWithBase b (length base)) (sym joined) (starts-more base more (length base) (base-alone s base is))
+
 -- more bytes at its end leave the base
 pub file-more : (file : Option (List ℕ)) (more : List ℕ) (base : ℕ) → FileStartsWithBase file base
     → FileStartsWithBase (file_with_bytes file more) base
@@ -78,7 +85,8 @@ found-base several (Some bytes) s records dropped n size base found is starts = 
 -- ---- the new file of a checkpoint
 
 -- one that begins
-pub staged-begins : (folder : Folder) (s : Contents) (bytes : List ℕ) → IsBaseOf s bytes → bytes_under folder Next ≡ Some []
+pub staged-begins : {format : Format} (folder : Folder) (s : Contents) (bytes : List ℕ) → IsBaseOf format s bytes
+    → bytes_under folder Next ≡ Some []
     → StagedStartsWithBase folder (Some (record { written = 0; left = bytes })) (length bytes)
 staged-begins folder s bytes base reads =
     subst (λ (o : Option (List ℕ)). FileStartsWithBase o (length bytes))

@@ -10,7 +10,7 @@ use Rattle.conf_store.proofs.{Prelude.{record_pieces, records_bytes, record_byte
 use Rattle.conf_store.proofs.MeaningLemmas.{records-joined, after-joined, after-done, pieces-mean-more, pieces-mean-one, one-list, ok-same}
 use Rattle.conf_store.specs.{Meaning.{AreRecords, PiecesMean, FileMeans, ImageMeans}, Durable.{IsWholeStore, IsJournal, HasFlushed, IsHeld}}
 use Rattle.conf_store.specs.Durable.{IsDurable, AllImagesMean, AfterPrefix, AllImagesAfterPrefix, HolesMean, IsNoted, MeansPrefix}
-use Rattle.conf_store.specs.Durable.{OneFlushed, NothingWaits}
+use Rattle.conf_store.specs.{Changing.{flushed_with, waiting_with}, Durable.{OneFlushed, NothingWaits}}
 
 -- ---- what a crash leaves
 
@@ -172,6 +172,14 @@ prefix-last several flushed end since command store leads some = elim (cases_lt 
       take-append-le some.count since (command ∷ []) (omega (arith, few)) in
       inl (record { count = some.count; state = some.state; leads = ap (after flushed) (sym fewer) ∙ some.leads; means = some.means })
 ]
+
+-- the same of a command whose record may renew the file
+pub prefix-with : (renewed several : Bool) (flushed end : Contents) (since : List Command) (command : Command) (store : Option (List ℕ))
+    → after (flushed_with renewed flushed end) (waiting_with renewed since command) ≡ Ok end
+    → AfterPrefix several (flushed_with renewed flushed end) (waiting_with renewed since command) store
+    → AfterPrefix several flushed since store ⊎ FileMeans several store end
+prefix-with false several flushed end since command store leads some = prefix-last several flushed end since command store leads some
+prefix-with true several flushed end since command store leads some = inr (after-nothing several end store some)
 
 pub prefix-more : (several : Bool) (flushed s end : Contents) (since : List Command) (command : Command) (store : Option (List ℕ))
     → after flushed since ≡ Ok s → step s command Enough ≡ Ok end → AfterPrefix several flushed (since ++ command ∷ []) store

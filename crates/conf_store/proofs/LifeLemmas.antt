@@ -2,10 +2,11 @@
 use Rattle.std.{proofs.Common.{◌≡◌, inl, inr, refl, sym, ◌∙◌, ap, subst}, specs.Prelude.{ℕ, zero, suc, true, false, ◌||◌, Bool, List, []}}
 use Rattle.std.specs.Prelude.{◌∷◌, ◌++◌, take, if◌then◌else◌, Result, Ok, is_ok}
 use Rattle.conf_store.{proofs.Prelude.{AllByRecursion, Command, Contents, after, and_then, after-append, StoreFault}, specs.Lives.Call}
-use Rattle.conf_store.specs.Lives.{submitting, performing, flushing, beginning, slicing, checkpointing, Answer, ok, more, refused, device}
-use Rattle.conf_store.specs.Lives.{reopen, crashed, Event, World, opened, world_state, with_submitted, all_flushed, MayRemain, Flushes}
-use Rattle.conf_store.specs.Lives.{Succeeds, Continues, MayRemainDuring, MayEndBy, MayEnd, state_or, after_call, flushes_all, acknowledges}
-use Rattle.conf_store.specs.Lives.{flushed_by, accepted_one, accepted_in, accepted_by, accepted_commands, Keeps, all_commands, LivesHold}
+use Rattle.conf_store.specs.Lives.{submitting, performing, renewing, flushing, beginning, slicing, checkpointing, Answer, ok, more, refused}
+use Rattle.conf_store.specs.Lives.{device, reopen, crashed, Event, World, opened, world_state, with_submitted, all_flushed, MayRemain}
+use Rattle.conf_store.specs.Lives.{Flushes, Succeeds, Continues, MayRemainDuring, MayEndBy, MayEnd, state_or, after_call, flushes_all}
+use Rattle.conf_store.specs.Lives.{acknowledges, flushed_by, accepted_one, accepted_in, accepted_by, accepted_commands, Keeps, all_commands}
+use Rattle.conf_store.specs.Lives.{LivesHold}
 
 after-joined : (s mid end : Contents) (first second : List Command) → after s first ≡ Ok mid
     → after mid second ≡ Ok end → after s (first ++ second) ≡ Ok end
@@ -61,17 +62,17 @@ accepted-one : (w : World) (command : Command) (acknowledged : Bool) (s : Conten
     → world_state (with_submitted w command) ≡ Ok s → accepted_one w command acknowledged ≡ (command, acknowledged) ∷ []
 accepted-one w command acknowledged s e = ap (λ (r : Result Contents StoreFault). if is_ok r then (command, acknowledged) ∷ [] else []) e
 
+none-one : (w : World) (command : Command) → NoneAcknowledged (accepted_one w command false)
+none-one w command = by (is_ok (world_state (with_submitted w command)))
+  where
+    by : (is : Bool) → NoneAcknowledged (if is then (command, false) ∷ [] else [])
+    by true = (refl, tt)
+    by false = tt
+
 none-in : (w : World) (call : Call) → NoneAcknowledged (accepted_in w call false)
-none-in w (submitting command) = by (is_ok (world_state (with_submitted w command)))
-  where
-    by : (is : Bool) → NoneAcknowledged (if is then (command, false) ∷ [] else [])
-    by true = (refl, tt)
-    by false = tt
-none-in w (performing command) = by (is_ok (world_state (with_submitted w command)))
-  where
-    by : (is : Bool) → NoneAcknowledged (if is then (command, false) ∷ [] else [])
-    by true = (refl, tt)
-    by false = tt
+none-in w (submitting command) = none-one w command
+none-in w (performing command) = none-one w command
+none-in w (renewing command) = none-one w command
 none-in w flushing = tt
 none-in w beginning = tt
 none-in w slicing = tt
@@ -149,6 +150,12 @@ remains-in w end (performing command) (inr next) =
     (let kept = remains-all (with_submitted w command) end [] tt
     (flushed-leads (with_submitted w command) next.0 end w.running flushes next.2) in
     record { kept = kept.kept; keeps = kept.keeps; leads = kept.leads })
+remains-in w end (renewing command) (inr next) =
+    let flushes = next.1 in
+    one-submitted w next.0 end command flushes.0 flushes.1
+    (let kept = remains-all (with_submitted w command) end [] tt
+    (flushed-leads (with_submitted w command) next.0 end false flushes next.2) in
+    record { kept = kept.kept; keeps = kept.keeps; leads = kept.leads })
 remains-in w end flushing (inr next) = remains-all w end [] tt (flushed-leads w next.0 end w.running next.1 next.2)
 remains-in w end checkpointing (inr next) = remains-all w end [] tt (flushed-leads w next.0 end false next.1 next.2)
 remains-in w end slicing (inr next) = remains-all w end [] tt (flushed-leads w next.0 end false next.1.1 next.2)
@@ -203,6 +210,10 @@ after-ok w next end (performing command) flag later done kept =
     with-accepted w end command true done.0 _ done.1
     (same-flushed w (with_submitted w command) end _ refl
     (after-flush (with_submitted w command) next end w.running true flag later done kept))
+after-ok w next end (renewing command) flag later done kept =
+    with-accepted w end command true done.0 _ done.1
+    (same-flushed w (with_submitted w command) end _ refl
+    (after-flush (with_submitted w command) next end false true flag later done kept))
 after-ok w next end flushing flag later done kept = after-flush w next end w.running true flag later done kept
 after-ok w next end slicing flag later done kept = after-flush w next end false true flag later done.1 kept
 after-ok w next end checkpointing flag later done kept = after-flush w next end false true flag later done kept
@@ -217,6 +228,7 @@ after-more : (w next : World) (end : Contents) (call : Call) (flag : Bool) (late
 after-more w next end slicing flag later goes kept = subst (λ (n : World). Kept n end (waiting n.since flag ++ later n)) goes.1 kept
 after-more w next end (submitting command) flag later goes kept = absurd goes
 after-more w next end (performing command) flag later goes kept = absurd goes
+after-more w next end (renewing command) flag later goes kept = absurd goes
 after-more w next end flushing flag later goes kept = absurd goes
 after-more w next end beginning flag later goes kept = absurd goes
 after-more w next end checkpointing flag later goes kept = absurd goes

@@ -1,12 +1,14 @@
 -- What opening finds, and that it changes no meaning.
-use Rattle.std.{proofs.Common.{◌≡◌, inl, inr, ⊎_elim, refl, sym, ◌∙◌, subst, arith, ◌≤◌}, specs.Prelude.{ℕ, zero, suc, Bool, List, Option}}
-use Rattle.std.specs.{Prelude.{Some, None, option_map, Vec}, declared.alloc.Global.Global}
+use Rattle.std.{proofs.Common.{◌≡◌, inl, inr, ⊎_elim, refl, sym, ◌∙◌, ap, subst, arith, ◌≤◌, append-nil, []}, specs.Prelude.{ℕ, zero, suc}}
+use Rattle.std.specs.{Prelude.{Bool, List, Option, Some, None, option_map, Vec}, declared.alloc.Global.Global}
 use Rattle.conf_store.proofs.Prelude.{Folder, Tells, bytes_under, Image, IsImage, image_now, synced_file, ReadingIsAnImage, Bytes, TooLong}
-use Rattle.conf_store.proofs.Prelude.{Store, HoldsStore, IsStoreOf, several_waited, store_limit, Contents, base_bytes, cases_lt, DiskFault}
+use Rattle.conf_store.proofs.Prelude.{Missing, Store, HoldsStore, IsStoreOf, several_waited, store_limit, Contents, cases_lt, DiskFault}
 use Rattle.conf_store.{proofs.RecoveryLemmas.{recovers-means, recovers-whole}, specs.{Faults.open_fault, Calls.HasFailed}}
 use Rattle.conf_store.specs.{Durable.IsDurable, declared.fault.OpenFault.{OpenFault, TheVariants.{NotAStore, Damaged, Device, OutOfMemory}}}
 use Rattle.conf_store.specs.{Meaning.{FileMeans, ImageMeans, MeanTheSame}, Opens.{FileRecoversTo, HasNoBase, RefusesBytes, IsFound}}
-use Rattle.conf_store.specs.Opens.{RefusesOpening, RefusalMeans, OneMeaning, RefusedMeansNothing, ReadsAfterOpening, MeantAtEntry}
+use Rattle.conf_store.specs.Opens.{file_format, RefusesOpening, RefusalMeans, OneMeaning, RefusedMeansNothing, ReadsAfterOpening}
+use Rattle.{conf_store.specs.Opens.MeantAtEntry, conf_record.specs.{declared.format.Format.{Format, TheVariants.Second}, Formats.base_in}}
+use Rattle.conf_record.specs.Formats.{format_of, FormatsAreTold}
 use Rattle.conf_disk.specs.declared.disk.DiskFault.TheVariants as disk
 
 -- ---- what is found
@@ -127,10 +129,22 @@ reads-stays several (Some bytes) now s records (suc dropped) n size found is sam
 
 -- a store that is put in place of the old one reads as the base of the state that was found
 pub reads-staged : (several : Bool) (store now : Option (List ℕ)) (s : Contents) (records dropped : ℕ) (size : Option ℕ)
-    → IsFound several store s records dropped size → size ≡ None → now ≡ Some (base_bytes s) → ReadsAfterOpening store s dropped now
+    → IsFound several store s records dropped size → size ≡ None → now ≡ Some (base_in (file_format store) s)
+    → ReadsAfterOpening store s dropped now
 reads-staged several None now s records dropped size found is same = same
 reads-staged several (Some bytes) now s records (suc dropped) size found is same = same
 reads-staged several (Some bytes) now s records zero size found is same = absurd (⊎_elim (λ e. cc e) (λ some. some refl) (found.staged is))
+
+-- a new base has the format in which it was written
+pub base-format : FormatsAreTold → (format : Format) (s : Contents) (now : Option (List ℕ)) → now ≡ Some (base_in format s)
+    → format ≡ file_format now
+base-format told format s now is =
+    sym (ap file_format is ∙ ap format_of (sym (append-nil (base_in format s))) ∙ told format s [])
+
+-- a missing file has the format of a new one
+pub missing-format : (store : Option (List ℕ)) → Tells store store_limit Missing → Second ≡ file_format store
+missing-format None tells = refl
+missing-format (Some bytes) tells = absurd tells
 
 -- ---- faults of the disk
 

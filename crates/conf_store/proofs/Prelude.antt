@@ -12,12 +12,12 @@ pub use Rattle.conf_record.specs.{Documents.RecordsAreRead, Records.{command_mem
 unfoldable pub use Rattle.conf_record.specs.Records.{record_bytes, record_text}
 pub use Rattle.conf_record.specs.RecordsRead.{keys_are, values, number_from_digits, entries, base_keys, import_keys, set_keys, delete_keys}
 pub use Rattle.conf_record.specs.RecordsRead.{has_good_path, if_good, import_of, set_of, delete_of, with_number, numbered_of, contents_of}
-pub use Rattle.conf_record.specs.RecordsRead.{IsCommand}
+pub use Rattle.conf_record.specs.RecordsRead.{IsCommand, is_about, about_in, without_about, plain_from, with_about, command_from}
 unfoldable pub use Rattle.conf_record.specs.RecordsRead.{record_of, base_of}
 pub use Rattle.conf_state.{proofs.RunLaws.{and_then-Ok, after-count, after-append}, specs.BaseTexts.{members, entry_lines}}
 unfoldable pub use Rattle.conf_state.specs.BaseTexts.{base_bytes, base_length, base_text}
-pub use Rattle.conf_state.specs.Commands.{Edit, Command, single, name_of, import_as, set_at, delete_at, edit_of, text_of, batch, is_batch}
-pub use Rattle.conf_state.specs.{Commands.command_of, EntryTexts.{lines_if_there, entry_named}, Limits.{AreConfigs, IsState}}
+pub use Rattle.conf_state.specs.Commands.{Edit, Command, single, noted, name_of, import_as, set_at, delete_at, edit_of, text_of, batch}
+pub use Rattle.conf_state.specs.{Commands.{may_be_long, command_of}, EntryTexts.{lines_if_there, entry_named}, Limits.{AreConfigs, IsState}}
 pub use Rattle.conf_state.specs.{Names.good_name, States.{Contents, Entry, config_named, put_config, base_limit, count_limit, has_name}}
 pub use Rattle.conf_state.specs.{States.{names_differ, names_of}, Steps.{and_then, found, by_path, checked_tree, with_checked_config}}
 pub use Rattle.conf_state.specs.Steps.{configs_after_delete, configs_after, edited, next_state, step, after, with_room, IsRefusal}

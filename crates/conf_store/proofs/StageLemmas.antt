@@ -3,13 +3,13 @@ use Rattle.std.proofs.Common.{◌≡◌, ◌≤◌, ◌⊎◌, inl, inr, ℕ, �
 use Rattle.std.proofs.Common.{None, Ok, IsSome, is_some, codes, decimal, encode_utf8_all, refl, sym, ap, ◌∙◌, subst, append_assoc}
 use Rattle.std.proofs.Common.{append-nil, length-append, arith}
 use Rattle.conf_store.proofs.Prelude.{false≢true, length-take-le, take-append-le, encodes-append, same_text, text, mapping, value_at}
-use Rattle.conf_store.proofs.Prelude.{members_after, same_text-true, same_text-self, byte_len-encoded, members, base_text, base_bytes}
-use Rattle.conf_store.proofs.Prelude.{base_length, entry_lines, Command, IsState, lines_if_there, Entry, Contents, config_named, names_of}
-use Rattle.conf_store.proofs.{Prelude.{has_name, names_differ, step, touched, Room}, PendingLemmas.{AreWithin-more, differ-names, no-name}}
-use Rattle.conf_store.{proofs.PendingLemmas.texts-step, specs.{Cuttings.Cut, Stagings.{left_of, staged_view, HasRoom}, Parts.Part}}
-use Rattle.conf_store.specs.{Parts.{parts_named, texts, joined, AreWithin, AreMade}, Staged.{Staged, staged_length, with_more, slice_limit}}
-use Rattle.{conf_store.specs.Staged.{next_slice, after_slice}, conf_state.proofs.LineLemmas.{line, base_lines}}
-use Rattle.conf_record.specs.BaseStart.{base_start, configs_start}
+use Rattle.conf_store.proofs.Prelude.{members_after, same_text-true, same_text-self, byte_len-encoded, members, base_length, entry_lines}
+use Rattle.conf_store.proofs.Prelude.{Command, IsState, lines_if_there, Entry, Contents, config_named, names_of, has_name, names_differ}
+use Rattle.conf_store.proofs.{Prelude.{step, touched, Room}, PendingLemmas.{AreWithin-more, differ-names, no-name, texts-step}}
+use Rattle.conf_store.specs.{Cuttings.Cut, Stagings.{left_of, staged_view, HasRoom}, Parts.{Part, parts_named, texts, joined, AreWithin}}
+use Rattle.conf_store.specs.{Parts.AreMade, Staged.{Staged, staged_length, with_more, slice_limit, next_slice, after_slice}}
+use Rattle.{conf_state.proofs.LineLemmas.line, conf_record.{proofs.FormatLemmas.{lines_in, bytes_in, length_in}, specs.Formats.format_line}}
+use Rattle.conf_record.specs.{Formats.{base_text_in, base_in}, declared.format.Format.Format, BaseStart.{base_start, configs_start}}
 
 -- ---- a base, part by part
 
@@ -53,50 +53,51 @@ configs-split : (es : List Entry) → configs_start es ++ members_after (members
 configs-split [] = refl
 configs-split (e ∷ es) = refl
 
-text-split : (s : Contents) → base_start s ++ members_after (members s.configs) 2 ++ codes "...\n" ≡ base_text s
-unfolding base_text
-text-split s =
+text-split : (format : Format) (s : Contents) → base_start format s ++ members_after (members s.configs) 2 ++ codes "...\n"
+    ≡ base_text_in format s
+text-split format s =
     let number = line (codes "at") (text (decimal s.count)) in
-    let before = codes "---\n" ++ codes "store: confstore-2\n" ++ number ++ codes "configs:" in
+    let before = codes "---\n" ++ format_line format ++ number ++ codes "configs:" in
     ap (λ cs. cs ++ codes "...\n") (append_assoc before (configs_start s.configs)
     (members_after (members s.configs) 2) ∙ ap (λ cs. before ++ cs) (configs-split s.configs))
-    ∙ base_lines number (value_at (mapping (members s.configs)) 0)
+    ∙ lines_in format s
 
 -- what is left of a checkpoint that begins
-pub left-begins : (s : Contents) → names_differ (names_of s.configs) ≡ true → (start since : List ℕ) (ps : List Part)
-    → start ≡ encode_utf8_all (base_start s)
-    → ps ≡ parts_named (names_of s.configs) → since ≡ codes "...\n" → start ++ joined (texts s.configs ps) ++ since ≡ base_bytes s
-unfolding base_bytes lib.Utf8.encode
-left-begins s d start since ps is_start are is_since =
+pub left-begins : (format : Format) (s : Contents) → names_differ (names_of s.configs) ≡ true → (start since : List ℕ) (ps : List Part)
+    → start ≡ encode_utf8_all (base_start format s)
+    → ps ≡ parts_named (names_of s.configs) → since ≡ codes "...\n" → start ++ joined (texts s.configs ps) ++ since ≡ base_in format s
+unfolding lib.Utf8.encode
+left-begins format s d start since ps is_start are is_since =
     let entries = members_after (members s.configs) 2 in
     ap (λ bs. bs ++ joined (texts s.configs ps) ++ since) is_start
-    ∙ ap (λ qs. encode_utf8_all (base_start s) ++ joined (texts s.configs qs) ++ since) are
-    ∙ ap (λ bs. encode_utf8_all (base_start s) ++ bs ++ since) (entries-joined s.configs s.configs (all-named s.configs d))
-    ∙ ap (λ bs. encode_utf8_all (base_start s) ++ encode_utf8_all entries ++ bs) is_since
-    ∙ sym (encodes-append (base_start s ++ entries) (codes "...\n")
-    ∙ ap (λ bs. bs ++ codes "...\n") (encodes-append (base_start s) entries))
-    ∙ ap encode_utf8_all (text-split s)
+    ∙ ap (λ qs. encode_utf8_all (base_start format s) ++ joined (texts s.configs qs) ++ since) are
+    ∙ ap (λ bs. encode_utf8_all (base_start format s) ++ bs ++ since) (entries-joined s.configs s.configs (all-named s.configs d))
+    ∙ ap (λ bs. encode_utf8_all (base_start format s) ++ encode_utf8_all entries ++ bs) is_since
+    ∙ sym (encodes-append (base_start format s ++ entries) (codes "...\n")
+    ∙ ap (λ bs. bs ++ codes "...\n") (encodes-append (base_start format s) entries))
+    ∙ ap encode_utf8_all (text-split format s)
+    ∙ sym (bytes_in format s)
 
-pub begin-left : (s : Contents) → IsState s → (cut : Cut) (ps : List Part) (since : List ℕ) → cut.slice ≡ []
-    → cut.rest ≡ encode_utf8_all (base_start s)
-    → ps ≡ parts_named (names_of s.configs) → since ≡ codes "...\n" → left_of s.configs cut ps since ≡ base_bytes s
-begin-left s kept cut ps since none is_start are is_since =
+pub begin-left : (format : Format) (s : Contents) → IsState s → (cut : Cut) (ps : List Part) (since : List ℕ) → cut.slice ≡ []
+    → cut.rest ≡ encode_utf8_all (base_start format s)
+    → ps ≡ parts_named (names_of s.configs) → since ≡ codes "...\n" → left_of s.configs cut ps since ≡ base_in format s
+begin-left format s kept cut ps since none is_start are is_since =
     ap (λ bs. bs ++ cut.rest ++ joined (texts s.configs ps) ++ since) none
-    ∙ left-begins s kept.distinct cut.rest since ps is_start are is_since
+    ∙ left-begins format s kept.distinct cut.rest since ps is_start are is_since
 
 -- its length
-pub base-size : (s : Contents) → base_length s ≡ length (base_bytes s)
-unfolding base_length base_bytes
-base-size s = byte_len-encoded (base_text s)
+pub base-size : (format : Format) (s : Contents) → base_length s ≡ length (base_in format s)
+base-size format s =
+    sym (length_in format s) ∙ byte_len-encoded (base_text_in format s) ∙ ap length (sym (bytes_in format s))
 
-pub ready-begins : (s : Contents) → IsState s → (cut : Cut) (ps : List Part) (since : List ℕ) (total longest : ℕ)
-    → cut.slice ≡ [] → cut.rest ≡ encode_utf8_all (base_start s)
+pub ready-begins : (format : Format) (s : Contents) → IsState s → (cut : Cut) (ps : List Part) (since : List ℕ) (total longest : ℕ)
+    → cut.slice ≡ [] → cut.rest ≡ encode_utf8_all (base_start format s)
     → ps ≡ parts_named (names_of s.configs) → since ≡ codes "...\n" → total ≡ base_length s
     → slice_limit ≤ cut.slice_room → longest ≤ cut.part_room
     → AreWithin longest (texts s.configs (parts_named (names_of s.configs))) → HasRoom s.configs 0 total cut ps since
-ready-begins s kept cut ps since total longest none is_start are is_since is room wider within = record {
-  whole = (let size = base-size s in let left =
-      ap length (begin-left s kept cut ps since none is_start are is_since) in omega (arith, size, left, is));
+ready-begins format s kept cut ps since total longest none is_start are is_since is room wider within = record {
+  whole = (let size = base-size format s in let left =
+      ap length (begin-left format s kept cut ps since none is_start are is_since) in omega (arith, size, left, is));
   room = room;
   within = subst (λ qs. AreWithin cut.part_room (texts s.configs qs)) (sym are)
       (AreWithin-more longest cut.part_room wider (texts s.configs (parts_named (names_of s.configs))) within);

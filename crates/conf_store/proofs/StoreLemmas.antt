@@ -1,19 +1,21 @@
 -- What an open store keeps on its disk, and what a crash during its calls leaves.
-use Rattle.std.{proofs.Common.{◌≡◌, ◌⊎◌, inl, ⊎_elim, refl, sym, ◌∙◌, ap, subst, arith, ◌≤◌, length-append}, specs.Prelude.{ℕ, true, false}}
-use Rattle.std.specs.Prelude.{◌+◌, ◌&&◌, min, Bool, nat_le, nat_lt, if◌then◌else◌, List, [], ◌∷◌, ◌++◌, length, Some, option_map, Ok, Err}
+use Rattle.std.{proofs.Common.{◌≡◌, ◌⊎◌, inl, inr, ⊎_elim, refl, sym, ◌∙◌, ap, subst, arith, ◌≤◌, length-append}, specs.Prelude.{ℕ, true}}
+use Rattle.std.specs.Prelude.{false, ◌+◌, ◌&&◌, min, Bool, nat_le, nat_lt, if◌then◌else◌, List, [], ◌∷◌, ◌++◌, length, Some, option_map, Ok}
+use Rattle.std.specs.Prelude.{Err}
 use Rattle.conf_store.proofs.Prelude.{false≢true, ClosesOnce, byte_len, byte_len-encoded, Folder, with_pending, Image, IsImage, synced_file}
 use Rattle.conf_store.proofs.Prelude.{DiskModel, LeavesOnly, greatest, LeavesOnly-start, LeavesOnly-weaker, HoldsStore, HeldIsNoted}
-use Rattle.conf_store.proofs.Prelude.{SyncedIsLeft, IsStoreOf, store_limit, Command, single, batch, is_batch, Contents, count_limit}
-use Rattle.conf_store.proofs.Prelude.{IsState, step, after, Room, Enough, LongRecord, IsRecord, IsBase, BasesAreRead, IsLeftNoted}
-use Rattle.conf_store.proofs.Prelude.{several_waited, several_after, file_at, BasesClose, BasesFit, RecordsAreRead, RecordsClose}
-use Rattle.conf_store.proofs.Prelude.{base_bytes, FitsRecord, record_text, record_bytes, IsCommand, nat_tests, StoreFault}
-use Rattle.conf_store.proofs.{MeaningLemmas.{whole-means, base-whole, ok-same}, StagedLemmas.means-waiting, StepLemmas.StepsNeedRoom}
-use Rattle.conf_store.proofs.{StepLemmas.{StepsCount, accepted-anyway, accepted-number}, HeldLemmas.{held-journal, held-images}}
-use Rattle.conf_store.proofs.HeldLemmas.{held-stores, journal-more, journal-synced, none-noted, appended-noted, appended-left}
-use Rattle.conf_store.specs.{Accepting.{IsAccepted, IsBaseOf, IsMeasured}, Meaning.{FileMeans, ImageMeans}, Calls.next_number}
-use Rattle.conf_store.specs.{Calls.{next_record, room_for, outcome}, Durable.{IsJournal, HasFlushed, HolesMean, IsHeld, IsDurable}}
-use Rattle.{conf_store.specs.Durable.{AllImagesMean, MeansPrefix}, conf_state.specs.Rooms.{record_limit, room_of}}
-use Rattle.conf_state.specs.declared.room.Room.TheVariants.{Missing}
+use Rattle.conf_store.proofs.Prelude.{SyncedIsLeft, IsStoreOf, store_limit, Command, single, batch, noted, may_be_long, Contents}
+use Rattle.conf_store.proofs.Prelude.{count_limit, IsState, step, after, Room, Enough, LongRecord, IsRecord, IsBase, BasesAreRead}
+use Rattle.conf_store.proofs.Prelude.{IsLeftNoted, several_waited, several_after, file_at, BasesClose, BasesFit, RecordsAreRead}
+use Rattle.conf_store.proofs.Prelude.{RecordsClose, FitsRecord, record_text, record_bytes, IsCommand, nat_tests, StoreFault}
+use Rattle.conf_store.proofs.{MeaningLemmas.{whole-means, base-whole, record-whole, ok-same}, StagedLemmas.means-waiting}
+use Rattle.conf_store.proofs.{StepLemmas.{StepsNeedRoom, StepsCount, accepted-anyway, accepted-number}, HeldLemmas.held-journal}
+use Rattle.conf_store.proofs.HeldLemmas.{held-images, held-stores, journal-more, journal-synced, none-noted, appended-noted, appended-left}
+use Rattle.conf_store.specs.{Accepting.{IsRenewed, IsAccepted, IsBaseOf, IsMeasured}, Calls.{renewed_file, next_number, next_record}}
+use Rattle.conf_store.specs.{Calls.{room_for, outcome}, Meaning.{FileMeans, ImageMeans}, Durable.{IsJournal, HasFlushed, HolesMean, IsHeld}}
+use Rattle.{conf_store.specs.Durable.{IsDurable, IsWholeStore, AllImagesMean, MeansPrefix}, conf_record.specs.Formats.base_in}
+use Rattle.{conf_record.specs.declared.format.Format.{Format, TheVariants.Third}, conf_state.specs.{Commands.has_about, Rooms.record_limit}}
+use Rattle.conf_state.specs.{Rooms.room_of, declared.room.Room.TheVariants.Missing}
 
 -- a durable store's images mean its state
 pub durable-means : SyncedIsLeft → (folder : Folder) (s : Contents) (size : ℕ) → IsDurable folder s size → AllImagesMean folder s
@@ -25,24 +27,26 @@ durable-means left folder s size durable image is =
 -- ---- a base as the new file
 
 -- the bytes of a state's base are a base of it
-pub base-of : BasesAreRead → BasesClose → BasesFit → (s : Contents) (bytes : List ℕ) → IsState s → bytes ≡ base_bytes s → IsBaseOf s bytes
-base-of are_read close fit s bytes kept is =
-    let fits = fit s kept in
+pub base-of : BasesAreRead → BasesClose → BasesFit → (format : Format) (s : Contents) (bytes : List ℕ) → IsState s
+    → bytes ≡ base_in format s → IsBaseOf format s bytes
+base-of are_read close fit format s bytes kept is =
+    let fits = fit format s kept in
     record {
       is = is;
-      closes = subst ClosesOnce (sym is) (close s);
-      reads = subst (λ b. IsBase b s) (sym is) (are_read s kept);
+      closes = subst ClosesOnce (sym is) (close format s);
+      reads = subst (λ b. IsBase b s) (sym is) (are_read format s kept);
       short = omega (arith, fits, ap length is);
     }
 
 -- a folder that holds just a state's base holds that state durably
-pub base-durable : (folder : Folder) (s : Contents) (bytes : List ℕ) → IsBaseOf s bytes
+pub base-durable : {format : Format} (folder : Folder) (s : Contents) (bytes : List ℕ) → IsBaseOf format s bytes
     → HoldsStore folder (Some (synced_file bytes)) → IsDurable folder s (length bytes)
 base-durable folder s bytes base holds =
     record { bytes = bytes; holds = holds; whole = base-whole bytes s base.closes base.reads; long = refl; short = base.short }
 
 -- a file of a state's base means that state
-pub base-file-means : (s : Contents) (bytes : List ℕ) → IsBaseOf s bytes → (image : Image) → image.store ≡ Some bytes → ImageMeans image s
+pub base-file-means : {format : Format} (s : Contents) (bytes : List ℕ) → IsBaseOf format s bytes → (image : Image)
+    → image.store ≡ Some bytes → ImageMeans image s
 base-file-means s bytes base image same =
     subst (λ b. FileMeans image.several b s) (sym same)
     (whole-means image.several bytes s (base-whole bytes s base.closes base.reads) base.short)
@@ -88,32 +92,32 @@ room-cut is bytes size =
 
 -- the room for a record whose length was measured
 pub room-measured : (command : Command) (number longest bytes : ℕ) (room : Room)
-    → room ≡ room_of (is_batch command) bytes longest store_limit → bytes ≡ min (byte_len (record_text command number)) greatest
-    → room ≡ room_of (is_batch command) (length (record_bytes command number)) longest store_limit
+    → room ≡ room_of (may_be_long command) bytes longest store_limit → bytes ≡ min (byte_len (record_text command number)) greatest
+    → room ≡ room_of (may_be_long command) (length (record_bytes command number)) longest store_limit
 unfolding record_bytes
 room-measured command number longest bytes room is measured =
     is
-    ∙ ap (λ n. room_of (is_batch command) n longest store_limit) measured
-    ∙ room-cut (is_batch command) (byte_len (record_text command number)) longest
-    ∙ ap (λ n. room_of (is_batch command) n longest store_limit) (byte_len-encoded (record_text command number))
+    ∙ ap (λ n. room_of (may_be_long command) n longest store_limit) measured
+    ∙ room-cut (may_be_long command) (byte_len (record_text command number)) longest
+    ∙ ap (λ n. room_of (may_be_long command) n longest store_limit) (byte_len-encoded (record_text command number))
 
 -- a record that was made before its length was known
 pub made-measured : (command : Command) (number longest bytes : ℕ) (text : List ℕ) (room : Room) → IsCommand command
-    → room ≡ room_of (is_batch command) bytes longest store_limit → bytes ≡ length text → text ≡ record_bytes command number
+    → room ≡ room_of (may_be_long command) bytes longest store_limit → bytes ≡ length text → text ≡ record_bytes command number
     → IsMeasured command number longest text room
 made-measured command number longest bytes text room kept is long same = record {
-  measured = is ∙ ap (λ n. room_of (is_batch command) n longest store_limit) (long ∙ ap length same);
+  measured = is ∙ ap (λ n. room_of (may_be_long command) n longest store_limit) (long ∙ ap length same);
   made = λ enough. (kept, same);
 }
 
 -- the room for the next record
 pub room-next : (size : ℕ) (s : Contents) (command : Command) (room : Room) (number longest : ℕ)
-    → room ≡ room_of (is_batch command) (length (record_bytes command number)) longest store_limit
+    → room ≡ room_of (may_be_long command) (length (record_bytes command number)) longest store_limit
     → number ≡ next_number s → longest ≡ size → room ≡ room_for size s command
 room-next size s command room number longest is next same =
     is
-    ∙ ap (λ n. room_of (is_batch command) (length (record_bytes command n)) longest store_limit) next
-    ∙ ap (λ n. room_of (is_batch command) (length (record_bytes command (next_number s))) n store_limit) same
+    ∙ ap (λ n. room_of (may_be_long command) (length (record_bytes command n)) longest store_limit) next
+    ∙ ap (λ n. room_of (may_be_long command) (length (record_bytes command (next_number s))) n store_limit) same
 
 -- where there is room, the file with the record is within its limit, and so is the record of a batch
 room-fits : (is : Bool) (bytes size : ℕ) → room_of is bytes size store_limit ≡ Enough
@@ -131,11 +135,15 @@ room-fits is bytes size e = by is (nat_lt record_limit bytes) refl (nat_le (size
 
 -- the record of a batch that has room is read again
 fits-record : (command : Command) (number : ℕ)
-    → (is_batch command ≡ true → length (record_bytes command number) ≤ record_limit) → FitsRecord command number
+    → (may_be_long command ≡ true → length (record_bytes command number) ≤ record_limit) → FitsRecord command number
 unfolding record_bytes
 fits-record (single edit) number short = tt
 fits-record (batch edits) number short =
     let same = byte_len-encoded (record_text (batch edits) number) in
+    let most = short refl in
+    omega (arith, same, most)
+fits-record (noted command about) number short =
+    let same = byte_len-encoded (record_text (noted command about) number) in
     let most = short refl in
     omega (arith, same, most)
 
@@ -152,7 +160,7 @@ pub accepted : StepsNeedRoom → StepsCount → RecordsAreRead → RecordsClose
 accepted need_room counts are_read close s new command room bytes size kept kept_new made done is_room =
     let enough = need_room s new command room done in
     let is = (made enough).1 in
-    let fits = room-fits (is_batch command) (length (next_record s command)) size (sym is_room ∙ enough) in
+    let fits = room-fits (may_be_long command) (length (next_record s command)) size (sym is_room ∙ enough) in
     let number : next_number s ≡ s.count + 1 = accepted-number counts s new command room done kept_new in
     let small : next_number s ≤ count_limit = omega arith in
     let one = are_read s new command room (next_number s) kept (made enough).0 done small (fits-record command (next_number s) fits.1) in
@@ -167,6 +175,71 @@ accepted need_room counts are_read close s new command room bytes size kept kept
       reads = subst (IsRecord bytes command) number (subst (λ b. IsRecord b command (next_number s)) (sym is) one);
       short = (let short = fits.0 in omega (arith, short, ap length is));
     }
+
+-- ---- a file that is renewed
+
+-- the record of a command with an about may be long
+about-long : (command : Command) → has_about command ≡ true → may_be_long command ≡ true
+about-long (single edit) is = is
+about-long (batch edits) is = refl
+about-long (noted command about) is = refl
+
+-- the new file for a command with an about whose step succeeds is as the definitions say
+pub renewed : StepsNeedRoom → StepsCount → RecordsAreRead → RecordsClose → BasesFit
+    → (s new : Contents) (command : Command) (room : Room) (more bytes : List ℕ) (size base : ℕ) → has_about command ≡ true → IsState s
+    → IsState new → (room ≡ Enough → IsCommand command × (more ≡ next_record s command)) → step s command room ≡ Ok new
+    → room ≡ room_for size s command → bytes ≡ base_in Third s ++ more → base ≡ length (base_in Third s)
+    → IsRenewed s command new size bytes base
+renewed need_room counts are_read close fit s new command room more bytes size base about kept kept_new made done is_room is long =
+    let enough = need_room s new command room done in
+    let fits = room-fits (may_be_long command) (length (next_record s command)) size (sym is_room ∙ enough) in
+    let few = fits.1 (about-long command about) in
+    let most = fit Third s kept in
+    let both = length-append (base_in Third s) (next_record s command) in
+    let whole : bytes ≡ renewed_file s command = is ∙ ap (λ bs. base_in Third s ++ bs) (made enough).1 in
+    record {
+      accepted = accepted need_room counts are_read close s new command room (next_record s command) size kept kept_new
+          (λ e. ((made e).0, refl)) done is_room;
+      is = whole;
+      long = long;
+      short = omega (arith, ap length whole, both, few, most);
+    }
+
+-- its base is one, and the whole means the state after the command
+pub renewed-base : BasesAreRead → BasesClose → BasesFit → (s : Contents) → IsState s → IsBaseOf Third s (base_in Third s)
+renewed-base are_read close fit s kept = base-of are_read close fit Third s (base_in Third s) kept refl
+
+pub renewed-whole : (s new : Contents) (command : Command) (longest base : ℕ) (bytes : List ℕ) → IsBaseOf Third s (base_in Third s)
+    → IsRenewed s command new longest bytes base → IsWholeStore bytes new
+renewed-whole s new command longest base bytes is renewed =
+    subst (λ b. IsWholeStore b new) (sym renewed.is)
+    (record-whole (base_in Third s) (next_record s command) s new command (base-whole (base_in Third s) s is.closes is.reads)
+    renewed.accepted.closes renewed.accepted.reads renewed.accepted.done)
+
+pub renewed-durable : (folder : Folder) (s new : Contents) (command : Command) (longest base : ℕ) (bytes : List ℕ)
+    → IsBaseOf Third s (base_in Third s) → IsRenewed s command new longest bytes base → HoldsStore folder (Some (synced_file bytes))
+    → IsDurable folder new (length bytes)
+renewed-durable folder s new command longest base bytes is renewed holds = record {
+  bytes = bytes;
+  holds = holds;
+  whole = renewed-whole s new command longest base bytes is renewed;
+  long = refl;
+  short = renewed.short;
+}
+
+-- a crash while it is put in place leaves the state after a prefix of what waits, or after the command
+pub renewed-leaves : {D : Type 0} (model : DiskModel D) (old new : D) (folder : Folder) (s end : Contents) (command : Command)
+    (size longest base : ℕ) (waits : Bool) (bytes : List ℕ) → HeldIsNoted → HolesMean → IsHeld folder s size waits
+    → IsBaseOf Third s (base_in Third s) → IsRenewed s command end longest bytes base
+    → (flushed : Contents) (since : List Command) → HasFlushed folder flushed since s
+    → LeavesOnly model old new (λ image. IsStoreOf folder image ⊎ (image.store ≡ Some bytes))
+    → LeavesOnly model old new (λ image. MeansPrefix flushed since image ⊎ ImageMeans image end)
+renewed-leaves model old new folder s end command size longest base waits bytes left holes held is renewed flushed since has run =
+    LeavesOnly-weaker model old new (λ image. IsStoreOf folder image ⊎ (image.store ≡ Some bytes))
+    (λ image. MeansPrefix flushed since image ⊎ ImageMeans image end) run
+    (λ image. ⊎_elim (λ was. inl (held-stores left holes folder s size waits held flushed since has image was))
+    (λ same. inr (subst (λ b. FileMeans image.several b end) (sym same)
+    (whole-means image.several bytes end (renewed-whole s end command longest base bytes is renewed) renewed.short))))
 
 -- its record, as the definitions number it
 accepted-record : (s end : Contents) (command : Command) (longest : ℕ) (more : List ℕ)

@@ -1,7 +1,7 @@
 -- What the files of a folder read as, and what opening makes of them.
 use Rattle.std.specs.Prelude.{◌≡◌, ◌≢◌, ◌⊎◌, ℕ, Bool, List, length, Option, Some, None}
 use Rattle.conf_store.specs.Prelude.{bytes_under, several_waited, Image, IsImage, image_now, DiskModel, LeavesOnly, Store, IsStoreOf}
-use Rattle.conf_store.specs.{Prelude.{Contents, base_bytes}, Meaning.FileMeans, Opens.FileRecoversTo}
+use Rattle.{conf_store.specs.{Prelude.Contents, Meaning.FileMeans, Opens.{FileRecoversTo, file_format}}, conf_record.specs.Formats.base_in}
 
 -- the file is there, and has so many bytes
 abbrev pub HasLength : Option (List ℕ) → ℕ → Type 0
@@ -25,7 +25,7 @@ pub record IsNewBase (several : Bool) (old file : Option (List ℕ)) : Type 0 wh
   pub dropped : ℕ
   pub recovers : FileRecoversTo several old state records dropped
   pub needed : (old ≡ None) ⊎ (dropped ≢ 0)
-  pub is : file ≡ Some (base_bytes state)
+  pub is : file ≡ Some (base_in (file_format old) state)
 
 -- the old file, or the whole new base
 abbrev pub IsOldOrBase : Bool → Option (List ℕ) → Option (List ℕ) → Type 0

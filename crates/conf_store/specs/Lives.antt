@@ -3,10 +3,12 @@ use Rattle.std.specs.Prelude.{◌≡◌, ◌⊎◌, ℕ, List, [], ◌∷◌, �
 use Rattle.std.specs.{Prelude.is_ok, List.AllByRecursion}
 use Rattle.conf_store.specs.Prelude.{Command, Contents, after, StoreFault}
 
--- `performing` is a command that is submitted and flushed by one call
+-- `performing` is a command that is submitted and flushed by one call, and `renewing` one that is submitted with an
+-- about, and renews the file: it is flushed with all that waits, and a running checkpoint ends
 pub data Call : Type 0 where
   submitting : (command : Command) → Call
   performing : (command : Command) → Call
+  renewing : (command : Command) → Call
   flushing : Call
   beginning : Call
   slicing : Call
@@ -68,6 +70,7 @@ abbrev pub Succeeds : World → Call → World → Type 0
 Succeeds w (submitting command) next =
     (s : Contents) × (world_state (with_submitted w command) ≡ Ok s) × (next ≡ with_submitted w command)
 Succeeds w (performing command) next = Flushes (with_submitted w command) w.running next
+Succeeds w (renewing command) next = Flushes (with_submitted w command) false next
 Succeeds w flushing next = Flushes w w.running next
 Succeeds w beginning next =
     (w.running ≡ false) × (next ≡ record { flushed = w.flushed; since = w.since; running = true })
@@ -113,6 +116,8 @@ abbrev pub after_call : World → Call → World
 after_call w (submitting command) = with_submitted w command
 after_call w (performing command) =
     all_flushed (state_or (world_state (with_submitted w command)) w.flushed) w.running
+after_call w (renewing command) =
+    all_flushed (state_or (world_state (with_submitted w command)) w.flushed) false
 after_call w flushing = all_flushed (state_or (world_state w) w.flushed) w.running
 after_call w beginning = record { flushed = w.flushed; since = w.since; running = true }
 after_call w slicing = all_flushed (state_or (world_state w) w.flushed) false
@@ -141,6 +146,7 @@ accepted_one w command acknowledged =
 abbrev pub accepted_in : World → Call → Bool → List (Command × Bool)
 accepted_in w (submitting command) acknowledged = accepted_one w command acknowledged
 accepted_in w (performing command) acknowledged = accepted_one w command acknowledged
+accepted_in w (renewing command) acknowledged = accepted_one w command acknowledged
 accepted_in w call acknowledged = []
 
 abbrev pub accepted_by : Answer → World → Call → Bool → (World → List (Command × Bool)) → List (Command × Bool)

@@ -1,9 +1,9 @@
 -- What a checkpoint does that is written in slices.
 use Rattle.std.specs.Prelude.{◌≡◌, ℕ, ◌<◌, true, false, List, [], length, Option, Some, None}
 use Rattle.conf_store.specs.Prelude.{File, Folder, bytes_under, several_waited, synced_file, DiskModel, Store, Next, HoldsStore, IsSynced}
-use Rattle.conf_store.specs.{Prelude.{file_with_bytes, Command, Contents, base_bytes}, View.StoreView, declared.slicing.Progress.Progress}
+use Rattle.conf_store.specs.{Prelude.{file_with_bytes, Command, Contents}, View.StoreView, declared.slicing.Progress.Progress}
 use Rattle.conf_store.specs.{declared.slicing.Progress.TheVariants.{Left, Done}, Staged.{Staged, staged_length, next_slice, after_slice}}
-use Rattle.conf_store.specs.{Staged.is_sync_due, Durable.{HasFlushed, AllImagesMean, staged_text}}
+use Rattle.{conf_store.specs.{Staged.is_sync_due, Durable.{HasFlushed, AllImagesMean, staged_text}}, conf_record.specs.Formats.base_in}
 
 -- nothing of `next.yaml` is pending, where a sync is due
 abbrev pub SyncedWhenDue : Folder → Option Staged → Type 0
@@ -47,11 +47,13 @@ pub record StaysTheSame {D : Type 0} (old new : StoreView D) : Type 0 where
   pub state : new.state ≡ old.state
   pub size : new.size ≡ old.size
   pub staged : new.staged ≡ old.staged
+  pub format : new.format ≡ old.format
 
 -- a checkpoint runs, and the base of the state is left to write
 pub record Begins {D : Type 0} (old new : StoreView D) : Type 0 where
   pub size : new.size ≡ old.size
-  pub staged : new.staged ≡ Some (record { written = 0; left = base_bytes old.state })
+  pub staged : new.staged ≡ Some (record { written = 0; left = base_in old.format old.state })
+  pub format : new.format ≡ old.format
   pub reopen : new.reopen ≡ false
 
 -- a slice was written, and so many bytes are left: some, and fewer than before
@@ -63,6 +65,7 @@ pub record SlicesPart {D : Type 0} (old : StoreView D) (bytes : ℕ) (new : Stor
   pub some : 0 < bytes
   pub fewer : bytes < length before.left
   pub size : new.size ≡ old.size
+  pub format : new.format ≡ old.format
   pub reopen : new.reopen ≡ false
 
 -- the last slice was written: the new file is `store.yaml`, and no checkpoint runs
@@ -72,6 +75,7 @@ pub record SlicesLast {D : Type 0} (old new : StoreView D) : Type 0 where
   pub last : (after_slice before).left ≡ []
   pub staged : new.staged ≡ None
   pub size : new.size ≡ staged_length old.staged
+  pub format : new.format ≡ old.format
   pub reopen : new.reopen ≡ false
 
 abbrev pub Slices : {D : Type 0} → StoreView D → StoreView D → Progress → Type 0

@@ -1,7 +1,7 @@
 // Performing a command on the state, and making its record, before anything is written to the disk.
-ghost use Rattle.std.specs.Prelude.{◌≡◌, ◌⊎◌, ◌≤◌, max, IfOk, IfErr, OnErr, Err, string_bytes};
-ghost use Rattle.conf_store.specs.Prelude.{store_limit, command_of};
-ghost use Rattle.conf_store.specs.Accepting.{IsAccepted, IsMeasured, IsOfState};
+ghost use Rattle.std.specs.Prelude.{◌≡◌, ◌⊎◌, ◌≤◌, max, true, IfOk, IfErr, OnErr, Err, string_bytes};
+ghost use Rattle.conf_store.specs.Prelude.{store_limit, command_of, has_about};
+ghost use Rattle.conf_store.specs.Accepting.{IsAccepted, IsMeasured, IsOfState, IsRenewed};
 ghost use Rattle.conf_store.specs.Calls.{outcome};
 ghost use Rattle.conf_store.specs.Staged.{staged_length, with_more};
 ghost use Rattle.conf_store.specs.Stagings.{IsReady, staged_of};
@@ -9,9 +9,10 @@ ghost use Rattle.conf_store.specs.Stagings.{IsReady, staged_of};
 use crate::staging::Staging;
 use conf_journal::STORE_LIMIT;
 use conf_record::{
-    documents_are_read, documents_close, record_length, record_of_length, short_record,
+    Format, base_text, documents_are_read, documents_close, record_length, record_of_length,
+    short_record,
 };
-use conf_state::{Command, Room, State, StoreFault, steps_are_counted_or_refused};
+use conf_state::{Command, Room, State, StoreFault, step, steps_are_counted_or_refused};
 use std::alloc::{AllocError, Global};
 
 /// Performs a command on the state of a store whose file has `size` bytes, and adds its record to the new file of a
@@ -56,6 +57,54 @@ pub fn accept(
     let (record, room) = record_within(alloc, &command, number, longest)?;
     match staging.step(alloc, state, command, room, &record) {
         Ok(()) => Ok((record, state.count())),
+        Err(fault) => Err(fault),
+    }
+}
+
+/// The text of a renewed file.
+#[derive(Drop)]
+pub struct Renewed {
+    pub text: String,
+    /// The length of its base in bytes.
+    pub base: u64,
+    /// The new count.
+    pub count: u64,
+}
+
+/// Performs a command with an about on the state of a store, and returns the text of the file that is to take the place
+/// of `store.yaml`: a base of the state before, in the third format, and the command's record. `longest` is the length
+/// of the longer one of the store's two files.
+///
+/// # Errors
+/// As [`accept`]. The state is unchanged.
+pub fn renew(
+    alloc: Global,
+    state: &mut State,
+    command: Command,
+    longest: u64,
+) -> Result<Renewed, StoreFault>
+    requires about { has_about (command_of command) ≡ true }
+    ensures ok { IfOk result (λ renewed. IsRenewed state.old (command_of command) state.new longest
+        (string_bytes renewed.text) renewed.base × (renewed.count ≡ state.new.count)) }
+    ensures refused { IfErr result (λ fault. (fault ≡ StoreFault.OutOfMemory)
+        ⊎ (outcome longest state.old (command_of command) ≡ Err fault)) }
+    ensures of_state { IfErr result IsOfState }
+    ensures unchanged { OnErr result (state.new ≡ state.old) }
+{
+    documents_are_read();
+    documents_close();
+    steps_are_counted_or_refused();
+    let number = state.count().saturating_add(1);
+    let (record, room) = record_within(alloc, &command, number, longest)?;
+    let mut text = base_text(alloc, state, Format::Third)?;
+    let base = text.len() as u64;
+    text.push_str(&record)?;
+    match step(alloc, state, command, room) {
+        Ok(()) => Ok(Renewed {
+            text,
+            base,
+            count: state.count(),
+        }),
         Err(fault) => Err(fault),
     }
 }

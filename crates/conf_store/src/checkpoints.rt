@@ -1,7 +1,8 @@
 // Checkpoints of an open store.
 ghost use Rattle.std.specs.Prelude.{◌≡◌, ◌⊎◌, ◌↔◌, true, false, List, length, IfOk, IfErr, IsErrOf, OnOk, Some, None};
 ghost use Rattle.std.specs.Prelude.{IsSome, is_some};
-ghost use Rattle.conf_store.specs.Prelude.{bytes_under, base_bytes, Command, Contents};
+ghost use Rattle.conf_record.specs.Formats.{base_in};
+ghost use Rattle.conf_store.specs.Prelude.{bytes_under, Command, Contents};
 ghost use Rattle.conf_store.specs.Changing.{CrashesLeaveState, DeviceHasCause, FailuresNeverFall, LeavesPrefix, NoneWaits, RefusalsChangeNothing, SameWait, new_file, store_file};
 ghost use Rattle.conf_store.specs.Durable.{HasFlushed};
 ghost use Rattle.conf_store.specs.Slices.{Begins, SliceFlushes, SliceReads, Slices, SyncedWhenDue};
@@ -17,9 +18,9 @@ use conf_record::{documents_are_read, documents_close};
 use conf_state::StoreFault;
 
 impl<D: Disk> Store<D> {
-    /// Writes a base of the state as the new `store.yaml`, in place of the base and the records that are there. The
-    /// state and its count are unchanged. Commands that waited are acknowledged. A checkpoint that runs is given up. No
-    /// `next.yaml` is left.
+    /// Writes a base of the state, in the format of the one before, as the new `store.yaml`, in place of the base and
+    /// the records that are there. The state and its count are unchanged. Commands that waited are acknowledged. A
+    /// checkpoint that runs is given up. No `next.yaml` is left.
     ///
     /// # Errors
     /// `Reopen` if the store has to be opened again. `OutOfMemory` leaves the store and the disk as they were, also a
@@ -28,7 +29,8 @@ impl<D: Disk> Store<D> {
     pub fn checkpoint(&mut self) -> Result<(), StoreFault>
         ensures reopen { IsErrOf result StoreFault.Reopen ↔ (self.old.reopen ≡ true) }
         ensures ok { OnOk result ((self.new.reopen ≡ false) × (self.new.staged ≡ None)
-            × (self.new.size ≡ length (base_bytes self.old.state))) }
+            × (self.new.size ≡ length (base_in self.old.format self.old.state))
+            × (self.new.format ≡ self.old.format)) }
         ensures refused { IfErr result (λ fault. (fault ≡ StoreFault.Reopen)
             ⊎ (fault ≡ StoreFault.Device) ⊎ (fault ≡ StoreFault.OutOfMemory)) }
         ensures running { IfErr result (λ _. self.new.staged ≡ self.old.staged) }
@@ -38,7 +40,8 @@ impl<D: Disk> Store<D> {
         ensures cause { DeviceHasCause D.model self.old self.new result }
         ensures risen { FailuresNeverFall D.model self.old self.new }
         ensures reads { D.model.honest →
-            OnOk result (store_file D.model self.new.disk ≡ Some (base_bytes self.old.state)) }
+            OnOk result (store_file D.model self.new.disk
+            ≡ Some (base_in self.old.format self.old.state)) }
         // After Ok there is no `next.yaml`.
         ensures gone { D.model.honest →
             OnOk result (bytes_under (D.model.folder self.new.disk) Name.Next ≡ None) }
@@ -52,7 +55,7 @@ impl<D: Disk> Store<D> {
         if self.reopen {
             return Err(StoreFault::Reopen);
         }
-        match write_base(self.alloc, &mut self.disk, &self.state) {
+        match write_base(self.alloc, &mut self.disk, &self.state, self.format) {
             Ok(size) => {
                 self.size = size;
                 self.base = size;
@@ -92,7 +95,8 @@ impl<D: Disk> Store<D> {
         ensures reads { D.model.honest →
             store_file D.model self.new.disk ≡ store_file D.model self.old.disk }
         ensures stages { D.model.honest →
-            OnOk result (new_file D.model self.new ≡ Some (base_bytes self.old.state)) }
+            OnOk result (new_file D.model self.new
+            ≡ Some (base_in self.old.format self.old.state)) }
         ensures any_moment { LeavesPrefix D.model self.old self.new }
         // The same commands wait.
         ensures waits { SameWait D.model self.old self.new result }
@@ -104,7 +108,7 @@ impl<D: Disk> Store<D> {
         if self.reopen {
             return Err(StoreFault::Reopen);
         }
-        let Ok(staging) = Staging::begun(self.alloc, &self.state) else {
+        let Ok(staging) = Staging::begun(self.alloc, &self.state, self.format) else {
             return Err(StoreFault::OutOfMemory);
         };
         match begin_next(&mut self.disk) {

@@ -1,18 +1,20 @@
 // Commands on an open store.
 ghost use Rattle.std.specs.Prelude.{◌≡◌, ◌⊎◌, ◌↔◌, true, false, IfOk, IfErr, IsErrOf, OnOk, Err, is_some};
-ghost use Rattle.conf_store.specs.Prelude.{chars, command_of, good_name};
-ghost use Rattle.conf_store.specs.Calls.{Accepts, RefusesCommand};
-ghost use Rattle.conf_store.specs.Changing.{AppendsRecord, CommandWaits, CrashesLeaveState, DeviceHasCause, FailuresNeverFall, LeavesPrefix, LeavesPrefixOrNew, NoneWaits, RefusalsChangeNothing, new_file, store_file};
+ghost use Rattle.conf_store.specs.Prelude.{chars, command_of, good_name, has_about};
+ghost use Rattle.conf_store.specs.Calls.{Accepts, AcceptsBy, RefusesCommand, next_record, renews};
+ghost use Rattle.conf_store.specs.Changing.{AppendsRecord, CommandWaits, CrashesLeaveState, DeviceHasCause, FailuresNeverFall, LeavesPrefix, LeavesPrefixOrNew, NoneWaits, RefusalsChangeNothing, StagesRecord, WaitsBy, file_with, new_file, new_file_with, store_file};
 ghost use Rattle.conf_store.specs.Imports.{AppendsImport, Imports, RefusesImport};
 ghost use Rattle.conf_store.specs.Slices.{StaysTheSame};
 
-use crate::accepting::accept;
+use crate::accepting::{Renewed, accept, renew};
+use crate::base_file::replace_store;
 use crate::holes_mean;
 use crate::importing::import_command;
+use crate::staging::Staging;
 use crate::store::Store;
 use conf_disk::Disk;
 use conf_journal::{append_store, held_store_is_left, sync_store};
-use conf_record::documents_close;
+use conf_record::{Format, documents_are_read, documents_close};
 use conf_state::{Command, StoreFault};
 
 impl<D: Disk> Store<D> {
@@ -24,6 +26,10 @@ impl<D: Disk> Store<D> {
     ///
     /// While a checkpoint runs, the record goes to the end of its new file too. Its memory is taken first.
     ///
+    /// A command with an about **renews** the file, where its base is not of the third format yet: a base of the state
+    /// before the command, in that format, and the record take the place of `store.yaml`, as one new file that is
+    /// synced. The command and all that waited are acknowledged then, and a running checkpoint is given up.
+    ///
     /// # Errors
     /// As [`apply`](Store::apply). At `Device` a crash may also take back commands that waited.
     pub fn submit(&mut self, _client: u64, command: Command) -> Result<u64, StoreFault>
@@ -31,8 +37,9 @@ impl<D: Disk> Store<D> {
         ensures ok { IfOk result (λ count.
             Accepts self.old (command_of command) self.new × (count ≡ self.new.state.count)) }
         ensures refused { IfErr result (RefusesCommand self.old (command_of command) self.new) }
-        // Whatever it returns, a running checkpoint goes on.
-        ensures running { is_some self.new.staged ≡ is_some self.old.staged }
+        // Whatever it returns, a running checkpoint goes on, unless the file is renewed.
+        ensures running { renews self.old.format (command_of command) ≡ false →
+            is_some self.new.staged ≡ is_some self.old.staged }
         ensures unchanged { RefusalsChangeNothing self.old self.new result }
         ensures device { IsErrOf result StoreFault.Device → self.new.reopen ≡ true }
         ensures cause { DeviceHasCause D.model self.old self.new result }
@@ -42,10 +49,50 @@ impl<D: Disk> Store<D> {
             (store_file D.model self.old.disk) (store_file D.model self.new.disk)) }
         // So does the new file of a running checkpoint.
         ensures stages { D.model.honest → self.old.reopen ≡ false →
-            OnOk result (AppendsRecord self.old (command_of command)
+            OnOk result (StagesRecord self.old (command_of command)
             (new_file D.model self.old) (new_file D.model self.new)) }
         ensures any_moment { LeavesPrefixOrNew D.model self.old self.new }
         ensures waits { CommandWaits D.model self.old (command_of command) self.new result }
+    {
+        if self.renews(&command) {
+            self.renew_with(command)
+        } else {
+            self.append(command)
+        }
+    }
+
+    /// Whether a command renews the file.
+    fn renews(&self, command: &Command) -> bool
+        ensures { result ≡ renews self.now.format (command_of command.now) }
+    {
+        match self.format {
+            Format::Second => command.has_about(),
+            Format::Third => false,
+        }
+    }
+
+    /// Performs a command and appends its record, for [`submit`](Store::submit).
+    fn append(&mut self, command: Command) -> Result<u64, StoreFault>
+        ensures reopen { IsErrOf result StoreFault.Reopen ↔ (self.old.reopen ≡ true) }
+        ensures ok { IfOk result (λ count.
+            AcceptsBy false self.old (command_of command) self.new
+            × (count ≡ self.new.state.count)) }
+        ensures refused { IfErr result (RefusesCommand self.old (command_of command) self.new) }
+        // Whatever it returns, a running checkpoint goes on.
+        ensures running { is_some self.new.staged ≡ is_some self.old.staged }
+        ensures unchanged { RefusalsChangeNothing self.old self.new result }
+        ensures device { IsErrOf result StoreFault.Device → self.new.reopen ≡ true }
+        ensures cause { DeviceHasCause D.model self.old self.new result }
+        ensures risen { FailuresNeverFall D.model self.old self.new }
+        ensures reads { D.model.honest → self.old.reopen ≡ false →
+            OnOk result (store_file D.model self.new.disk
+            ≡ file_with false (store_file D.model self.old.disk) self.old.state (command_of command)) }
+        // So does the new file of a running checkpoint.
+        ensures stages { D.model.honest → self.old.reopen ≡ false →
+            OnOk result (new_file D.model self.new
+            ≡ new_file_with false (new_file D.model self.old) (next_record self.old.state (command_of command))) }
+        ensures any_moment { LeavesPrefixOrNew D.model self.old self.new }
+        ensures waits { WaitsBy false D.model self.old (command_of command) self.new result }
     {
         documents_close();
         held_store_is_left();
@@ -67,6 +114,62 @@ impl<D: Disk> Store<D> {
             Ok(()) => {
                 self.size += record.len() as u64;
                 self.waits = true;
+                Ok(count)
+            }
+            Err(_) => {
+                self.reopen = true;
+                Err(StoreFault::Device)
+            }
+        }
+    }
+
+    /// Performs a command with an about, and puts a base of the third format with its record in the place of
+    /// `store.yaml`, for [`submit`](Store::submit).
+    fn renew_with(&mut self, command: Command) -> Result<u64, StoreFault>
+        requires about { has_about (command_of command) ≡ true }
+        ensures reopen { IsErrOf result StoreFault.Reopen ↔ (self.old.reopen ≡ true) }
+        ensures ok { IfOk result (λ count.
+            AcceptsBy true self.old (command_of command) self.new
+            × (count ≡ self.new.state.count)) }
+        ensures refused { IfErr result (RefusesCommand self.old (command_of command) self.new) }
+        ensures unchanged { RefusalsChangeNothing self.old self.new result }
+        ensures device { IsErrOf result StoreFault.Device → self.new.reopen ≡ true }
+        ensures cause { DeviceHasCause D.model self.old self.new result }
+        ensures risen { FailuresNeverFall D.model self.old self.new }
+        ensures reads { D.model.honest → self.old.reopen ≡ false →
+            OnOk result (store_file D.model self.new.disk
+            ≡ file_with true (store_file D.model self.old.disk) self.old.state (command_of command)) }
+        ensures stages { D.model.honest → self.old.reopen ≡ false →
+            OnOk result (new_file D.model self.new
+            ≡ new_file_with true (new_file D.model self.old) (next_record self.old.state (command_of command))) }
+        ensures any_moment { LeavesPrefixOrNew D.model self.old self.new }
+        ensures waits { WaitsBy true D.model self.old (command_of command) self.new result }
+    {
+        documents_are_read();
+        documents_close();
+        held_store_is_left();
+        holes_mean();
+        if self.reopen {
+            return Err(StoreFault::Reopen);
+        }
+        let longest = self.size.max(self.staging.len());
+        let Renewed { text, base, count } = match renew(
+            self.alloc,
+            &mut self.state,
+            command,
+            longest,
+        ) {
+            Ok(renewed) => renewed,
+            Err(fault) => return Err(fault),
+        };
+        self.staging = Staging::none(self.alloc);
+        self.staged_base = 0;
+        match replace_store(&mut self.disk, text.as_bytes()) {
+            Ok(()) => {
+                self.size = text.len() as u64;
+                self.base = base;
+                self.waits = false;
+                self.format = Format::Third;
                 Ok(count)
             }
             Err(_) => {
@@ -140,7 +243,8 @@ impl<D: Disk> Store<D> {
         ensures ok { IfOk result (λ count.
             Accepts self.old (command_of command) self.new × (count ≡ self.new.state.count)) }
         ensures refused { IfErr result (RefusesCommand self.old (command_of command) self.new) }
-        ensures running { is_some self.new.staged ≡ is_some self.old.staged }
+        ensures running { renews self.old.format (command_of command) ≡ false →
+            is_some self.new.staged ≡ is_some self.old.staged }
         ensures unchanged { RefusalsChangeNothing self.old self.new result }
         ensures device { IsErrOf result StoreFault.Device → self.new.reopen ≡ true }
         ensures cause { DeviceHasCause D.model self.old self.new result }
@@ -150,7 +254,7 @@ impl<D: Disk> Store<D> {
             (store_file D.model self.old.disk) (store_file D.model self.new.disk)) }
         // So does the new file of a running checkpoint.
         ensures stages { D.model.honest → self.old.reopen ≡ false →
-            OnOk result (AppendsRecord self.old (command_of command)
+            OnOk result (StagesRecord self.old (command_of command)
             (new_file D.model self.old) (new_file D.model self.new)) }
         ensures any_moment { LeavesPrefixOrNew D.model self.old self.new }
         // After Ok none waits, and whatever a crash leaves means the state.

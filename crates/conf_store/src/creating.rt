@@ -10,7 +10,7 @@ ghost use Rattle.conf_store.specs.Meaning.{FolderMeans};
 use crate::base_file::write_base;
 use conf_disk::{Content, Disk, DiskFault, Name, reading_is_an_image};
 use conf_journal::{held_store_is_left, held_store_is_the_only_one, load};
-use conf_record::{documents_are_read, documents_close};
+use conf_record::{Format, documents_are_read, documents_close};
 use conf_state::State;
 use std::alloc::Global;
 use thiserror::Error;
@@ -77,7 +77,7 @@ pub fn create_store<D: Disk + Drop>(
         Ok(()) => {}
         Err(fault) => return Err((disk, fault)),
     }
-    match write_base(alloc, &mut disk, state) {
+    match write_base(alloc, &mut disk, state, Format::Second) {
         Ok(_) => Ok(disk),
         Err(DiskFault::Device) => Err((disk, CreateFault::Device)),
         Err(DiskFault::OutOfMemory) => Err((disk, CreateFault::OutOfMemory)),

@@ -16,6 +16,8 @@ use yaml_recognizers::zeros::{no_zero_read, zeros_close_nothing};
 /// checkpoint that runs. At the start nothing waits and none runs. Of the calls that return `Ok`,
 ///
 /// - `submit` adds its command to those that wait;
+/// - `submit` of a command that renews the file flushes all commands that wait, with its own as the last, and ends a
+///   checkpoint that runs;
 /// - `flush`, `apply` and `import` flush all commands that wait, the two with their own command as the last;
 /// - `checkpoint`, and a `slice` that is done, flush them too, and end a checkpoint that runs;
 /// - `begin_checkpoint`, and a `slice` that is not done, leave what is flushed and what waits.

@@ -1,13 +1,13 @@
 // The configurations of a running checkpoint's base whose text isn't written yet.
 ghost use Rattle.std.specs.Prelude.{◌≡◌, ◌≤◌, ◌+◌, ◌<◌, ◌++◌, [], ◌∷◌, true, false, List, ℕ, length, map, IfOk, OnOk};
-ghost use Rattle.conf_store.specs.Prelude.{chars, command_of, edit_of, name_of, IsState, names_of};
+ghost use Rattle.conf_store.specs.Prelude.{chars, command_of, command_with, edit_of, name_of, IsState, names_of};
 ghost use Rattle.conf_store.specs.Early.{text_named};
 ghost use Rattle.conf_state.specs.Touched.{touched};
 ghost use Rattle.conf_store.specs.Parts.{AreMade, AreWithin, IsMade, joined, parts_named, texts};
 ghost use Rattle.conf_store.specs.Staged.{slice_limit};
 
 use crate::cutting::Cutting;
-use conf_state::{Command, Edit, State};
+use conf_state::{Command, Edit, Edits, State};
 use std::alloc::{AllocError, Global};
 use std::collections::{HashMap, VecDeque};
 use std::marker::Model;
@@ -116,6 +116,18 @@ impl Pending {
             Command::Set { name, .. } => self.keep(alloc, state, name),
             Command::Delete { name, .. } => self.keep(alloc, state, name),
             Command::Batch { edits } => self.keep_each(alloc, state, edits),
+            Command::Noted { edits, .. } => self.keep_edited(alloc, state, edits),
+        }
+    }
+
+    /// The same for the edits of a command with an about.
+    fn keep_edited(&mut self, alloc: Global, state: &State, edits: &Edits) -> Result<(), AllocError>
+        ensures same { texts state.now.configs self.new ≡ texts state.now.configs self.old }
+        ensures kept { OnOk result (AreMade (touched (command_with edits.now)) self.new) }
+    {
+        match edits {
+            Edits::Single(edit) => self.keep(alloc, state, edit.name()),
+            Edits::Batch(edits) => self.keep_each(alloc, state, edits),
         }
     }
 

@@ -10,7 +10,7 @@ ghost use Rattle.conf_store.specs.Durable.{AllImagesMean, AllImagesAfterPrefix, 
 ghost use Rattle.conf_store.specs.Files.{FilesStay, HasLength, IsOldOrBase, LeavesOldOrBase};
 ghost use Rattle.conf_store.specs.Grown.{HasGrown};
 ghost use Rattle.conf_store.specs.Meaning.{FolderMeans};
-ghost use Rattle.conf_store.specs.Opens.{FileRecoversTo, ReadsAfterOpening, RefusesOpening, RefusalMeans, MeantAtEntry, disk_after};
+ghost use Rattle.conf_store.specs.Opens.{FileRecoversTo, ReadsAfterOpening, RefusesOpening, RefusalMeans, MeantAtEntry, disk_after, file_format};
 ghost use Rattle.conf_store.specs.Staged.{staged_length};
 
 use crate::base_file::write_base;
@@ -20,6 +20,7 @@ use crate::staging::Staging;
 use crate::{OpenFault, bytes_mean_one_state, holes_mean};
 use conf_disk::{Disk, Name, reading_is_an_image};
 use conf_journal::{held_store_is_left, held_store_is_the_only_one};
+use conf_record::{Format, formats_are_told};
 use conf_state::{Names, State, StoreFault, good_name};
 use std::alloc::Global;
 use std::marker::Model;
@@ -34,11 +35,15 @@ use yaml_tree::{Config, Tree};
 /// [`slice`](Store::slice) of a checkpoint. While the store needn't be opened again, whatever a crash leaves means the
 /// state after a prefix of the commands that wait; if none waits, it means the state.
 ///
+/// A command with an about needs a base of the third format before its record. In a store whose base is of another one,
+/// the first such command renews `store.yaml`: it becomes a base of the state before the command, in the third format,
+/// and the record. What earlier commands were is gone then.
+///
 /// Contracts see the disk, the state after all accepted commands, the length of `store.yaml` in bytes, the running
-/// checkpoint, and whether the store has to be opened again. Of a checkpoint they see how many bytes of its new file
-/// were written, and those that are left. What is flushed, and which commands wait, they read from the disk
-/// ([`one_state_is_flushed`](crate::one_state_is_flushed)). Claims about what the disk holds have the premise that it
-/// is honest.
+/// checkpoint, the format of the base, and whether the store has to be opened again. Of a checkpoint they see how many
+/// bytes of its new file were written, and those that are left. What is flushed, and which commands wait, they read
+/// from the disk ([`one_state_is_flushed`](crate::one_state_is_flushed)). Claims about what the disk holds have the
+/// premise that it is honest.
 #[derive(Drop)]
 pub struct Store<D: Disk> {
     pub(crate) alloc: Global,
@@ -53,6 +58,8 @@ pub struct Store<D: Disk> {
     pub(crate) staging: Staging,
     /// The length of the base of the running checkpoint's new file; 0 if none runs.
     pub(crate) staged_base: u64,
+    /// The format of the base of `store.yaml`, and of that of the new file.
+    pub(crate) format: Format,
     pub(crate) reopen: bool,
 }
 
@@ -77,6 +84,7 @@ impl<D: Disk> Model for Store<D> {
       state = s.state;
       size = s.size;
       staged = staged_of s.state s.staging;
+      format = s.format;
       reopen = s.reopen;
     } };
 
@@ -151,8 +159,14 @@ impl<D: Disk> Store<D> {
         // The kept length is that of `store.yaml`.
         ensures size { D.model.honest → IfOk result (λ r.
             HasLength (store_file D.model r.0.disk) r.0.size) }
+        // The kept format is that of the file that was found, and of the one that is there now.
+        ensures format { D.model.honest → IfOk result (λ r.
+            r.0.format ≡ file_format (store_file D.model disk)) }
+        ensures format_now { D.model.honest → IfOk result (λ r.
+            r.0.format ≡ file_format (store_file D.model r.0.disk)) }
     {
         bytes_mean_one_state();
+        formats_are_told();
         held_store_is_left();
         held_store_is_the_only_one();
         holes_mean();
@@ -163,13 +177,14 @@ impl<D: Disk> Store<D> {
             opened,
             size,
             base,
+            format,
         } = match find_store(alloc, &mut disk) {
             Ok(found) => found,
             Err(fault) => return Err((disk, fault)),
         };
         let (size, base) = match size {
             Some(size) => (size, base),
-            None => match write_base(alloc, &mut disk, &state) {
+            None => match write_base(alloc, &mut disk, &state, format) {
                 Ok(size) => (size, size),
                 Err(fault) => return Err((disk, OpenFault::from(fault))),
             },
@@ -183,6 +198,7 @@ impl<D: Disk> Store<D> {
             waits: false,
             staging: Staging::none(alloc),
             staged_base: 0,
+            format,
             reopen: false,
         };
         Ok((store, opened))
@@ -284,6 +300,14 @@ impl<D: Disk> Store<D> {
         self.size - self.base
     }
 
+    /// The format of the base of `store.yaml`, and of the bases that checkpoints write. It is the third once a command
+    /// with an about was accepted, or if the file that was opened was of it; else the second.
+    pub fn format(&self) -> Format
+        ensures { result ≡ self.now.format }
+    {
+        self.format
+    }
+
     /// Whether a call returned `Device`, so that the store has to be opened again.
     pub fn needs_reopen(&self) -> bool
         ensures reopen { result ≡ self.now.reopen }
@@ -323,6 +347,7 @@ impl<D: Disk> Store<D> {
             waits: _,
             staging: _,
             staged_base: _,
+            format: _,
             reopen: _,
         } = self;
         disk

@@ -11,6 +11,7 @@ use Rattle.conf_tools.specs.declared.{stores.StoreToolFault.TheVariants.StoreExi
 use Rattle.conf_tools.specs.declared.{changes.Change.TheVariants.{Copy, Rename, Edit, Checkpoint}, edits.TreeEdit.TreeEdit}
 use Rattle.conf_tools.specs.{Stores.{CannotOpen, OpensOn}, Edits.{LacksEdit, edits}}
 use Rattle.{conf_conditions.specs.declared.fault.ConditionFault.TheVariants.OutOfMemory as NoMemory, conf_state.specs.BaseTexts.base_bytes}
+use Rattle.conf_record.specs.Formats.{base_in}
 use Rattle.conf_state.specs.{Commands.Command as GivenCommand, declared.fault.StoreFault.TheVariants.OutOfMemory}
 use Rattle.{yaml_grammar.specs.Texts.same_text, conf_store.specs.Imports.{AppendsImport, Imports, RefusesImport}}
 use Rattle.conf_store.specs.declared.fault.OpenFault.TheVariants as OpenFaults
@@ -93,7 +94,7 @@ Makes old (Perform command) new = Accepts old (command_of command) new
 Makes old (Copy name to) new = MakesOf old (text_of name) (copies (text_of to)) new
 Makes old (Rename name to) new = MakesOf old (text_of name) (renames (text_of name) (text_of to)) new
 Makes old (Edit name edit) new = MakesOf old (text_of name) (edits (text_of name) edit) new
-Makes old Checkpoint new = (new.state ≡ old.state) × (new.size ≡ length (base_bytes old.state))
+Makes old Checkpoint new = (new.state ≡ old.state) × (new.size ≡ length (base_in old.format old.state))
 
 -- Why the change was refused.
 abbrev pub RefusesChange : {D : Type 0} → StoreView D → Change → StoreView D → StoreFault → Type 0
@@ -123,7 +124,7 @@ ReadsChanged old (Rename name to) before after =
     AppendsMade old (text_of name) (renames (text_of name) (text_of to)) before after
 ReadsChanged old (Edit name edit) before after =
     AppendsMade old (text_of name) (edits (text_of name) edit) before after
-ReadsChanged old Checkpoint before after = after ≡ Some (base_bytes old.state)
+ReadsChanged old Checkpoint before after = after ≡ Some (base_in old.format old.state)
 
 -- the image means the state before a call, or the one after it
 abbrev pub MeansOneOf : Contents → Contents → Image → Type 0

@@ -8,6 +8,7 @@ use Rattle.conf_tools.specs.{Prelude.{Asked, Tally, Streams}, declared.stores.Gr
 use Rattle.conf_tools.specs.declared.stores.StoreToolFault.{StoreToolFault, TheVariants.{Open, Session}}
 use Rattle.conf_session.specs.{Requests.Request, Groups.{AreDue, GroupedEnds, RunsGrouped, Turn, all_asked, files_after_turns, requests_of}}
 use Rattle.conf_session.specs.{Groups.{turns_accepted, turns_within}, Handings.{Handings, HoldsSince, accepted_within, taken_in}}
+use Rattle.conf_store.specs.Opens.{file_format}
 use Rattle.conf_store.specs.declared.fault.OpenFault.TheVariants as OpenFaults
 use Rattle.conf_session.specs.declared.fault.SessionFault.TheVariants as SessionFaults
 
@@ -73,7 +74,8 @@ CheckpointsAreDue io start file (Grouped checkpoints) result work answers =
 -- ---- opening
 
 -- What opening made of a `store.yaml` with this note: a store that holds `start`, and a file that reads as `after`. The
--- state is what the file meant, the size is the length of what it reads as now, and no checkpoint runs.
+-- state is what the file meant, the size is the length of what it reads as now, the format is that of its base, and no
+-- checkpoint runs.
 pub record OpensTo (several : Bool) (before : Option (List ℕ)) (start : Stored) (after : Option (List ℕ)) : Type 0 where
   pub means : FileMeans several before start.state
   pub records : ℕ
@@ -81,6 +83,7 @@ pub record OpensTo (several : Bool) (before : Option (List ℕ)) (start : Stored
   pub recovers : FileRecoversTo several before start.state records dropped
   pub reads : ReadsAfterOpening before start.state dropped after
   pub size : HasLength after start.size
+  pub format : start.format ≡ file_format after
   pub no_checkpoint : start.staged ≡ None
 
 -- The store on a disk was opened, and nothing waits. A crash during it leaves what the disk might have left before, and

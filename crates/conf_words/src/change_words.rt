@@ -645,6 +645,9 @@ Before the keys of a change `if: [CONDITION, ..]` may stand: it is made only whe
   absent: NAME   path: POINTER                 nothing is there
   count: N                                     the store has accepted N commands
 
+Behind them `about: {KEY: TEXT, ..}` may stand: who makes the change (`by`), when and why. It is kept in
+the record, and `log` shows it. The first one in a store writes its file anew, as a checkpoint does.
+
 A refused command changes nothing, and leaves the status 0. The folder must be there; the store in
 it is made on the first run, and locked while a run lasts. What follows the last closing line is not
 performed; if it is not blank, a line on standard error says so.

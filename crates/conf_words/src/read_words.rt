@@ -437,6 +437,9 @@ the value of an import or a set follows as a JSON text, as `2 set web \"/port\" 
 the records are written as they stand in store.yaml, each a YAML document. No lock is taken and
 nothing is changed, so this runs beside a session that holds the store.
 
+A command that says who made it, when and why has that behind its number, as `2 by \"ann\" why \"a test\"
+set web \"/port\"` on one line: what its `about` has under `by`, `when` and `why`.
+
 With NAME only commands are written that change this configuration: a batch that does, as that of
 `rename`, is written whole. `--to N` and `--at N` are the same. Commands that a checkpoint dropped are
 not there.

@@ -60,11 +60,12 @@
 //!   after it, or why it is refused. `unfit;` before it says that the journal has no room for its record.
 //! - `record;NUMBER;` before a command: the length of its record with this number, and the record.
 //! - `perform;TEXT`: the command of a record is performed.
-//! - `read;TEXT`: the record or the base that the text is read as, written again, after its length. `read_bytes;BYTES`
-//!   reads bytes.
+//! - `read;TEXT`: the record or the base that the text is read as, written again, after its length: a base in the third
+//!   format, if the text begins as such a base is written, else in the second. `read_bytes;BYTES` reads bytes.
 //! - `open;TEXT`: the state of a base is taken; `new`: an empty state.
 //! - `show`: the count, and each configuration in the one style, in order. `length`: the bytes of the base text, as the
-//!   state keeps them. `base`: the length of the base text, and the base text.
+//!   state keeps them. `base`: the length of the base text in the second format, and the base text; `third`: the same
+//!   in the third.
 //! - `fault;NAME`: the message of a fault.
 //!
 //! `confstore WORD..`: what these words ask the program for. The answer is the invocation as `Debug` shows it, or

@@ -2,7 +2,7 @@
 use crate::commands::{command_of, perform, perform_record};
 use crate::store_faults::store_fault;
 use crate::texts::{lengthened, measured};
-use conf_record::{base_text, read_base, read_record, record_text};
+use conf_record::{Format, base_text, read_base, read_record, record_text};
 use conf_state::{Room, State, good_name};
 use probe_words::{bytes_of, no_order, shown, wrong_escape};
 use std::alloc::{AllocError, Global};
@@ -26,7 +26,8 @@ fn answer_to_none(alloc: Global, state: &mut State, call: &str) -> Result<String
         "new" => renew(alloc, state),
         "show" => configs_of(alloc, state),
         "length" => shown(alloc, &state.base_length()),
-        "base" => base_of(alloc, state),
+        "base" => base_of(alloc, state, Format::Second),
+        "third" => base_of(alloc, state, Format::Third),
         _ => no_order(alloc),
     }
 }
@@ -55,9 +56,9 @@ fn renew(alloc: Global, state: &mut State) -> Result<String, AllocError> {
     String::from_str(alloc, "new")
 }
 
-/// The length of the base text, and the base text.
-fn base_of(alloc: Global, state: &State) -> Result<String, AllocError> {
-    let text = base_text(alloc, state)?;
+/// The length of the base text in a format, and the base text.
+fn base_of(alloc: Global, state: &State, format: Format) -> Result<String, AllocError> {
+    let text = base_text(alloc, state, format)?;
     measured(alloc, &text)
 }
 
@@ -73,13 +74,13 @@ fn record_of(alloc: Global, number: &str, words: &[&str]) -> Result<String, Allo
     }
 }
 
-/// The record or the base that bytes are read as, written again.
+/// The record or the base that bytes are read as, written again: a base in the format of the bytes.
 fn reading_of(alloc: Global, bytes: &[u8]) -> Result<String, AllocError> {
     if let Some((command, number)) = read_record(alloc, bytes)? {
         return measured(alloc, &record_text(alloc, &command, number)?);
     }
     match read_base(alloc, bytes)? {
-        Some(state) => measured(alloc, &base_text(alloc, &state)?),
+        Some(state) => measured(alloc, &base_text(alloc, &state, Format::of(bytes))?),
         None => String::from_str(alloc, "neither"),
     }
 }

@@ -4,5 +4,5 @@ use Rattle.conf_record.proofs.base_writer.base_start.Goals as goal
 
 pub returns : goal.returns
 returns c =
-    let start = base_start c.args.state.now in
+    let start = base_start c.args.format c.args.state.now in
     c.in_ok-write_start.ensures ∙ ap (λ prefix. prefix ++ encode_utf8_all start) c.new-text.ensures.bytes

@@ -8,7 +8,7 @@ returns g c =
     let prefix = subst (λ cs. g.S.Sink.Takes c.args.sink.now cs c.put_text.new.self)
     (ascii (codes "---\n") refl) c.in_ok-put_text.ensures in
     let store = subst (λ cs. g.S.Sink.Takes c.put_text.new.self cs c.put_text-2.new.self)
-    (ascii (codes "store: confstore-2\n") refl) c.in_ok-put_text-2.ensures in
+    c.line.ensures c.in_ok-put_text-2.ensures in
     on_ok_weaker c.put_text-3.result
     (λ written. both _ _ _ _ _ (both _ _ _ _ _ (both _ _ _ _ _ prefix store) c.in_ok-write_number.ensures)
     (subst (λ cs. g.S.Sink.Takes c.write_number.new.sink cs c.put_text-3.new.self) (ascii (codes "configs:") refl) written))

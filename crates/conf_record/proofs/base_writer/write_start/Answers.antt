@@ -13,7 +13,7 @@ none_start (e ∷ es) is = cc
 pub returns-in-Some : goal.returns-in-Some
 returns-in-Some g c =
     let end = c.put_text.new.self in
-    let head = subst (λ n. g.S.Sink.Takes c.args.sink.now (base_head n) c.write_head.new.sink)
+    let head = subst (λ n. g.S.Sink.Takes c.args.sink.now (base_head c.args.format n) c.write_head.new.sink)
     c.count.ensures.count c.in_ok-write_head.ensures in
     let first = ascii (codes "\n") refl ∙ some_start c.args.state.now.configs _ _ (sym c.names.ensures ∙ c.in-Some.ensures.steps) in
     on_ok_weaker c.put_text.result
@@ -23,7 +23,7 @@ returns-in-Some g c =
 pub returns-in-None : goal.returns-in-None
 returns-in-None g c =
     let end = c.put_text-in-None.new.self in
-    let head = subst (λ n. g.S.Sink.Takes c.args.sink.now (base_head n) c.write_head.new.sink)
+    let head = subst (λ n. g.S.Sink.Takes c.args.sink.now (base_head c.args.format n) c.write_head.new.sink)
     c.count.ensures.count c.in_ok-write_head.ensures in
     let none = ascii (codes " {}\n") refl ∙ none_start c.args.state.now.configs (sym c.names.ensures ∙ c.in-None.ensures.steps.0) in
     on_ok_weaker c.put_text-in-None.result

@@ -1,5 +1,6 @@
-use Rattle.std.proofs.Common.{sym}
-use Rattle.conf_record.proofs.Prelude.{on_ok_weaker}
+use Rattle.std.proofs.Common.{codes, sym, ap, subst, ◌∙◌}
+use Rattle.conf_record.proofs.{AboutLemmas.lines-last, Prelude.{on_ok_weaker, command_of, command_with, tree_of, members_after}}
+use Rattle.conf_record.specs.{Records.command_members, RecordsRead.IsCommand}
 use Rattle.conf_record.proofs.record.write_command.Goals as goal
 
 pub returns-in-Import-clause-takes : goal.returns-in-Import-clause-takes
@@ -35,3 +36,21 @@ returns-in-Batch-clause-takes g c =
 pub returns-in-Batch-clause-kept : goal.returns-in-Batch-clause-kept
 returns-in-Batch-clause-kept g c =
     on_ok_weaker c.write_batch.result (λ told. rw (c.in-Batch.is, sym c.deref-in-Batch.ensures.value) told) c.write_batch.ensures.kept
+
+pub returns-in_ok-write_edits-in-Noted-clause-takes : goal.returns-in_ok-write_edits-in-Noted-clause-takes
+returns-in_ok-write_edits-in-Noted-clause-takes g c =
+    let members = command_members (command_with c.in-Noted.edits) in
+    let about = tree_of c.in-Noted.about in
+    let noted = sym (ap (λ d. members_after (command_members (command_of d)) 0) c.in-Noted.is) in
+    let same = sym (lines-last members (codes "about") about) ∙ noted in
+    on_ok_weaker c.write_about.result
+    (λ told. subst (λ cs. g.S.Sink.Takes c.args.sink.now cs c.write_about.new.sink) same
+    (g.met.S.Sink.takes_both _ _ _ _ _ c.in_ok-write_edits-in-Noted.ensures.takes told))
+    c.write_about.ensures.takes
+
+pub returns-in_ok-write_edits-in-Noted-clause-kept : goal.returns-in_ok-write_edits-in-Noted-clause-kept
+returns-in_ok-write_edits-in-Noted-clause-kept g c =
+    on_ok_weaker c.write_about.result
+    (λ told. subst (λ d. IsCommand (command_of d)) (sym c.in-Noted.is)
+    (c.write_edits.ensures.plain, c.in_ok-write_edits-in-Noted.ensures.kept, c.write_about.ensures.kept))
+    c.write_about.ensures.takes

@@ -3,8 +3,8 @@ use Rattle.std.{proofs.Common.{◌≡◌, refl, sym, ap, ◌∙◌, subst}, spec
 use Rattle.conf_session.proofs.{Prelude.{chars, err_from_is_err_and, text_bytes, conditions_of, StoreView}, WordLemmas.refusal-short}
 use Rattle.conf_session.{proofs.RequestLemmas.{handles-none, handles-reading, handles-retold}, specs.Said.{get_at, export_of, said_of}}
 use Rattle.conf_session.specs.{Replies.Handles, ReadChanges.{IfMet, IsRequest}, declared.reply.Reply.TheVariants.Refused}
-use Rattle.conf_session.specs.{declared.words.Refusal.TheVariants.BadCommand, Requests.{MeansRequest, if_met, checkpointing, getting}}
-use Rattle.conf_session.specs.Requests.{exporting, naming, bad}
+use Rattle.conf_session.specs.{declared.words.Refusal.TheVariants.{AboutLarge, BadCommand}, Requests.{MeansRequest, if_met, checkpointing}}
+use Rattle.conf_session.specs.Requests.{getting, exporting, naming, overlong_about, bad}
 use Rattle.conf_session.proofs.reply.answer_said.Goals as goal
 
 pub returns-in-Single : goal.returns-in-Single
@@ -35,6 +35,27 @@ returns-in-Conditional g c =
       is.2
           ∙ ap (λ cs. if_met (conditions_of cs) is.0) c.deref.ensures.value,
     )) c.change_if.result c.change_if.ensures
+
+pub returns-in-Noted : goal.returns-in-Noted
+returns-in-Noted g c =
+    let d = g.D.Disk in
+    handles-retold d.model c.args.store.now c.change_read-in-Noted.new.store (IsRequest c.read_noted-read.result)
+    (MeansRequest (said_of c.args.said))
+    (λ request is. subst (λ s. MeansRequest s request) (sym (ap said_of c.in-Noted.is))
+    (c.read_noted-read.ensures.asked request is)) c.change_read-in-Noted.result c.change_read-in-Noted.ensures
+
+pub returns-in-ConditionalNoted : goal.returns-in-ConditionalNoted
+returns-in-ConditionalNoted g c =
+    let d = g.D.Disk in
+    handles-retold d.model c.args.store.now c.change_if-in-ConditionalNoted.new.store
+    (IfMet (conditions_of c.deref-in-ConditionalNoted.result.now) (IsRequest c.read_noted-read-in-ConditionalNoted.result))
+    (MeansRequest (said_of c.args.said))
+    (λ request is. subst (λ s. MeansRequest s request) (sym (ap said_of c.in-ConditionalNoted.is)) (
+      is.0,
+      c.read_noted-read-in-ConditionalNoted.ensures.asked is.0 is.1,
+      is.2
+          ∙ ap (λ cs. if_met (conditions_of cs) is.0) c.deref-in-ConditionalNoted.ensures.value,
+    )) c.change_if-in-ConditionalNoted.result c.change_if-in-ConditionalNoted.ensures
 
 pub returns-in-Checkpoint : goal.returns-in-Checkpoint
 returns-in-Checkpoint g c =
@@ -69,6 +90,16 @@ returns-in-Export g c =
     (λ image h is. g.met.D.Disk.only_now store.disk image h is)
     (exporting name) (subst (λ s. MeansRequest s (exporting name)) same refl) tt c.export_answer.result
     c.export_answer.ensures.ok c.export_answer.ensures.memory
+
+pub returns-in-LargeAbout : goal.returns-in-LargeAbout
+returns-in-LargeAbout g c =
+    let d = g.D.Disk in
+    let store = c.args.store.now in
+    handles-reading d.model store c.requires.means (MeansRequest (said_of c.args.said))
+    (λ image h is. g.met.D.Disk.only_now store.disk image h is)
+    overlong_about (subst (λ s. MeansRequest s overlong_about) (sym (ap said_of c.in-LargeAbout.is)) refl) tt
+    (Ok (Refused AboutLarge))
+    (record { bytes = refl; accepted = refl; refused = refl; short = refusal-short AboutLarge }) tt
 
 pub returns-in-Nothing : goal.returns-in-Nothing
 returns-in-Nothing g c =

@@ -29,7 +29,7 @@ returns-in-Ok g c =
             short = answer-short (stored_of old) checkpointing c.count.ensures.limits;
           },
           ok.0,
-          checkpointed d.model old new c.checkpoint.ensures.state (λ on. (ok.1, ok.2))
+          checkpointed d.model old new c.checkpoint.ensures.state (λ on. (ok.1, ok.2, ok.3))
               (λ h on. c.in-Ok.ensures.reads h) (λ h. c.in-Ok.ensures.any_moment h off) (λ h on. c.in-Ok.ensures.flushed h),
         ),
       );

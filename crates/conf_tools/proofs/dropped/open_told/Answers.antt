@@ -16,6 +16,7 @@ returns-in-Ok-clause-opens g c =
         recovers = opened.found h;
         reads = opened.reads h;
         size = opened.size h;
+        format = opened.format_now h;
         no_checkpoint = ap (option_map (λ (s : Staged). s.written + length s.left)) opened.no_checkpoint;
       };
       at_any_moment = λ h. opened.any_moment h;

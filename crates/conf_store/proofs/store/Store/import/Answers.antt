@@ -1,9 +1,9 @@
 -- Without a command the store stays as it is; otherwise the command is performed.
 use Rattle.std.proofs.Common.{◌≡◌, ◌⊎◌, inl, false, Err, refl, sym, ◌∙◌, ap, subst}
 use Rattle.conf_store.proofs.Prelude.{false≢true, IfOk-weaker, IfErr-weaker, on_ok_weaker, chars, bytes_under, Store, LeavesOnly-start}
-use Rattle.conf_store.proofs.{Prelude.{file_with_bytes, command_of, BadName, Reopen, Device}, ImportLemmas.{import-refused, unread-refused}}
+use Rattle.conf_store.proofs.{Prelude.{command_of, BadName, Reopen, Device}, ImportLemmas.{import-refused, unread-refused}}
 use Rattle.conf_store.{proofs.ImportLemmas.unread-of_state, specs.{Imports.RefusesImport, Meaning.ImageMeans, Durable.MeansPrefix}}
-use Rattle.conf_store.specs.{Durable.staged_text, Calls.{Accepts, RefusesCommand, next_record}}
+use Rattle.conf_store.specs.{Durable.staged_text, Calls.{Accepts, RefusesCommand, next_record, renews}, Changing.{file_with, new_file_with}}
 use Rattle.conf_store.proofs.store.Store.import.Goals as goal
 
 -- ---- a store that has to be opened again
@@ -71,7 +71,7 @@ returns-in-Ok-clause-reads g c h off =
     let before = bytes_under (d.model.folder old.disk) Store in
     let made = c.in-Ok.ensures.ok in
     on_ok_weaker c.apply.result
-    (λ is. record { tree = made.tree; reads = made.reads; is = is ∙ ap (λ x. file_with_bytes before (next_record old.state x)) made.is })
+    (λ is. record { tree = made.tree; reads = made.reads; is = is ∙ ap (λ x. file_with (renews old.format x) before old.state x) made.is })
     (c.apply.ensures.reads h off)
 
 pub returns-in-Ok-clause-stages : goal.returns-in-Ok-clause-stages
@@ -81,11 +81,15 @@ returns-in-Ok-clause-stages g c h off =
     let before = staged_text (d.model.folder old.disk) old.staged in
     let made = c.in-Ok.ensures.ok in
     on_ok_weaker c.apply.result
-    (λ is. record { tree = made.tree; reads = made.reads; is = is ∙ ap (λ x. file_with_bytes before (next_record old.state x)) made.is })
+    (λ is. record {
+      tree = made.tree;
+      reads = made.reads;
+      is = is ∙ ap (λ x. new_file_with (renews old.format x) before (next_record old.state x)) made.is;
+    })
     (c.apply.ensures.stages h off)
 
 pub returns-in-Ok-clause-running : goal.returns-in-Ok-clause-running
-returns-in-Ok-clause-running g c = c.apply.ensures.running
+returns-in-Ok-clause-running g c = c.apply.ensures.running (ap (renews c.args.self.now.format) c.in-Ok.ensures.ok.is)
 
 pub returns-in-Ok-clause-any_moment : goal.returns-in-Ok-clause-any_moment
 returns-in-Ok-clause-any_moment g c = c.apply.ensures.any_moment

@@ -1,13 +1,14 @@
 use Rattle.std.{proofs.Common.{arith, false, ◌≡◌, ◌⊎◌, inl, ⊎_elim, ◌≤◌, Some, Err, refl, sym, ◌∙◌, ap, subst}, specs.Prelude.{ℕ, Option}}
 use Rattle.std.specs.Prelude.{None, IfSome}
 use Rattle.conf_store.proofs.Prelude.{bytes_under, Image, IsImage, LeavesOnly, Store, Next, LeavesOnly-weaker, LeavesOnly-joined}
-use Rattle.conf_store.proofs.{Prelude.{LeavesOnly-now, IsStoreOf, several_waited, store_limit, base_bytes}, GrownLemmas.found-base}
-use Rattle.conf_store.proofs.{HeldLemmas.{durable-held, held-means}, StoreLemmas.quiet-flushed, OpenLemmas.{image-meant, loaded-meant}}
-use Rattle.conf_store.proofs.OpenLemmas.{state-meant, found-means, found-durable, failed-later, reads-stays, reads-staged, refused-nothing}
-use Rattle.conf_store.proofs.{OpenLemmas.{disk-refused, disk-no-meaning, disk-device}, FileLemmas.{held-length, files-stay, images-old}}
-use Rattle.conf_store.{proofs.FileLemmas.{not-needed, kept-as-it-is, disk-memory, base-leaves, base-reads}, specs.Durable.IsDurable}
-use Rattle.conf_store.specs.{Durable.IsStaging, Grown.{FileStartsWithBase, StagedStartsWithBase}, Staged.staged_length, Meaning.ImageMeans}
-use Rattle.conf_store.specs.{Opens.MeantAtEntry, Files.{FilesStay, IsOldOrBase, LeavesOldOrBase}}
+use Rattle.conf_store.proofs.{Prelude.{LeavesOnly-now, IsStoreOf, several_waited, store_limit, LeavesStoreOr}, GrownLemmas.found-base}
+use Rattle.conf_store.proofs.OpenLemmas.{base-format, image-meant, loaded-meant, state-meant, found-means, found-durable, failed-later}
+use Rattle.conf_store.proofs.OpenLemmas.{reads-stays, reads-staged, refused-nothing, disk-refused, disk-no-meaning, disk-device}
+use Rattle.conf_store.proofs.{HeldLemmas.{durable-held, held-means}, StoreLemmas.quiet-flushed, FileLemmas.{held-length, files-stay}}
+use Rattle.conf_store.proofs.FileLemmas.{images-old, not-needed, kept-as-it-is, disk-memory, base-leaves, base-reads}
+use Rattle.conf_store.specs.{Opens.{file_format, MeantAtEntry}, Durable.{IsDurable, IsStaging}, Grown.FileStartsWithBase}
+use Rattle.conf_store.specs.{Grown.StagedStartsWithBase, Staged.staged_length, Meaning.ImageMeans, Files.{FilesStay, IsOldOrBase}}
+use Rattle.{conf_store.specs.Files.LeavesOldOrBase, conf_record.specs.Formats.base_in}
 use Rattle.conf_store.proofs.store.Store.open.Goals as goal
 
 pub returns-in-Err-clause-no_meaning : goal.returns-in-Err-clause-no_meaning
@@ -162,8 +163,8 @@ returns-clause-reads g c h =
           reads-staged (several_waited (d.model.folder c.args.disk)) store _ s c.in-Ok.found.opened.commands c.in-Ok.found.opened.dropped
           c.in-Ok.found.size
           (c.in-Ok.ensures.ok h) w.in-None.is
-          (subst (λ (x : g.row.D.Denot). bytes_under (d.model.folder x) Store ≡ Some (base_bytes s)) (sym w.disk-is)
-          (w.in-Ok-write_base.ensures.reads h))
+          (subst (λ (x : g.row.D.Denot). bytes_under (d.model.folder x) Store ≡ Some (base_in (file_format store) s)) (sym w.disk-is)
+          (w.in-Ok-write_base.ensures.reads h ∙ ap (λ f. Some (base_in f s)) (c.in-Ok.ensures.format h)))
     ]
 
 pub returns-clause-size : goal.returns-clause-size
@@ -244,7 +245,8 @@ returns-in-Err-write_base-clause-old_or_base g c h =
     let d = g.D.Disk in
     let new = c.write_base.new.disk in
     base-reads d.model c.args.disk c.find_store.new.disk new c.in-Ok.found.state _ _ c.in-Ok.found.size (c.in-Ok.ensures.ok h)
-    c.in-None.is (c.write_base.ensures.leaves h) c.reading_is_an_image.ensures c.held_store_is_the_only_one.ensures.left
+    c.in-None.is (subst (λ f. LeavesStoreOr d.model (Some (base_in f c.in-Ok.found.state)) c.find_store.new.disk new)
+    (c.in-Ok.ensures.format h) (c.write_base.ensures.leaves h)) c.reading_is_an_image.ensures c.held_store_is_the_only_one.ensures.left
     (c.in-Ok.ensures.holds h) (λ t image le is. g.met.D.Disk.counts_now new t image h le is)
 
 pub returns-in-Err-write_base-clause-leaves : goal.returns-in-Err-write_base-clause-leaves
@@ -252,7 +254,9 @@ returns-in-Err-write_base-clause-leaves g c h =
     let d = g.D.Disk in
     let mid = c.find_store.new.disk in
     base-leaves d.model c.args.disk mid c.write_base.new.disk c.in-Ok.found.state _ _ c.in-Ok.found.size
-    (c.in-Ok.ensures.ok h) c.in-None.is (c.write_base.ensures.leaves h)
+    (c.in-Ok.ensures.ok h) c.in-None.is
+    (subst (λ f. LeavesStoreOr d.model (Some (base_in f c.in-Ok.found.state)) mid c.write_base.new.disk)
+    (c.in-Ok.ensures.format h) (c.write_base.ensures.leaves h))
     (LeavesOnly-now d.model c.args.disk mid (IsImage (d.model.folder c.args.disk))
     (λ t image le is. g.met.D.Disk.counts_now mid t image h le is) (c.find_store.ensures.any_moment h))
     (c.find_store.ensures.any_moment h)
@@ -285,7 +289,9 @@ returns-clause-old_or_base g c h =
           subst (λ (x : g.row.D.Denot). IsOldOrBase note store (bytes_under (d.model.folder x) Store)) (sym w.disk-is)
           (let new = w.write_base.new.disk in
           base-reads d.model c.args.disk c.find_store.new.disk new c.in-Ok.found.state _ _ c.in-Ok.found.size (c.in-Ok.ensures.ok h)
-          w.in-None.is (w.write_base.ensures.leaves h) c.reading_is_an_image.ensures c.held_store_is_the_only_one.ensures.left
+          w.in-None.is (subst (λ f. LeavesStoreOr d.model (Some (base_in f c.in-Ok.found.state)) c.find_store.new.disk new)
+          (c.in-Ok.ensures.format h) (w.write_base.ensures.leaves h)) c.reading_is_an_image.ensures
+          c.held_store_is_the_only_one.ensures.left
           (c.in-Ok.ensures.holds h) (λ t image le is. g.met.D.Disk.counts_now new t image h le is))
     ]
 
@@ -301,7 +307,28 @@ returns-clause-leaves g c h =
           subst (λ (x : g.row.D.Denot). LeavesOldOrBase d.model old x) (sym w.disk-is)
           (let mid = c.find_store.new.disk in
           base-leaves d.model old mid w.write_base.new.disk c.in-Ok.found.state _ _ c.in-Ok.found.size (c.in-Ok.ensures.ok h)
-          w.in-None.is (w.write_base.ensures.leaves h) (LeavesOnly-now d.model old mid (IsImage (d.model.folder old))
+          w.in-None.is (subst (λ f. LeavesStoreOr d.model (Some (base_in f c.in-Ok.found.state)) mid w.write_base.new.disk)
+          (c.in-Ok.ensures.format h) (w.write_base.ensures.leaves h)) (LeavesOnly-now d.model old mid (IsImage (d.model.folder old))
           (λ t image le is. g.met.D.Disk.counts_now mid t image h le is) (c.find_store.ensures.any_moment h))
           (c.find_store.ensures.any_moment h))
+    ]
+
+-- ---- the format
+
+pub returns-clause-format : goal.returns-clause-format
+returns-clause-format g c h = c.in-Ok.ensures.format h
+
+pub returns-clause-format_now : goal.returns-clause-format_now
+returns-clause-format_now g c h =
+    let d = g.D.Disk in
+    let s = c.in-Ok.found.state in
+    let store = bytes_under (d.model.folder c.args.disk) Store in
+    elim c.match-size.branch [
+      | goal.in-Some w ↦
+          subst (λ (x : g.row.D.Denot). c.in-Ok.found.format ≡ file_format (bytes_under (d.model.folder x) Store)) (sym w.disk-is)
+          (c.in-Ok.ensures.format h ∙ ap file_format
+          (sym (c.held_store_is_the_only_one.ensures.reads (d.model.folder c.find_store.new.disk) store (c.in-Ok.ensures.holds h))))
+      | goal.in-None+in-Ok-write_base w ↦
+          subst (λ (x : g.row.D.Denot). c.in-Ok.found.format ≡ file_format (bytes_under (d.model.folder x) Store)) (sym w.disk-is)
+          (base-format c.formats_are_told.ensures.told c.in-Ok.found.format s _ (w.in-Ok-write_base.ensures.reads h))
     ]

@@ -31,6 +31,9 @@ REFUSALS: Dict[str, Tuple[str, str]] = {
     "ConfigLarge": ("the configuration would have more than 4,194,304 bytes", "make two of it"),
     "StoreFull": ("all configurations together would be too long", "use a second store"),
     "RecordLong": ("the edits are too long for one batch", "make two tasks of them"),
+    "AboutLarge": (
+        "an about has at most 16 keys of 64 characters, and 4,096 bytes", "shorten `about`, or the name of the task",
+    ),
     "JournalLong": ("`store.yaml` would be too long", "run `confstore checkpoint` on the folder"),
     "CountFull": ("no more commands can be counted", "export all, and import it into a new store"),
 }  # fmt: skip

@@ -16,6 +16,15 @@ import threading
 from types import ModuleType
 from typing import IO, Any, Dict, List, NamedTuple, Optional, Sequence
 
+from ansible_collections.confstore.store.plugins.module_utils.abouts import (
+    ABOUT,
+    WHY,
+    NotAbout,
+    filled,
+    from_environment,
+    joined,
+    keeps_abouts,
+)
 from ansible_collections.confstore.store.plugins.module_utils.edits import Edit
 from ansible_collections.confstore.store.plugins.module_utils.faults import REFUSALS, Fault, Place
 from ansible_collections.confstore.store.plugins.module_utils.grounds import Condition
@@ -25,15 +34,18 @@ package: Optional[ModuleType]
 try:
     import confstore
 
-    _USED = (confstore.Store, confstore.Reader, confstore.Test)  # the package imports each once it is asked for
+    _USED = (confstore.Store.about, confstore.Reader, confstore.Test)  # the package imports each once it is asked for
     package = confstore
-except (ImportError, AttributeError):  # it is not installed, or PyYAML is not, or it is one without conditions
+except (ImportError, AttributeError):  # it is not installed, or PyYAML is not, or it is one without abouts
     package = None
 
 CLOSING = b"...\n"
 
 # How many bytes an answer may have.
 LONGEST_ANSWER = 67_108_864
+
+# How many characters of a task's name are noted.
+LONGEST_NAME = 200
 
 _FAULT = re.compile(r"(?m)^confstore: (\w+)")
 
@@ -44,13 +56,27 @@ _REFUSED = re.compile(r"(?m)^-:(?:([0-9]+):([0-9]+):)? (\w+)(?: (\w+))?")
 _ENDS = {"CommandLong": "SessionLong", "InputFailed": "Input", "OutputFailed": "Output", "TooLong": "SessionLong"}
 
 
+# What is given for an about: None in the place of a text leaves a key out.
+Given = Dict[str, Optional[str]]
+
+
 class Target(NamedTuple):
-    """Where a store is, by a folder or by a socket; the program, and how many seconds an answer may take."""
+    """Where a store is, by a folder or by a socket; the program, and how many seconds an answer may take; and what the
+    task gives for the about of its change, with the name of the task."""
 
     folder: Optional[str]
     socket: Optional[str]
     program: Optional[str]
     timeout: float
+    about: Optional[Given] = None
+    task: str = ""
+
+    def given(self) -> Optional[Given]:
+        """What is given for the about of a change. None where nobody asks for one, and the store does not keep them, as
+        far as this is known: that of a socket's server is not. The task's name says why, unless something else does."""
+        is_kept = self.folder is not None and keeps_abouts(self.folder)
+        asked = joined(_checked(from_environment), self.about, {} if is_kept else None)
+        return None if asked is None else {**({WHY: self.task[:LONGEST_NAME]} if self.task else {}), **asked}
 
     @property
     def where(self) -> str:
@@ -70,6 +96,14 @@ class Target(NamedTuple):
         if not os.path.isdir(self.folder):
             raise Fault("MissingFolder", self.folder)
         return os.path.lexists(os.path.join(self.folder, "store.yaml"))
+
+
+def _checked(call: Any, *words: Any) -> Any:
+    """What a call of `abouts` returns. Raises `Fault` for what it raises."""
+    try:
+        return call(*words)
+    except NotAbout as fault:
+        raise Fault(fault.name, fault.why) from None
 
 
 class Store:
@@ -114,10 +148,10 @@ def reading(target: Target) -> Store:
 def session(target: Target) -> Store:
     """A store that is held by a session until it is closed, or shared by the server at a socket. It answers by then."""
     if package is None:
-        return BySession(Connection(target) if target.socket is not None else Program(target)).begun()
+        return BySession(Connection(target) if target.socket is not None else Program(target), target).begun()
     if target.socket is not None:
-        return ByPackage(package.Store.connect, target.socket, target)
-    return ByPackage(package.Store, target.folder, target)
+        return ByPackage(package.Store.connect, target.socket, target, about=target.given())
+    return ByPackage(package.Store, target.folder, target, about=target.given())
 
 
 def make_store(target: Target) -> None:
@@ -298,8 +332,8 @@ class Connection:
 class BySession(Store):
     """Reads and changes a store by the commands of a session."""
 
-    def __init__(self, other: "Program | Connection") -> None:
-        self._other = other
+    def __init__(self, other: "Program | Connection", target: Target) -> None:
+        self._other, self._target = other, target
 
     def begun(self) -> "BySession":
         """The same, once it has answered. Raises `Fault` for why it does not, and lets go of the store."""
@@ -355,16 +389,20 @@ class BySession(Store):
         wanted = [_tree_of(condition) for condition in conditions]
         if count is not None:
             wanted.append({"count": str(count)})
-        if wanted:
-            return int(str(self._ask_under(wanted, commands)))
-        return int(str(self._ask(commands[0] if len(commands) == 1 else {"batch": list(commands)}, "ok")))
+        command: Dict[str, Tree] = commands[0] if len(commands) == 1 and not wanted else {"batch": list(commands)}
+        about: Dict[str, Tree] = dict(_checked(filled, self._target.given(), False))
+        before: Dict[str, Tree] = {"if": wanted} if wanted else {}
+        behind: Dict[str, Tree] = {ABOUT: about} if about else {}
+        return int(str(self._ask_all({**before, **command, **behind})))
 
-    def _ask_under(self, wanted: List[Tree], commands: List[Dict[str, Tree]]) -> Tree:
-        """Has edits made where conditions hold. Raises `Fault` for a program or a server that has none."""
+    def _ask_all(self, command: Dict[str, Tree]) -> Tree:
+        """Has a command performed. Raises `Fault` for a program or a server that has no conditions, or no abouts."""
         try:
-            return self._ask({"if": wanted, "batch": list(commands)}, "ok")
+            return self._ask(command, "ok")
         except Fault as fault:
-            if fault.name == "BadCommand":
+            if fault.name == "BadCommand" and ABOUT in command:
+                raise Fault("Unsupported", "abouts (`about`), which this task needs") from None
+            if fault.name == "BadCommand" and "if" in command:
                 raise Fault("Unsupported", "conditions (`if`), which this task needs") from None
             raise
 
@@ -401,8 +439,8 @@ def _package() -> Any:
 class ByPackage(Store):
     """Reads and changes a store by the Python package."""
 
-    def __init__(self, opens: Any, where: Optional[str], target: Target) -> None:
-        more = {} if target.socket is not None else {"program": target.program}
+    def __init__(self, opens: Any, where: Optional[str], target: Target, **more: Any) -> None:
+        more = more if target.socket is not None else {**more, "program": target.program}
         self._target = target
         self._store = self._called(opens, where, timeout=target.timeout, **more)
 

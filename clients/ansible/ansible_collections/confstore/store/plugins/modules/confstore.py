@@ -138,6 +138,20 @@ options:
         description: As I(if_absent).
         type: bool
         default: false
+  about:
+    description:
+      - What the store notes of the change, a mapping of texts, such as C(why) and C(ticket). C(confstore log) shows it.
+      - C(by), the user that runs the module on the host, and C(when), the time, are added, and C(why) is the name of
+        the task; a key with null is left out. A server writes C(by) and C(when) itself.
+      - Without this option nothing is noted, unless the store in I(folder) has had an about before. Then C(by), C(when)
+        and C(why) are.
+      - Older programs do not open a store that has had an about, and the first one drops the earlier commands from the
+        file, as a checkpoint does. A mapping has at most 16 keys of 64 characters, and 4,096 bytes.
+    type: dict
+  task:
+    description: The name of the task. The collection sets it.
+    type: str
+    default: ''
 requirements:
   - Python 3.9 or later on the host
 attributes:
@@ -201,6 +215,14 @@ EXAMPLES = r"""
     path: /version
     value: "1.11"
     if_value: "1.10"
+
+- name: The certificate of May
+  confstore.store.confstore:
+    folder: /var/lib/app
+    name: web
+    path: /tls/certificate
+    value: /etc/ssl/may.pem
+    about: {ticket: OPS-7}
 
 - name: A secret, which Ansible does not show
   confstore.store.confstore:
@@ -266,6 +288,7 @@ from ansible_collections.confstore.store.plugins.module_utils.faults import Faul
 from ansible_collections.confstore.store.plugins.module_utils.grounds import Condition
 from ansible_collections.confstore.store.plugins.module_utils.stores import (
     Empty,
+    Given,
     Store,
     Target,
     make_store,
@@ -296,6 +319,8 @@ OPTIONS: Dict[str, Dict[str, Any]] = {
     "wait": {"type": "float", "default": 10.0},
     "if_count": {"type": "int"},
     "edits": {"type": "list", "elements": "dict", "options": EDIT_OPTIONS, "no_log": True},
+    "about": {"type": "dict"},
+    "task": {"type": "str", "default": ""},
 }
 SOURCES = ("value", "text", "src")
 
@@ -342,6 +367,19 @@ def wish_of(edit: Dict[str, Any], name: Optional[str], target: Target) -> Wish:
     if given and not is_present and not path.endswith("/-"):
         raise Fault("BadTask", f"`{given[0]}` with `state: absent` at {path!r}, which does not end in `/-`")
     return Wish(edit["name"], path, wanted_tree(edit, target), is_present, edit["parents"], condition_of(edit))
+
+
+def about_of(about: Optional[Dict[str, Any]]) -> Optional[Given]:
+    """What a task gives for the about of its change: texts, or null for a key that is left out."""
+    if about is None:
+        return None
+    given: Given = {}
+    for key, value in about.items():
+        text = None if value is None else tree_of(value)
+        if not (text is None or isinstance(text, str)):
+            raise Fault("BadTask", f"the key {str(key)!r} of `about` has no text")
+        given[str(key)] = text
+    return given
 
 
 def condition_of(edit: Dict[str, Any]) -> Optional[Condition]:
@@ -400,7 +438,10 @@ class Task:
     """What a task wants of a store. Raises `Fault` for options that say nothing, and for a text that is refused."""
 
     def __init__(self, options: Dict[str, Any]) -> None:
-        self._target = Target(options["folder"], options["socket"], options["program"], options["timeout"])
+        about = about_of(options["about"])
+        self._target = Target(
+            options["folder"], options["socket"], options["program"], options["timeout"], about, options["task"]
+        )
         self._may_create: bool = options["create"]
         self._wait: float = options["wait"]
         self._count: Optional[int] = options["if_count"]
