@@ -9,6 +9,7 @@
   in slices, over a new folder and over a torn file. Each of their system calls fails once, or ends the process. What is
   left is the old file or a new one, whole but for a cut last record; no about is behind a base of another format; and
   the next session finds the state after a prefix of the commands, which has each one that was answered.
+- Words that change a store take abouts, as a session takes them of the same commands, and refuse words that give none.
 - Abouts at each limit and one beyond it, and what is no about, with lengths and records that were worked out by hand.
 - Random commands without abouts leave the same bytes and answers as the program of the newest release of another version.
 
@@ -23,6 +24,7 @@ from __future__ import annotations
 
 import functools
 import io
+import json
 import os
 import random
 import re
@@ -40,7 +42,8 @@ from typing import Any
 import yaml
 
 from lib.about_stores import (
-    FORMATS, NAMES, TORN, Logged, Model, base_text, document, some_command, some_store, spelled,
+    ABOUT_KEYS, FORMATS, LARGE_ABOUTS, NAMES, TORN, Logged, Model, base_text, document, json_text, some_about, some_change,
+    some_command, some_store, spelled,
 )
 from lib.answers import is_right
 from lib.call_faults import ENDED, Call, Kind, calls_in, counted, try_faults
@@ -160,6 +163,14 @@ def look_at_log(chance: random.Random, folder: str, model: Model, failures: Fail
     failures.expect(f"{title}: log --values", run("log", "--values", folder), (0, values, ""))
     records = b"".join(logged.record for logged in model.log)
     failures.expect(f"{title}: log --yaml", run("log", "--yaml", folder), (0, records, ""))
+    keys = chance.sample(ABOUT_KEYS, chance.choice((1, 2, 3)))
+    others = "".join(logged.line(False, keys) for logged in model.log).encode()
+    asked = [f"--about={key}" for key in keys]
+    failures.expect(f"{title}: log {asked}", run("log", *asked, folder), (0, others, ""))
+    told = [logged.told() for logged in model.log]
+    objects = run("log", "--json", folder)
+    failures.expect(f"{title}: log --json", objects, (0, "".join(f"{json_text(one)}\n" for one in told).encode(), ""))
+    failures.expect(f"{title}: log --json is JSON", [*map(json.loads, objects[1].splitlines())], told)
     number = chance.randint(model.first, model.count)
     configs, at = model.state_at(number), str(number)
     names = "".join(f"{name}\n" for name in configs).encode()
@@ -170,6 +181,36 @@ def look_at_log(chance: random.Random, folder: str, model: Model, failures: Fail
         failures.expect(f"{title}: get --at {at} {name}", found, (0, to_text(as_json(configs[name])).encode(), ""))
     else:
         failures.expect(f"{title}: get --at {at} {name}", found, (1, b"", "confstore: NoConfig"))
+
+
+def words_of(folder: str, change: Document) -> tuple[list[str], bytes]:
+    """The words that make a change, and what they read."""
+    kind, name = next(iter(change.items()))
+    if kind == "batch":
+        return ["batch", folder], json_text(name).encode()
+    if kind == "import":
+        return ["import", "--any-root", folder, name], change["text"].encode()
+    path, value = change["path"], change.get("value")
+    whole = [] if path else ["--whole"]
+    return [kind, *whole, *([] if value is None else ["--yaml"]), "--", folder, name, path, *value_words(value)], b""
+
+
+def value_words(value: Any) -> list[str]:
+    return [] if value is None else [json_text(value)]
+
+
+def try_words(chance: random.Random, folder: str, model: Model, failures: Failures, title: str) -> None:
+    """Words with abouts do what a session does with the same commands, and refuse what is no about."""
+    for _ in range(2):
+        change = some_change(chance)
+        is_bad = chance.random() < 0.15
+        about = chance.choice(LARGE_ABOUTS) if is_bad else some_about(chance)
+        (word, *others), given = words_of(folder, change)
+        words = [word, *(f"--about={key}={text}" for key, text in about.items()), *others]
+        status, output, errors = run_of(PROGRAM, words, given)
+        wanted = 2 if is_bad else int(not model.answer({**change, "about": about}).startswith("ok"))
+        failures.expect(f"{title}: {words!r} {errors!r}", (status, output), (wanted, b""))
+        failures.expect(f"{title}: the file after {words!r}", file_in(folder), model.file)
 
 
 def look_at_rest(chance: random.Random, folder: str, model: Model, failures: Failures, title: str) -> None:
@@ -222,6 +263,8 @@ def try_store(name: str, number: int) -> tuple[Failures, Counter[str]]:
         title, counts = try_session(chance, folder, model, rest, length, failures)
         title = f"{name}, store {number}: {title}"
         look_at_file(folder, model, failures, title)
+        if not PLAIN:
+            try_words(chance, folder, model, failures, title)
         look_at_log(chance, folder, model, failures, title)
         if number % LOOKED_AT == 0:
             look_at_rest(chance, folder, model, failures, title)

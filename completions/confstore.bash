@@ -3,7 +3,7 @@
 _confstore_words='init import set delete copy rename move batch checkpoint run export names get keys exists log diff verify salvage backup format check help'
 
 _confstore_options() {
-    local conditions='--if-value --if-absent --if-count'
+    local conditions='--if-value --if-absent --if-count --about'
     case $1 in
     init | checkpoint) echo '--wait --help' ;;
     run) echo '--group --checkpoint-after --wait --help' ;;
@@ -12,12 +12,12 @@ _confstore_options() {
     delete) echo "--whole $conditions --wait --help" ;;
     copy) echo "--replace $conditions --wait --help" ;;
     rename | move) echo "$conditions --wait --help" ;;
-    batch) echo '--explain --if-count --wait --help' ;;
+    batch) echo '--explain --if-count --about --wait --help' ;;
     export) echo '--all --json --plain --wait --help' ;;
     names) echo '--json --at --help' ;;
     get) echo '--raw --no-newline --json --plain --default --at --help' ;;
     keys | exists) echo '--at --help' ;;
-    log) echo '--values --hide --yaml --from --to --at --help' ;;
+    log) echo '--values --hide --yaml --json --about --from --to --at --help' ;;
     diff) echo '--from --to --files --help' ;;
     verify | salvage) echo '--keep-dropped --help' ;;
     format) echo '-i --in-place --keep-comments --drop-comments --check --explain --help' ;;
@@ -35,7 +35,7 @@ _confstore_names() {
 
 # The options with a value of the words that take pointers, and the words and places that are pointers: the word, the
 # folder and the name come before them.
-_confstore_valued='--wait --if-value --if-count --file --default --at --hide --from --to'
+_confstore_valued='--wait --about --if-value --if-count --file --default --at --hide --from --to'
 _confstore_is_pointer() {
     case $1:$2 in
     set:3 | delete:3 | keys:3 | exists:3 | move:3 | move:4) ;;
@@ -228,7 +228,7 @@ _confstore() {
     fi
     for ((index = 2; index < COMP_CWORD; index++)); do
         case ${COMP_WORDS[index]} in
-        --all | --checkpoint-after | --at | --from | --to | --default | --file | --hide | --if-value | --if-count | --keep-dropped | --wait)
+        --about | --all | --checkpoint-after | --at | --from | --to | --default | --file | --hide | --if-value | --if-count | --keep-dropped | --wait)
             index=$((index + 1))
             ;;
         --files) files=--files ;;
@@ -240,7 +240,7 @@ _confstore() {
         esac
     done
     case ${COMP_WORDS[COMP_CWORD - 1]} in
-    --checkpoint-after | --at | --from | --to | --default | --hide | --if-value | --if-count | --wait) return ;;
+    --about | --checkpoint-after | --at | --from | --to | --default | --hide | --if-value | --if-count | --wait) return ;;
     --file | --keep-dropped)
         compopt -o filenames
         mapfile -t COMPREPLY < <(compgen -f -- "$current")

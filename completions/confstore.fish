@@ -12,7 +12,7 @@ function __confstore_places
     for word in (commandline -opc)[3..-1]
         if test $is_value = 1
             set is_value 0
-        else if contains -- $word --all --checkpoint-after --at --from --to --default --file --hide --if-value --if-count --keep-dropped --wait
+        else if contains -- $word --about --all --checkpoint-after --at --from --to --default --file --hide --if-value --if-count --keep-dropped --wait
             set is_value 1
         else if not string match -q -- '-?*' $word
             set -a places $word
@@ -164,17 +164,19 @@ complete -c confstore -n '__fish_seen_subcommand_from set' -l insert -d 'Insert 
 complete -c confstore -n "__fish_seen_subcommand_from $conditional" -l if-value -x -d 'Change only if this text is there'
 complete -c confstore -n "__fish_seen_subcommand_from $conditional" -l if-absent -d 'Change only if nothing is there'
 complete -c confstore -n "__fish_seen_subcommand_from batch $conditional" -l if-count -x -d 'Change only after so many commands'
+complete -c confstore -n "__fish_seen_subcommand_from batch $conditional" -l about -x -d 'Record a text under a key with the change'
 complete -c confstore -n "__fish_seen_subcommand_from $locking" -l wait -x -d 'Try again for so many seconds'
 complete -c confstore -n '__fish_seen_subcommand_from set delete' -l whole -d 'Allow the empty pointer'
 complete -c confstore -n '__fish_seen_subcommand_from import set batch format check' -l explain -d 'Show the line at fault of a refused text'
 complete -c confstore -n '__fish_seen_subcommand_from names get keys exists log' -l at -x -d 'Read the store as it was after a command'
 complete -c confstore -n '__fish_seen_subcommand_from get' -l raw -d 'Write a text as it is'
 complete -c confstore -n '__fish_seen_subcommand_from get' -l no-newline -d 'Write no line feed after it'
-complete -c confstore -n '__fish_seen_subcommand_from get export names' -l json -d 'Write a JSON text'
+complete -c confstore -n '__fish_seen_subcommand_from get export names log' -l json -d 'Write a JSON text'
 complete -c confstore -n '__fish_seen_subcommand_from get export' -l plain -d 'Write numbers without quotes'
 complete -c confstore -n '__fish_seen_subcommand_from export' -l all -x -a '(__fish_complete_directories)' -d 'Write each configuration into a file'
 complete -c confstore -n '__fish_seen_subcommand_from get' -l default -x -d 'Write a text where nothing is there'
 complete -c confstore -n '__fish_seen_subcommand_from log' -l values -d 'Write values as JSON texts'
+complete -c confstore -n '__fish_seen_subcommand_from log' -l about -x -d 'Show what is recorded under a key' -a 'by when why'
 complete -c confstore -n '__fish_seen_subcommand_from log' -l hide -x -d 'Hide the values at a place' -a '(__confstore_pointers | string split0)'
 complete -c confstore -n '__fish_seen_subcommand_from log' -l yaml -d 'Write the records as they stand'
 complete -c confstore -n '__fish_seen_subcommand_from log' -l from -x -d 'Begin with a command'

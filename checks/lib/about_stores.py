@@ -30,6 +30,7 @@ TEXTS = (
     "x", "80", "", "true", "a: b", " x", "# x", "two\nlines", "two\nlines\n", "kept\n\n", "\n", "\t", "...\n---\n",
     "q\"'\\", "\u00e9\u2028\u0085", "\u0001\ufeff", "\U0001f600", "- x", "z" * 150,
 )  # fmt: skip
+USUAL_KEYS = ("by", "when", "why")
 ABOUT_KEYS = ("by", "when", "why", "ticket", "if", "about", "\u00e9 x", "no", "- k", "\U0001f600\n")
 ABOUT_TEXTS = (*TEXTS, "ann", "2026-03-01T10:00:00Z", "open the port", "a\nb\n...\nc")
 # The keys of the commands, those that change something first.
@@ -100,11 +101,17 @@ class Logged:
     record: bytes
     configs: Configs
 
-    def line(self, values: bool) -> str:
-        """Its line in a log."""
-        labels = "".join(f" {key} {quoted(self.about[key])}" for key in ("by", "when", "why") if key in self.about)
+    def line(self, values: bool, shown: Sequence[str] = USUAL_KEYS) -> str:
+        """Its line in a log that shows these keys of abouts."""
+        labels = "".join(f" {key} {quoted(self.about[key])}" for key in shown if key in self.about)
         edits = "; ".join(edit_words(edit, values) for edit in self.edits)
         return f"{self.number}{labels} {'batch ' if self.is_batch else ''}{edits}\n"
+
+    def told(self) -> Document:
+        """What a log says of it as JSON."""
+        usual = {key: self.about[key] for key in USUAL_KEYS if key in self.about}
+        about = {"about": self.about} if self.about else {}
+        return {"at": str(self.number), **usual, **about, "edits": list(self.edits)}
 
 
 def edit_words(edit: Document, values: bool) -> str:

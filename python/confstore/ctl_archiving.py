@@ -6,16 +6,19 @@ has. A session lets nobody else in, so a second copy beside it has all. Beside a
 question and the checkpoint; so the file that the checkpoint replaces is kept, by a second name in the archive where the
 system allows that, and takes the place of the copy if it has more.
 
-At each moment of it the commands are in the store's file, in the archive, or in both.
+At each moment of it the commands are in the store's file, in the archive, or in both. A copy becomes the archive only
+once the store has on the disk what it copied: else a power cut could leave a command in the archive that the store lost.
 """
 
 from __future__ import annotations
 
 import contextlib
+import glob
 import os
 import shutil
 import stat
 import subprocess
+import tempfile
 import time
 from typing import Iterator, Optional
 
@@ -41,8 +44,8 @@ TRIES = 5
 
 PART = 1_048_576
 
-# What the program makes in the folder of a copy beside the file.
-_BESIDE = ("next.yaml", "store.lock")
+# How the folder in an archive begins in which a copy is made.
+COPY = "copy-"
 
 
 def checkpoint(asked: Asked) -> int:
@@ -100,8 +103,48 @@ class Archive:
 
     def make(self) -> None:
         """Copies the store. Raises the `Fault` of a copy that can't be made, or that is not whole."""
-        performed(["backup", "--", self.store, self.folder])
-        self.look()
+        if os.path.lexists(self.path):
+            raise Fault("StoreExists")
+        try:
+            with self._room() as room:
+                performed(["backup", "--", self.store, room])
+                # If this is the file that was copied, its commands are on the disk then; else those are in it, since a
+                # checkpoint replaced the other one.
+                _sync(os.path.join(self.store, NAME))
+                _sync(self.store)
+                self._take(os.path.join(room, NAME))
+            self.look()
+        except OSError as error:
+            raise Fault("Device", f"{shown(str(error.filename or self.folder))}: {error.strerror}") from None
+        finally:
+            if self._numbers is None:
+                self._leave()
+
+    @contextlib.contextmanager
+    def _room(self) -> Iterator[str]:
+        """A folder in the archive, for a copy that is made. Those that runs have left which were cut off go."""
+        if not os.path.lexists(self.folder):
+            os.mkdir(self.folder)
+        for left in glob.glob(os.path.join(glob.escape(self.folder), f"{COPY}*")):
+            shutil.rmtree(left, ignore_errors=True)
+        room = tempfile.mkdtemp(prefix=COPY, dir=self.folder)
+        try:
+            yield room
+        finally:
+            shutil.rmtree(room, ignore_errors=True)
+
+    def _take(self, made: str) -> None:
+        """Makes a file that of the archive, which has none. Raises the `Fault` of one that has."""
+        try:
+            os.link(made, self.path)
+        except FileExistsError:
+            raise Fault("StoreExists") from None
+        except OSError:
+            os.rename(made, self.path)  # no file has a second name here
+        _sync(self.folder)
+        if self._is_new:
+            with contextlib.suppress(PermissionError):
+                _sync(os.path.dirname(os.path.abspath(self.folder)))
 
     def look(self) -> None:
         """Reads which commands it has."""
@@ -114,19 +157,28 @@ class Archive:
                 have = f"{shown(self.folder)} has the commands from {self._numbers.first + 1} to {self.last}, and stays"
                 raise Fault("Unmet", f"another checkpoint came between: {have}; give what follows another folder")
             self._numbers = None
-            for name in (NAME, *(_BESIDE if self._is_new else ())):
-                self._remove(name)
+            try:
+                os.unlink(self.path)
+            except FileNotFoundError:
+                pass
+            except OSError as error:
+                raise Fault("Device", f"{shown(self.folder)}: {error.strerror}") from None
+        self._leave()
+
+    def _leave(self) -> None:
+        """Removes the folder, if it is a new one and empty."""
         if self._is_new:
             with contextlib.suppress(OSError):
                 os.rmdir(self.folder)
 
-    def _remove(self, name: str) -> None:
-        try:
-            os.unlink(os.path.join(self.folder, name))
-        except FileNotFoundError:
-            pass
-        except OSError as error:
-            raise Fault("Device", f"{shown(self.folder)}: {error.strerror}") from None
+
+def _sync(path: str) -> None:
+    """Has what a file or a folder holds on the disk. Raises an `OSError`."""
+    opened = os.open(path, os.O_RDONLY | os.O_CLOEXEC | os.O_NOFOLLOW | os.O_NONBLOCK)
+    try:
+        os.fsync(opened)
+    finally:
+        os.close(opened)
 
 
 @contextlib.contextmanager
@@ -337,11 +389,7 @@ class Replaced:
         else:
             self._copy()
         os.rename(self._kept, self._archive.path)
-        folder = os.open(self._archive.folder, os.O_RDONLY | os.O_DIRECTORY)
-        try:
-            os.fsync(folder)
-        finally:
-            os.close(folder)
+        _sync(self._archive.folder)
 
     def _copy(self) -> None:
         target = os.open(self._kept, os.O_WRONLY | os.O_CREAT | os.O_EXCL | os.O_CLOEXEC, stat.S_IRUSR | stat.S_IWUSR)

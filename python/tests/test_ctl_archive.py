@@ -312,13 +312,41 @@ class Archiving(ArchiveTest):
         self.assertEqual(self.log(), [])
         with open(os.path.join(self.path("new"), "store.yaml"), "rb") as file:
             self.assertEqual(file.read(), before)
-        self.assertEqual(sorted(os.listdir(self.path("new"))), ["store.lock", "store.yaml"])
+        self.assertEqual(sorted(os.listdir(self.path("new"))), ["store.yaml"])
         self.assertEqual(self.numbers("new"), [1, 2, 3])
         # a folder that is there, and one without a new command
         os.mkdir(self.path("empty"))
         self.does("checkpoint", *self.archives("empty"))
         self.assertEqual(self.numbers("empty"), [])
         self.assertEqual(self.numbers("empty", "new"), [1, 2, 3])
+
+    def test_the_store_is_synced_first(self) -> None:
+        """What a copy has is on the disk in the store before there is an archive: else a power cut could take a command
+        back there that the archive has."""
+        path, archive = os.path.join(self.folder, "store.yaml"), os.path.join(self.path("new"), "store.yaml")
+        synced: "list[tuple[int, bool]]" = []
+        sync = os.fsync
+
+        def noted(opened: int) -> None:
+            synced.append((os.fstat(opened).st_ino, os.path.exists(archive)))
+            sync(opened)
+
+        before = [(os.stat(place).st_ino, False) for place in (path, self.folder)]
+        with mock.patch.object(os, "fsync", noted):
+            archiving = ctl_archiving.Archive(self.folder, self.path("new"))
+            archiving.make()
+        self.assertEqual(synced[:2], before)
+        self.assertEqual(synced[2:], [(os.stat(place).st_ino, True) for place in (self.path("new"), self.top)])
+        self.assertEqual(archiving.last, 3)
+        archiving.drop()
+        self.assertFalse(os.path.exists(self.path("new")))
+
+    def test_what_a_run_has_left(self) -> None:
+        """A copy of a run that was cut off goes with the next one."""
+        os.makedirs(os.path.join(self.path("new"), "copy-left", "deeper"))
+        self.does("checkpoint", *self.archives("new"))
+        self.assertEqual(os.listdir(self.path("new")), ["store.yaml"])
+        self.assertEqual(self.numbers("new"), [1, 2, 3])
 
     def test_what_is_refused(self) -> None:
         self.does("backup", self.path("new"))
@@ -482,7 +510,7 @@ class Served(Archiving):
         with self.after_copies(["/n"], is_checkpoint=True):
             self.assertEqual(self.archive("new"), 1)
         self.assertEqual([record.number for record in Reader(self.path("new")).log()], [1, 2, 3])
-        self.assertEqual(sorted(os.listdir(self.path("new"))), ["store.lock", "store.yaml"])
+        self.assertEqual(sorted(os.listdir(self.path("new"))), ["store.yaml"])
 
     def test_without_a_link(self) -> None:
         """As on another device: the store is copied until no command comes between."""
@@ -512,7 +540,7 @@ class Served(Archiving):
                 with mock.patch("confstore.ctl_archiving.hold", looked(is_asked)):
                     self.assertEqual(self.archive(name), 0)
             self.assertEqual(self.log(), [])
-            self.assertEqual(sorted(os.listdir(self.path(name))), ["store.lock", "store.yaml"])
+            self.assertEqual(sorted(os.listdir(self.path(name))), ["store.yaml"])
         self.assertEqual(self.numbers("new", "other"), [1, 2, 3, 4, 5])
 
     def test_a_checkpoint_after_the_last_look(self) -> None:
@@ -554,7 +582,7 @@ class Served(Archiving):
         with mock.patch.object(Archive, "make", made):
             self.assertEqual(self.archive("new"), 0)
         self.assertEqual((self.log(), self.numbers("new")), ([], [1, 2, 3]))
-        self.assertEqual(sorted(os.listdir(self.path("new"))), ["store.lock", "store.yaml"])
+        self.assertEqual(sorted(os.listdir(self.path("new"))), ["store.yaml"])
 
     def test_a_server_that_is_killed(self) -> None:
         """Once it is asked for the checkpoint: what the archive has stays, and the file that may have more."""
@@ -569,7 +597,7 @@ class Served(Archiving):
 
         with mock.patch.object(ctl_archiving, "_answer_at", killed):
             self.assertEqual(self.archive("new"), 3)
-        self.assertEqual(sorted(os.listdir(self.path("new"))), ["kept.yaml", "store.lock", "store.yaml"])
+        self.assertEqual(sorted(os.listdir(self.path("new"))), ["kept.yaml", "store.yaml"])
         self.assertEqual(self.numbers("new"), [1, 2, 3])
 
     @contextlib.contextmanager

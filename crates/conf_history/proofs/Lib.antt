@@ -6,4 +6,6 @@ pub mod BesideLemmas
 pub mod CopyLemmas
 pub mod LogLemmas
 pub mod LineLemmas
+pub mod JsonLemmas
+pub mod JsonTreeLemmas
 pub mod SalvageLemmas

@@ -15,7 +15,7 @@ pub use Rattle.{yaml_docs.specs.PieceReading.{FindsTooLong, FindsInputLong, inpu
 pub use Rattle.{yaml_grammar.specs.{Closings.{ClosesOnce, Pieces}, Style.in_double_quotes}, yaml_recognizers.specs.Closings.SomePieces}
 pub use Rattle.yaml_recognizers.specs.Zeroed.{NoZeroByte, no_zero, StartsWithHole}
 pub use Rattle.std.proofs.{KnownBytes.{Consumes-whole, Appends-nil, Appends-trans, Consumes-nil, Consumes-trans}, lemmas.List.append-nil}
-pub use Rattle.std.proofs.lemmas.List.{drop_all, length-replicate, Elements.{All-nil, All-cons, All-head, All-tail, All-append, All-push}}
-pub use Rattle.std.proofs.lemmas.{List.Folds.concat-append, Result.{err_from_is_err_and, on_ok_weaker}, Str.IsUtf8-from_ascii}
-pub use Rattle.std.{proofs.lemmas.Str.chars-IsAscii, specs.{Io.KnownBytes.{Appends, Consumes}, List.{All, concat, list_all}, Str.IsUtf8}}
-pub use Rattle.std.specs.Str.{chars}
+pub use Rattle.std.proofs.lemmas.List.{drop_all, drop_more, length-replicate, Elements.{All-nil, All-cons, All-head, All-tail, All-append}}
+pub use Rattle.std.proofs.lemmas.{List.{Elements.All-push, Folds.concat-append}, Result.{err_from_is_err_and, on_ok_weaker}}
+pub use Rattle.std.{proofs.lemmas.Str.{IsUtf8-from_ascii, chars-IsAscii}, specs.{Io.KnownBytes.{Appends, Consumes}, List.{All, concat}}}
+pub use Rattle.std.specs.{List.list_all, Str.{IsUtf8, chars}}

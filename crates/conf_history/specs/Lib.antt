@@ -1,10 +1,13 @@
 pub mod Prelude
+pub mod AboutKeys
 pub mod BadPieces
 pub mod Beside
 pub mod Copies
 pub mod Following
 pub mod Faults
 pub mod Histories
+pub mod JsonLogs
+pub mod JsonTrees
 pub mod Logs
 pub mod Salvages
 pub mod Walks

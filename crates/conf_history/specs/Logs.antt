@@ -1,5 +1,5 @@
 -- The log of a store's file: a line for each command that is asked for, without its values, with them, or with them but for
--- what is hidden; or the records as they stand. A line says who made the command, when and why, as far as it has an about.
+-- what is hidden; a JSON object for each; or the records as they stand. A line shows some keys of the command's about.
 use Rattle.std.specs.Prelude.{◌≡◌, ◌<◌, ◌⊎◌, ℕ, ◌+◌, nat_le, Bool, true, false, ◌||◌, ◌&&◌, if◌then◌else◌, List, [], ◌∷◌, ◌++◌, length}
 use Rattle.std.specs.Prelude.{take, codes, decimal, encode_utf8_all, String, string_bytes, Option, Some, None, IfSome}
 use Rattle.std.specs.{declared.alloc.Global.Global, Borrow.Bor}
@@ -7,9 +7,9 @@ use Rattle.conf_history.specs.Prelude.{MayBeDropped, StartsWithHole, Appends, Ke
 use Rattle.conf_history.specs.Prelude.{set_at, delete_at, Command, single, batch, noted, Contents, PiecesMean, chars, name_of, same_text}
 use Rattle.conf_history.specs.{Prelude.text_under, declared.fault.HistoryFault.{HistoryFault, TheVariants.{Output, Damaged, OutOfMemory}}}
 use Rattle.conf_history.specs.declared.{line.LineForm.{LineForm, TheVariants.{Names, Values, Hiding}}, log.LogForm.LogForm}
-use Rattle.conf_history.specs.{declared.log.{LogForm.TheVariants.{Lines, Records}, LogRequest.LogRequest}, Histories.ReadsAtMost}
-use Rattle.{conf_history.specs.Histories.RefusesReading, yaml_grammar.specs.Trees.Tree, yaml_forms.specs.Json.json_text}
-use Rattle.{json_pointer.specs.Pointers.path_of, tree_hidden.specs.{Hidden.shown_at, Tokens.paths_of}}
+use Rattle.conf_history.specs.{declared.log.{LogForm.TheVariants.{Lines, Json, Records}, LogRequest.LogRequest}, Histories.ReadsAtMost}
+use Rattle.{conf_history.specs.{Histories.RefusesReading, AboutKeys.keys_of, JsonLogs.command_json_line}, yaml_grammar.specs.Trees.Tree}
+use Rattle.{yaml_forms.specs.Json.json_text, json_pointer.specs.Pointers.path_of, tree_hidden.specs.{Hidden.shown_at, Tokens.paths_of}}
 
 -- a space and the JSON text of a value that an edit puts at the place of a pointer, where the line shows it; without what is
 -- hidden, if it hides anything
@@ -39,19 +39,26 @@ label key (Some content) = codes " " ++ key ++ codes " " ++ in_double_quotes con
 abbrev pub labelled : List ℕ → Tree → List ℕ
 labelled key about = label key (text_under about key)
 
--- who, when and why
-abbrev pub about_words : Tree → List ℕ
-about_words about = labelled (codes "by") about ++ labelled (codes "when") about ++ labelled (codes "why") about
+-- the same for each of these keys
+abbrev pub about_words : List (List ℕ) → Tree → List ℕ
+about_words [] about = []
+about_words (key ∷ keys) about = labelled key about ++ about_words keys about
 
--- a space and what a command does; before it, who, when and why, if it has an about
-abbrev pub command_words : LineForm → Command → List ℕ
-command_words form (single edit) = edit_words form edit
-command_words form (batch edits) = codes " batch" ++ edits_words form [] edits
-command_words form (noted command about) = about_words about ++ command_words form command
+-- a space and what a command changes, with an about or without
+abbrev pub change_words : LineForm → Command → List ℕ
+change_words form (single edit) = edit_words form edit
+change_words form (batch edits) = codes " batch" ++ edits_words form [] edits
+change_words form (noted command about) = change_words form command
+
+-- the same; before it, what is shown of its about, if it has one
+abbrev pub command_words : LineForm → List (List ℕ) → Command → List ℕ
+command_words form shown (single edit) = change_words form (single edit)
+command_words form shown (batch edits) = change_words form (batch edits)
+command_words form shown (noted command about) = about_words shown about ++ change_words form command
 
 -- the line of a command with a number
-abbrev pub command_line : LineForm → ℕ → Command → List ℕ
-command_line form number command = decimal number ++ command_words form command ++ codes "\n"
+abbrev pub command_line : LineForm → List (List ℕ) → ℕ → Command → List ℕ
+command_line form shown number command = decimal number ++ command_words form shown command ++ codes "\n"
 
 -- whether one of the edits is of the configuration with a name
 abbrev pub any_changes : List ℕ → List Edit → Bool
@@ -75,7 +82,8 @@ is_asked request number command = nat_le request.from number && is_of request.na
 
 -- a command with a number, which has this record, as it is written
 abbrev pub shown_entry : LogForm → ℕ → List ℕ → Command → List ℕ
-shown_entry (Lines form) number bytes command = encode_utf8_all (command_line form number command)
+shown_entry (Lines form shown) number bytes command = encode_utf8_all (command_line form (keys_of shown.now) number command)
+shown_entry Json number bytes command = encode_utf8_all (command_json_line number command)
 shown_entry Records number bytes command = bytes
 
 -- what is written for it: nothing, if it is not asked for
@@ -85,7 +93,9 @@ entry_bytes request number bytes command =
 
 -- the line of a command with a number, where lines are written
 abbrev pub TellsLine : LogForm → String Global → ℕ → Command → Type 0
-TellsLine (Lines form) line number command = string_bytes line ≡ encode_utf8_all (command_line form number command)
+TellsLine (Lines form shown) line number command =
+    string_bytes line ≡ encode_utf8_all (command_line form (keys_of shown.now) number command)
+TellsLine Json line number command = string_bytes line ≡ encode_utf8_all (command_json_line number command)
 TellsLine Records line number command = Unit {0}
 
 -- what is kept of a command with a number before it is performed: its line, if it is asked for

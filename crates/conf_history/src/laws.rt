@@ -1,5 +1,6 @@
-// What is read of a file to which another program appends.
+// Laws: what is read of a file to which another program appends, and that a log's lines of JSON are JSON texts.
 ghost use Rattle.conf_history.specs.Beside.{AppendedRecordsAreRead, PrefixesAreRead, WornRecordsAreRead};
+ghost use Rattle.conf_history.specs.JsonTrees.{LinesAreJson};
 
 use conf_record::documents_close;
 use conf_store::holes_mean;
@@ -24,3 +25,10 @@ pub fn reading_beside_a_writer()
     documents_close();
     holes_mean();
 }
+
+/// Each line that a log has by [`LogForm::Json`](crate::LogForm::Json) is the JSON text of a tree with the command's
+/// number, its about and its edits, and a line feed. So it is YAML too, by
+/// [`json_reads`](yaml_forms::json_reads).
+pub fn log_lines_are_json()
+    ensures { LinesAreJson }
+{}

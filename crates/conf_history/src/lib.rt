@@ -7,7 +7,7 @@
 //! - [`state_at`] returns the state after all commands, or after the one with a number.
 //! - [`config_at`] returns one configuration of it, and [`names_at`] the names of all, without building the others.
 //! - [`config_in`] returns one configuration of bytes that were read before.
-//! - [`write_log`] writes which commands the file holds.
+//! - [`write_log`] writes which commands the file holds: lines, JSON ([`log_lines_are_json`]), or their records.
 //! - [`find_in_store`] says what an opening would find, also in a damaged file. [`survey_store`] adds the state.
 //! - [`salvage`] makes a new store of what stands before the damage.
 //! - [`back_up`] makes a new store with the same base and records.
@@ -19,6 +19,7 @@ mod bytes_reading;
 mod copying;
 mod fault;
 mod following;
+mod json_line;
 mod laws;
 mod line;
 mod log;
@@ -37,8 +38,8 @@ pub use conf_store::NoRecord;
 pub use copying::back_up;
 pub use fault::{HistoryFault, SalvageFault};
 pub use following::BadKind;
-pub use laws::reading_beside_a_writer;
-pub use line::LineForm;
+pub use laws::{log_lines_are_json, reading_beside_a_writer};
+pub use line::{LineForm, USUAL_KEYS};
 pub use log::{LogForm, LogRequest, write_log};
 pub use part_reading::{config_at, names_at};
 pub use place::{BadPiece, Zeros};

@@ -1,7 +1,9 @@
 // The line of a command in a log.
 ghost use Rattle.std.specs.Prelude.{◌≡◌, ◌++◌, [], codes, decimal, encode_utf8_all, map, string_bytes, IfOk, OnOk};
 ghost use Rattle.conf_history.specs.Prelude.{chars, in_double_quotes, tree_of, command_of, command_with, edit_of};
-ghost use Rattle.conf_history.specs.Logs.{about_words, command_line, command_words, edit_words, edits_words, labelled, value_words};
+ghost use Rattle.conf_history.specs.AboutKeys.{keys_of};
+ghost use Rattle.conf_history.specs.Logs.{about_words, change_words, command_line, command_words, edit_words};
+ghost use Rattle.conf_history.specs.Logs.{edits_words, labelled, value_words};
 
 use conf_about::About;
 use conf_state::{Command, Edit, Edits};
@@ -12,7 +14,10 @@ use yaml_config::Config;
 use yaml_forms::write_json;
 use yaml_writer::{Sink, write_quoted};
 
-/// What a line says of each edit. Who made the command, when and why, it says in each form.
+/// The keys of an about that say who made a command, when and why.
+pub const USUAL_KEYS: &[&str] = &["by", "when", "why"];
+
+/// What a line says of each edit. In each form it has the number, and what is shown of an about.
 #[derive(Clone, Copy)]
 pub enum LineForm<'h> {
     /// What it does, the name of the configuration, and the place in it.
@@ -24,18 +29,19 @@ pub enum LineForm<'h> {
     Hiding(&'h [Tokens<'h>]),
 }
 
-/// The line of a command with a number.
+/// The line of a command with a number. It shows these keys of an about.
 pub(crate) fn record_line(
     alloc: Global,
     number: u64,
     command: &Command,
     form: LineForm<'_>,
+    shown: &[&str],
 ) -> Result<String, AllocError>
-    ensures { IfOk result (λ line. string_bytes line
-        ≡ encode_utf8_all (command_line form.entry number (command_of command.now))) }
+    ensures { IfOk result (λ line. string_bytes line ≡ encode_utf8_all
+        (command_line form.entry (keys_of shown.now) number (command_of command.now))) }
 {
     let mut line = String::new(alloc);
-    write_line(alloc, number, command, form, &mut line)?;
+    write_line(alloc, number, command, form, shown, &mut line)?;
     Ok(line)
 }
 
@@ -45,58 +51,65 @@ fn write_line<S: Sink<Fault = AllocError>>(
     number: u64,
     command: &Command,
     form: LineForm<'_>,
+    shown: &[&str],
     sink: &mut S,
 ) -> Result<(), AllocError>
     ensures { OnOk result (S.Takes sink.old
-        (command_line form.entry number (command_of command.now)) sink.new) }
+        (command_line form.entry (keys_of shown.now) number (command_of command.now))
+        sink.new) }
 {
     let mut digits = Buffer::new();
     sink.put_text(digits.format(number))?;
-    write_command(alloc, command, form, sink)?;
+    write_command(alloc, command, form, shown, sink)?;
     sink.put_char('\n')
 }
 
-/// Writes a space and what a command does; before it, who, when and why, if it has an about.
+/// Writes a space and what a command changes; before it, what is shown of its about, if it has one.
 fn write_command<S: Sink<Fault = AllocError>>(
     alloc: Global,
     command: &Command,
     form: LineForm<'_>,
+    shown: &[&str],
     sink: &mut S,
 ) -> Result<(), AllocError>
     ensures { OnOk result (S.Takes sink.old
-        (command_words form.entry (command_of command.now)) sink.new) }
+        (command_words form.entry (keys_of shown.now) (command_of command.now)) sink.new) }
 {
     match command {
         Command::Import { name, tree } => write_import(alloc, name, tree, form, sink),
         Command::Set { name, path, value } => write_set(alloc, name, path, value, form, sink),
         Command::Delete { name, path } => write_delete(name, path, sink),
         Command::Batch { edits } => write_batch(alloc, edits, form, sink),
-        Command::Noted { edits, about } => write_noted(alloc, edits, about, form, sink),
+        Command::Noted { edits, about } => write_noted(alloc, edits, about, form, shown, sink),
     }
 }
 
-/// Writes who, when and why of a command, a space and what its edits do.
+/// Writes what is shown of a command's about, a space and what its edits do.
 fn write_noted<S: Sink<Fault = AllocError>>(
     alloc: Global,
     edits: &Edits,
     about: &About,
     form: LineForm<'_>,
+    shown: &[&str],
     sink: &mut S,
 ) -> Result<(), AllocError>
     ensures { OnOk result (S.Takes sink.old
-        (about_words (tree_of about.now) ++ command_words form.entry (command_with edits.now)) sink.new) }
+        (about_words (keys_of shown.now) (tree_of about.now)
+        ++ change_words form.entry (command_with edits.now)) sink.new) }
 {
-    write_about(about, sink)?;
+    write_about(about, shown, sink)?;
     write_edits(alloc, edits, form, sink)
 }
 
-/// Writes who, when and why, as far as an about says so.
-fn write_about<S: Sink>(about: &About, sink: &mut S) -> Result<(), S::Fault>
-    ensures { OnOk result (S.Takes sink.old (about_words (tree_of about.now)) sink.new) }
+/// Writes the keys that are shown, each with its text, as far as an about has them.
+fn write_about<S: Sink>(about: &About, shown: &[&str], sink: &mut S) -> Result<(), S::Fault>
+    ensures { OnOk result (S.Takes sink.old
+        (about_words (keys_of shown.now) (tree_of about.now)) sink.new) }
 {
-    write_labelled("by", about, sink)?;
-    write_labelled("when", about, sink)?;
-    write_labelled("why", about, sink)
+    for key in shown {
+        write_labelled(key, about, sink)?;
+    }
+    Ok(())
 }
 
 /// Writes a key of an about, and the text under it in double quotes; nothing where it has none.
@@ -117,7 +130,7 @@ fn write_edits<S: Sink<Fault = AllocError>>(
     sink: &mut S,
 ) -> Result<(), AllocError>
     ensures { OnOk result (S.Takes sink.old
-        (command_words form.entry (command_with edits.now)) sink.new) }
+        (change_words form.entry (command_with edits.now)) sink.new) }
 {
     match edits {
         Edits::Single(edit) => write_edit(alloc, edit, form, sink),

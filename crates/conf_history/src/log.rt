@@ -28,9 +28,17 @@ pub struct LogRequest<'h> {
 /// How a command of a file is written.
 #[derive(Clone, Copy)]
 pub enum LogForm<'h> {
-    /// A line for each: its number, who made it, when and why, what it does, the configuration and the place in it, and
-    /// its values if asked for.
-    Lines(LineForm<'h>),
+    /// A line for each: its number, what is shown of its about, what it does, the configuration and the place in it,
+    /// and its values if asked for.
+    Lines {
+        /// What the line says of each edit.
+        form: LineForm<'h>,
+        /// The keys of an about that the line shows, in this order; [`USUAL_KEYS`](crate::USUAL_KEYS) say who made the
+        /// command, when and why.
+        shown: &'h [&'h str],
+    },
+    /// A JSON object (RFC 8259) for each, on a line of its own: its number, its about and its edits.
+    Json,
     /// The records as they stand in the file.
     Records,
 }
@@ -46,13 +54,21 @@ pub enum LogForm<'h> {
 ///
 /// With [`LogForm::Lines`] a line has the number, the word `import`, `set` or `delete`, the name, and for a set or a
 /// delete the pointer in double quotes, as `2 set web "/port"`. A batch is one line: its number, the word `batch`, and
-/// its edits with `; ` between them, as `4 batch import web; set web "/port"`. If the command has an about, who made
-/// it, when and why stand behind the number, as far as the about says so: of its keys `by`, `when` and `why` those that
-/// it has, in this order, each with its text in double quotes, as `3 by "ann" why "open the port" set web "/port"`. Its
-/// other keys are not shown. With [`LineForm::Values`] each import and each set has a space and its value after it, as
-/// a JSON text (RFC 8259) without whitespace between its parts: `2 set web "/port" "81"`. With [`LineForm::Hiding`] the
-/// word `hidden` stands for what is at some paths, or below them, as `1 import web {"port":"80","key":hidden}`; an
-/// about is never hidden. With [`LogForm::Records`] the bytes of each record are written.
+/// its edits with `; ` between them, as `4 batch import web; set web "/port"`. If the command has an about, its keys
+/// that are `shown` stand behind the number, in the order of `shown`, each with its text in double quotes, as
+/// `3 by "ann" why "open the port" set web "/port"`. With [`LineForm::Values`] each import and each set has a space and
+/// its value after it, as a JSON text (RFC 8259) without whitespace between its parts: `2 set web "/port" "81"`. With
+/// [`LineForm::Hiding`] the word `hidden` stands for what is at some paths, or below them, as
+/// `1 import web {"port":"80","key":hidden}`; an about is never hidden.
+///
+/// With [`LogForm::Json`] a line is a JSON object (RFC 8259), also without whitespace between its parts, as
+/// `{"at":"3","by":"ann","about":{"by":"ann"},"edits":[{"set":"web","path":"/port","value":"81"}]}`. It has the number
+/// as a string under `at`. If the command has an about, the object then has `by`, `when` and `why`, those that the
+/// about has, and the whole about under `about`. Last come the `edits`, one for a command that is no batch. An edit has
+/// the name under `import`, `set` or `delete`, and then an import its `tree`, a set its `path` and its `value`, and a
+/// delete its `path`.
+///
+/// With [`LogForm::Records`] the bytes of each record are written.
 ///
 /// # Errors
 /// Without a number, the commands before the fault are written, and at `Output` a part of the last one's text. With a

@@ -6,6 +6,7 @@ ghost use Rattle.conf_state.specs.Commands.{Command as Meant};
 
 use crate::asked::is_asked;
 use crate::base::Base;
+use crate::json_line::json_line;
 use crate::line::record_line;
 use crate::log::{LogForm, LogRequest};
 use conf_state::{Command, Part};
@@ -43,7 +44,8 @@ impl<'h> Logged<'h> {
     {
         match (&self.told, self.request.form) {
             (None, _) => &[],
-            (Some(line), LogForm::Lines(_)) => line.as_bytes(),
+            (Some(line), LogForm::Lines { .. }) => line.as_bytes(),
+            (Some(line), LogForm::Json) => line.as_bytes(),
             (Some(_), LogForm::Records) => piece,
         }
     }
@@ -106,7 +108,8 @@ fn line_of(
     ensures { IfOk result (λ line. TellsLine form.entry line number (command_of command.now)) }
 {
     match form {
-        LogForm::Lines(form) => record_line(alloc, number, command, form),
+        LogForm::Lines { form, shown } => record_line(alloc, number, command, form, shown),
+        LogForm::Json => json_line(alloc, number, command),
         LogForm::Records => Ok(String::new(alloc)),
     }
 }

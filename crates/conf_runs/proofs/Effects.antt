@@ -19,15 +19,15 @@ use Rattle.conf_tools.specs.StoreWords.{Condition, conditions_of, ChangesInFolde
 use Rattle.conf_tools.specs.{StoreWords.{RunsOnFolder, Salvages, SavesFound, SavesInFolder, WritesFindings}, Endings.EndsTold}
 use Rattle.conf_tools.specs.{Endings.{ending_after_backup, ending_at_end, told_of}, Outcomes.status_of_ending, TextWords.{IfSo, IsSet}}
 use Rattle.conf_tools.specs.TextWords.{ReplacesAt, ReplacesRead, ReportsOnAll, RestylesAll, RestylesOpened, TakesText, stops_all}
-use Rattle.conf_tools.specs.{TextWords.status_of_report, Statuses.worst, Worlds.{Around, WorldModel}, declared.changes.Change.Change}
-use Rattle.conf_tools.specs.declared.{file_texts.Restyled.{Restyled, TheVariants.{Same, Changed}}, file_words.Report.Report}
-use Rattle.conf_tools.specs.declared.{file_words.Report.TheVariants.{Findings, Name}, program.Status.{Status, TheVariants.Done}}
+use Rattle.conf_tools.specs.{TextWords.status_of_report, Statuses.worst, Worlds.{Around, WorldModel}, declared.changes.Action.Action}
+use Rattle.conf_tools.specs.declared.{changes.Change.Change, file_texts.Restyled.{Restyled, TheVariants.{Same, Changed}}}
+use Rattle.conf_tools.specs.declared.{file_words.Report.{Report, TheVariants.{Findings, Name}}, program.Status.{Status, TheVariants.Done}}
 use Rattle.conf_tools.specs.declared.{reading_fault.ReadingFault.ReadingFault, stores.Grouping.Grouping, texts.ToolFault.ToolFault}
 use Rattle.conf_tools.specs.{declared.world.Access.{Access, TheVariants.{Changing, New}}, EndOfRun.EndOfRun as Ended}
 use Rattle.conf_tools.proofs.{EndingLemmas.imported-status, StoreLemmas.{goes-to-keep, goes-to-open, goes-to-text, goes-unkept}}
 use Rattle.conf_runs.specs.{Folders.{IsDiskOf, KeepsFolders, LeavesNoMore}, Runs.{Deed, asked_at, asked_for, batched, call_of, changed_if}}
 use Rattle.conf_runs.specs.Runs.{changed_in, copied_in, copied_of, copies, folder_of, imported, initialised, made_in, makes_new, ran_in}
-use Rattle.conf_runs.specs.Runs.{read_from, saved_in, saved_of, saved_to, saves}
+use Rattle.{conf_runs.specs.Runs.{read_from, saved_in, saved_of, saved_to, saves}, yaml_data.specs.declared.tree.Tree.Tree as AboutTree}
 use Rattle.conf_history.specs.declared.fault.HistoryFault.TheVariants as history
 use Rattle.conf_history.specs.declared.fault.SalvageFault.TheVariants as salvage
 use Rattle.conf_words.specs.declared.invocation.Formatting.TheVariants as formatting
@@ -119,39 +119,41 @@ module _ {W D F P : Type 0} (world : WorldModel W D F P) (disk : DiskModel D) (r
       of-change access folder (conditions_of conditions.items) change old new end does
   of-conditional access folder (Err fault) change old new end does = nothing (Some folder) (same old new does.0)
 
-  of-asked : (wanted : Conditions) (access : Access) (folder name path : List ℕ) (change : Result Change ToolFault)
+  of-asked : (wanted : Conditions) (about : Option AboutTree) (access : Access) (folder name path : List ℕ)
+      (action : Result Action ToolFault)
       (old new : W) (end : Ended)
-      (does : ChangesAt world disk wanted access folder name path change old new end)
+      (does : ChangesAt world disk wanted about access folder name path action old new end)
       → Effect old new (status_of_ending end) (Some folder)
-      (asked_for world disk honest wanted access folder name path change old new end does)
-  of-asked wanted access folder name path (Ok change) old new end does =
-      of-conditional access folder does.conditions change old new end does.makes
-  of-asked wanted access folder name path (Err fault) old new end does = nothing (Some folder) (same old new does.0)
+      (asked_for world disk honest wanted about access folder name path action old new end does)
+  of-asked wanted about access folder name path (Ok action) old new end does =
+      of-conditional access folder does.conditions (change.Act action about) old new end does.makes
+  of-asked wanted about access folder name path (Err fault) old new end does = nothing (Some folder) (same old new does.0)
 
-  of-target : (target : Target) (change : Result Change ToolFault) (old new : W) (end : Ended)
-      (does : ChangesAtTarget world disk target change old new end)
-      → Effect old new (status_of_ending end) (Some target.folder.now) (asked_at world disk honest target change old new end does)
-  of-target target change old new end does =
-      of-asked target.conditions Changing target.folder.now target.name.now target.pointer.now change old new end does
+  of-target : (about : Option AboutTree) (target : Target) (action : Result Action ToolFault) (old new : W) (end : Ended)
+      (does : ChangesAtTarget world disk about target action old new end)
+      → Effect old new (status_of_ending end) (Some target.folder.now) (asked_at world disk honest about target action old new end does)
+  of-target about target action old new end does =
+      of-asked target.conditions about Changing target.folder.now target.name.now target.pointer.now action old new end does
 
-  of-import : (wanted : Conditions) (root : Root) (access : Access) (folder name : List ℕ) (read : Taken) (old new : W) (end : Ended)
-      (does : ImportsRead world disk wanted root access folder name read old new end)
+  of-import : (wanted : Conditions) (about : Option AboutTree) (root : Root) (access : Access) (folder name : List ℕ)
+      (read : Taken) (old new : W) (end : Ended)
+      (does : ImportsRead world disk wanted about root access folder name read old new end)
       → Effect old new (status_of_ending end) (Some folder)
-      (imported world disk honest wanted root access folder name read old new end does)
-  of-import wanted root access folder name (Ok bytes) old new end does =
+      (imported world disk honest wanted about root access folder name read old new end does)
+  of-import wanted about root access folder name (Ok bytes) old new end does =
       let same : status_of_ending end ≡ status_of_ending does.made =
       ap status_of_ending does.ends ∙ imported-status does.made in
       subst (λ (s : Status). Effect old new s (Some folder)
-      (asked_for world disk honest wanted access folder name [] does.change old new does.made does.changes)) (sym same)
-      (of-asked wanted access folder name [] does.change old new does.made does.changes)
-  of-import wanted root access folder name (Err fault) old new end does = nothing (Some folder) (same old new does.0)
+      (asked_for world disk honest wanted about access folder name [] does.action old new does.made does.changes)) (sym same)
+      (of-asked wanted about access folder name [] does.action old new does.made does.changes)
+  of-import wanted about root access folder name (Err fault) old new end does = nothing (Some folder) (same old new does.0)
 
-  of-batch : (folder : List ℕ) (count : Option ℕ) (read : Taken) (old new : W) (end : Ended)
-      (does : BatchesRead world disk folder count read old new end)
-      → Effect old new (status_of_ending end) (Some folder) (batched world disk honest folder count read old new end does)
-  of-batch folder count (Ok bytes) old new end does =
-      of-asked (counted_alone count) Changing folder [] [] does.change old new end does.changes
-  of-batch folder count (Err fault) old new end does = nothing (Some folder) (same old new does.0)
+  of-batch : (about : Option AboutTree) (folder : List ℕ) (count : Option ℕ) (read : Taken) (old new : W) (end : Ended)
+      (does : BatchesRead world disk about folder count read old new end)
+      → Effect old new (status_of_ending end) (Some folder) (batched world disk honest about folder count read old new end does)
+  of-batch about folder count (Ok bytes) old new end does =
+      of-asked (counted_alone count) about Changing folder [] [] does.action old new end does.changes
+  of-batch about folder count (Err fault) old new end does = nothing (Some folder) (same old new does.0)
 
   of-run : (folder : List ℕ) (grouping : Grouping) (old new : Around W) (end : Ended)
       (does : RunsOnFolder world disk folder grouping old new end)
@@ -244,11 +246,11 @@ module _ {W D F P : Type 0} (world : WorldModel W D F P) (disk : DiskModel D) (r
       (of-saving new_folder does.several (Some does.bytes) does.found new held written end does.saves other image is_other is)
 
   -- the value of `set`
-  of-value : (name pointer : List ℕ) (value : Value) (change : Result Change ToolFault) (old seen : W) (given left : Option (List ℕ))
-      → IsSet world remaining name pointer value change old seen given left → Steady old seen
-  of-value name pointer (Text word) change old seen given left is = same old seen is.0
-  of-value name pointer (Yaml word) change old seen given left is = same old seen is.0
-  of-value name pointer (File path) change old seen given left is = of-text path.now is.read old seen given left is.takes
+  of-value : (name pointer : List ℕ) (value : Value) (action : Result Action ToolFault) (old seen : W) (given left : Option (List ℕ))
+      → IsSet world remaining name pointer value action old seen given left → Steady old seen
+  of-value name pointer (Text word) action old seen given left is = same old seen is.0
+  of-value name pointer (Yaml word) action old seen given left is = same old seen is.0
+  of-value name pointer (File path) action old seen given left is = of-text path.now is.read old seen given left is.takes
 
   -- ---- all words
 
@@ -259,19 +261,19 @@ module _ {W D F P : Type 0} (world : WorldModel W D F P) (disk : DiskModel D) (r
       → Effect old.world new.world (status_of_ending end) (folder_of invocation)
       (call_of world disk remaining honest invocation old new end does)
   effect (Init folder) old new end does not_new = of-init folder.now old.world new.world end does.0
-  effect (Import asked reporting) old new end does not_new =
+  effect (Import asked about reporting) old new end does not_new =
       after old.world does.seen new.world (of-text asked.file.now does.read old.world does.seen old.input new.input does.takes)
-      (of-import asked.conditions asked.root (access_of asked.missing) asked.folder.now asked.name.now does.read does.seen new.world
+      (of-import asked.conditions about asked.root (access_of asked.missing) asked.folder.now asked.name.now does.read does.seen new.world
       end does.imports)
-  effect (Set target put reporting) old new end does not_new =
-      after old.world does.0.seen new.world (of-value target.name.now target.pointer.now put.value does.0.change old.world does.0.seen
+  effect (Set target put about reporting) old new end does not_new =
+      after old.world does.0.seen new.world (of-value target.name.now target.pointer.now put.value does.0.action old.world does.0.seen
       old.input new.input does.0.is)
-      (of-target target (placed_or_not put.placing does.0.change) does.0.seen new.world end does.0.changes)
-  effect (Alter target alteration) old new end does not_new =
-      of-target target does.0.change old.world new.world end does.0.changes
-  effect (Batch asked reporting) old new end does not_new =
+      (of-target about target (placed_or_not put.placing does.0.action) does.0.seen new.world end does.0.changes)
+  effect (Alter target alteration about) old new end does not_new =
+      of-target about target does.0.action old.world new.world end does.0.changes
+  effect (Batch asked about reporting) old new end does not_new =
       after old.world does.seen new.world (of-text asked.file.now does.read old.world does.seen old.input new.input does.takes)
-      (of-batch asked.folder.now asked.count does.read does.seen new.world end does.makes)
+      (of-batch about asked.folder.now asked.count does.read does.seen new.world end does.makes)
   effect (Checkpoint folder) old new end does not_new =
       of-change Changing folder.now [] change.Checkpoint old.world new.world end does.0
   effect (Run folder grouping) old new end does not_new = of-run folder.now (grouping_of grouping) old new end does
@@ -311,14 +313,14 @@ module _ {W D F P : Type 0} (world : WorldModel W D F P) (disk : DiskModel D) (r
       (λ same. is_other (ap Some (sym same))) is)
   spares path (Init folder) old new end does is_other image is =
       beside path old.world new.world (effect (Init folder) old new end does refl) is_other image is
-  spares path (Import asked reporting) old new end does is_other image is =
-      beside path old.world new.world (effect (Import asked reporting) old new end does refl) is_other image is
-  spares path (Set target put reporting) old new end does is_other image is =
-      beside path old.world new.world (effect (Set target put reporting) old new end does refl) is_other image is
-  spares path (Alter target alteration) old new end does is_other image is =
-      beside path old.world new.world (effect (Alter target alteration) old new end does refl) is_other image is
-  spares path (Batch asked reporting) old new end does is_other image is =
-      beside path old.world new.world (effect (Batch asked reporting) old new end does refl) is_other image is
+  spares path (Import asked about reporting) old new end does is_other image is =
+      beside path old.world new.world (effect (Import asked about reporting) old new end does refl) is_other image is
+  spares path (Set target put about reporting) old new end does is_other image is =
+      beside path old.world new.world (effect (Set target put about reporting) old new end does refl) is_other image is
+  spares path (Alter target alteration about) old new end does is_other image is =
+      beside path old.world new.world (effect (Alter target alteration about) old new end does refl) is_other image is
+  spares path (Batch asked about reporting) old new end does is_other image is =
+      beside path old.world new.world (effect (Batch asked about reporting) old new end does refl) is_other image is
   spares path (Checkpoint folder) old new end does is_other image is =
       beside path old.world new.world (effect (Checkpoint folder) old new end does refl) is_other image is
   spares path (Run folder grouping) old new end does is_other image is =

@@ -14,7 +14,7 @@ use Rattle.conf_tools.specs.{Edits.placed_or_not, Changes.{ChangeSurvives, Perfo
 use Rattle.conf_tools.specs.{Outcomes.status_of_ending, OnStores.{DoesOnStores, PerformsOnStores}, Performs.{ChangesAt, Performs}}
 use Rattle.conf_tools.specs.{Prelude.IsRead, ProgramCalls.{CallHolds, changing}, Reads.ShowsTree, StoreWords.{ChangesInFolder, Condition}}
 use Rattle.conf_tools.specs.{StoreWords.{MakesChange, conditions_of}, TextWords.{IsSet, SetsAt, SetsText, TakesText}, Tools.IsTaken}
-use Rattle.conf_tools.specs.{Tools.{Taken, most_input}, Worlds.{Around, WorldModel}, declared.changes.Change.Change}
+use Rattle.conf_tools.specs.{Tools.{Taken, most_input}, Worlds.{Around, WorldModel}, declared.changes.{Action.Action, Change.Change}}
 use Rattle.conf_tools.specs.declared.{program.Status.{Status, TheVariants.Done}, stores.StoreToolFault.StoreToolFault}
 use Rattle.conf_tools.specs.declared.{stores.StoreToolFault.TheVariants.Folder as InFolder, texts.ToolFault.ToolFault, world.Access.Access}
 use Rattle.conf_tools.{specs.{declared.world.Access.TheVariants.Changing, EndOfRun.EndOfRun as Ended}, proofs.EndingLemmas.not-with}
@@ -25,6 +25,7 @@ use Rattle.conf_runs.specs.Runs.{deed_at, deed_in, elsewhere, here, if_done, not
 use Rattle.conf_runs.proofs.{ExampleLemmas.{AreUnambiguous, path-so, port-read, port_is, set-so, word-so}, StateLemmas.set-turns}
 use Rattle.conf_runs.proofs.{StatusLemmas.not-done, WriteLemmas.{OneTree, plainly-placed, reads-see-writes}}
 use Rattle.{yaml_config.specs.Limits.config_limits, yaml_grammar.specs.Trees.{Tree, text}}
+use Rattle.conf_tools.specs.declared.changes.Action.TheVariants as action
 use Rattle.conf_tools.specs.declared.changes.Change.TheVariants as change
 
 -- ---- what is kept of a set that was done
@@ -78,26 +79,26 @@ module _ {W D F P : Type 0} (world : WorldModel W D F P) (disk : DiskModel D) (r
         changed-in-one access folder (conditions_of conditions.items) old new does made
     changed-if-one access folder (Err fault) old new does made = absurd (not-with fault end does.1 done)
 
-  performs-set : (name pointer : List ℕ) (value : Tree) (change : Change) → SetsAt name pointer value change
-      → (s : Contents) (accepted : List Command) → ChangePerforms s change accepted
+  performs-set : (name pointer : List ℕ) (value : Tree) (action : Action) → SetsAt name pointer value action
+      → (s : Contents) (accepted : List Command) → ChangePerforms s (change.Act action None) accepted
       → accepted ≡ single (set_at (chars name) (chars pointer) value) ∷ []
-  performs-set name pointer value (change.Perform command) sets s accepted performs =
-      performs ∙ ap (λ (c : Command). c ∷ []) sets
-  performs-set name pointer value (change.Import imported bytes) sets s accepted performs = absurd sets
-  performs-set name pointer value (change.Copy from to) sets s accepted performs = absurd sets
-  performs-set name pointer value (change.Rename from to) sets s accepted performs = absurd sets
-  performs-set name pointer value (change.Edit edited edit) sets s accepted performs = absurd sets
-  performs-set name pointer value change.Checkpoint sets s accepted performs = absurd sets
+  performs-set name pointer value (action.Perform command) sets s accepted (given, gives, is) =
+      is ∙ ap (λ (c : Command). c ∷ []) (gives ∙ sets)
+  performs-set name pointer value (action.Import imported bytes) sets s accepted performs = absurd sets
+  performs-set name pointer value (action.Copy from to) sets s accepted performs = absurd sets
+  performs-set name pointer value (action.Rename from to) sets s accepted performs = absurd sets
+  performs-set name pointer value (action.Edit edited edit) sets s accepted performs = absurd sets
 
   asked-one : (end : Ended) → status_of_ending end ≡ Done → (name pointer : List ℕ) (value : Tree) (wanted : Conditions) (access : Access)
-      (folder : List ℕ) (change : Result Change ToolFault) → IfOk change (SetsAt name pointer value) → (old new : W)
-      (does : ChangesAt world disk wanted access folder name pointer change old new end)
-      → Made (status_of_ending end) (own disk (asked_for world disk honest wanted access folder name pointer change old new end does))
-      → AcceptsOne (status_of_ending end) (own disk (asked_for world disk honest wanted access folder name pointer change old new end does))
+      (folder : List ℕ) (action : Result Action ToolFault) → IfOk action (SetsAt name pointer value) → (old new : W)
+      (does : ChangesAt world disk wanted None access folder name pointer action old new end)
+      → Made (status_of_ending end) (own disk (asked_for world disk honest wanted None access folder name pointer action old new end does))
+      → AcceptsOne (status_of_ending end)
+      (own disk (asked_for world disk honest wanted None access folder name pointer action old new end does))
       (single (set_at (chars name) (chars pointer) value))
-  asked-one end done name pointer value wanted access folder (Ok change) sets old new does made =
-      changed-if-one end done change (single (set_at (chars name) (chars pointer) value))
-      (performs-set name pointer value change sets) access folder does.conditions old new does.makes made
+  asked-one end done name pointer value wanted access folder (Ok action) sets old new does made =
+      changed-if-one end done (change.Act action None) (single (set_at (chars name) (chars pointer) value))
+      (performs-set name pointer value action sets) access folder does.conditions old new does.makes made
   asked-one end done name pointer value wanted access folder (Err fault) sets old new does made =
       absurd (not-with fault end does.1 done)
 
@@ -105,9 +106,9 @@ module _ {W D F P : Type 0} (world : WorldModel W D F P) (disk : DiskModel D) (r
   module _ (name pointer : List ℕ) (value : Tree) where
     abbrev Put : (invocation : Invocation) (old new : Around W) (end : Ended)
         → DoesOnStores world disk remaining invocation old new end → Type 0
-    Put (Set target put reporting) old new end does =
+    Put (Set target put None reporting) old new end does =
         (target.folder.now ≡ path) × (target.name.now ≡ name) × (target.pointer.now ≡ pointer) × (put.placing ≡ AtPlace)
-        × IfOk does.0.change (SetsAt name pointer value)
+        × IfOk does.0.action (SetsAt name pointer value)
     Put invocation old new end does = ⊥
 
     set-one : (invocation : Invocation) (place : Where world disk path invocation) (ending : Ending) → ending ≡ returned
@@ -118,23 +119,23 @@ module _ {W D F P : Type 0} (world : WorldModel W D F P) (disk : DiskModel D) (r
         (single (set_at (chars name) (chars pointer) value))
     set-one invocation place (cut_off noted) ended old new end done does put made = cc
     set-one invocation place not_begun ended old new end done does put made = cc
-    set-one (Set target put reporting) (elsewhere is_other) returned ended old new end done does
+    set-one (Set target put None reporting) (elsewhere is_other) returned ended old new end done does
         (of_path, of_name, of_pointer, plain, sets) made = absurd (is_other (ap Some of_path))
-    set-one (Set target put reporting) (anew is is_new empty) returned ended old new end done does
+    set-one (Set target put None reporting) (anew is is_new empty) returned ended old new end done does
         (of_path, of_name, of_pointer, plain, sets) made = cc
-    set-one (Set target put reporting) (here is not_new) returned ended old new end done does
+    set-one (Set target put None reporting) (here is not_new) returned ended old new end done does
         (of_path, of_name, of_pointer, plain, sets) made =
-        let change = placed_or_not put.placing does.0.change in
-        let one = asked-one end done target.name.now target.pointer.now value target.conditions Changing target.folder.now change
-        (subst (λ (n : List ℕ). IfOk change (SetsAt n target.pointer.now value)) (sym of_name)
-        (subst (λ (q : List ℕ). IfOk change (SetsAt name q value)) (sym of_pointer)
-        (plainly-placed put.placing does.0.change (SetsAt name pointer value) plain sets)))
+        let action = placed_or_not put.placing does.0.action in
+        let one = asked-one end done target.name.now target.pointer.now value target.conditions Changing target.folder.now action
+        (subst (λ (n : List ℕ). IfOk action (SetsAt n target.pointer.now value)) (sym of_name)
+        (subst (λ (q : List ℕ). IfOk action (SetsAt name q value)) (sym of_pointer)
+        (plainly-placed put.placing does.0.action (SetsAt name pointer value) plain sets)))
         does.0.seen new.world does.0.changes made in
         subst (λ (n : List ℕ). AcceptsOne (status_of_ending end)
-        (deed_at world disk remaining honest leaves path (Set target put reporting) (here is not_new)
+        (deed_at world disk remaining honest leaves path (Set target put None reporting) (here is not_new)
         returned old new end does) (single (set_at (chars n) (chars pointer) value))) of_name
         (subst (λ (q : List ℕ). AcceptsOne (status_of_ending end)
-        (deed_at world disk remaining honest leaves path (Set target put reporting) (here is not_new)
+        (deed_at world disk remaining honest leaves path (Set target put None reporting) (here is not_new)
         returned old new end does) (single (set_at (chars target.name.now) (chars q) value))) of_pointer one)
     set-one invocation place ending ended old new end done does put made = absurd put
 
@@ -184,7 +185,7 @@ module _ {W D F P : Type 0} (world : WorldModel W D F P) (disk : DiskModel D) (r
   says-import : (invocation : Invocation) → SaysImport invocation → (old new : Around W) (status : Status)
       (does : PerformsOnStores world disk remaining invocation old new status) → old.input ≡ Some (codes "port: 80\n")
       → Puts world disk remaining honest leaves (codes "shop") (codes "web") [] (port_is (codes "80")) invocation old new status does
-  says-import (Import asked reporting) (of_folder, of_name, of_file) old new status does given =
+  says-import (Import asked about reporting) (of_folder, of_name, of_file) old new status does given =
       (of_folder, of_name, refl, by does.does.takes)
     where
       gives : (read : Taken) → IfOk read (λ taken. taken.items ≡ codes "port: 80\n")
@@ -203,24 +204,24 @@ module _ {W D F P : Type 0} (world : WorldModel W D F P) (disk : DiskModel D) (r
       (does : DoesOnStores world disk remaining invocation old new end)
       → Put world disk remaining honest leaves (codes "shop") (codes "web") (codes "/port") (text (codes "81")) invocation old new
       end does
-  says-set (Set target put reporting) (of_folder, of_name, of_place, plain, of_word) old new end does =
-      (of_folder, of_name, of_place, plain, by put.value of_word does.0.change does.0.is)
+  says-set (Set target put None reporting) (of_folder, of_name, of_place, plain, of_word) old new end does =
+      (of_folder, of_name, of_place, plain, by put.value of_word does.0.action does.0.is)
     where
-      sets-so : (word : List ℕ) → word ≡ codes "81" → (change : Result Change ToolFault)
-          → SetsText target.name.now target.pointer.now (chars word) change
-          → IfOk change (SetsAt (codes "web") (codes "/port") (text (codes "81")))
-      sets-so word is (Ok change) sets =
-          subst (λ (n : List ℕ). SetsAt n (codes "/port") (text (codes "81")) change) of_name
-          (subst (λ (q : List ℕ). SetsAt target.name.now q (text (codes "81")) change) of_place
-          (subst (λ (w : List ℕ). SetsAt target.name.now target.pointer.now (text w) change) (ap chars is ∙ word-so) sets))
+      sets-so : (word : List ℕ) → word ≡ codes "81" → (action : Result Action ToolFault)
+          → SetsText target.name.now target.pointer.now (chars word) action
+          → IfOk action (SetsAt (codes "web") (codes "/port") (text (codes "81")))
+      sets-so word is (Ok action) sets =
+          subst (λ (n : List ℕ). SetsAt n (codes "/port") (text (codes "81")) action) of_name
+          (subst (λ (q : List ℕ). SetsAt target.name.now q (text (codes "81")) action) of_place
+          (subst (λ (w : List ℕ). SetsAt target.name.now target.pointer.now (text w) action) (ap chars is ∙ word-so) sets))
       sets-so word is (Err fault) sets = tt
 
-      by : (value : Value) → IsText value (codes "81") → (change : Result Change ToolFault)
-          → IsSet world remaining target.name.now target.pointer.now value change old.world does.0.seen old.input new.input
-          → IfOk change (SetsAt (codes "web") (codes "/port") (text (codes "81")))
-      by (Text word) is change sets = sets-so word.now is change sets.2
-      by (Yaml word) is change sets = absurd is
-      by (File path) is change sets = absurd is
+      by : (value : Value) → IsText value (codes "81") → (action : Result Action ToolFault)
+          → IsSet world remaining target.name.now target.pointer.now value action old.world does.0.seen old.input new.input
+          → IfOk action (SetsAt (codes "web") (codes "/port") (text (codes "81")))
+      by (Text word) is action sets = sets-so word.now is action sets.2
+      by (Yaml word) is action sets = absurd is
+      by (File path) is action sets = absurd is
   says-set invocation says old new end does = absurd says
 
   says-get : (invocation : Invocation) → SaysGet invocation

@@ -1,34 +1,36 @@
 -- What stands at a place after runs.
-use Rattle.std.proofs.Common.{◌≡◌, ◌≤◌, inl, inr, ℕ, List, [], ◌∷◌, Option, Result, Ok, Err, IfOk, refl, sym, ap, ◌∙◌, subst}
+use Rattle.std.proofs.Common.{◌≡◌, ◌≤◌, inl, inr, ℕ, List, [], ◌∷◌, Option, Some, None, Result, Ok, Err, IfOk, refl, sym, ap, ◌∙◌, subst}
 use Rattle.std.{proofs.lemmas.Str.chars-nil, specs.Str.chars}
 use Rattle.{conf_disk.specs.{Image.{Image, IsImage}, Laws.ReadingIsAnImage, Models.DiskModel}, conf_record.specs.Documents.BasesAreRead}
 use Rattle.{conf_record.specs.Documents.{BasesClose, BasesFit, OneRecord}, conf_session.specs.Answers.value_at_path}
-use Rattle.conf_state.specs.{Commands.{Command, import_as, set_at, single, text_of}, States.Contents}
+use Rattle.conf_state.specs.{Commands.{Command, import_as, set_at, single, text_of, Edit}, States.Contents, Steps.step}
 use Rattle.conf_store.specs.{Calls.{journal_length, outcome, room_for}, Meaning.ImageMeans, Opens.{OneMeaning, RefusedMeansNothing}}
 use Rattle.{conf_store.specs.View.StoreView, conf_words.specs.declared.invocation.Root.{Root, TheVariants.{Any, Collection}}}
 use Rattle.conf_words.specs.declared.invocation.{Conditions.Conditions, Invocation.{Invocation, TheVariants.{Import, Set}}, Placing.Placing}
 use Rattle.conf_words.specs.declared.invocation.{Placing.TheVariants.AtPlace, ValueForm.ValueForm}
-use Rattle.conf_tools.specs.{Asking.AskedConditions, Edits.placed_or_not, Changes.{ChangesOn, Makes}, OnStores.PerformsOnStores}
+use Rattle.conf_tools.specs.{Asking.AskedConditions, Edits.placed_or_not, Changes.{ChangesOn, Makes, with_about}, OnStores.PerformsOnStores}
 use Rattle.conf_tools.specs.{Performs.{ChangesAt, ImportsRead, Performs, access_of}, Exports.disk_handed_back, Prelude.IsRead}
 use Rattle.conf_tools.specs.{ProgramCalls.CallHolds, Reads.ShowsTree, Endings.ending_at_end, Outcomes.status_of_ending}
 use Rattle.conf_tools.specs.{StoreWords.{ChangesInFolder, Condition, MakesChange, conditions_of}, TextWords.{IsImport, SetsAt}, Tools.Taken}
-use Rattle.conf_tools.specs.{Worlds.{Around, WorldModel}, declared.{changes.Change.Change, program.Status.{Status, TheVariants.Done}}}
-use Rattle.conf_tools.specs.declared.{stores.StoreToolFault.{StoreToolFault, TheVariants.Folder as InFolder}, texts.ToolFault.ToolFault}
-use Rattle.conf_tools.specs.{declared.world.Access.{Access, TheVariants.Changing}, EndOfRun.EndOfRun as Ended}
-use Rattle.{conf_tools.proofs.EndingLemmas.{imported-status, not-with}, conf_runs.specs.{Folders.KeepsFolders, FoldersRead.ShowsFolders}}
-use Rattle.conf_runs.specs.{Others.AllSpare, Reads.{Asks, IsSteady, Puts, Shows, Turn, TurnInto, Writes}, Runs.{AreRuns, Ending, Event}}
-use Rattle.conf_runs.specs.Runs.{Kept, KeepsCommands, KeptOf, LeavesAfter, MayLeave, accepted_in, commands, cut_off, deed_in, new_store}
-use Rattle.conf_runs.{specs.Runs.{not_begun, returned}, proofs.{OtherLemmas.{first-spare, value-stays}, ReadLemmas.{StandsIn, There}}}
-use Rattle.conf_runs.proofs.{ReadLemmas.{asked, stands-as}, RunLemmas.{LedBy, kept-run}, StateLemmas.{empty-lacks, import-there, set-there}}
-use Rattle.{conf_runs.proofs.StatusLemmas.not-done, yaml_config.specs.Limits.config_limits, yaml_grammar.specs.Trees.Tree}
+use Rattle.conf_tools.specs.{Worlds.{Around, WorldModel}, declared.{changes.{Action.Action, Change.Change}, program.Status.Status}}
+use Rattle.conf_tools.specs.declared.{program.Status.TheVariants.Done, stores.StoreToolFault.StoreToolFault}
+use Rattle.conf_tools.specs.declared.{stores.StoreToolFault.TheVariants.Folder as InFolder, texts.ToolFault.ToolFault, world.Access.Access}
+use Rattle.conf_tools.{specs.{declared.world.Access.TheVariants.Changing, EndOfRun.EndOfRun as Ended}, proofs.EndingLemmas.imported-status}
+use Rattle.{conf_tools.proofs.EndingLemmas.not-with, conf_runs.specs.{Folders.KeepsFolders, FoldersRead.ShowsFolders, Others.AllSpare}}
+use Rattle.conf_runs.specs.{Reads.{Asks, IsSteady, Puts, Shows, Turn, TurnInto, Writes}, Runs.{AreRuns, Ending, Event, Kept, KeepsCommands}}
+use Rattle.conf_runs.specs.Runs.{KeptOf, LeavesAfter, MayLeave, accepted_in, commands, cut_off, deed_in, new_store, not_begun, returned}
+use Rattle.conf_runs.proofs.{OtherLemmas.{first-spare, value-stays}, ReadLemmas.{StandsIn, There, asked, stands-as}, RunLemmas.LedBy}
+use Rattle.conf_runs.proofs.{RunLemmas.kept-run, StateLemmas.{empty-lacks, import-there, set-there}, StatusLemmas.not-done}
+use Rattle.{yaml_config.specs.Limits.config_limits, yaml_grammar.specs.Trees.Tree, yaml_data.specs.declared.tree.Tree.Tree as AboutTree}
+use Rattle.conf_tools.specs.declared.changes.Action.TheVariants as action
 use Rattle.conf_tools.specs.declared.changes.Change.TheVariants as change
 
 -- ---- a run of commands of other configurations
 
--- a change of a `set` that puts its value in place of what is there is as it was
-pub plainly-placed : (placing : Placing) (change : Result Change ToolFault) (Such : Change → Type 0) → placing ≡ AtPlace
-    → IfOk change Such → IfOk (placed_or_not placing change) Such
-plainly-placed placing change Such plain such = subst (λ (p : Placing). IfOk (placed_or_not p change) Such) (sym plain) such
+-- an action of a `set` that puts its value in place of what is there is as it was
+pub plainly-placed : (placing : Placing) (action : Result Action ToolFault) (Such : Action → Type 0) → placing ≡ AtPlace
+    → IfOk action Such → IfOk (placed_or_not placing action) Such
+plainly-placed placing action Such plain such = subst (λ (p : Placing). IfOk (placed_or_not p action) Such) (sym plain) such
 
 module _ {W D F P : Type 0} (world : WorldModel W D F P) (disk : DiskModel D) (remaining : F → Option (List ℕ))
     (honest : disk.honest) (leaves : W → List ℕ → Image → Type 0) (path name pointer : List ℕ) where
@@ -79,74 +81,91 @@ module _ {W D F P : Type 0} (world : WorldModel W D F P) (disk : DiskModel D) (r
       changed-in access folder (conditions_of conditions.items) change old new end done leads makes
   changed-if access folder (Err fault) change old new end done leads makes = absurd (not-with fault end makes.1 done)
 
-  changed-at : (wanted : Conditions) (access : Access) (folder place_name place : List ℕ) (change : Result Change ToolFault)
-      (old new : W) (end : Ended) → status_of_ending end ≡ Done → IfOk change Leads
-      → ChangesAt world disk wanted access folder place_name place change old new end
+  changed-at : (wanted : Conditions) (about : Option AboutTree) (access : Access) (folder place_name place : List ℕ)
+      (action : Result Action ToolFault) (old new : W) (end : Ended) → status_of_ending end ≡ Done
+      → IfOk action (λ given. Leads (change.Act given about))
+      → ChangesAt world disk wanted about access folder place_name place action old new end
       → StandsIn leaves folder name pointer value new
-  changed-at wanted access folder place_name place (Ok change) old new end done leads does =
-      changed-if access folder does.conditions change old new end done leads does.makes
-  changed-at wanted access folder place_name place (Err fault) old new end done leads does =
+  changed-at wanted about access folder place_name place (Ok action) old new end done leads does =
+      changed-if access folder does.conditions (change.Act action about) old new end done leads does.makes
+  changed-at wanted about access folder place_name place (Err fault) old new end done leads does =
       absurd (not-with fault end does.1 done)
 
   -- ---- `set`
 
-  set-leads : IsSteady pointer → (change : Change) → SetsAt name pointer value change → Leads change
-  set-leads steady (change.Perform command) sets opened closed makes =
-      set-there opened.state closed.state (chars name) (chars pointer) value
-      (room_for (journal_length opened) opened.state (single (set_at (chars name) (chars pointer) value))) steady
-      (subst (λ (c : Command). outcome (journal_length opened) opened.state c ≡ Ok closed.state) sets makes.step)
-  set-leads steady (change.Import imported bytes) sets opened closed makes = absurd sets
-  set-leads steady (change.Copy from to) sets opened closed makes = absurd sets
-  set-leads steady (change.Rename from to) sets opened closed makes = absurd sets
-  set-leads steady (change.Edit edited edit) sets opened closed makes = absurd sets
-  set-leads steady change.Checkpoint sets opened closed makes = absurd sets
+  -- an about is aside of what a command of one edit makes of a state
+  aside : (about : Option AboutTree) (opened closed : StoreView D) (edit : Edit)
+      → outcome (journal_length opened) opened.state (with_about about (single edit)) ≡ Ok closed.state
+      → step opened.state (single edit) (room_for (journal_length opened) opened.state (with_about about (single edit)))
+      ≡ Ok closed.state
+  aside None opened closed edit steps = steps
+  aside (Some about) opened closed edit steps = steps
 
-  set-leads-all : IsSteady pointer → (change : Result Change ToolFault) → IfOk change (SetsAt name pointer value) → IfOk change Leads
-  set-leads-all steady (Ok change) sets = set-leads steady change sets
-  set-leads-all steady (Err fault) sets = tt
+  set-leads : IsSteady pointer → (about : Option AboutTree) (action : Action) → SetsAt name pointer value action
+      → Leads (change.Act action about)
+  set-leads steady about (action.Perform command) sets opened closed makes =
+      let edit = set_at (chars name) (chars pointer) value in
+      set-there opened.state closed.state (chars name) (chars pointer) value
+      (room_for (journal_length opened) opened.state (with_about about (single edit))) steady
+      (aside about opened closed edit
+      (subst (λ (c : Command). outcome (journal_length opened) opened.state (with_about about c) ≡ Ok closed.state)
+      (makes.gives ∙ sets) makes.accepts.step))
+  set-leads steady about (action.Import imported bytes) sets opened closed makes = absurd sets
+  set-leads steady about (action.Copy from to) sets opened closed makes = absurd sets
+  set-leads steady about (action.Rename from to) sets opened closed makes = absurd sets
+  set-leads steady about (action.Edit edited edit) sets opened closed makes = absurd sets
+
+  set-leads-all : IsSteady pointer → (about : Option AboutTree) (action : Result Action ToolFault)
+      → IfOk action (SetsAt name pointer value) → IfOk action (λ given. Leads (change.Act given about))
+  set-leads-all steady about (Ok action) sets = set-leads steady about action sets
+  set-leads-all steady about (Err fault) sets = tt
 
   -- ---- `import`
 
   module _ (gives_one : OneTree) (whole : pointer ≡ []) where
-    import-leads : (root : Root) (bytes : List ℕ) → IsRead bytes config_limits value → (change : Change)
-        → IsImport root name bytes (Ok change) → Leads change
-    import-leads root bytes reads (change.Import kept imported) (named, is, left) opened closed makes =
-        let tree : makes.tree ≡ value =
-        gives_one bytes makes.tree value
-        (subst (λ (b : List ℕ). IsRead b config_limits makes.tree) is makes.reads) reads in
-        let there : value_at_path closed.state (text_of kept) [] ≡ Ok makes.tree =
-        import-there opened.state closed.state (text_of kept) makes.tree
-        (room_for (journal_length opened) opened.state (single (import_as (text_of kept) makes.tree))) makes.accepts.step in
+    -- a tree was put under a name, and the value is it
+    import-stands : (about : Option AboutTree) (opened closed : StoreView D) (kept : List ℕ) (tree : Tree) (command : Command)
+        → kept ≡ chars name → tree ≡ value → command ≡ single (import_as kept tree)
+        → outcome (journal_length opened) opened.state (with_about about command) ≡ Ok closed.state
+        → value_at_path closed.state (chars name) (chars pointer) ≡ Ok value
+    import-stands about opened closed kept tree command named is_value is steps =
+        let there : value_at_path closed.state kept [] ≡ Ok tree =
+        import-there opened.state closed.state kept tree
+        (room_for (journal_length opened) opened.state (with_about about (single (import_as kept tree))))
+        (aside about opened closed (import_as kept tree)
+        (subst (λ (c : Command). outcome (journal_length opened) opened.state (with_about about c) ≡ Ok closed.state) is steps)) in
         subst (λ (q : List ℕ). value_at_path closed.state (chars name) q ≡ Ok value) (sym (ap chars whole ∙ chars-nil))
-        (subst (λ (n : List ℕ). value_at_path closed.state n [] ≡ Ok value) named (there ∙ ap Ok tree))
-    import-leads Collection bytes reads (change.Perform command) (tree, tree_read, (collection, said)) opened closed makes =
-        let tree_is : tree ≡ value = gives_one bytes tree value tree_read reads in
-        let there : value_at_path closed.state (chars name) [] ≡ Ok tree =
-        import-there opened.state closed.state (chars name) tree
-        (room_for (journal_length opened) opened.state (single (import_as (chars name) tree)))
-        (subst (λ (c : Command). outcome (journal_length opened) opened.state c ≡ Ok closed.state) said makes.step) in
-        subst (λ (q : List ℕ). value_at_path closed.state (chars name) q ≡ Ok value) (sym (ap chars whole ∙ chars-nil))
-        (there ∙ ap Ok tree_is)
-    import-leads Any bytes reads (change.Perform command) is opened closed makes = absurd is
-    import-leads root bytes reads (change.Copy from to) is opened closed makes = absurd is
-    import-leads root bytes reads (change.Rename from to) is opened closed makes = absurd is
-    import-leads root bytes reads (change.Edit edited edit) is opened closed makes = absurd is
-    import-leads root bytes reads change.Checkpoint is opened closed makes = absurd is
+        (subst (λ (n : List ℕ). value_at_path closed.state n [] ≡ Ok value) named (there ∙ ap Ok is_value))
 
-    import-leads-all : (root : Root) (bytes : List ℕ) → IsRead bytes config_limits value → (change : Result Change ToolFault)
-        → IsImport root name bytes change → IfOk change Leads
-    import-leads-all root bytes reads (Ok change) is = import-leads root bytes reads change is
-    import-leads-all root bytes reads (Err fault) is = tt
+    import-leads : (root : Root) (bytes : List ℕ) → IsRead bytes config_limits value → (about : Option AboutTree) (action : Action)
+        → IsImport root name bytes (Ok action) → Leads (change.Act action about)
+    import-leads root bytes reads about (action.Import kept imported) (named, is, left) opened closed makes =
+        import-stands about opened closed (text_of kept) makes.gives.tree makes.command named
+        (gives_one bytes makes.gives.tree value
+        (subst (λ (b : List ℕ). IsRead b config_limits makes.gives.tree) is makes.gives.reads) reads) makes.gives.is makes.accepts.step
+    import-leads Collection bytes reads about (action.Perform command) (tree, tree_read, (collection, said)) opened closed makes =
+        import-stands about opened closed (chars name) tree makes.command refl (gives_one bytes tree value tree_read reads)
+        (makes.gives ∙ said) makes.accepts.step
+    import-leads Any bytes reads about (action.Perform command) is opened closed makes = absurd is
+    import-leads root bytes reads about (action.Copy from to) is opened closed makes = absurd is
+    import-leads root bytes reads about (action.Rename from to) is opened closed makes = absurd is
+    import-leads root bytes reads about (action.Edit edited edit) is opened closed makes = absurd is
 
-    imported : (wanted : Conditions) (root : Root) (access : Access) (folder : List ℕ) (read : Taken) (old new : W) (end : Ended)
+    import-leads-all : (root : Root) (bytes : List ℕ) → IsRead bytes config_limits value → (about : Option AboutTree)
+        (action : Result Action ToolFault) → IsImport root name bytes action → IfOk action (λ given. Leads (change.Act given about))
+    import-leads-all root bytes reads about (Ok action) is = import-leads root bytes reads about action is
+    import-leads-all root bytes reads about (Err fault) is = tt
+
+    imported : (wanted : Conditions) (about : Option AboutTree) (root : Root) (access : Access) (folder : List ℕ) (read : Taken)
+        (old new : W) (end : Ended)
         → status_of_ending end ≡ Done → IfOk read (λ taken. IsRead taken.items config_limits value)
-        → ImportsRead world disk wanted root access folder name read old new end
+        → ImportsRead world disk wanted about root access folder name read old new end
         → StandsIn leaves folder name pointer value new
-    imported wanted root access folder (Ok bytes) old new end done reads does =
-        changed-at wanted access folder name [] does.change old new does.made
+    imported wanted about root access folder (Ok bytes) old new end done reads does =
+        changed-at wanted about access folder name [] does.action old new does.made
         (sym (ap status_of_ending does.ends ∙ imported-status does.made) ∙ done)
-        (import-leads-all root bytes.items reads does.change does.is) does.changes
-    imported wanted root access folder (Err fault) old new end done reads does = absurd (not-with fault end does.1 done)
+        (import-leads-all root bytes.items reads about does.action does.is) does.changes
+    imported wanted about root access folder (Err fault) old new end done reads does = absurd (not-with fault end does.1 done)
 
 module _ {W D F P : Type 0} (world : WorldModel W D F P) (disk : DiskModel D) (remaining : F → Option (List ℕ))
     (honest : disk.honest) (leaves : W → List ℕ → Image → Type 0) (path name pointer : List ℕ)
@@ -156,22 +175,22 @@ module _ {W D F P : Type 0} (world : WorldModel W D F P) (disk : DiskModel D) (r
       (does : PerformsOnStores world disk remaining invocation old new status)
       → Puts world disk remaining honest leaves path name pointer value invocation old new status does → status ≡ Done
       → StandsIn leaves path name pointer value new.world
-  put-there value (Set target put reporting) old new status does (of_path, of_name, of_pointer, steady, plain, sets) done =
+  put-there value (Set target put about reporting) old new status does (of_path, of_name, of_pointer, steady, plain, sets) done =
       let at = target in
-      let change = placed_or_not put.placing does.does.0.change in
+      let action = placed_or_not put.placing does.does.0.action in
       stands-as leaves at.folder.now at.name.now at.pointer.now path name pointer (sym of_path) (sym of_name) (sym of_pointer) value
       new.world
-      (changed-at world disk remaining honest leaves keeps at.name.now at.pointer.now value at.conditions Changing at.folder.now
-      at.name.now at.pointer.now change does.does.0.seen new.world does.ending (sym does.is ∙ done)
+      (changed-at world disk remaining honest leaves keeps at.name.now at.pointer.now value at.conditions about Changing at.folder.now
+      at.name.now at.pointer.now action does.does.0.seen new.world does.ending (sym does.is ∙ done)
       (set-leads-all world disk remaining honest leaves keeps at.name.now at.pointer.now value
-      (subst (λ (q : List ℕ). IsSteady q) (sym of_pointer) steady) change
-      (subst (λ (q : List ℕ). IfOk change (SetsAt at.name.now q value)) (sym of_pointer)
-      (subst (λ (n : List ℕ). IfOk change (SetsAt n pointer value)) (sym of_name)
-      (plainly-placed put.placing does.does.0.change (SetsAt name pointer value) plain sets))))
+      (subst (λ (q : List ℕ). IsSteady q) (sym of_pointer) steady) about action
+      (subst (λ (q : List ℕ). IfOk action (SetsAt at.name.now q value)) (sym of_pointer)
+      (subst (λ (n : List ℕ). IfOk action (SetsAt n pointer value)) (sym of_name)
+      (plainly-placed put.placing does.does.0.action (SetsAt name pointer value) plain sets))))
       does.does.0.changes)
-  put-there value (Import asked reporting) old new status does (of_path, of_name, whole, reads) done =
+  put-there value (Import asked about reporting) old new status does (of_path, of_name, whole, reads) done =
       stands-as leaves asked.folder.now asked.name.now pointer path name pointer (sym of_path) (sym of_name) refl value new.world
-      (imported world disk remaining honest leaves keeps asked.name.now pointer value gives_one whole asked.conditions asked.root
+      (imported world disk remaining honest leaves keeps asked.name.now pointer value gives_one whole asked.conditions about asked.root
       (access_of asked.missing) asked.folder.now does.does.read does.does.seen new.world does.ending (sym does.is ∙ done) reads
       does.does.imports)
   put-there value invocation old new status does puts done = absurd puts

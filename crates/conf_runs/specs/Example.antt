@@ -14,7 +14,7 @@ SaysInit invocation = ⊥
 
 -- confstore import shop web
 abbrev pub SaysImport : Invocation → Type 0
-SaysImport (Import asked reporting) =
+SaysImport (Import asked about reporting) =
     (asked.folder.now ≡ codes "shop") × (asked.name.now ≡ codes "web") × (asked.file.now ≡ codes "-")
 SaysImport invocation = ⊥
 
@@ -25,7 +25,7 @@ IsText value bytes = ⊥
 
 -- confstore set shop web /port 81
 abbrev pub SaysSet : Invocation → Type 0
-SaysSet (Set target put reporting) =
+SaysSet (Set target put None reporting) =
     (target.folder.now ≡ codes "shop") × (target.name.now ≡ codes "web") × (target.pointer.now ≡ codes "/port")
     × (put.placing ≡ AtPlace) × IsText put.value (codes "81")
 SaysSet invocation = ⊥

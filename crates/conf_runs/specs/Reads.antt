@@ -72,10 +72,10 @@ module _ {W D F P : Type 0} (world : WorldModel W D F P) (disk : DiskModel D) (r
   -- configuration.
   abbrev pub Puts : Tree → (invocation : Invocation) (old new : Around W) (status : Status)
       → PerformsOnStores world disk remaining invocation old new status → Type 0
-  Puts value (Set target put reporting) old new status does =
+  Puts value (Set target put about reporting) old new status does =
       (target.folder.now ≡ path) × (target.name.now ≡ name) × (target.pointer.now ≡ pointer) × IsSteady pointer
-      × (put.placing ≡ AtPlace) × IfOk does.does.0.change (SetsAt name pointer value)
-  Puts value (Import asked reporting) old new status does =
+      × (put.placing ≡ AtPlace) × IfOk does.does.0.action (SetsAt name pointer value)
+  Puts value (Import asked about reporting) old new status does =
       (asked.folder.now ≡ path) × (asked.name.now ≡ name) × (pointer ≡ [])
       × IfOk does.does.read (λ text. IsRead text.items config_limits value)
   Puts value invocation old new status does = ⊥

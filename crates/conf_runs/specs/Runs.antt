@@ -14,11 +14,11 @@ use Rattle.conf_tools.specs.{OnStores.{PerformsOnStores, ReadsInFolder}, Perform
 use Rattle.conf_tools.specs.{Performs.{access_of, grouping_of}, ProgramCalls.{Call, Ending as CallEnding, accepted, answered, changing}}
 use Rattle.conf_tools.specs.{ProgramCalls.{disk_before, disk_behind, exporting, noted_in, running}, StoreWords.{Condition, ChangesInFolder}}
 use Rattle.conf_tools.specs.{StoreWords.{Inits, MakesChange, MakesInFolder, RunsOnFolder, SavesFound, SavesInFolder}, Tools.Taken}
-use Rattle.conf_tools.specs.{Worlds.{Around, WorldModel}, declared.{changes.Change.Change, program.Status.{Status, TheVariants.Done}}}
-use Rattle.conf_tools.specs.declared.{reading_fault.ReadingFault.ReadingFault, stores.Grouping.Grouping, texts.ToolFault.ToolFault}
-use Rattle.conf_tools.specs.{declared.world.Access.{Access, TheVariants.Changing}, EndOfRun.EndOfRun as Ended}
+use Rattle.conf_tools.specs.{Worlds.{Around, WorldModel}, declared.{changes.{Action.Action, Change.Change}, program.Status.Status}}
+use Rattle.conf_tools.specs.declared.{program.Status.TheVariants.Done, reading_fault.ReadingFault.ReadingFault, stores.Grouping.Grouping}
+use Rattle.conf_tools.specs.{declared.{texts.ToolFault.ToolFault, world.Access.{Access, TheVariants.Changing}}, EndOfRun.EndOfRun as Ended}
 use Rattle.{conf_runs.specs.Folders.{HandsOutNone, KeepsFolders}, conf_session.specs.Handings.{Handing, handings_of, moment_after}}
-use Rattle.conf_session.specs.Streams.{streams_of}
+use Rattle.{conf_session.specs.Streams.streams_of, yaml_data.specs.declared.tree.Tree.Tree as AboutTree}
 use Rattle.conf_tools.specs.ProgramCalls as call
 use Rattle.conf_tools.specs.declared.changes.Change.TheVariants as change
 
@@ -27,10 +27,10 @@ use Rattle.conf_tools.specs.declared.changes.Change.TheVariants as change
 -- the folder whose disk a run takes, if its words name one
 abbrev pub folder_of : Invocation → Option (List ℕ)
 folder_of (Init folder) = Some folder.now
-folder_of (Import asked reporting) = Some asked.folder.now
-folder_of (Set target put reporting) = Some target.folder.now
-folder_of (Alter target alteration) = Some target.folder.now
-folder_of (Batch asked reporting) = Some asked.folder.now
+folder_of (Import asked about reporting) = Some asked.folder.now
+folder_of (Set target put about reporting) = Some target.folder.now
+folder_of (Alter target alteration about) = Some target.folder.now
+folder_of (Batch asked about reporting) = Some asked.folder.now
 folder_of (Checkpoint folder) = Some folder.now
 folder_of (Run folder grouping) = Some folder.now
 folder_of (Export folder name form) = Some folder.now
@@ -76,29 +76,30 @@ module _ {W D F P : Type 0} (world : WorldModel W D F P) (disk : DiskModel D) (h
   changed_if access folder (Ok conditions) change old new end makes = changed_in change makes
   changed_if access folder (Err fault) change old new end makes = None
 
-  abbrev pub asked_for : (wanted : Conditions) (access : Access) (folder name path : List ℕ)
-      (change : Result Change ToolFault) (old new : W) (end : Ended)
-      → ChangesAt world disk wanted access folder name path change old new end → Option (Call disk)
-  asked_for wanted access folder name path (Ok change) old new end does =
-      changed_if access folder does.conditions change old new end does.makes
-  asked_for wanted access folder name path (Err fault) old new end does = None
+  abbrev pub asked_for : (wanted : Conditions) (about : Option AboutTree) (access : Access) (folder name path : List ℕ)
+      (action : Result Action ToolFault) (old new : W) (end : Ended)
+      → ChangesAt world disk wanted about access folder name path action old new end → Option (Call disk)
+  asked_for wanted about access folder name path (Ok action) old new end does =
+      changed_if access folder does.conditions (change.Act action about) old new end does.makes
+  asked_for wanted about access folder name path (Err fault) old new end does = None
 
-  abbrev pub asked_at : (target : Target) (change : Result Change ToolFault) (old new : W) (end : Ended)
-      → ChangesAtTarget world disk target change old new end → Option (Call disk)
-  asked_at target change old new end does =
-      asked_for target.conditions Changing target.folder.now target.name.now target.pointer.now change old new end does
+  abbrev pub asked_at : (about : Option AboutTree) (target : Target) (action : Result Action ToolFault) (old new : W) (end : Ended)
+      → ChangesAtTarget world disk about target action old new end → Option (Call disk)
+  asked_at about target action old new end does =
+      asked_for target.conditions about Changing target.folder.now target.name.now target.pointer.now action old new end does
 
-  abbrev pub imported : (wanted : Conditions) (root : Root) (access : Access) (folder name : List ℕ) (read : Taken) (old new : W)
-      (end : Ended) → ImportsRead world disk wanted root access folder name read old new end → Option (Call disk)
-  imported wanted root access folder name (Ok bytes) old new end does =
-      asked_for wanted access folder name [] does.change old new does.made does.changes
-  imported wanted root access folder name (Err fault) old new end does = None
+  abbrev pub imported : (wanted : Conditions) (about : Option AboutTree) (root : Root) (access : Access) (folder name : List ℕ)
+      (read : Taken) (old new : W) (end : Ended)
+      → ImportsRead world disk wanted about root access folder name read old new end → Option (Call disk)
+  imported wanted about root access folder name (Ok bytes) old new end does =
+      asked_for wanted about access folder name [] does.action old new does.made does.changes
+  imported wanted about root access folder name (Err fault) old new end does = None
 
-  abbrev pub batched : (folder : List ℕ) (count : Option ℕ) (read : Taken) (old new : W) (end : Ended)
-      → BatchesRead world disk folder count read old new end → Option (Call disk)
-  batched folder count (Ok bytes) old new end does =
-      asked_for (counted_alone count) Changing folder [] [] does.change old new end does.changes
-  batched folder count (Err fault) old new end does = None
+  abbrev pub batched : (about : Option AboutTree) (folder : List ℕ) (count : Option ℕ) (read : Taken) (old new : W) (end : Ended)
+      → BatchesRead world disk about folder count read old new end → Option (Call disk)
+  batched about folder count (Ok bytes) old new end does =
+      asked_for (counted_alone count) about Changing folder [] [] does.action old new end does.changes
+  batched about folder count (Err fault) old new end does = None
 
   abbrev pub ran_in : {folder : List ℕ} (grouping : Grouping) (old new : Around W) {end : Ended}
       → RunsOnFolder world disk folder grouping old new end → Option (Call disk)
@@ -117,15 +118,15 @@ module _ {W D F P : Type 0} (world : WorldModel W D F P) (disk : DiskModel D) (r
   abbrev pub call_of : (invocation : Invocation) (old new : Around W) (end : Ended)
       → DoesOnStores world disk remaining invocation old new end → Option (Call disk)
   call_of (Init folder) old new end does = initialised world disk honest does.0
-  call_of (Import asked reporting) old new end does =
-      imported world disk honest asked.conditions asked.root (access_of asked.missing) asked.folder.now asked.name.now
+  call_of (Import asked about reporting) old new end does =
+      imported world disk honest asked.conditions about asked.root (access_of asked.missing) asked.folder.now asked.name.now
       does.read does.seen new.world end does.imports
-  call_of (Set target put reporting) old new end does =
-      asked_at world disk honest target (placed_or_not put.placing does.0.change) does.0.seen new.world end does.0.changes
-  call_of (Alter target alteration) old new end does =
-      asked_at world disk honest target does.0.change old.world new.world end does.0.changes
-  call_of (Batch asked reporting) old new end does =
-      batched world disk honest asked.folder.now asked.count does.read does.seen new.world end does.makes
+  call_of (Set target put about reporting) old new end does =
+      asked_at world disk honest about target (placed_or_not put.placing does.0.action) does.0.seen new.world end does.0.changes
+  call_of (Alter target alteration about) old new end does =
+      asked_at world disk honest about target does.0.action old.world new.world end does.0.changes
+  call_of (Batch asked about reporting) old new end does =
+      batched world disk honest about asked.folder.now asked.count does.read does.seen new.world end does.makes
   call_of (Checkpoint folder) old new end does = changed_in world disk honest change.Checkpoint does.0
   call_of (Run folder grouping) old new end does = ran_in world disk honest (grouping_of grouping) old new does
   call_of (Export folder name form) old new end does = read_from world disk honest does

@@ -1,10 +1,10 @@
 -- What a sink has taken at some moments, and what a crash leaves from then on.
 use Rattle.std.proofs.{Common.{◌≡◌, ⊎_elim, refl, sym, ◌∙◌, ap, subst, arith, ◌≤◌, append_assoc, length-append}, Math.Seq.drop-append_seam}
 use Rattle.std.{proofs.lemmas.List.Elements.{All-head, All-tail}, specs.Prelude.{ℕ, zero, suc, ◌+◌, ◌-◌, false, List, [], ◌∷◌, ◌++◌}}
-use Rattle.std.specs.Prelude.{length, take, drop, All, Ok}
+use Rattle.std.specs.Prelude.{length, take, drop, All}
 use Rattle.conf_session.proofs.Prelude.{append-nil, take_all, cases_lt, take-append-le, All-append, Image, IsImage, DiskModel, LeavesOnly}
 use Rattle.conf_session.proofs.{Prelude.{Command, Contents, after, MeansPrefix, HasFlushed, StoreView}, SinkLemmas.further-kept}
-use Rattle.conf_session.{proofs.TurnLemmas.{accepted-joined, leads-performed, kept-after}, specs.Answers.{Stored, accepted_command}}
+use Rattle.conf_session.{proofs.TurnLemmas.{leads-performed, kept-after}, specs.Answers.{Stored, accepted_command}}
 use Rattle.conf_session.specs.{Answers.{answer_bytes, stored_after}, Gathering.{HandsOut, PerformsTurns}, Runs.{AfterAtLeast, stored_of}}
 use Rattle.conf_session.specs.Handings.{Handing, HoldsSince, accepted_within, handed_bytes, handings_of, moment_after, taken_in}
 use Rattle.conf_session.specs.{Requests.Request, Groups.{Turn, all_asked, turn_accepted, turn_output, turns_accepted, turns_output}}

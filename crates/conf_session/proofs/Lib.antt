@@ -13,7 +13,9 @@ pub mod GoodAnswers
 pub mod ReplyLemmas
 pub mod SaidLemmas
 pub mod LinesPresented
+pub mod RowLemmas
 pub mod CommandLineLemmas
+pub mod AboutLineLemmas
 pub mod PartLemmas
 pub mod EditLemmas
 pub mod TurnLemmas

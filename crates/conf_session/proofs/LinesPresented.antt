@@ -6,19 +6,21 @@ use Rattle.conf_session.proofs.Prelude.{list_all, and_parts, and_from, or_left, 
 use Rattle.conf_session.proofs.Prelude.{leb-true, agree_below_at, false≢true, is_in, ns, white, indicator, line_break, IsText, spaces}
 use Rattle.conf_session.proofs.Prelude.{starts_line, byte_len, sequence, mapping, Members, scalar_of, seq_from, seq_to, map_from, map_to}
 use Rattle.conf_session.proofs.Prelude.{document_from, document_to, shape, shapes, tree_shapes, elements_shapes, members_shapes, IsTreeOf}
-use Rattle.conf_session.proofs.Prelude.{plain_in_style, key_text, Presents, CanRead, Limits, Good, Gives, stands_alone}
+use Rattle.conf_session.proofs.Prelude.{plain_in_style, key_text, long_key, Presents, CanRead, Limits, Good, Gives, stands_alone}
 use Rattle.conf_session.specs.CommandLines.{Spelling, bare, quoted, Line, spelled, bare_char, begins_bare, stands, line_text, lines_text}
 use Rattle.conf_session.specs.CommandLines.{members_of_lines, IsLine, AreLines, Entry, entry_text, entry_members, elements_text}
-use Rattle.conf_session.specs.CommandLines.{elements_of_entries, AreEntries, Layout, single, batch_of, after_if, layout_text}
+use Rattle.conf_session.specs.CommandLines.{elements_of_entries, AreEntries, inner_text, Row, one_line, list_under, pairs_under, row_text}
+use Rattle.conf_session.specs.CommandLines.{rows_text, row_key, row_tree, members_of_rows, IsKey, IsRow, AreRows, Layout, layout_text}
 use Rattle.{conf_session.specs.CommandLines.{layout_members, IsLayout}, yaml_grammar.specs.{Separation.comments_text, FlowScalars.raw}}
 use Rattle.yaml_grammar.specs.FlowScalars.{quoted_char_text, quoted_char_fits, quoted_char_value, char_value, plain_text, values, Scalar}
 use Rattle.yaml_grammar.specs.FlowScalars.{plain, double, scalar_text, scalar_value, scalar_fits, outer, block_key, plain_run}
 use Rattle.yaml_grammar.specs.{FlowNodes.{scalar, flow_text, flow_fits, short_key}, BlockNodes.{Node, flow, items, pairs, Items, item}}
 use Rattle.yaml_grammar.specs.BlockNodes.{item_and, Pairs, pair, pair_and, Pair, keyed, compact_pairs, node_text, indented_text, items_text}
-use Rattle.yaml_grammar.specs.BlockNodes.{items_fit, items_events, pair_text, pair_fits, pairs_text, pairs_fit, pairs_events}
-use Rattle.yaml_grammar.specs.Streams.{Stream, Document, bare as bare_document, explicit, content, suffixes, stream_text, stream_events}
-use Rattle.yaml_grammar.specs.{Streams.fits, Events.{Event, as_document, as_seq, as_map, seq_end, map_start, map_end, document_end}}
-use Rattle.yaml_recognizers.proofs.OneStyle.{Presented.{feed, one_space, word_flow}, ScalarsFit.word_flow_fits, Spelled.word_flow_spelled}
+use Rattle.yaml_grammar.specs.BlockNodes.{items_fit, items_events, pair_text, pair_fits, pairs_text, pairs_fit, pairs_events, node_fits}
+use Rattle.yaml_grammar.specs.{BlockNodes.pair_events, Streams.{Stream, Document, bare as bare_document, explicit, content, suffixes}}
+use Rattle.yaml_grammar.specs.{Streams.{stream_text, stream_events, fits}, Events.{Event, as_document, as_seq, as_map, seq_end, map_start}}
+use Rattle.{yaml_grammar.specs.Events.{map_end, document_end}, yaml_recognizers.proofs.OneStyle.Presented.{feed, one_space, word_flow}}
+use Rattle.yaml_recognizers.proofs.OneStyle.{ScalarsFit.word_flow_fits, Spelled.word_flow_spelled}
 
 -- ---- presentations
 
@@ -41,20 +43,18 @@ abbrev items_on : Entry → List Entry → Items
 items_on e [] = item (compact_pairs 1 (entry_on e))
 items_on e (d ∷ ds) = item_and (compact_pairs 1 (entry_on e)) (items_on d ds)
 
--- a list under a word
-abbrev list_on : List ℕ → Entry → List Entry → Pair
-list_on word e es = keyed (scalar (plain word [])) [] (items (feed ∷ []) 2 (items_on e es))
+-- a pair at the margin
+abbrev row_on : Row → Pair
+row_on (one_line l) = pair_on l
+row_on (list_under key e es) = keyed (scalar (plain key [])) [] (items (feed ∷ []) 2 (items_on e es))
+row_on (pairs_under key e) = keyed (scalar (plain key [])) [] (pairs (feed ∷ []) 2 (entry_on e))
 
-abbrev batch_word : List ℕ
-batch_word = codes "batch"
-
-abbrev if_word : List ℕ
-if_word = codes "if"
+abbrev rows_on : Row → List Row → Pairs
+rows_on r [] = pair (row_on r)
+rows_on r (s ∷ rs) = pair_and (row_on r) (rows_on s rs)
 
 abbrev layout_on : Layout → Pairs
-layout_on (single e) = entry_on e
-layout_on (batch_of e es) = pair (list_on batch_word e es)
-layout_on (after_if e es command) = pair_and (list_on if_word e es) (layout_on command)
+layout_on layout = rows_on layout.first layout.more
 
 -- a line of `---`, or none
 abbrev pub marker_text : Bool → List ℕ
@@ -115,12 +115,36 @@ items_spelled e (d ∷ ds) =
     ∙ ap (λ t. t ++ (spaces 2 ++ items_text (items_on d ds) 2)) (pairs_spelled e.first e.more 4)
     ∙ ap (λ t. entry_text 4 e ++ t) (items_spelled d ds))
 
+inner_spelled : (l : Line) (ls : List Line) → spaces 2 ++ pairs_text (pairs_on l ls) 2 ≡ inner_text (l ∷ ls)
+inner_spelled l [] = ap (λ t. codes "  " ++ t) (pair_spelled l 2 ∙ sym (append-nil (line_text l)))
+inner_spelled l (m ∷ ms) =
+    ap (λ t. codes "  " ++ t)
+    (append_assoc (pair_text (pair_on l) 2) (spaces 2) (pairs_text (pairs_on m ms) 2)
+    ∙ λ i. pair_spelled l 2 i ++ inner_spelled m ms i)
+
+-- a key, its `:`, and what is after it
+key_spelled : (key rest : List ℕ) → ((flow_text (scalar (plain key [])) ++ []) ++ codes ":") ++ rest ≡ key ++ (codes ":" ++ rest)
+key_spelled key rest =
+    ap (λ t. ((t ++ []) ++ codes ":") ++ rest) (append-nil _ ∙ plain_spelled key)
+    ∙ ap (λ t. (t ++ codes ":") ++ rest) (append-nil key)
+    ∙ append_assoc key (codes ":") rest
+
+row_spelled : (r : Row) → pair_text (row_on r) 0 ≡ row_text r
+row_spelled (one_line l) = pair_spelled l 0
+row_spelled (list_under key e es) =
+    key_spelled key (node_text (items (feed ∷ []) 2 (items_on e es))) ∙ ap (λ t. key ++ (codes ":\n" ++ t)) (items_spelled e es)
+row_spelled (pairs_under key e) =
+    key_spelled key (node_text (pairs (feed ∷ []) 2 (entry_on e)))
+    ∙ ap (λ t. key ++ (codes ":\n" ++ t)) (inner_spelled e.first e.more)
+
+rows_spelled : (r : Row) (rs : List Row) → pairs_text (rows_on r rs) 0 ≡ rows_text (r ∷ rs)
+rows_spelled r [] = row_spelled r ∙ sym (append-nil (row_text r))
+rows_spelled r (s ∷ rs) =
+    append_assoc (pair_text (row_on r) 0) [] (pairs_text (rows_on s rs) 0)
+    ∙ λ i. row_spelled r i ++ rows_spelled s rs i
+
 layout_spelled : (layout : Layout) → pairs_text (layout_on layout) 0 ≡ layout_text layout
-layout_spelled (single e) = pairs_spelled e.first e.more 0
-layout_spelled (batch_of e es) = ap (λ t. codes "batch:\n" ++ t) (items_spelled e es)
-layout_spelled (after_if e es command) =
-    append_assoc (pair_text (list_on if_word e es) 0) [] (pairs_text (layout_on command) 0)
-    ∙ λ i. codes "if:\n" ++ (items_spelled e es i ++ layout_spelled command i)
+layout_spelled layout = rows_spelled layout.first layout.more
 
 stream_spelled : (marked : Bool) (layout : Layout) → stream_text (stream_on marked layout) ≡ document_of marked layout
 stream_spelled true layout = ap (λ t. codes "---\n" ++ (t ++ codes "...\n")) (layout_spelled layout)
@@ -197,15 +221,20 @@ key_on_fits : (key : List ℕ) (bol : Bool) (after : List ℕ) → plain_in_styl
 key_on_fits key bol after word t = subst (λ f. flow_fits f 0 block_key bol (58 ∷ after) ≡ true) (key_flow key word)
     (word_flow_fits key 0 block_key bol (58 ∷ after) (λ x. refl) t)
 
+-- and is short
+key_is_short : (key : List ℕ) → plain_in_style key ≡ true → long_key key ≡ false → short_key (scalar (plain key [])) [] ≡ true
+key_is_short key word is_short =
+    let long : length (key_text key) ≤ 1000 = ltb-false 1000 (length (key_text key)) is_short in
+    let same : flow_text (scalar (plain key [])) ++ [] ≡ key_text key =
+    append-nil _ ∙ ap flow_text (sym (key_flow key word)) ∙ word_flow_spelled key in
+    rw same (le-leb (length (key_text key)) 1024 (omega (arith, long)))
+
 pair_on_fits : (l : Line) (indent : ℕ) (bol : Bool) (after : List ℕ) → IsLine l → IsText l.key
     → pair_fits (pair_on l) indent bol after ≡ true
 pair_on_fits l indent bol after is t =
     let value : Node = flow one_space (scalar (scalar_as l.spelling l.value)) (feed ∷ []) in
     let key_fits = key_on_fits l.key bol (node_text value ++ after) is.word t in
-    let long : length (key_text l.key) ≤ 1000 = ltb-false 1000 (length (key_text l.key)) is.short in
-    let same : flow_text (scalar (plain l.key [])) ++ [] ≡ key_text l.key =
-    append-nil _ ∙ ap flow_text (sym (key_flow l.key is.word)) ∙ word_flow_spelled l.key in
-    let short : short_key (scalar (plain l.key [])) [] ≡ true = rw same (le-leb (length (key_text l.key)) 1024 (omega (arith, long))) in
+    let short = key_is_short l.key is.word is.short in
     and_from _ _ (and_from _ _ (and_from _ _ key_fits refl) short)
     (and_from _ _ (and_from _ _ refl (scalar_as_fits (suc indent) l.spelling l.value (10 ∷ after) is.stands)) refl)
 
@@ -219,11 +248,19 @@ abbrev pub AllKeysAreText : List Entry → Type 0
 AllKeysAreText [] = Unit {0}
 AllKeysAreText (e ∷ es) = KeysAreText (e.first ∷ e.more) × AllKeysAreText es
 
+-- those of pairs at the margin
+abbrev pub RowIsText : Row → Type 0
+RowIsText (one_line l) = IsText l.key
+RowIsText (list_under key e es) = IsText key × AllKeysAreText (e ∷ es)
+RowIsText (pairs_under key e) = IsText key × KeysAreText (e.first ∷ e.more)
+
+abbrev pub RowsAreText : List Row → Type 0
+RowsAreText [] = Unit {0}
+RowsAreText (r ∷ rs) = RowIsText r × RowsAreText rs
+
 -- those of a layout
 abbrev pub LayoutIsText : Layout → Type 0
-LayoutIsText (single e) = KeysAreText (e.first ∷ e.more)
-LayoutIsText (batch_of e es) = AllKeysAreText (e ∷ es)
-LayoutIsText (after_if e es command) = AllKeysAreText (e ∷ es) × LayoutIsText command
+LayoutIsText layout = RowsAreText (layout.first ∷ layout.more)
 
 pairs_on_fit : (l : Line) (ls : List Line) (indent : ℕ) (bol : Bool) (after : List ℕ) → AreLines (l ∷ ls)
     → KeysAreText (l ∷ ls) → pairs_fit (pairs_on l ls) indent bol after ≡ true
@@ -239,20 +276,28 @@ items_on_fit e (d ∷ ds) after are t =
     and_from _ _ (pairs_on_fit e.first e.more 4 false
     (spaces 2 ++ (items_text (items_on d ds) 2 ++ after)) are.0.are t.0) (items_on_fit d ds after are.1 t.1)
 
-list_fits : (word : List ℕ) (e : Entry) (es : List Entry) (after : List ℕ) → plain_in_style word ≡ true → IsText word
-    → short_key (scalar (plain word [])) [] ≡ true → AreEntries (e ∷ es) → AllKeysAreText (e ∷ es)
-    → pair_fits (list_on word e es) 0 true after ≡ true
-list_fits word e es after is_word is_text short are t =
-    let value : Node = items (feed ∷ []) 2 (items_on e es) in
-    let rest = node_text value ++ after in
-    and_from _ _ (and_from _ _ (and_from _ _ (key_on_fits word true rest is_word is_text) refl) short) (items_on_fit e es after are t)
+-- a key with a node under it
+under_fits : (key : List ℕ) (value : Node) (after : List ℕ) → IsKey key → IsText key → node_fits value 1 true false after ≡ true
+    → pair_fits (keyed (scalar (plain key [])) [] value) 0 true after ≡ true
+under_fits key value after is t fits =
+    and_from _ _ (and_from _ _ (and_from _ _ (key_on_fits key true (node_text value ++ after) is.word t) refl)
+    (key_is_short key is.word is.short)) fits
+
+row_fits : (r : Row) (after : List ℕ) → IsRow r → RowIsText r → pair_fits (row_on r) 0 true after ≡ true
+row_fits (one_line l) after is t = pair_on_fits l 0 true after is t
+row_fits (list_under key e es) after is t =
+    under_fits key (items (feed ∷ []) 2 (items_on e es)) after is.0 t.0 (items_on_fit e es after is.1 t.1)
+row_fits (pairs_under key e) after is t =
+    under_fits key (pairs (feed ∷ []) 2 (entry_on e)) after is.0 t.0 (pairs_on_fit e.first e.more 2 false after is.1 t.1)
+
+rows_fit : (r : Row) (rs : List Row) (after : List ℕ) → AreRows (r ∷ rs) → RowsAreText (r ∷ rs)
+    → pairs_fit (rows_on r rs) 0 true after ≡ true
+rows_fit r [] after are t = row_fits r after are.0 t.0
+rows_fit r (s ∷ rs) after are t =
+    and_from _ _ (row_fits r (pairs_text (rows_on s rs) 0 ++ after) are.0 t.0) (rows_fit s rs after are.1 t.1)
 
 layout_fits : (layout : Layout) (after : List ℕ) → IsLayout layout → LayoutIsText layout → pairs_fit (layout_on layout) 0 true after ≡ true
-layout_fits (single e) after is t = pairs_on_fit e.first e.more 0 true after is.are t
-layout_fits (batch_of e es) after is t = list_fits batch_word e es after refl refl refl is t
-layout_fits (after_if e es command) after is t =
-    and_from _ _ (list_fits if_word e es (pairs_text (layout_on command) 0 ++ after) refl refl refl is.0 t.0)
-    (layout_fits command after is.1 t.1)
+layout_fits layout after is t = rows_fit layout.first layout.more after is.are t
 
 -- a line starts after a line feed
 starts_joined : (bol : Bool) (xs ys : List ℕ) → starts_line bol (xs ++ ys) ≡ starts_line (starts_line bol xs) ys
@@ -277,13 +322,25 @@ elements_start bol (e ∷ es) is =
     starts_joined false (entry_text 4 e) (elements_text es)
     ∙ elements_start (starts_line false (entry_text 4 e)) es (lines_start false 4 e.first e.more)
 
+inner_start : (bol : Bool) (ls : List Line) → bol ≡ true → starts_line bol (inner_text ls) ≡ true
+inner_start bol [] is = is
+inner_start bol (l ∷ ls) is =
+    starts_joined false (line_text l) (inner_text ls) ∙ inner_start (starts_line false (line_text l)) ls (line_starts false l)
+
+row_starts : (bol : Bool) (r : Row) → starts_line bol (row_text r) ≡ true
+row_starts bol (one_line l) = line_starts bol l
+row_starts bol (list_under key e es) =
+    starts_joined bol key (codes ":\n" ++ elements_text (e ∷ es)) ∙ elements_start true (e ∷ es) refl
+row_starts bol (pairs_under key e) =
+    starts_joined bol key (codes ":\n" ++ inner_text (e.first ∷ e.more)) ∙ inner_start true (e.first ∷ e.more) refl
+
+rows_start : (bol : Bool) (rs : List Row) → bol ≡ true → starts_line bol (rows_text rs) ≡ true
+rows_start bol [] is = is
+rows_start bol (r ∷ rs) is =
+    starts_joined bol (row_text r) (rows_text rs) ∙ rows_start (starts_line bol (row_text r)) rs (row_starts bol r)
+
 layout_starts : (layout : Layout) → starts_line true (layout_text layout) ≡ true
-layout_starts (single e) = lines_start true 0 e.first e.more
-layout_starts (batch_of e es) = elements_start true (e ∷ es) refl
-layout_starts (after_if e es command) =
-    starts_joined true (elements_text (e ∷ es)) (layout_text command)
-    ∙ ap (λ b. starts_line b (layout_text command)) (elements_start true (e ∷ es) refl)
-    ∙ layout_starts command
+layout_starts layout = rows_start true (layout.first ∷ layout.more) refl
 
 pairs_start : (layout : Layout) → starts_line true (pairs_text (layout_on layout) 0) ≡ true
 pairs_start layout = ap (starts_line true) (layout_spelled layout) ∙ layout_starts layout
@@ -342,17 +399,25 @@ list_meant e es at =
     ap (λ t. seq_from ∷ t) (shapes_joined (items_events (items_on e es) 2 at) (seq_end ∷ [])
     ∙ ap (λ t. t ++ seq_to ∷ []) (items_meant e es at))
 
+-- where the first part of a node under a key begins
+abbrev under_key : List ℕ → ℕ → ℕ
+under_key key at = at + byte_len (flow_text (scalar (plain key []))) + byte_len [] + 1 + byte_len (comments_text (feed ∷ [])) + 2
+
+row_meant : (r : Row) (at : ℕ) → shapes (pair_events (row_on r) 0 at) ≡ scalar_of (row_key r) ∷ tree_shapes (row_tree r)
+row_meant (one_line l) at = λ i. scalar_of (scalar_meant bare l.key i) ∷ scalar_of (scalar_meant l.spelling l.value i) ∷ []
+row_meant (list_under key e es) at = λ i. scalar_of (scalar_meant bare key i) ∷ list_meant e es (under_key key at) i
+row_meant (pairs_under key e) at = λ i. scalar_of (scalar_meant bare key i) ∷ entry_meant e 2 (under_key key at) i
+
+rows_meant : (r : Row) (rs : List Row) (at : ℕ)
+    → shapes (pairs_events (rows_on r rs) 0 at) ≡ members_shapes (members_of_rows (r ∷ rs))
+rows_meant r [] at = row_meant r at ∙ sym (append-nil (scalar_of (row_key r) ∷ tree_shapes (row_tree r)))
+rows_meant r (s ∷ rs) at =
+    let next = at + byte_len (pair_text (row_on r) 0) + 0 in
+    shapes_joined (pair_events (row_on r) 0 at) (pairs_events (rows_on s rs) 0 next)
+    ∙ λ i. row_meant r at i ++ rows_meant s rs next i
+
 layout_meant : (layout : Layout) (at : ℕ) → shapes (pairs_events (layout_on layout) 0 at) ≡ members_shapes (layout_members layout)
-layout_meant (single e) at = pairs_meant e.first e.more 0 at
-layout_meant (batch_of e es) at =
-    let first = at + byte_len (flow_text (scalar (plain batch_word []))) + byte_len [] + 1 + byte_len (comments_text (feed ∷ [])) + 2 in
-    ap (λ t. scalar_of batch_word ∷ t) (list_meant e es first ∙ sym (append-nil (tree_shapes (sequence (elements_of_entries (e ∷ es))))))
-layout_meant (after_if e es command) at =
-    let first = at + byte_len (flow_text (scalar (plain if_word []))) + byte_len [] + 1 + byte_len (comments_text (feed ∷ [])) + 2 in
-    let own = as_seq (items_events (items_on e es) 2 first) in
-    let next = at + byte_len (pair_text (list_on if_word e es) 0) + 0 in
-    let further = pairs_events (layout_on command) 0 next in
-    ap (λ t. scalar_of if_word ∷ t) (shapes_joined own further ∙ λ i. list_meant e es first i ++ layout_meant command next i)
+layout_meant layout at = rows_meant layout.first layout.more at
 
 document_meant : (layout : Layout) (at : ℕ) (es : List Event) → es ≡ pairs_events (layout_on layout) 0 at
     → IsTreeOf (as_document (map_start ∷ (es ++ map_end ∷ [])) ++ []) (mapping (layout_members layout))

@@ -1,11 +1,11 @@
 -- Turns that are performed and flushed, or nothing yet, and what a crash leaves of them.
-use Rattle.std.{proofs.Common.{◌≡◌, ◌⊎◌, inl, inr, refl, sym, ◌∙◌, ap, subst, arith, ◌≤◌}, specs.Prelude.{ℕ, ◌+◌, ◌-◌, false, List, []}}
+use Rattle.std.{proofs.Common.{◌≡◌, ◌⊎◌, inl, inr, refl, sym, ◌∙◌, ap, subst, arith, ◌≤◌}, specs.Prelude.{ℕ, false, List, []}}
 use Rattle.std.specs.Prelude.{◌∷◌, ◌++◌, length}
 use Rattle.conf_session.proofs.Prelude.{append-nil, Image, IsImage, DiskModel, LeavesOnly, Command, Contents, MeansPrefix, HasFlushed}
 use Rattle.conf_session.proofs.{Prelude.StoreView, GatherLemmas.joined-none, RequestLemmas.{leaves-same, synced-leaves}}
 use Rattle.conf_session.proofs.TurnLemmas.{few-acknowledged, performs-joined, moments-after, kept-after, kept-during}
 use Rattle.conf_session.specs.{declared.groups.Grouping.{Grouping, TheVariants.Each}, Replies.MeansPrefixes, Answers.Stored, Runs.stored_of}
-use Rattle.conf_session.specs.{Runs.AfterAtLeast, Groups.{Turn, asked, files_of, stored_after_turns, files_after_turns, turns_accepted}}
+use Rattle.conf_session.specs.{Runs.AfterAtLeast, Groups.{Turn, files_of, stored_after_turns, files_after_turns, turns_accepted}}
 use Rattle.conf_session.specs.{Groups.acknowledged_turns, Gathering.PerformsTurns}
 
 -- nothing was done, where each piece is a group

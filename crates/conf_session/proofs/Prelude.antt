@@ -10,15 +10,15 @@ pub use Rattle.{conf_record.specs.RecordsRead.{keys_are, values, edit_under, num
 pub use Rattle.conf_state.proofs.{BaseLemmas.{count_bytes, base_length-framed}, LineLemmas.ascii, RefusalLemmas.accepted-room}
 pub use Rattle.conf_state.{proofs.RunLaws.{and_then-Ok, step-one}, specs.BaseTexts.{base_length, entries_length}}
 unfoldable pub use Rattle.conf_state.specs.BaseTexts.{entry_length}
-pub use Rattle.{conf_about.{proofs.FaultLemmas.about-None, specs.Abouts.fault_of}, conf_record.proofs.AboutLemmas.pairs-last}
-pub use Rattle.{conf_record.specs.{Formats.base_in, Records.with_last}, conf_state.specs.Commands.{noted, has_about, Edit, import_as}}
-pub use Rattle.conf_state.specs.Commands.{set_at, delete_at, Command, single, batch, name_of, command_of, edit_of, text_of}
-pub use Rattle.conf_state.specs.{Limits.{IsState, AreConfigs}, Names.{good_name, small_letter, name_char}, States.{Contents, Entry}}
-pub use Rattle.conf_state.specs.{States.{config_named, base_limit, count_limit, names_of}, Steps.{step, edited, all_edited, performed}}
-pub use Rattle.conf_state.specs.Steps.{configs_after, with_room, next_state, and_then, checked_tree, with_checked_config, found, by_path}
-pub use Rattle.conf_state.specs.{Steps.{configs_after_delete, after}, declared.fault.StoreFault.{StoreFault, TheVariants.{Path, Reopen}}}
-pub use Rattle.conf_state.specs.declared.{fault.StoreFault.TheVariants.{Device, OutOfMemory}, room.Room.{Room, TheVariants.Enough}}
-pub use Rattle.{conf_state.specs.declared.room.Room.TheVariants.{LongRecord, Missing}, conf_store.proofs.HeldLemmas.prefix-longer}
+pub use Rattle.conf_about.{proofs.{FaultLemmas.about-None, ReadLemmas.about-good}, specs.Abouts.{fault_of, IsAbout, pair_count}}
+pub use Rattle.{conf_about.specs.ReadBack.AdmitsAbouts, conf_record.specs.{Formats.base_in, Records.with_last}}
+pub use Rattle.{conf_record.proofs.AboutLemmas.pairs-last, conf_state.specs.Commands.{noted, has_about, Edit, import_as, set_at, delete_at}}
+pub use Rattle.conf_state.specs.{Commands.{Command, single, batch, name_of, command_of, edit_of, text_of}, Limits.{IsState, AreConfigs}}
+pub use Rattle.conf_state.specs.{Names.{good_name, small_letter, name_char}, States.{Contents, Entry, config_named, base_limit}}
+pub use Rattle.conf_state.specs.{States.{count_limit, names_of}, Steps.{step, edited, all_edited, performed, configs_after, with_room}}
+pub use Rattle.conf_state.specs.Steps.{next_state, and_then, checked_tree, with_checked_config, found, by_path, configs_after_delete, after}
+pub use Rattle.conf_state.specs.declared.{fault.StoreFault.{StoreFault, TheVariants.{Path, Reopen, Device, OutOfMemory}}, room.Room.Room}
+pub use Rattle.{conf_state.specs.declared.room.Room.TheVariants.{Enough, LongRecord, Missing}, conf_store.proofs.HeldLemmas.prefix-longer}
 pub use Rattle.conf_store.proofs.{HeldLemmas.after-nothing, MeaningLemmas.{after-done, after-joined}, StepLemmas.accepted-anyway}
 pub use Rattle.conf_store.specs.Calls.{tree_named, tree_at, outcome, room_for, HasFailed, next_record, journal_length, AcceptsBy, renews}
 pub use Rattle.conf_store.specs.{Calls.{staged_with, RefusesCommand}, Changing.{file_with, new_file_with, flushed_with, waiting_with}}
@@ -38,16 +38,18 @@ pub use Rattle.yaml_grammar.specs.Style.{long_key, key_lines, value_at, members_
 pub use Rattle.yaml_grammar.specs.{Texts.{byte_len, IsText, spaces, first, same_text, starts_line}, Trees.{Tree, text, sequence, Elements}}
 pub use Rattle.yaml_grammar.specs.Trees.{no_element, element, depth, elements_depth, mapping, no_member, member, has_key, AreTextMembers}
 pub use Rattle.yaml_grammar.specs.Trees.{AreTextElements, members_depth, members_distinct, Members, scalar_of, seq_from, seq_to, map_from}
-pub use Rattle.yaml_grammar.specs.Trees.{map_to, document_from, document_to, shape, shapes, elements_distinct, tree_shapes, elements_shapes}
-pub use Rattle.{yaml_grammar.specs.Trees.{members_shapes, IsTreeOf}, yaml_recognizers.proofs.OneStyle.Characters.every_joined}
-pub use Rattle.{yaml_recognizers.specs.Closings.{framed_text, framed_text_bytes}, yaml_writer.proofs.ByteLemmas.byte_len-chars}
-pub use Rattle.yaml_writer.{proofs.ByteLemmas.byte_len-encoded, specs.{BudgetLaws.byte_len-append, Runs.stands_alone}}
+pub use Rattle.yaml_grammar.specs.Trees.{map_to, document_from, document_to, shape, shapes, elements_distinct, distinct, IsTextTree}
+pub use Rattle.yaml_grammar.specs.Trees.{tree_shapes, elements_shapes, members_shapes, IsTreeOf}
+pub use Rattle.yaml_recognizers.{proofs.OneStyle.Characters.every_joined, specs.Closings.{framed_text, framed_text_bytes}}
+pub use Rattle.yaml_writer.{proofs.ByteLemmas.{byte_len-chars, byte_len-encoded}, specs.{BudgetLaws.byte_len-append, Runs.stands_alone}}
+pub use Rattle.yaml_writer.specs.{ScalarStyles.key_style, declared.scalar_style.ScalarStyle.TheVariants.{Plain, Double}}
 pub use Rattle.std.proofs.KnownBytes.{Keeps-refl, Appends-trans, Appends-kept, Appends-nil, Consumes-nil, Consumes-trans}
 pub use Rattle.std.proofs.lemmas.Bool.{and_parts, and_from, ltb-true, false≢true, cases_lt, or_left, or_right, not-true, not_from_false}
-pub use Rattle.std.proofs.lemmas.Bool.{le-leb, ltb-false, leb-true, agree_below_at, eqb-false, eqb-true, eq-eqb, Decides.nat_tests}
-pub use Rattle.std.proofs.lemmas.{Fmt.{decimal_is_IsNumeral, length-decimal-le}, List.{append-nil, map-append, take-append-le, take_all}}
-pub use Rattle.std.proofs.lemmas.List.{length-take-le, length-map, take_more, get_or-map, length-append, Elements.{All-nil, All-push}}
-pub use Rattle.std.proofs.lemmas.{List.{Elements.All-append, Folds.concat-append}, Option.IfSome_then, Result.{on_ok_weaker, IfOk-weaker}}
-pub use Rattle.std.proofs.lemmas.{Result.err_from_is_err_and, Str.{chars-IsAscii, encodes-chars, encodes-IsAscii, chars-nil}}
-pub use Rattle.std.specs.{Io.KnownBytes.{Appends, Keeps, Consumes}, List.{list_all, concat}, Str.{chars, IsUtf8, IsAscii}}
-pub use Rattle.std.specs.{Vec.Iter.{into_iter_items, into_iter_len}, declared.alloc.Global.Global}
+pub use Rattle.std.proofs.lemmas.Bool.{le-leb, ltb-false, leb-true, agree_below_at, eqb-false, eqb-true, eq-eqb, ne_eqb, le-ltb}
+pub use Rattle.std.proofs.lemmas.{Bool.Decides.nat_tests, Fmt.{decimal_is_IsNumeral, length-decimal-le}, List.{append-nil, map-append}}
+pub use Rattle.std.proofs.lemmas.List.{take-append-le, take_all, length-take-le, length-map, take_more, get_or-map, length-append}
+pub use Rattle.std.proofs.lemmas.{List.{Elements.{All-nil, All-push, All-append}, Folds.concat-append}, Option.IfSome_then}
+pub use Rattle.std.proofs.lemmas.{Result.{on_ok_weaker, IfOk-weaker, err_from_is_err_and}, Str.{chars-IsAscii, encodes-chars}}
+pub use Rattle.std.{proofs.lemmas.Str.{encodes-IsAscii, chars-nil, Pattern.split_text_parts}, specs.Io.KnownBytes.{Appends, Keeps}}
+pub use Rattle.std.specs.{Io.KnownBytes.Consumes, List.{list_all, concat}, Str.{chars, IsUtf8, IsAscii}, Vec.Iter.into_iter_items}
+pub use Rattle.std.specs.{Vec.Iter.into_iter_len, declared.alloc.Global.Global}

@@ -4,7 +4,7 @@ use Rattle.std.specs.Prelude.{◌+◌, min, max, Bool, true, false, ◌&&◌, if
 use Rattle.std.specs.Prelude.{Option, Some, None, option_map, unwrap_or, Result, Ok, Err, IfOk, String, string_bytes}
 use Rattle.conf_session.proofs.Prelude.{chars, IsUtf8, Global, cases_lt, encodes-chars, append-nil, take_all, text, framed_text_bytes}
 use Rattle.conf_session.proofs.Prelude.{Folder, bytes_under, Image, IsImage, DiskModel, LeavesOnly, greatest, Store, LeavesOnly-start}
-use Rattle.conf_session.proofs.Prelude.{LeavesOnly-weaker, base_in, Command, Edit, single, IsState, Contents, count_limit, step, after}
+use Rattle.conf_session.proofs.Prelude.{LeavesOnly-weaker, base_in, Command, IsState, Contents, count_limit, step, after}
 use Rattle.conf_session.proofs.Prelude.{StoreFault, Room, HasFailed, outcome, room_for, next_record, journal_length, AcceptsBy, renews}
 use Rattle.conf_session.proofs.Prelude.{staged_with, file_with, new_file_with, flushed_with, waiting_with, RefusesCommand, IsImportOf}
 use Rattle.conf_session.proofs.Prelude.{RefusesText, Staged, staged_length, with_more, ImageMeans, MeansPrefix, AllImagesMean, HasFlushed}
@@ -12,7 +12,7 @@ use Rattle.conf_session.proofs.Prelude.{staged_text, StoreView, accepted-room, a
 use Rattle.conf_session.proofs.{LengthLemmas.{step-few, answer-short, refused-short}, RefusalLemmas.{OnlyMemory, answered-memory}}
 use Rattle.conf_session.{proofs.RefusalLemmas.{is-device, no-device}, specs.declared.fault.SessionFault.SessionFault}
 use Rattle.conf_session.specs.{declared.{words.Refusal.Refusal, reply.Reply.{Reply, TheVariants.{Accepted, Refused}}}, Runs.stored_of}
-use Rattle.conf_session.specs.{Said.{Part, Says, import_text, plain, single_part}, Requests.{Asks, MeansRequest, Request, changing, unread}}
+use Rattle.conf_session.specs.{Said.{import_text, single_part}, Requests.{MeansRequest, Request, changing, unread}}
 use Rattle.conf_session.specs.{Requests.{getting, exporting, naming, checkpointing, if_met, overlong_about, bad}, Answers.{Stored, longest}}
 use Rattle.conf_session.specs.Answers.{one, change_answer, stored_after_change, stored_after, length_with, staged_after_change}
 use Rattle.conf_session.specs.Answers.{waiting_after, file_after_change, accepted_by, accepted_command, is_refused, answered}
@@ -447,9 +447,3 @@ refused-outcome old new command state.CountFull reason is refuses = refuses
 refused-outcome old new command state.Reopen reason is refuses = absurd (cc is)
 refused-outcome old new command state.Device reason is refuses = absurd (cc is)
 refused-outcome old new command state.OutOfMemory reason is refuses = absurd (cc is)
-
--- lines that say one edit ask for the command that it is
-pub edit_asked : (piece : List ℕ) (part : Part) (command : Command) → Says piece (single_part part)
-    → (edit : Edit) × (command ≡ single edit) × (part ≡ plain edit) → Asks piece (changing command)
-edit_asked piece part command says so =
-    (single_part (plain so.0), subst (λ p. Says piece (single_part p)) so.2 says, ap changing so.1)

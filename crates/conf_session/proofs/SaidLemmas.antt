@@ -1,12 +1,15 @@
 -- What a command document says, case by case.
 use Rattle.std.{proofs.Common.{◌≡◌, false, true, length, get_or, refl, sym, ap, subst, ◌∙◌, arith}, specs.Prelude.{ℕ, Bool, if◌then◌else◌}}
-use Rattle.std.specs.Prelude.{List, [], ◌∷◌, ◌++◌, codes, Option, Some, None, is_some, option_and_then}
+use Rattle.std.specs.Prelude.{◌==◌, not, ◌&&◌, ◌||◌, List, [], ◌∷◌, ◌++◌, codes, Option, Some, None, is_some, option_and_then}
 use Rattle.conf_session.proofs.Prelude.{chars, same_text, Pair, members_of, text_bytes, Elements, Members, text, sequence, mapping, Edit}
 use Rattle.conf_session.proofs.Prelude.{Tree, no_member, member, with_last, pairs-last, AreKept, fault_of, false≢true, tree_of, Condition}
+use Rattle.conf_session.proofs.Prelude.{has_key, members_distinct, distinct, and_parts, and_from, not-true, not_from_false, eqb-true}
+use Rattle.conf_session.proofs.Prelude.{eqb-false, eq-eqb, ne_eqb, Limits, IsAbout, AdmitsAbouts, about-good}
 use Rattle.conf_session.{proofs.Prelude.{keys_are, values, edit_under, ascii, texts}, specs.Said.{as_part, nothing, said_by, part_from}}
 use Rattle.conf_session.specs.Said.{part_said, batch_keys, get_keys, export_keys, names_keys, checkpoint_keys, batch_said, get_said}
 use Rattle.conf_session.specs.Said.{last_about, without_last, about_said, said_before, command_said, conditional, noted_said, change_seen}
 use Rattle.conf_session.specs.Said.{with_about, export_said, names_said, checkpoint_said, begins_with_if, conditional_said, change_said}
+use Rattle.conf_session.specs.{Said.{Said, with_conditions}, SaidConditions.conditions_in}
 use Rattle.conf_session.specs.declared.said.Change as code_change
 use Rattle.conf_session.specs.declared.said.Change.TheVariants as changes
 
@@ -90,6 +93,13 @@ said-last ms key t some = by (same_text key (codes "about")) (about-last ms key 
         ∙ ap (λ l. about_said (fault_of t) t (command_said l)) (without-end ms key t)
     by false none = absurd (false≢true (sym (ap is_some none) ∙ some))
 
+-- a command that has one says what it does, with the about
+pub said-noted : (ms : Members) (about : Tree) → fault_of about ≡ None
+    → said_by (mapping (with_last ms (codes "about") about)) ≡ with_about about (command_said ms)
+said-noted ms about none =
+    said-last ms (codes "about") about (ap is_some (about-last ms (codes "about") about))
+    ∙ ap (λ o. about_said o about (command_said ms)) none
+
 module _ (all before : List Pair) (p : Pair) (cut : all ≡ before ++ p ∷ []) where
   -- pairs of which the last is cut off
   ended : members_of all ≡ with_last (members_of before) (chars (text_bytes p.0)) (tree_of p.1)
@@ -131,6 +141,69 @@ pub first-if : (ps : List Pair) (p : Pair) → (length ps ≡ 0 → ⊥)
     → begins_with_if (members_of ps) ≡ same_text (chars (text_bytes (get_or ps 0 p).0)) (codes "if")
 first-if [] p some = absurd (some refl)
 first-if (q ∷ qs) p some = refl
+
+-- a command that changes configurations, after conditions
+pub after-if : (t : Tree) (ms : Members) (cs : List Condition) (change : Said) → conditions_in t ≡ Some cs → change ≡ change_said ms
+    → with_conditions (Some cs) change ≡ command_said (member (codes "if") t ms)
+unfolding command_said
+after-if t ms cs change read within = λ i. with_conditions (sym read i) (within i)
+
+-- ---- keys
+
+same-swap : (xs ys : List ℕ) → same_text xs ys ≡ same_text ys xs
+same-swap [] [] = refl
+same-swap [] (y ∷ ys) = refl
+same-swap (x ∷ xs) [] = refl
+same-swap (x ∷ xs) (y ∷ ys) = λ i. swap x y i && same-swap xs ys i
+  where
+    swap : (x y : ℕ) → (x == y) ≡ (y == x)
+    swap x y = by (x == y) refl
+      where
+        by : (b : Bool) → (x == y) ≡ b → (x == y) ≡ (y == x)
+        by true e = e ∙ sym (eq-eqb y x (sym (eqb-true x y e)))
+        by false e = e ∙ sym (ne_eqb y x (λ same. eqb-false x y e (sym same)))
+
+neither : (a b : Bool) → a || b ≡ false → (a ≡ false) × (b ≡ false)
+neither true b e = absurd (false≢true (sym e))
+neither false b e = (refl, e)
+
+-- where no key is `about`, there is no about
+pub none-about : (ms : Members) → has_key (codes "about") ms ≡ false → last_about ms ≡ None
+none-about no_member e = refl
+none-about (member key t no_member) e =
+    let other : same_text key (codes "about") ≡ false =
+    same-swap key (codes "about") ∙ (neither (same_text (codes "about") key) false e).0 in
+    rw other refl
+none-about (member key t (member other u ms)) e =
+    none-about (member other u ms) (neither (same_text (codes "about") key) (has_key (codes "about") (member other u ms)) e).1
+
+-- another key at the end
+pub has-last : (ms : Members) (key other : List ℕ) (t : Tree) → has_key key ms ≡ false → same_text key other ≡ false
+    → has_key key (with_last ms other t) ≡ false
+has-last no_member key other t none apart = rw apart refl
+has-last (member another u ms) key other t none apart =
+    let parts = neither (same_text key another) (has_key key ms) none in
+    rw (parts.0) (has-last ms key other t parts.1 apart)
+
+pub distinct-last : (ms : Members) (key : List ℕ) (t : Tree) → members_distinct ms ≡ true → has_key key ms ≡ false → distinct t ≡ true
+    → members_distinct (with_last ms key t) ≡ true
+distinct-last no_member key t differ none own = rw own refl
+distinct-last (member other u ms) key t differ none own =
+    let parts = and_parts (not (has_key other ms) && distinct u) (members_distinct ms) differ in
+    let here = and_parts (not (has_key other ms)) (distinct u) parts.0 in
+    let apart = neither (same_text key other) (has_key key ms) none in
+    let still = has-last ms other key t (not-true _ here.0) (same-swap other key ∙ apart.0) in
+    and_from _ _ (and_from _ _ (not_from_false _ still) here.1) (distinct-last ms key t parts.1 apart.1 own)
+
+-- the keys of an about differ
+pub about-distinct : (about : Tree) → IsAbout about → distinct about ≡ true
+about-distinct about is = (about-good about limits is admits).keys
+  where
+    limits : Limits
+    limits = record { bytes = 4096; depth = 2; style = 4096 }
+
+    admits : AdmitsAbouts limits
+    admits = record { bytes = omega arith; depth = omega arith; style = omega arith }
 
 -- ---- parts
 

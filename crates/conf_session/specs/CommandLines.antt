@@ -1,9 +1,10 @@
 -- Commands that are spelled one key a line. Each text is ASCII, and so its bytes are its characters.
-use Rattle.std.specs.Prelude.{◌≡◌, ◌≢◌, ℕ, Bool, true, false, not, ◌&&◌, List, [], ◌∷◌, ◌++◌, codes, Option, Some, None}
+use Rattle.std.specs.Prelude.{◌≡◌, ◌≢◌, ◌⊎◌, ℕ, Bool, true, false, not, ◌&&◌, List, [], ◌∷◌, ◌++◌, codes, Option, Some}
 use Rattle.conf_session.specs.Prelude.{list_all, double_quote, line_feed, first, spaces, plain_in_style, long_key, text, sequence, mapping}
 use Rattle.conf_session.specs.Prelude.{Elements, no_element, element, Members, no_member, member, Tree, has_key, members_distinct}
-use Rattle.conf_session.specs.{Prelude.Condition, Said.{Part, part_from, part_of, Said, single_part, change_said, with_conditions}}
-use Rattle.{conf_session.specs.{Said.{last_about, said_by}, SaidConditions.condition_in}, yaml_chars.specs.Classes.{in_range, is_in}}
+use Rattle.conf_session.specs.{Prelude.{Condition, IsAbout}, Said.{Part, part_from, part_of, Said, single_part, batch_of_parts}}
+use Rattle.conf_session.specs.{Said.{conditional, noted_said, command_said, change_said, said_by, Says}}
+use Rattle.{conf_session.specs.SaidConditions.{condition_in, conditions_in}, yaml_chars.specs.Classes.{in_range, is_in}}
 use Rattle.{yaml_chars.specs.Classes.indicator, yaml_writer.specs.Runs.stands_alone}
 
 -- how a text is spelled after its key: as it is, or between double quotes
@@ -118,16 +119,43 @@ pub record AreElementLines {A : Type 0} (read : Tree → Option A) (lines : List
   pub said : AreSaid read entries xs
   pub is : lines ≡ elements_text entries ++ rest
 
+-- ---- lines of a mapping under a key, as the one style has them: each after two spaces
+
+abbrev pub inner_text : List Line → List ℕ
+inner_text [] = []
+inner_text (l ∷ ls) = codes "  " ++ (line_text l ++ inner_text ls)
+
+-- the lines begin with such a line of this key and this text, and the rest follows
+pub record IsPairLine (lines key value rest : List ℕ) : Type 0 where
+  pub spelling : Spelling
+  pub good : IsLine (record { key = key; spelling = spelling; value = value })
+  pub is : lines ≡ codes "  " ++ (line_text (record { key = key; spelling = spelling; value = value }) ++ rest)
+
+-- they begin with the lines of these members, and the rest follows
+pub record ArePairLines (lines : List ℕ) (ms : Members) (rest : List ℕ) : Type 0 where
+  pub own : List Line
+  pub are : AreLines own
+  pub is : lines ≡ inner_text own ++ rest
+  pub says : ms ≡ members_of_lines own
+
+-- an about under its key, and the closing line
+pub record IsAboutLines (lines : List ℕ) (about : Tree) : Type 0 where
+  pub entry : Entry
+  pub are : AreLines (entry.first ∷ entry.more)
+  pub is : lines ≡ codes "about:\n" ++ (inner_text (entry.first ∷ entry.more) ++ codes "...\n")
+  pub says : about ≡ mapping (entry_members entry)
+  pub good : IsAbout about
+
 -- ---- parts
 
 -- the mapping says this part: in a batch, as a whole command, and after conditions; it has no about
 pub record SaysPart (e : Entry) (part : Part) : Type 0 where
   pub is : IsEntry e
   pub within : part_from (entry_members e) ≡ Some part
-  pub alone : said_by (mapping (entry_members e)) ≡ single_part part
+  pub alone : command_said (entry_members e) ≡ single_part part
   pub change : change_said (entry_members e) ≡ single_part part
   pub apart : has_key (codes "if") (entry_members e) ≡ false
-  pub no_about : last_about (entry_members e) ≡ None
+  pub no_about : has_key (codes "about") (entry_members e) ≡ false
 
 -- the lines, at whatever indentation, are those of a mapping that says the part
 pub record SpellsPart (lines : ℕ → List ℕ) (part : Part) : Type 0 where
@@ -138,6 +166,12 @@ pub record SpellsPart (lines : ℕ → List ℕ) (part : Part) : Type 0 where
 -- the lines begin with the parts as elements of a batch, in order
 abbrev pub ArePartLines : List ℕ → List Part → List ℕ → Type 0
 ArePartLines lines parts rest = AreElementLines part_of lines parts rest
+
+-- they begin with a part at the margin, and the rest follows
+pub record IsPartLines (lines : List ℕ) (part : Part) (rest : List ℕ) : Type 0 where
+  pub own : ℕ → List ℕ
+  pub spells : SpellsPart own part
+  pub is : lines ≡ own 0 ++ rest
 
 -- ---- conditions
 
@@ -151,29 +185,65 @@ IsConditionLines lines condition rest = AreConditionLines lines (condition ∷ [
 
 -- ---- commands
 
--- a mapping at the margin; a batch with its elements; or conditions, and the command after them. There is one element
--- and one condition at least.
-pub data Layout : Type 0 where
-  single : Entry → Layout
-  batch_of : Entry → List Entry → Layout
-  after_if : Entry → List Entry → Layout → Layout
+-- a pair at the margin: a line; a key and a list of mappings under it, of which there is one at least; or a key and a
+-- mapping under it
+pub data Row : Type 0 where
+  one_line : Line → Row
+  list_under : List ℕ → Entry → List Entry → Row
+  pairs_under : List ℕ → Entry → Row
+
+abbrev pub row_text : Row → List ℕ
+row_text (one_line l) = line_text l
+row_text (list_under key e es) = key ++ (codes ":\n" ++ elements_text (e ∷ es))
+row_text (pairs_under key e) = key ++ (codes ":\n" ++ inner_text (e.first ∷ e.more))
+
+abbrev pub rows_text : List Row → List ℕ
+rows_text [] = []
+rows_text (r ∷ rs) = row_text r ++ rows_text rs
+
+abbrev pub row_key : Row → List ℕ
+row_key (one_line l) = l.key
+row_key (list_under key e es) = key
+row_key (pairs_under key e) = key
+
+abbrev pub row_tree : Row → Tree
+row_tree (one_line l) = text l.value
+row_tree (list_under key e es) = sequence (elements_of_entries (e ∷ es))
+row_tree (pairs_under key e) = mapping (entry_members e)
+
+abbrev pub members_of_rows : List Row → Members
+members_of_rows [] = no_member
+members_of_rows (r ∷ rs) = member (row_key r) (row_tree r) (members_of_rows rs)
+
+-- a short word
+pub record IsKey (key : List ℕ) : Type 0 where
+  pub word : plain_in_style key ≡ true
+  pub short : long_key key ≡ false
+
+abbrev pub IsRow : Row → Type 0
+IsRow (one_line l) = IsLine l
+IsRow (list_under key e es) = IsKey key × AreEntries (e ∷ es)
+IsRow (pairs_under key e) = IsKey key × AreLines (e.first ∷ e.more)
+
+abbrev pub AreRows : List Row → Type 0
+AreRows [] = Unit {0}
+AreRows (r ∷ rs) = IsRow r × AreRows rs
+
+-- the pairs of a command at the margin, of which there is one at least
+pub record Layout : Type 0 where
+  pub first : Row
+  pub more : List Row
 
 abbrev pub layout_text : Layout → List ℕ
-layout_text (single e) = entry_text 0 e
-layout_text (batch_of e es) = codes "batch:\n" ++ elements_text (e ∷ es)
-layout_text (after_if e es command) = codes "if:\n" ++ (elements_text (e ∷ es) ++ layout_text command)
+layout_text layout = rows_text (layout.first ∷ layout.more)
 
 abbrev pub layout_members : Layout → Members
-layout_members (single e) = entry_members e
-layout_members (batch_of e es) = member (codes "batch") (sequence (elements_of_entries (e ∷ es))) no_member
-layout_members (after_if e es command) =
-    member (codes "if") (sequence (elements_of_entries (e ∷ es))) (layout_members command)
+layout_members layout = members_of_rows (layout.first ∷ layout.more)
 
-abbrev pub IsLayout : Layout → Type 0
-IsLayout (single e) = IsEntry e
-IsLayout (batch_of e es) = AreEntries (e ∷ es)
-IsLayout (after_if e es command) =
-    AreEntries (e ∷ es) × IsLayout command × (has_key (codes "if") (layout_members command) ≡ false)
+-- no two keys are the same, neither here nor in what is under them
+pub record IsLayout (layout : Layout) : Type 0 where
+  pub are : AreRows (layout.first ∷ layout.more)
+  pub differ : members_distinct (layout_members layout) ≡ true
 
 -- the lines of a command and the closing line, and what their mapping says
 pub record IsCommandLines (lines : List ℕ) (said : Said) : Type 0 where
@@ -182,16 +252,30 @@ pub record IsCommandLines (lines : List ℕ) (said : Said) : Type 0 where
   pub is : lines ≡ layout_text layout ++ codes "...\n"
   pub says : said ≡ said_by (mapping (layout_members layout))
 
--- they are those of a command without an about that changes configurations, and say the same after conditions
+-- they are those of a command without conditions that changes configurations, and say the same after conditions
 pub record IsChangeLines (lines : List ℕ) (said : Said) : Type 0 where
   pub command : IsCommandLines lines said
-  pub change : said ≡ change_said (layout_members command.layout)
   pub apart : has_key (codes "if") (layout_members command.layout) ≡ false
-  pub no_about : last_about (layout_members command.layout) ≡ None
+  pub after : (t : Tree) (conditions : List Condition) → conditions_in t ≡ Some conditions
+      → conditional conditions said ≡ said_by (mapping (member (codes "if") t (layout_members command.layout)))
 
 -- there are conditions, and the lines are those of a command that says this after them
 pub record SayChangeAfter (conditions : List Condition) (lines : List ℕ) (said : Said) : Type 0 where
   pub change : Said
   pub command : IsChangeLines lines change
-  pub says : said ≡ with_conditions (Some conditions) change
+  pub says : said ≡ conditional conditions change
   pub some : conditions ≢ []
+
+-- what is behind the lines of a change: the closing line, and it is all that is said; or an about before it
+abbrev pub EndsChange : List ℕ → Said → Said → Type 0
+EndsChange rest change said =
+    ((rest ≡ codes "...\n") × (said ≡ change))
+    ⊎ ((about : Tree) × IsAboutLines rest about × (said ≡ noted_said about change))
+
+-- there are parts of a batch, and the rest is behind its lines
+abbrev pub SaysBatch : List Part → List ℕ → Said → Type 0
+SaysBatch parts rest said = (parts ≢ []) × EndsChange rest (batch_of_parts parts) said
+
+-- the piece is a change and this rest: it says what they do
+abbrev pub SaysBefore : List ℕ → Said → List ℕ → Type 0
+SaysBefore piece change rest = (said : Said) → EndsChange rest change said → Says piece said

@@ -1,7 +1,6 @@
 -- What a sink noted that it took of the answers of a session, and when: what a run that is cut off had answered.
 use Rattle.std.specs.Prelude.{◌≡◌, ◌⊎◌, ℕ, zero, suc, ◌+◌, ◌-◌, ◌≤◌, List, [], ◌∷◌, ◌++◌, length, drop}
-use Rattle.conf_session.specs.{Prelude.{Image, DiskModel, Command}, Requests.Request, Answers.{Stored, answer_bytes, stored_after}}
-use Rattle.conf_session.specs.Answers.{accepted_command}
+use Rattle.conf_session.specs.{Prelude.{Image, DiskModel}, Requests.Request, Answers.{Stored, answer_bytes, stored_after, accepted_command}}
 
 -- the sink took so many bytes in one call, at this moment of the disk
 pub record Handing : Type 0 where

@@ -2,7 +2,7 @@
 pub use Rattle.conf_conditions.specs.Conditions.{first_fault, Condition, AllHold, FailsFirst, conditions_of, test_at, absent_at, count_is}
 pub use Rattle.conf_conditions.specs.{Conditions.condition_of, declared.fault.ConditionFault.ConditionFault}
 pub use Rattle.conf_disk.specs.{Folder.{Folder, bytes_under}, Image.{Image, IsImage}, Models.DiskModel, Moments.LeavesOnly}
-pub use Rattle.{conf_disk.specs.declared.disk.Name.TheVariants.Store, conf_about.specs.Abouts.fault_of}
+pub use Rattle.{conf_disk.specs.declared.disk.Name.TheVariants.Store, conf_about.specs.Abouts.{fault_of, IsAbout}}
 pub use Rattle.{conf_about.specs.declared.fault.AboutFault.AboutFault, conf_record.specs.Reading.{AreKept, AreKeptElements, KeepsTree}}
 pub use Rattle.conf_record.specs.{Reading.edit_seen, Formats.base_in, declared.format.Format.Format, RecordsRead.{keys_are, values}}
 pub use Rattle.{conf_record.specs.RecordsRead.{edit_under, number_from_digits}, conf_state.specs.Commands.{Command, set_at, delete_at}}

@@ -1,9 +1,9 @@
 -- What the pieces of a session ask for. Each piece is one request; a piece that is no command is a bad one.
 use Rattle.std.specs.Prelude.{◌≡◌, ◌≢◌, ◌⊎◌, List, [], ◌∷◌, ◌++◌, ℕ, encode_utf8_all}
-use Rattle.conf_session.specs.Prelude.{Gives, Tree, Refuses, ReadFault, Edit, Command, import_as, single, batch, StoreFault}
-use Rattle.conf_session.specs.Said.{Part, import_text, plain, Said, Says, single_part, batch_of_parts, get_at, export_of, all_names}
-use Rattle.conf_session.specs.{Prelude.{noted, Condition}, Said.{checkpoint_now, conditional, noted_said, large_about, nothing}}
-use Rattle.yaml_config.specs.Limits.{config_limits}
+use Rattle.conf_session.specs.Prelude.{Gives, Tree, Refuses, ReadFault, Edit, Command, import_as, single, batch, StoreFault, noted}
+use Rattle.conf_session.specs.{Prelude.Condition, Said.{Part, import_text, plain, Said, Says, single_part, batch_of_parts, get_at}}
+use Rattle.conf_session.specs.Said.{export_of, all_names, checkpoint_now, conditional, noted_said, large_about, nothing}
+use Rattle.{conf_session.specs.CommandLines.EndsChange, yaml_config.specs.Limits.config_limits}
 use Rattle.{conf_state.specs.declared.fault.StoreFault.TheVariants.{Read, OutOfMemory}, conf_store.specs.Imports.{IsImportOf, RefusesText}}
 use Rattle.yaml_events.specs.declared.read_fault.ReadFault.TheVariants as read
 
@@ -84,6 +84,10 @@ MeansRequest nothing request = request ≡ bad
 -- the bytes of a piece ask for this request
 abbrev pub Asks : List ℕ → Request → Type 0
 Asks piece request = (said : Said) × Says piece said × MeansRequest said request
+
+-- a change and what is behind its lines ask for this request
+abbrev pub EndsAsking : List ℕ → Said → Request → Type 0
+EndsAsking rest change request = (said : Said) × EndsChange rest change said × MeansRequest said request
 
 -- the pieces ask for these requests, one for each in its place
 abbrev pub AllAsk : List (List ℕ) → List Request → Type 0

@@ -20,6 +20,7 @@
 //! [`round`] performs the commands that a server has in hand from many clients, and syncs once for all of them.
 #![tactic(auto)]
 
+mod about_lines;
 mod answer;
 mod command_lines;
 mod condition_lines;

@@ -2,14 +2,14 @@
 use Rattle.std.proofs.Common.{◌≡◌, ◌≢◌, ◌⊎◌, ◌≤◌, ℕ, Bool, true, false, List, [], ◌∷◌, inl, inr, refl, sym, ◌∙◌, ap, subst, arith, length}
 use Rattle.std.{proofs.{Common.⊎_elim, Math.Seq.take-length}, specs.Prelude.{Option, Ok}}
 use Rattle.conf_tools.proofs.Prelude.{false≢true, Folder, Image, IsImage, DiskModel, LeavesOnly, TimeGoesOn, LeavesOnly-joined}
-use Rattle.conf_tools.proofs.Prelude.{LeavesOnly-now, LeavesOnly-weaker, command_of, import_as, single, text_of, Contents, after}
-use Rattle.conf_tools.proofs.Prelude.{StoreFault, EmptyBatch, BadName, NoConfig, Path, Read, TooDeep, ConfigLarge, StoreFull, RecordLong}
-use Rattle.conf_tools.proofs.Prelude.{JournalLong, CountFull, Reopen, Device, OutOfMemory, room_for, journal_length, outcome, MeansPrefix}
-use Rattle.conf_tools.{proofs.Prelude.{AllImagesMean, NothingWaits, ImageMeans, StoreView, MeantAtEntry, image-meant}, specs.Stores.OpensOn}
-use Rattle.conf_tools.specs.declared.changes.Change.{Change, TheVariants.{Import, Perform, Copy, Rename, Edit, Checkpoint}}
-use Rattle.conf_tools.specs.Changes.{KeepsChange, Makes, MeansOneOf, Performs, RefusesChange}
-use Rattle.{conf_state.specs.Commands.Command as GivenCommand, conf_store.proofs.{FileLemmas.read-stays, MeaningLemmas.after-done}}
-use Rattle.conf_store.proofs.StepLemmas.{StepsNeedRoom, accepted-anyway}
+use Rattle.conf_tools.proofs.Prelude.{LeavesOnly-now, LeavesOnly-weaker, Contents, after, StoreFault, EmptyBatch, BadName, NoConfig, Path}
+use Rattle.conf_tools.proofs.Prelude.{Read, TooDeep, ConfigLarge, StoreFull, RecordLong, JournalLong, CountFull, Reopen, Device}
+use Rattle.conf_tools.proofs.Prelude.{OutOfMemory, room_for, journal_length, outcome, MeansPrefix, AllImagesMean, NothingWaits, ImageMeans}
+use Rattle.conf_tools.{proofs.Prelude.{StoreView, MeantAtEntry, image-meant}, specs.{Stores.OpensOn, declared.changes.Action.Action}}
+use Rattle.conf_tools.specs.{declared.changes.Change.{Change, TheVariants.{Act, Checkpoint}}, Changes.{Gives, KeepsChange, Makes}}
+use Rattle.conf_tools.specs.Changes.{MeansOneOf, Performs, RefusesChange, with_about}
+use Rattle.{yaml_data.specs.declared.tree.Tree.Tree as AboutTree, conf_state.specs.Commands.Command as GivenCommand}
+use Rattle.conf_store.proofs.{FileLemmas.read-stays, MeaningLemmas.after-done, StepLemmas.{StepsNeedRoom, accepted-anyway}}
 
 -- ---- which commands a change performs
 
@@ -23,64 +23,28 @@ accepted-leads : StepsNeedRoom → (size : ℕ) (s end : Contents) (command : Gi
     → outcome size s command ≡ Ok end → after s (command ∷ []) ≡ Ok end
 accepted-leads room size s end command e = after-done s end command (accepted-anyway room s end command (room_for size s command) e)
 
+-- the command of an action that was accepted, or at which the device failed
+act-led : StepsNeedRoom → {D : Type 0} (old : StoreView D) (end : Contents) (action : Action) (about : Option AboutTree)
+    (command : GivenCommand) → Gives old.state action command
+    → outcome (journal_length old) old.state (with_about about command) ≡ Ok end → Led (Act action about) old.state end
+act-led room old end action about command gives steps = record {
+  commands = with_about about command ∷ [];
+  of = (command, gives, refl);
+  leads = accepted-leads room (journal_length old) old.state end (with_about about command) steps;
+}
+
 -- a change that was made
 pub made-led : StepsNeedRoom → {D : Type 0} (old new : StoreView D) (change : Change) → Makes old change new
     → Led change old.state new.state
-made-led room old new (Import name text) made = record {
-  commands = single (import_as (text_of name) made.tree) ∷ [];
-  of = (made.tree, made.reads, refl);
-  leads = accepted-leads room (journal_length old) old.state new.state (single (import_as (text_of name) made.tree)) made.accepts.step;
-}
-made-led room old new (Perform command) made = record {
-  commands = command_of command ∷ [];
-  of = refl;
-  leads = accepted-leads room (journal_length old) old.state new.state (command_of command) made.step;
-}
-made-led room old new (Copy name to) made = record {
-  commands = made.command ∷ [];
-  of = (made.command, made.of, refl);
-  leads = accepted-leads room (journal_length old) old.state new.state made.command made.accepts.step;
-}
-made-led room old new (Rename name to) made = record {
-  commands = made.command ∷ [];
-  of = (made.command, made.of, refl);
-  leads = accepted-leads room (journal_length old) old.state new.state made.command made.accepts.step;
-}
-made-led room old new (Edit name edit) made = record {
-  commands = made.command ∷ [];
-  of = (made.command, made.of, refl);
-  leads = accepted-leads room (journal_length old) old.state new.state made.command made.accepts.step;
-}
+made-led room old new (Act action about) made =
+    act-led room old new.state action about made.command made.gives made.accepts.step
 made-led room old new Checkpoint made = record { commands = []; of = refl; leads = ap Ok (sym made.0) }
 
 -- a change in which the device failed
 device-led : StepsNeedRoom → {D : Type 0} (old new : StoreView D) (change : Change)
     → RefusesChange old change new Device → Led change old.state new.state
-device-led room old new (Import name text) refuses = record {
-  commands = single (import_as (text_of name) refuses.tree) ∷ [];
-  of = (refuses.tree, refuses.reads, refl);
-  leads = accepted-leads room (journal_length old) old.state new.state (single (import_as (text_of name) refuses.tree)) refuses.refuses;
-}
-device-led room old new (Perform command) refuses = record {
-  commands = command_of command ∷ [];
-  of = refl;
-  leads = accepted-leads room (journal_length old) old.state new.state (command_of command) refuses;
-}
-device-led room old new (Copy name to) refuses = record {
-  commands = refuses.command ∷ [];
-  of = (refuses.command, refuses.of, refl);
-  leads = accepted-leads room (journal_length old) old.state new.state refuses.command refuses.refuses;
-}
-device-led room old new (Rename name to) refuses = record {
-  commands = refuses.command ∷ [];
-  of = (refuses.command, refuses.of, refl);
-  leads = accepted-leads room (journal_length old) old.state new.state refuses.command refuses.refuses;
-}
-device-led room old new (Edit name edit) refuses = record {
-  commands = refuses.command ∷ [];
-  of = (refuses.command, refuses.of, refl);
-  leads = accepted-leads room (journal_length old) old.state new.state refuses.command refuses.refuses;
-}
+device-led room old new (Act action about) refuses =
+    act-led room old new.state action about refuses.command refuses.gives refuses.refuses
 device-led room old new Checkpoint refuses = record { commands = []; of = refl; leads = ap Ok (sym refuses.0) }
 
 is-device : (fault : StoreFault) → (fault ≡ Device) ⊎ (fault ≢ Device)

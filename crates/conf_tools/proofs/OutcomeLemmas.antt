@@ -7,7 +7,7 @@ use Rattle.conf_tools.specs.{TextWords.{ending_after_check, ending_after_format}
 use Rattle.conf_tools.specs.declared.{outcome.{Ending.TheVariants.ToldFault, Outcome.Outcome}, program.Status.{Status, TheVariants.Done}}
 use Rattle.conf_tools.specs.declared.{program.Status.TheVariants.Device, tail.Tail.Tail, texts.ToolFault.{ToolFault, TheVariants.Comments}}
 use Rattle.conf_tools.specs.declared.texts.ToolFault.TheVariants.{ImportText, NoEdits, OneValue, Output, Read, Unsettled, Input as NoInput}
-use Rattle.conf_tools.specs.declared.{change_words.Meaning.Meaning, changes.Change.Change, reporter.Origin.{Origin, TheVariants.Named}}
+use Rattle.conf_tools.specs.declared.{change_words.Meaning.Meaning, changes.Action.Action, reporter.Origin.{Origin, TheVariants.Named}}
 use Rattle.conf_tools.specs.{declared.reporter.Origin.TheVariants.Input, StoreWords.WritesWhole, Endings.StaysUnlessFault, Losses.SetTells}
 use Rattle.conf_tools.specs.{Losses.{TellsDash, TellsLoss, TellsLossIfAsked, TellsLossOr, TellsWritten}, Outcomes.EndsWriting}
 use Rattle.conf_tools.specs.Outcomes.{LeavesImport, LeavesTold, SilentIfDone, TellsIfDone, TellsOnlyTold, TellsOutcome, TellsSession}
@@ -83,28 +83,28 @@ module _ {E : Type 0} where
     asked_left_out Explained bytes old new told = any_left_out bytes old new told
 
     -- what a value's text tells
-    pub set_left_out : (reporting : Reporting) (meaning : Meaning) (change : Result Change ToolFault) (bytes : List ℕ)
-        (old mid new : E) → OnOk change (mid ≡ old) → SetTells hears reporting meaning change bytes mid new
-        → OnOk change (TellsLeftOut hears old new)
-    set_left_out reporting means.Text (Ok change) bytes old mid new same told = inl (told ∙ same)
-    set_left_out reporting means.Yaml (Ok change) bytes old mid new same told =
+    pub set_left_out : (reporting : Reporting) (meaning : Meaning) (action : Result Action ToolFault) (bytes : List ℕ)
+        (old mid new : E) → OnOk action (mid ≡ old) → SetTells hears reporting meaning action bytes mid new
+        → OnOk action (TellsLeftOut hears old new)
+    set_left_out reporting means.Text (Ok action) bytes old mid new same told = inl (told ∙ same)
+    set_left_out reporting means.Yaml (Ok action) bytes old mid new same told =
         subst (λ before. TellsLeftOut hears before new) same (asked_left_out reporting bytes mid new told)
     set_left_out reporting meaning (Err fault) bytes old mid new same told = tt
 
     -- of a value that is a text nothing is told, or that it is `-`
-    pub dash_told : (reporting : Reporting) (text : List ℕ) (change : Result Change ToolFault) (old mid new : E)
-        → OnOk change (mid ≡ old) → OnOk change (TellsDash hears reporting text mid new)
-        → OnOk change (TellsOfValue hears old new)
-    dash_told Brief text (Ok change) old mid new same told = inl (inl (told ∙ same))
-    dash_told Explained text (Ok change) old mid new same (inl told) =
+    pub dash_told : (reporting : Reporting) (text : List ℕ) (action : Result Action ToolFault) (old mid new : E)
+        → OnOk action (mid ≡ old) → OnOk action (TellsDash hears reporting text mid new)
+        → OnOk action (TellsOfValue hears old new)
+    dash_told Brief text (Ok action) old mid new same told = inl (inl (told ∙ same))
+    dash_told Explained text (Ok action) old mid new same (inl told) =
         inr (subst (λ before. hears before dash_line new) same told.1)
-    dash_told Explained text (Ok change) old mid new same (inr told) = inl (inl (told.1 ∙ same))
+    dash_told Explained text (Ok action) old mid new same (inr told) = inl (inl (told.1 ∙ same))
     dash_told reporting text (Err fault) old mid new same told = tt
 
     -- of another value, how many comments were left out
-    pub value_told : (change : Result Change ToolFault) (old new : E) → OnOk change (TellsLeftOut hears old new)
-        → OnOk change (TellsOfValue hears old new)
-    value_told (Ok change) old new told = inl told
+    pub value_told : (action : Result Action ToolFault) (old new : E) → OnOk action (TellsLeftOut hears old new)
+        → OnOk action (TellsOfValue hears old new)
+    value_told (Ok action) old new told = inl told
     value_told (Err fault) old new told = tt
 
     -- nothing more is told

@@ -7,14 +7,14 @@ use Rattle.conf_words.specs.declared.invocation.{Comments.Comments, Formatting.F
 use Rattle.conf_words.specs.declared.invocation.Invocation.TheVariants.{Import, Set, Alter, Batch, Checkpoint, Run, ExportAll, Export}
 use Rattle.conf_words.specs.declared.invocation.Invocation.TheVariants.{Names, Get, Exists, Log, Verify, Salvage, Backup, Format, Check}
 use Rattle.conf_words.specs.declared.invocation.{Invocation.TheVariants.{Diff, DiffFiles}, LogForm.LogForm as AskedLog, Style.Style}
-use Rattle.{conf_words.specs.declared.invocation.TreeForm.TreeForm, conf_tools.specs.{Endings.{EndsTold, told_of}, Exports.disk_back}}
-use Rattle.conf_tools.specs.{Keeping.{CannotKeep, KeepsDropped, PutsFile, Verifies}, LogWords.{Logs, LogsValues}, OnStores.DoesOnStores}
-use Rattle.conf_tools.specs.OnStores.{GoesOnByFiles, PerformsOnStores, ReadsInFolder, finds, folds, looks, makes, reads, replaces, stays}
-use Rattle.conf_tools.specs.{OnStores.then, Performs.{ChecksAll, Does, FormatsAll, Performs}, Statuses.worst, StoreWords.ExportsFromFolder}
-use Rattle.conf_tools.specs.{StoreWords.OpensFile, TextWords.{IfSo, ReplacesAt, ReplacesRead, ReportsOnAll, RestylesAll, RestylesOpened}}
-use Rattle.conf_tools.specs.{TextWords.{TakesText, status_of_report, stops_all}, Tools.Taken, Worlds.{Around, WorldModel, around_noting}}
-use Rattle.conf_tools.specs.declared.{file_texts.Restyled.{Restyled, TheVariants.{Same, Changed}}, file_words.Report.Report}
-use Rattle.conf_tools.specs.declared.{file_words.Report.TheVariants.{Findings, Name}, program.Status.{Status, TheVariants.Done}}
+use Rattle.{conf_words.specs.{declared.invocation.TreeForm.TreeForm, Invocations.Word}, conf_tools.specs.Endings.{EndsTold, told_of}}
+use Rattle.conf_tools.specs.{Exports.disk_back, Keeping.{CannotKeep, KeepsDropped, PutsFile, Verifies}, LogWords.{Logs, LogsValues}}
+use Rattle.conf_tools.specs.OnStores.{DoesOnStores, GoesOnByFiles, PerformsOnStores, ReadsInFolder, finds, folds, looks, makes, reads}
+use Rattle.conf_tools.specs.{OnStores.{replaces, stays, then}, Performs.{ChecksAll, Does, FormatsAll, Performs}, Statuses.worst}
+use Rattle.conf_tools.specs.{StoreWords.{ExportsFromFolder, OpensFile}, TextWords.{IfSo, ReplacesAt, ReplacesRead, ReportsOnAll}}
+use Rattle.conf_tools.specs.{TextWords.{RestylesAll, RestylesOpened, TakesText, status_of_report, stops_all}, Tools.Taken, Worlds.Around}
+use Rattle.conf_tools.specs.{Worlds.{WorldModel, around_noting}, declared.file_texts.Restyled.{Restyled, TheVariants.{Same, Changed}}}
+use Rattle.conf_tools.specs.declared.{file_words.Report.{Report, TheVariants.{Findings, Name}}, program.Status.{Status, TheVariants.Done}}
 use Rattle.conf_tools.specs.{declared.{reading_fault.ReadingFault.ReadingFault, texts.ToolFault.ToolFault}, EndOfRun.EndOfRun as Ended}
 use Rattle.conf_tools.specs.{DiffWords.{DiffsAfter, DiffsFiles, file_name}, Prelude.{chars, Contents, Entry, Tree, config_named, names_of}}
 use Rattle.conf_tools.specs.ConfigFiles.{ExportsAll, ExportsRead, HasNoStore, IfDone, MayHoldFiles, PutsAll, PutsConfig}
@@ -53,18 +53,23 @@ module _ {W D F P : Type 0} (world : WorldModel W D F P) (disk : DiskModel D) (r
   goes-to-open folder old (Err (reading.Salvage fault)) new opens = absurd opens
   goes-to-open folder old (Err reading.Output) new opens = absurd opens
 
-  of-values : (folder : List ℕ) (commands : Commands) (hidden : List (List ℕ)) (old new : W) (held written : Option (List ℕ))
-      (end : Ended) → LogsValues world remaining folder commands hidden old new held written end → Goes old new
-  of-values folder commands [] old new held written end does = goes-to-open folder old does.file new does.opens
-  of-values folder commands (pointer ∷ pointers) old new held written end (inl hides) =
-      goes-to-open folder old hides.logs.file new hides.logs.opens
-  of-values folder commands (pointer ∷ pointers) old new held written end (inr refuses) = same old new refuses.world_stays
+  of-values : (folder : List ℕ) (commands : Commands) (keys : List Word) (hidden : List (List ℕ)) (old new : W)
+      (held written : Option (List ℕ)) (end : Ended)
+      → LogsValues world remaining folder commands keys hidden old new held written end → Goes old new
+  of-values folder commands keys [] old new held written end does =
+      goes-to-open folder old does.logs.file new does.logs.opens
+  of-values folder commands keys (pointer ∷ pointers) old new held written end (inl hides) =
+      goes-to-open folder old hides.logs.logs.file new hides.logs.logs.opens
+  of-values folder commands keys (pointer ∷ pointers) old new held written end (inr refuses) =
+      same old new refuses.world_stays
 
   of-log : (folder : List ℕ) (commands : Commands) (form : AskedLog) (old new : W) (held written : Option (List ℕ))
       (end : Ended) → Logs world remaining folder commands form old new held written end → Goes old new
-  of-log folder commands asked.Lines old new held written end does = goes-to-open folder old does.file new does.opens
-  of-log folder commands (asked.Values hidden) old new held written end does =
-      of-values folder commands (map (λ pointer. pointer.now) hidden.items) old new held written end does
+  of-log folder commands (asked.Lines shown) old new held written end does =
+      goes-to-open folder old does.logs.file new does.logs.opens
+  of-log folder commands (asked.Values shown hidden) old new held written end does =
+      of-values folder commands shown.items (map (λ pointer. pointer.now) hidden.items) old new held written end does
+  of-log folder commands asked.Json old new held written end does = goes-to-open folder old does.file new does.opens
   of-log folder commands asked.Records old new held written end does = goes-to-open folder old does.file new does.opens
 
   -- ---- words that keep what an opening drops
@@ -305,10 +310,10 @@ module _ {W D F P : Type 0} (world : WorldModel W D F P) (disk : DiskModel D) (r
   on-stores : (invocation : Invocation) (old new : Around W) (end : Ended) → Does world disk remaining invocation old new end
       → DoesOnStores world disk remaining invocation old new end
   on-stores (Init folder) old new end does = does
-  on-stores (Import asked reporting) old new end does = does
-  on-stores (Set target put reporting) old new end does = does
-  on-stores (Alter target alteration) old new end does = does
-  on-stores (Batch asked reporting) old new end does = does
+  on-stores (Import asked about reporting) old new end does = does
+  on-stores (Set target put about reporting) old new end does = does
+  on-stores (Alter target alteration about) old new end does = does
+  on-stores (Batch asked about reporting) old new end does = does
   on-stores (Checkpoint folder) old new end does = does
   on-stores (Run folder grouping) old new end does = does
   on-stores (Export folder name form) old new end does =

@@ -5,15 +5,15 @@ use Rattle.conf_tools.specs.Prelude.{Tree, IsRead, config_limits, Condition, fir
 use Rattle.conf_tools.specs.Prelude.{several_waited, Image, IsImage, DiskModel, LeavesOnly, Store, batch, command_of, delete_at, import_as}
 use Rattle.conf_tools.specs.Prelude.{single, text_of, Contents, StoreFault, Reopen, Device, Accepts, HasFailed, RefusesCommand, tree_named}
 use Rattle.conf_tools.specs.Prelude.{AppendsRecord, store_file, MeansPrefix, AllImagesMean, IsOldOrBase, FolderMeans, ImageMeans}
-use Rattle.conf_tools.specs.Prelude.{empty_state, MeantAtEntry, StoreView, AfterAtLeast, OpenFault}
+use Rattle.conf_tools.specs.Prelude.{empty_state, MeantAtEntry, StoreView, AfterAtLeast, OpenFault, tree_of}
 use Rattle.conf_tools.specs.declared.stores.StoreToolFault.{StoreToolFault, TheVariants.{Condition as OnCondition, Open, Refused}}
-use Rattle.conf_tools.specs.declared.{stores.StoreToolFault.TheVariants.StoreExists, changes.Change.{Change, TheVariants.{Import, Perform}}}
-use Rattle.conf_tools.specs.declared.{changes.Change.TheVariants.{Copy, Rename, Edit, Checkpoint}, edits.TreeEdit.TreeEdit}
-use Rattle.conf_tools.specs.{Stores.{CannotOpen, OpensOn}, Edits.{LacksEdit, edits}}
+use Rattle.conf_tools.specs.declared.{stores.StoreToolFault.TheVariants.StoreExists, changes.Change.{Change, TheVariants.{Act, Checkpoint}}}
+use Rattle.conf_tools.specs.{declared.changes.Action.{Action, TheVariants.{Import, Perform, Copy, Rename, Edit}}, Stores.CannotOpen}
+use Rattle.conf_tools.specs.{Stores.OpensOn, Edits.{LacksEdit, edits}}
 use Rattle.{conf_conditions.specs.declared.fault.ConditionFault.TheVariants.OutOfMemory as NoMemory, conf_state.specs.BaseTexts.base_bytes}
-use Rattle.conf_record.specs.Formats.{base_in}
-use Rattle.conf_state.specs.{Commands.Command as GivenCommand, declared.fault.StoreFault.TheVariants.OutOfMemory}
-use Rattle.{yaml_grammar.specs.Texts.same_text, conf_store.specs.Imports.{AppendsImport, Imports, RefusesImport}}
+use Rattle.conf_state.specs.{Commands.{Command as GivenCommand, noted}, declared.fault.StoreFault.TheVariants.OutOfMemory}
+use Rattle.{conf_record.specs.Formats.base_in, yaml_grammar.specs.Texts.same_text, conf_store.specs.Imports.{IsImportOf, RefusesText}}
+use Rattle.yaml_data.specs.declared.tree.Tree.{Tree as AboutTree}
 use Rattle.conf_store.specs.declared.fault.OpenFault.TheVariants as OpenFaults
 
 -- ---- commands that are made of a state
@@ -40,90 +40,84 @@ pub record IsMadeOf (s : Contents) (name : List ℕ) (makes : Tree → GivenComm
 abbrev pub LacksTree : Contents → List ℕ → StoreFault → Type 0
 LacksTree s name fault = (fault ≡ OutOfMemory) ⊎ (tree_named s name ≡ Err fault)
 
--- what a change performs on a state: a command, or that of an import, of a copy, of a rename or of an edit; a
--- checkpoint performs none
+-- ---- the command of an action
+
+-- the command that an action is on a state
+abbrev pub Gives : Contents → Action → GivenCommand → Type 0
+Gives s (Import name text) command = IsImportOf (text_of name) text.now command
+Gives s (Perform given) command = command ≡ command_of given
+Gives s (Copy name to) command = IsMadeOf s (text_of name) (copies (text_of to)) command
+Gives s (Rename name to) command = IsMadeOf s (text_of name) (renames (text_of name) (text_of to)) command
+Gives s (Edit name edit) command = IsMadeOf s (text_of name) (edits (text_of name) edit) command
+
+-- why it is none
+abbrev pub GivesNone : Contents → Action → StoreFault → Type 0
+GivesNone s (Import name text) fault = RefusesText (text_of name) text.now fault
+GivesNone s (Perform given) fault = ⊥
+GivesNone s (Copy name to) fault = LacksTree s (text_of name) fault
+GivesNone s (Rename name to) fault = LacksTree s (text_of name) fault
+GivesNone s (Edit name edit) fault = LacksEdit s (text_of name) edit fault
+
+-- a command without its about
+abbrev pub without_about : GivenCommand → GivenCommand
+without_about (single edit) = single edit
+without_about (batch edits) = batch edits
+without_about (noted command about) = without_about command
+
+-- a command with an about in the place of its own, if there is one
+abbrev pub with_about : Option AboutTree → GivenCommand → GivenCommand
+with_about None command = command
+with_about (Some about) command = noted (without_about command) (tree_of about)
+
+-- what a change performs on a state: the command of its action with its about; a checkpoint performs none
 abbrev pub Performs : Contents → Change → List GivenCommand → Type 0
-Performs s (Import name text) commands =
-    (tree : Tree) × IsRead text.now config_limits tree × (commands ≡ single (import_as (text_of name) tree) ∷ [])
-Performs s (Perform command) commands = commands ≡ command_of command ∷ []
-Performs s (Copy name to) commands =
-    (command : GivenCommand) × IsMadeOf s (text_of name) (copies (text_of to)) command × (commands ≡ command ∷ [])
-Performs s (Rename name to) commands =
-    (command : GivenCommand) × IsMadeOf s (text_of name) (renames (text_of name) (text_of to)) command
-    × (commands ≡ command ∷ [])
-Performs s (Edit name edit) commands =
-    (command : GivenCommand) × IsMadeOf s (text_of name) (edits (text_of name) edit) command
-    × (commands ≡ command ∷ [])
+Performs s (Act action about) commands =
+    (command : GivenCommand) × Gives s action command × (commands ≡ with_about about command ∷ [])
 Performs s Checkpoint commands = commands ≡ []
 
 -- ---- an open store
 
-module _ {D : Type 0} (old : StoreView D) where
-  -- the command that is made so of the tree under a name was accepted
-  pub record MakesOf (name : List ℕ) (makes : Tree → GivenCommand) (new : StoreView D) : Type 0 where
+module _ {D : Type 0} (old : StoreView D) (action : Action) (about : Option AboutTree) where
+  -- the command of an action was accepted, with the about
+  pub record Acts (new : StoreView D) : Type 0 where
     pub command : GivenCommand
-    pub of : IsMadeOf old.state name makes command
-    pub accepts : Accepts old command new
+    pub gives : Gives old.state action command
+    pub accepts : Accepts old (with_about about command) new
 
   -- that command was refused
-  pub record RefusesMade (name : List ℕ) (makes : Tree → GivenCommand) (new : StoreView D) (fault : StoreFault)
-      : Type 0 where
+  pub record RefusesCommandOf (new : StoreView D) (fault : StoreFault) : Type 0 where
     pub command : GivenCommand
-    pub of : IsMadeOf old.state name makes command
-    pub refuses : RefusesCommand old command new fault
+    pub gives : Gives old.state action command
+    pub refuses : RefusesCommand old (with_about about command) new fault
 
-  -- Why it was not accepted: there is no tree under the name, or the command was refused. Reopen and OutOfMemory say
-  -- nothing of them.
-  abbrev pub RefusesOf : List ℕ → (Tree → GivenCommand) → StoreView D → StoreFault → Type 0
-  RefusesOf name makes new Reopen = Unit {0}
-  RefusesOf name makes new OutOfMemory = Unit {0}
-  RefusesOf name makes new Device = RefusesMade name makes new Device
-  RefusesOf name makes new fault = (tree_named old.state name ≡ Err fault) ⊎ RefusesMade name makes new fault
+  -- Why it was not accepted: there is none, or it was refused. Reopen and OutOfMemory say nothing of them.
+  abbrev pub RefusesAction : StoreView D → StoreFault → Type 0
+  RefusesAction new Reopen = Unit {0}
+  RefusesAction new OutOfMemory = Unit {0}
+  RefusesAction new Device = RefusesCommandOf new Device
+  RefusesAction new fault = GivesNone old.state action fault ⊎ RefusesCommandOf new fault
 
-  -- The same of an edit of the tree, which may have no value to set, too.
-  abbrev pub RefusesEdit : List ℕ → TreeEdit → StoreView D → StoreFault → Type 0
-  RefusesEdit name edit new Reopen = Unit {0}
-  RefusesEdit name edit new OutOfMemory = Unit {0}
-  RefusesEdit name edit new Device = RefusesMade name (edits name edit) new Device
-  RefusesEdit name edit new fault = LacksEdit old.state name edit fault ⊎ RefusesMade name (edits name edit) new fault
+  -- `after` is `before` with the command's record appended
+  pub record AppendsAction (before after : Option (List ℕ)) : Type 0 where
+    pub command : GivenCommand
+    pub gives : Gives old.state action command
+    pub appends : AppendsRecord old (with_about about command) before after
 
 -- The change was made: its command was accepted, or the file is as short as a base of the state.
 abbrev pub Makes : {D : Type 0} → StoreView D → Change → StoreView D → Type 0
-Makes old (Import name text) new = Imports old (text_of name) text.now new
-Makes old (Perform command) new = Accepts old (command_of command) new
-Makes old (Copy name to) new = MakesOf old (text_of name) (copies (text_of to)) new
-Makes old (Rename name to) new = MakesOf old (text_of name) (renames (text_of name) (text_of to)) new
-Makes old (Edit name edit) new = MakesOf old (text_of name) (edits (text_of name) edit) new
+Makes old (Act action about) new = Acts old action about new
 Makes old Checkpoint new = (new.state ≡ old.state) × (new.size ≡ length (base_in old.format old.state))
 
 -- Why the change was refused.
 abbrev pub RefusesChange : {D : Type 0} → StoreView D → Change → StoreView D → StoreFault → Type 0
-RefusesChange old (Import name text) new fault = RefusesImport old (text_of name) text.now new fault
-RefusesChange old (Perform command) new fault = RefusesCommand old (command_of command) new fault
-RefusesChange old (Copy name to) new fault = RefusesOf old (text_of name) (copies (text_of to)) new fault
-RefusesChange old (Rename name to) new fault =
-    RefusesOf old (text_of name) (renames (text_of name) (text_of to)) new fault
-RefusesChange old (Edit name edit) new fault = RefusesEdit old (text_of name) edit new fault
+RefusesChange old (Act action about) new fault = RefusesAction old action about new fault
 RefusesChange old Checkpoint new fault =
     (new.state ≡ old.state) × ((fault ≡ Reopen) ⊎ (fault ≡ Device) ⊎ (fault ≡ OutOfMemory))
-
--- `after` is `before` with the record appended of a command that is made so of the tree under a name
-pub record AppendsMade {D : Type 0} (old : StoreView D) (name : List ℕ) (makes : Tree → GivenCommand)
-    (before after : Option (List ℕ)) : Type 0 where
-  pub command : GivenCommand
-  pub of : IsMadeOf old.state name makes command
-  pub appends : AppendsRecord old command before after
 
 -- What `store.yaml` reads as after a change, of what it read as before: the command's record is appended, or a base of
 -- the state is in its place.
 abbrev pub ReadsChanged : {D : Type 0} → StoreView D → Change → Option (List ℕ) → Option (List ℕ) → Type 0
-ReadsChanged old (Import name text) before after = AppendsImport old (text_of name) text.now before after
-ReadsChanged old (Perform command) before after = AppendsRecord old (command_of command) before after
-ReadsChanged old (Copy name to) before after = AppendsMade old (text_of name) (copies (text_of to)) before after
-ReadsChanged old (Rename name to) before after =
-    AppendsMade old (text_of name) (renames (text_of name) (text_of to)) before after
-ReadsChanged old (Edit name edit) before after =
-    AppendsMade old (text_of name) (edits (text_of name) edit) before after
+ReadsChanged old (Act action about) before after = AppendsAction old action about before after
 ReadsChanged old Checkpoint before after = after ≡ Some (base_in old.format old.state)
 
 -- the image means the state before a call, or the one after it

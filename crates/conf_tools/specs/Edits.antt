@@ -1,7 +1,7 @@
 -- Edits of a configuration whose tree says which sets and deletes they are.
 use Rattle.std.specs.Prelude.{◌≡◌, ◌⊎◌, ℕ, List, [], ◌∷◌, Result, Ok, Err}
 use Rattle.conf_tools.specs.Prelude.{Tree, batch, delete_at, set_at, single, text_of, tree_of, Contents, StoreFault, tree_named, Placing}
-use Rattle.conf_tools.specs.declared.{changes.Change.{Change, TheVariants.{Edit, Perform}}, edits.TreeEdit.TreeEdit}
+use Rattle.conf_tools.specs.declared.{changes.Action.{Action, TheVariants.{Edit, Perform}}, edits.TreeEdit.TreeEdit}
 use Rattle.{conf_tools.specs.declared.texts.ToolFault.ToolFault, conf_state.specs.Commands.Command}
 use Rattle.conf_state.specs.declared.{fault.StoreFault.TheVariants.{ConfigLarge, OutOfMemory, TooDeep}, command.Command.TheVariants.Set}
 use Rattle.conf_words.specs.declared.invocation.Placing.TheVariants.{AtPlace, BeforeElement, WithParents}
@@ -53,17 +53,17 @@ abbrev pub LacksEdit : Contents → List ℕ → TreeEdit → StoreFault → Typ
 LacksEdit s name edit fault =
     (tree_named s name ≡ Err fault) ⊎ ((tree : Tree) × (tree_named s name ≡ Ok tree) × CannotEdit edit tree fault)
 
--- ---- the change of a `set`
+-- ---- the action of a `set`
 
--- the change that puts the value of a set so
-abbrev pub placed : Placing → Change → Change
-placed AtPlace change = change
+-- the action that puts the value of a set so
+abbrev pub placed : Placing → Action → Action
+placed AtPlace action = action
 placed WithParents (Perform (Set name path value)) = Edit name (tree_edit.WithParents path value)
 placed BeforeElement (Perform (Set name path value)) = Edit name (tree_edit.Insert path value)
-placed placing change = change
+placed placing action = action
 
 -- the same, if there is one
-abbrev pub placed_or_not : Placing → Result Change ToolFault → Result Change ToolFault
-placed_or_not AtPlace change = change
-placed_or_not placing (Ok change) = Ok (placed placing change)
+abbrev pub placed_or_not : Placing → Result Action ToolFault → Result Action ToolFault
+placed_or_not AtPlace action = action
+placed_or_not placing (Ok action) = Ok (placed placing action)
 placed_or_not placing (Err fault) = Err fault

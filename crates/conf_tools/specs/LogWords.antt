@@ -1,12 +1,13 @@
 -- What `log` writes, and what it hides.
 use Rattle.std.specs.{Prelude.{◌≡◌, ◌⊎◌, ℕ, List, [], ◌∷◌, map, Option, Ok, Err}, Borrow.Bor}
 use Rattle.json_pointer.specs.declared.fault.PathFault.{PathFault, TheVariants.OutOfMemory as NoMemory}
-use Rattle.conf_state.specs.declared.fault.StoreFault.TheVariants.{OutOfMemory}
-use Rattle.conf_words.specs.declared.invocation.{Commands.Commands, LogForm.{LogForm as AskedLog, TheVariants.{Lines, Values, Records}}}
-use Rattle.{tree_hidden.specs.{Pointers.paths_or, Tokens.paths_of}, yaml_data.specs.declared.text.Text.Text}
-use Rattle.conf_tools.specs.{Prelude.{LogForm, LogRequest, Path, StoreFault}, declared.outcome.Ending.Ending}
-use Rattle.conf_tools.specs.declared.outcome.{Ending.TheVariants.Of, Outcome.TheVariants.Reading}
+use Rattle.{conf_state.specs.declared.fault.StoreFault.TheVariants.OutOfMemory, conf_words.specs.declared.invocation.Commands.Commands}
+use Rattle.conf_words.specs.declared.invocation.LogForm.{LogForm as AskedLog, TheVariants.{Lines, Values, Json, Records}}
+use Rattle.{conf_words.specs.Invocations.Word, tree_hidden.specs.{Pointers.paths_or, Tokens.paths_of}}
+use Rattle.{yaml_data.specs.declared.text.Text.Text, conf_tools.specs.Prelude.{LogForm, LogRequest, Path, StoreFault}}
+use Rattle.conf_tools.specs.declared.outcome.{Ending.{Ending, TheVariants.Of}, Outcome.TheVariants.Reading}
 use Rattle.conf_tools.specs.{declared.reading_fault.ReadingFault.TheVariants.Value, StoreWords.{Reads, SaysLog}, Worlds.WorldModel}
+use Rattle.conf_history.specs.declared.line.LineForm.{LineForm}
 use Rattle.conf_history.specs.declared.line.LineForm.TheVariants as lines
 use Rattle.conf_history.specs.declared.log.LogForm.TheVariants as history
 
@@ -31,34 +32,43 @@ module _ {W D F P : Type 0} (world : WorldModel W D F P) (remaining : F → Opti
   LogsAs form old new held written ending =
       Reads world remaining folder (SaysLog commands.at (request_of form commands)) old new held written ending
 
-  -- They were written with their values, but for what is at these pointers of a configuration, or below them.
-  pub record LogsHiding (pointers : List (List ℕ)) (old new : W) (held written : Option (List ℕ)) (ending : Ending)
+  -- The same as lines, each with what its about has under some keys.
+  pub record LogsLines (form : LineForm) (keys : List Word) (old new : W) (held written : Option (List ℕ)) (ending : Ending)
       : Type 0 where
-    pub paths : Bor (List (Bor (List Text)))
-    pub are : paths_or pointers ≡ Ok (paths_of paths.now)
-    pub logs : LogsAs (history.Lines (lines.Hiding paths)) old new held written ending
+    pub shown : Bor (List Word)
+    pub are : shown.now ≡ keys
+    pub logs : LogsAs (history.Lines form shown) old new held written ending
 
-  -- That can't be hidden: no folder was looked at, and nothing was written.
-  pub record RefusesHiding (pointers : List (List ℕ)) (old new : W) (held written : Option (List ℕ)) (ending : Ending)
-      : Type 0 where
-    pub fault : StoreFault
-    pub why : CannotHide pointers fault
-    pub ends : ending ≡ Of (Reading (Value fault))
-    pub world_stays : new ≡ old
-    pub keeps : written ≡ held
+  module _ (keys : List Word) where
+    -- They were written with their values, but for what is at these pointers of a configuration, or below them.
+    pub record LogsHiding (pointers : List (List ℕ)) (old new : W) (held written : Option (List ℕ)) (ending : Ending)
+        : Type 0 where
+      pub paths : Bor (List (Bor (List Text)))
+      pub are : paths_or pointers ≡ Ok (paths_of paths.now)
+      pub logs : LogsLines (lines.Hiding paths) keys old new held written ending
 
-  abbrev pub Hides : List (List ℕ) → W → W → Option (List ℕ) → Option (List ℕ) → Ending → Type 0
-  Hides pointers old new held written ending =
-      LogsHiding pointers old new held written ending ⊎ RefusesHiding pointers old new held written ending
+    -- That can't be hidden: no folder was looked at, and nothing was written.
+    pub record RefusesHiding (pointers : List (List ℕ)) (old new : W) (held written : Option (List ℕ)) (ending : Ending)
+        : Type 0 where
+      pub fault : StoreFault
+      pub why : CannotHide pointers fault
+      pub ends : ending ≡ Of (Reading (Value fault))
+      pub world_stays : new ≡ old
+      pub keeps : written ≡ held
 
-  -- the same; all values, if nothing is hidden
-  abbrev pub LogsValues : List (List ℕ) → W → W → Option (List ℕ) → Option (List ℕ) → Ending → Type 0
-  LogsValues [] old new held written ending = LogsAs (history.Lines lines.Values) old new held written ending
-  LogsValues (pointer ∷ pointers) old new held written ending = Hides (pointer ∷ pointers) old new held written ending
+    abbrev pub Hides : List (List ℕ) → W → W → Option (List ℕ) → Option (List ℕ) → Ending → Type 0
+    Hides pointers old new held written ending =
+        LogsHiding pointers old new held written ending ⊎ RefusesHiding pointers old new held written ending
+
+    -- the same; all values, if nothing is hidden
+    abbrev pub LogsValues : List (List ℕ) → W → W → Option (List ℕ) → Option (List ℕ) → Ending → Type 0
+    LogsValues [] old new held written ending = LogsLines lines.Values keys old new held written ending
+    LogsValues (pointer ∷ pointers) old new held written ending = Hides (pointer ∷ pointers) old new held written ending
 
   -- `log`
   abbrev pub Logs : AskedLog → W → W → Option (List ℕ) → Option (List ℕ) → Ending → Type 0
-  Logs Lines old new held written ending = LogsAs (history.Lines lines.Names) old new held written ending
-  Logs (Values hidden) old new held written ending =
-      LogsValues (map (λ pointer. pointer.now) hidden.items) old new held written ending
+  Logs (Lines shown) old new held written ending = LogsLines lines.Names shown.items old new held written ending
+  Logs (Values shown hidden) old new held written ending =
+      LogsValues shown.items (map (λ pointer. pointer.now) hidden.items) old new held written ending
+  Logs Json old new held written ending = LogsAs history.Json old new held written ending
   Logs Records old new held written ending = LogsAs history.Records old new held written ending

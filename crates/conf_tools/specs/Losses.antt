@@ -1,7 +1,7 @@
 -- What is told of the comments of a text that are left out.
 use Rattle.std.specs.Prelude.{◌≡◌, ◌≢◌, ◌⊎◌, codes, ℕ, List, Result, Ok, Err}
 use Rattle.conf_tools.specs.{Prelude.{Reporting, Style}, Refused.TellsFault, Styles.{TellsLeftOutOf, dash_line}, Tools.Taken}
-use Rattle.conf_tools.specs.declared.{changes.Change.Change, change_words.Meaning.Meaning, outcome.{Outcome.Outcome, Ending.Ending}}
+use Rattle.conf_tools.specs.declared.{changes.Action.Action, change_words.Meaning.Meaning, outcome.{Outcome.Outcome, Ending.Ending}}
 use Rattle.conf_tools.specs.declared.{outcome.Ending.TheVariants.{Of, Told, ToldFault}, reporter.Origin.{Origin, TheVariants.Input}}
 use Rattle.conf_tools.specs.declared.{reporter.Origin.TheVariants.Named, texts.ToolFault.ToolFault}
 use Rattle.conf_words.specs.declared.invocation.{Reporting.TheVariants.{Brief, Explained}, Style.TheVariants.{Bare, WithComments}}
@@ -47,8 +47,8 @@ module _ {E : Type 0} (hears : E → List ℕ → E → Type 0) where
   TellsDash Explained text old new =
       ((text ≡ codes "-") × hears old dash_line new) ⊎ ((text ≢ codes "-") × (new ≡ old))
 
-  -- the same of a change that sets what the bytes are, if they give one
-  abbrev pub SetTells : Reporting → Meaning → Result Change ToolFault → List ℕ → E → E → Type 0
-  SetTells reporting means.Yaml (Ok change) bytes old new = TellsLossIfAsked reporting bytes old new
-  SetTells reporting means.Text (Ok change) bytes old new = new ≡ old
+  -- the same of an action that sets what the bytes are, if they give one
+  abbrev pub SetTells : Reporting → Meaning → Result Action ToolFault → List ℕ → E → E → Type 0
+  SetTells reporting means.Yaml (Ok action) bytes old new = TellsLossIfAsked reporting bytes old new
+  SetTells reporting means.Text (Ok action) bytes old new = new ≡ old
   SetTells reporting meaning (Err fault) bytes old new = new ≡ old

@@ -47,12 +47,12 @@ module _ {W D F P : Type 0} (world : WorldModel W D F P) (disk : DiskModel D) (r
   abbrev pub DoesOnStores : Invocation → Around W → Around W → EndOfRun → Type 0
   DoesOnStores (Init folder) old new ending =
       Inits world disk folder.now old.world new.world ending × LeavesStreams old new
-  DoesOnStores (Import asked reporting) old new ending = Imports world disk remaining asked old new ending
-  DoesOnStores (Set target put reporting) old new ending =
-      Sets world disk remaining target put old.world new.world old.input new.input ending × (new.output ≡ old.output)
-  DoesOnStores (Alter target alteration) old new ending =
-      Alters world disk target alteration old.world new.world ending × LeavesStreams old new
-  DoesOnStores (Batch asked reporting) old new ending = Batches world disk remaining asked old new ending
+  DoesOnStores (Import asked about reporting) old new ending = Imports world disk remaining about asked old new ending
+  DoesOnStores (Set target put about reporting) old new ending =
+      Sets world disk remaining about target put old.world new.world old.input new.input ending × (new.output ≡ old.output)
+  DoesOnStores (Alter target alteration about) old new ending =
+      Alters world disk about target alteration old.world new.world ending × LeavesStreams old new
+  DoesOnStores (Batch asked about reporting) old new ending = Batches world disk remaining about asked old new ending
   DoesOnStores (Checkpoint folder) old new ending =
       ChangesInFolder world disk Changing folder.now [] change.Checkpoint old.world new.world ending
       × LeavesStreams old new

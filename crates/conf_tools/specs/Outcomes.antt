@@ -141,10 +141,10 @@ module _ {E : Type 0} (hears : E → List ℕ → E → Type 0) where
   -- told how many, and nothing else is told.
   abbrev pub Leaves : Invocation → E → Ending → E → Type 0
   Leaves (Init folder) old ending new = LeavesOpened old ending new
-  Leaves (Import asked reporting) old ending new = LeavesImport old ending new
-  Leaves (Set target put reporting) old ending new = LeavesSet old ending new
-  Leaves (Alter target alteration) old ending new = LeavesOpened old ending new
-  Leaves (Batch asked reporting) old ending new = LeavesBatch old ending new
+  Leaves (Import asked about reporting) old ending new = LeavesImport old ending new
+  Leaves (Set target put about reporting) old ending new = LeavesSet old ending new
+  Leaves (Alter target alteration about) old ending new = LeavesOpened old ending new
+  Leaves (Batch asked about reporting) old ending new = LeavesBatch old ending new
   Leaves (Checkpoint folder) old ending new = LeavesOpened old ending new
   Leaves (Run folder grouping) old ending new = IsUntold ending × TellsSession hears old new
   Leaves (Export folder name form) old ending new = IsUntold ending × TellsExport hears old new

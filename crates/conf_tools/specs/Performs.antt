@@ -7,15 +7,15 @@ use Rattle.conf_tools.specs.{Prelude.{Format, Check, Style, Unparsed}, Batches.{
 use Rattle.conf_tools.specs.{Backups.BacksUpStore, Keeping.{SalvagesTo, Verifies}, ConfigFiles.ExportsAll, LogWords.Logs, Tools.IsTaken}
 use Rattle.conf_tools.specs.{Tools.Taken, Edits.placed_or_not, Endings.{EndsTold, EndsWith, ending_of_import}, Outcomes.Tells}
 use Rattle.conf_tools.specs.{Outcomes.{TellsUnparsed, status_of_ending}, Statuses.{ShowsUnparsed, code_of}, declared.outcome.Ending.Ending}
-use Rattle.conf_tools.specs.declared.{changes.Change.Change, file_words.Report.TheVariants.{Findings, Name}, program.Status.Status}
-use Rattle.conf_tools.specs.declared.{program.Status.TheVariants.Done, stores.Grouping.{Grouping, TheVariants.{Single, Grouped}}}
+use Rattle.conf_tools.specs.declared.{changes.{Action.Action, Change.Change}, file_words.Report.TheVariants.{Findings, Name}}
+use Rattle.conf_tools.specs.declared.{program.Status.{Status, TheVariants.Done}, stores.Grouping.{Grouping, TheVariants.{Single, Grouped}}}
 use Rattle.conf_tools.specs.{declared.{texts.ToolFault.ToolFault, world.Access.{Access, TheVariants.{Changing, Making}}}, Worlds.Around}
 use Rattle.conf_tools.specs.{Worlds.{LeavesStreams, WorldModel}, StoreWords.{ChangesInFolder, ExportsFromFolder, Inits, MakesChange, Reads}}
 use Rattle.conf_tools.specs.{StoreWords.{RunsOnFolder, SaysDiff, SaysNames, SaysPresence, SaysValues}, DiffWords.DiffsFiles}
 use Rattle.conf_tools.specs.{Reads.pointers_of, TextWords.{ChecksRead, FormatsFile, FormatsRead, IsAlteration, IsImport, IsSet}}
 use Rattle.conf_tools.specs.TextWords.{ReportsOnAll, RestylesAll, TakesText}
 use Rattle.conf_words.specs.declared.invocation.{Grouping.Grouping as AskedGrouping, MissingStore.MissingStore, Root.Root}
-use Rattle.conf_words.specs.declared.invocation.Formatting.{Formatting}
+use Rattle.{conf_words.specs.declared.invocation.Formatting.Formatting, yaml_data.specs.declared.tree.Tree.Tree as AboutTree}
 use Rattle.conf_words.specs.declared.invocation.Formatting.TheVariants as formatting
 use Rattle.conf_words.specs.declared.invocation.Grouping.TheVariants as asked
 use Rattle.conf_words.specs.declared.invocation.MissingStore.TheVariants as missing
@@ -78,77 +78,83 @@ module _ {W D F P : Type 0} (world : WorldModel W D F P) (disk : DiskModel D) (w
     pub asks : AsksFor (chars name) (chars path) wanted conditions
     pub makes : MakesChange world disk access folder conditions change old new ending
 
-  -- the same; where there is no change to make, no folder is looked at
-  abbrev pub ChangesAt : Access → List ℕ → List ℕ → List ℕ → Result Change ToolFault → W → W → Ending → Type 0
-  ChangesAt access folder name path (Ok change) old new ending = ChangesIf access folder name path change old new ending
-  ChangesAt access folder name path (Err fault) old new ending = (new ≡ old) × EndsWith fault ending
+module _ {W D F P : Type 0} (world : WorldModel W D F P) (disk : DiskModel D) (wanted : Conditions) (about : Option AboutTree)
+  where
+    -- The action was done so, with the about. Where there is none to do, no folder is looked at.
+    abbrev pub ChangesAt : Access → List ℕ → List ℕ → List ℕ → Result Action ToolFault → W → W → Ending → Type 0
+    ChangesAt access folder name path (Ok action) old new ending =
+        ChangesIf world disk wanted access folder name path (change.Act action about) old new ending
+    ChangesAt access folder name path (Err fault) old new ending = (new ≡ old) × EndsWith fault ending
 
-  -- the change that imports these bytes was made
-  pub record ImportsBytes (root : Root) (access : Access) (folder name bytes : List ℕ) (old new : W) (ending : Ending)
-      : Type 0 where
-    pub change : Result Change ToolFault
-    pub is : IsImport root name bytes change
-    pub made : Ending
-    pub changes : ChangesAt access folder name [] change old new made
-    pub ends : ending ≡ ending_of_import made
+    -- the text of these bytes was imported
+    pub record ImportsBytes (root : Root) (access : Access) (folder name bytes : List ℕ) (old new : W) (ending : Ending)
+        : Type 0 where
+      pub action : Result Action ToolFault
+      pub is : IsImport root name bytes action
+      pub made : Ending
+      pub changes : ChangesAt access folder name [] action old new made
+      pub ends : ending ≡ ending_of_import made
 
-  -- the same of a text that was read; where none was, no folder is looked at
-  abbrev pub ImportsRead : Root → Access → List ℕ → List ℕ → Taken → W → W → Ending → Type 0
-  ImportsRead root access folder name (Ok bytes) old new ending =
-      ImportsBytes root access folder name bytes.items old new ending
-  ImportsRead root access folder name (Err fault) old new ending = (new ≡ old) × EndsWith fault ending
+    -- the same of a text that was read; where none was, no folder is looked at
+    abbrev pub ImportsRead : Root → Access → List ℕ → List ℕ → Taken → W → W → Ending → Type 0
+    ImportsRead root access folder name (Ok bytes) old new ending =
+        ImportsBytes root access folder name bytes.items old new ending
+    ImportsRead root access folder name (Err fault) old new ending = (new ≡ old) × EndsWith fault ending
 
-module _ {W D F P : Type 0} (world : WorldModel W D F P) (disk : DiskModel D) where
-  -- the change was made at a place that the words give, or there was none to make
-  abbrev pub ChangesAtTarget : Target → Result Change ToolFault → W → W → Ending → Type 0
-  ChangesAtTarget target change old new ending =
-      ChangesAt world disk target.conditions Changing target.folder.now target.name.now target.pointer.now change old new
-      ending
+module _ {W D F P : Type 0} (world : WorldModel W D F P) (disk : DiskModel D) (about : Option AboutTree) where
+  -- the action was done at a place that the words give, or there was none to do
+  abbrev pub ChangesAtTarget : Target → Result Action ToolFault → W → W → Ending → Type 0
+  ChangesAtTarget target action old new ending =
+      ChangesAt world disk target.conditions about Changing target.folder.now target.name.now target.pointer.now action
+      old new ending
 
-module _ {W D F P : Type 0} (world : WorldModel W D F P) (disk : DiskModel D) (remaining : F → Option (List ℕ)) where
-  -- `import`: a text is read, of a file or of the input for `-`, and then the change is made
+module _ {W D F P : Type 0} (world : WorldModel W D F P) (disk : DiskModel D) (remaining : F → Option (List ℕ))
+    (about : Option AboutTree) where
+  -- `import`: a text is read, of a file or of the input for `-`, and then imported
   pub record Imports (asked : AskedImport) (old new : Around W) (ending : Ending) : Type 0 where
     pub read : Taken
     pub seen : W
     pub takes : TakesText world remaining asked.file.now read old.world seen old.input new.input
-    pub imports : ImportsRead world disk asked.conditions asked.root (access_of asked.missing) asked.folder.now
+    pub imports : ImportsRead world disk asked.conditions about asked.root (access_of asked.missing) asked.folder.now
         asked.name.now read seen new.world ending
     pub output : new.output ≡ old.output
 
-  -- `set`: the value is read of a file or of the input, if the words say so, and then the change is made that puts it so
+  -- `set`: the value is read of a file or of the input, if the words say so, and then put so
   pub record Sets (target : Target) (put : Put) (old new : W) (given left : Option (List ℕ)) (ending : Ending)
       : Type 0 where
-    pub change : Result Change ToolFault
+    pub action : Result Action ToolFault
     pub seen : W
-    pub is : IsSet world remaining target.name.now target.pointer.now put.value change old seen given left
-    pub changes : ChangesAtTarget world disk target (placed_or_not put.placing change) seen new ending
+    pub is : IsSet world remaining target.name.now target.pointer.now put.value action old seen given left
+    pub changes : ChangesAtTarget world disk about target (placed_or_not put.placing action) seen new ending
 
-module _ {W D F P : Type 0} (world : WorldModel W D F P) (disk : DiskModel D) where
+module _ {W D F P : Type 0} (world : WorldModel W D F P) (disk : DiskModel D) (about : Option AboutTree) where
   -- `delete`, `copy`, `rename` and `move`
   pub record Alters (target : Target) (alteration : Alteration) (old new : W) (ending : Ending) : Type 0 where
-    pub change : Result Change ToolFault
-    pub is : IsAlteration alteration target.name.now target.pointer.now change
-    pub changes : ChangesAtTarget world disk target change old new ending
+    pub action : Result Action ToolFault
+    pub is : IsAlteration alteration target.name.now target.pointer.now action
+    pub changes : ChangesAtTarget world disk about target action old new ending
 
-module _ {W D F P : Type 0} (world : WorldModel W D F P) (disk : DiskModel D) (folder : List ℕ) (count : Option ℕ) where
+module _ {W D F P : Type 0} (world : WorldModel W D F P) (disk : DiskModel D) (about : Option AboutTree) (folder : List ℕ)
+    (count : Option ℕ) where
   -- the edits that these bytes list were made, all or none; where they list none, no folder is looked at
   pub record BatchesBytes (bytes : List ℕ) (old new : W) (ending : Ending) : Type 0 where
-    pub change : Result Change ToolFault
-    pub is : IsBatch bytes change
-    pub changes : ChangesAt world disk (counted_alone count) Changing folder [] [] change old new ending
+    pub action : Result Action ToolFault
+    pub is : IsBatch bytes action
+    pub changes : ChangesAt world disk (counted_alone count) about Changing folder [] [] action old new ending
 
   -- the same of a text that was read; where none was, no folder is looked at
   abbrev pub BatchesRead : Taken → W → W → Ending → Type 0
   BatchesRead (Ok bytes) old new ending = BatchesBytes bytes.items old new ending
   BatchesRead (Err fault) old new ending = (new ≡ old) × EndsWith fault ending
 
-module _ {W D F P : Type 0} (world : WorldModel W D F P) (disk : DiskModel D) (remaining : F → Option (List ℕ)) where
+module _ {W D F P : Type 0} (world : WorldModel W D F P) (disk : DiskModel D) (remaining : F → Option (List ℕ))
+    (about : Option AboutTree) where
   -- `batch`: a text is read, of a file or of the input for `-`, and then the edits that it lists are made
   pub record Batches (asked : AskedBatch) (old new : Around W) (ending : Ending) : Type 0 where
     pub read : Taken
     pub seen : W
     pub takes : TakesText world remaining asked.file.now read old.world seen old.input new.input
-    pub makes : BatchesRead world disk asked.folder.now asked.count read seen new.world ending
+    pub makes : BatchesRead world disk about asked.folder.now asked.count read seen new.world ending
     pub output : new.output ≡ old.output
 
 module _ {W D F P : Type 0} (world : WorldModel W D F P) (remaining : F → Option (List ℕ)) where
@@ -190,12 +196,12 @@ module _ {W D F P : Type 0} (world : WorldModel W D F P) (disk : DiskModel D) (r
   abbrev pub Does : Invocation → Around W → Around W → Ending → Type 0
   Does (Init folder) old new ending =
       Inits world disk folder.now old.world new.world ending × LeavesStreams old new
-  Does (Import asked reporting) old new ending = Imports world disk remaining asked old new ending
-  Does (Set target put reporting) old new ending =
-      Sets world disk remaining target put old.world new.world old.input new.input ending × (new.output ≡ old.output)
-  Does (Alter target alteration) old new ending =
-      Alters world disk target alteration old.world new.world ending × LeavesStreams old new
-  Does (Batch asked reporting) old new ending = Batches world disk remaining asked old new ending
+  Does (Import asked about reporting) old new ending = Imports world disk remaining about asked old new ending
+  Does (Set target put about reporting) old new ending =
+      Sets world disk remaining about target put old.world new.world old.input new.input ending × (new.output ≡ old.output)
+  Does (Alter target alteration about) old new ending =
+      Alters world disk about target alteration old.world new.world ending × LeavesStreams old new
+  Does (Batch asked about reporting) old new ending = Batches world disk remaining about asked old new ending
   Does (Checkpoint folder) old new ending =
       ChangesInFolder world disk Changing folder.now [] change.Checkpoint old.world new.world ending
       × LeavesStreams old new

@@ -1,10 +1,10 @@
--- What the words on texts do, and how a change is made ready of the text that it is given.
+-- What the words on texts do, and how an action is made ready of the text that it is given.
 use Rattle.std.specs.Prelude.{◌≡◌, ◌≢◌, ◌⊎◌, ◌<◌, ◌≤◌, ℕ, Bool, true, false, ◌==◌, if◌then◌else◌, List, [], ◌∷◌, length, Option, Some, None}
 use Rattle.std.specs.{Prelude.{Result, Ok, Err, IfOk, IfErr, IsErrAnd, OnOk, codes, string_bytes}, Str.Lossy.utf8_valid_len}
 use Rattle.conf_tools.specs.Prelude.{chars, IsUtf8, ReplaceFault, command_of, delete_at, import_as, set_at, single, text_of, Comments}
 use Rattle.conf_tools.specs.Prelude.{Style, Value, IsFirstFault, own_limits, config_limits, TooLong, NotUtf8, OutOfMemory, Tree, text}
-use Rattle.conf_tools.specs.{Prelude.{IsRead, Refuses}, declared.{change_words.Meaning.Meaning, changes.Change.Change}}
-use Rattle.conf_tools.specs.declared.{changes.Change.TheVariants.{Import, Perform, Copy, Rename, Edit}, file_texts.Restyled.Restyled}
+use Rattle.conf_tools.specs.{Prelude.{IsRead, Refuses}, declared.{change_words.Meaning.Meaning, changes.Action.Action}}
+use Rattle.conf_tools.specs.declared.{changes.Action.TheVariants.{Import, Perform, Copy, Rename, Edit}, file_texts.Restyled.Restyled}
 use Rattle.conf_tools.specs.declared.{file_texts.Restyled.TheVariants.{Same, Changed}, file_words.Report.{Report, TheVariants.Findings}}
 use Rattle.conf_tools.specs.declared.{file_words.Report.TheVariants.Name, outcome.Ending.{Ending, TheVariants.{Told, ToldFault}}}
 use Rattle.conf_tools.specs.declared.{program.Status.{Status, TheVariants.{Done, Found, Device}}, texts.ToolFault.ToolFault}
@@ -86,31 +86,31 @@ LeavesToStore Collection bytes = (fault : ReadFault) × (fault ≢ OutOfMemory) 
 abbrev pub GivesSuch : List ℕ → (Tree → Type 0) → Type 0
 GivesSuch bytes such = (tree : Tree) × IsRead bytes config_limits tree × such tree
 
--- The change imports these bytes under a name, or the mapping or the list that they give; or they are one value alone,
+-- The action imports these bytes under a name, or the mapping or the list that they give; or they are one value alone,
 -- where that is not to be imported; or memory ran out.
-abbrev pub IsImport : Root → List ℕ → List ℕ → Result Change ToolFault → Type 0
+abbrev pub IsImport : Root → List ℕ → List ℕ → Result Action ToolFault → Type 0
 IsImport root name bytes (Ok (Import kept imported)) =
     (text_of kept ≡ chars name) × (imported.now ≡ bytes) × LeavesToStore root bytes
 IsImport Collection name bytes (Ok (Perform command)) = GivesSuch bytes
     (λ tree. IsCollection tree × (command_of command ≡ single (import_as (chars name) tree)))
 IsImport Collection name bytes (Err OneValue) = GivesSuch bytes IsOneValue
-IsImport root name bytes (Ok change) = ⊥
+IsImport root name bytes (Ok action) = ⊥
 IsImport root name bytes (Err fault) = fault ≡ Read OutOfMemory
 
--- the change sets a tree at a pointer of the configuration under a name
-abbrev pub SetsAt : List ℕ → List ℕ → Tree → Change → Type 0
+-- the action sets a tree at a pointer of the configuration under a name
+abbrev pub SetsAt : List ℕ → List ℕ → Tree → Action → Type 0
 SetsAt name pointer tree (Perform command) =
     command_of command ≡ single (set_at (chars name) (chars pointer) tree)
-SetsAt name pointer tree change = ⊥
+SetsAt name pointer tree action = ⊥
 
 -- why a text can't be a value: it is too long in the one style, or memory ran out
 abbrev pub RefusesText : List ℕ → ToolFault → Type 0
 RefusesText cs (Read fault) = IsFirstFault own_limits (text cs) fault
 RefusesText cs fault = ⊥
 
--- the change sets a text
-abbrev pub SetsText : List ℕ → List ℕ → List ℕ → Result Change ToolFault → Type 0
-SetsText name pointer cs (Ok change) = SetsAt name pointer (text cs) change
+-- the action sets a text
+abbrev pub SetsText : List ℕ → List ℕ → List ℕ → Result Action ToolFault → Type 0
+SetsText name pointer cs (Ok action) = SetsAt name pointer (text cs) action
 SetsText name pointer cs (Err fault) = RefusesText cs fault
 
 -- why bytes give no value
@@ -118,10 +118,10 @@ abbrev pub RefusesBytes : List ℕ → ToolFault → Type 0
 RefusesBytes bytes (Read fault) = Refuses bytes config_limits fault
 RefusesBytes bytes fault = ⊥
 
--- the change sets what these bytes give
-abbrev pub SetsBytes : List ℕ → List ℕ → List ℕ → Result Change ToolFault → Type 0
-SetsBytes name pointer bytes (Ok change) =
-    (tree : Tree) × IsRead bytes config_limits tree × SetsAt name pointer tree change
+-- the action sets what these bytes give
+abbrev pub SetsBytes : List ℕ → List ℕ → List ℕ → Result Action ToolFault → Type 0
+SetsBytes name pointer bytes (Ok action) =
+    (tree : Tree) × IsRead bytes config_limits tree × SetsAt name pointer tree action
 SetsBytes name pointer bytes (Err fault) = RefusesBytes bytes fault
 
 -- why bytes can't be a text: there are too many, or they are not UTF-8
@@ -131,81 +131,81 @@ IsNoText bytes (Read (NotUtf8 at)) =
     (length bytes ≤ config_limits.bytes) × (IsUtf8 bytes → ⊥) × (at ≡ utf8_valid_len bytes)
 IsNoText bytes fault = ⊥
 
--- the change sets the text that these bytes are; or they are none
-abbrev pub SetsPlain : List ℕ → List ℕ → List ℕ → Result Change ToolFault → Type 0
-SetsPlain name pointer bytes change =
-    (IsUtf8 bytes × (length bytes ≤ config_limits.bytes) × SetsText name pointer (chars bytes) change)
-    ⊎ IsErrAnd change (IsNoText bytes)
+-- the action sets the text that these bytes are; or they are none
+abbrev pub SetsPlain : List ℕ → List ℕ → List ℕ → Result Action ToolFault → Type 0
+SetsPlain name pointer bytes action =
+    (IsUtf8 bytes × (length bytes ≤ config_limits.bytes) × SetsText name pointer (chars bytes) action)
+    ⊎ IsErrAnd action (IsNoText bytes)
 
--- the change sets what the bytes are
-abbrev pub SetsMeant : Meaning → List ℕ → List ℕ → List ℕ → Result Change ToolFault → Type 0
-SetsMeant means.Text name pointer bytes change = SetsPlain name pointer bytes change
-SetsMeant means.Yaml name pointer bytes change = SetsBytes name pointer bytes change
+-- the action sets what the bytes are
+abbrev pub SetsMeant : Meaning → List ℕ → List ℕ → List ℕ → Result Action ToolFault → Type 0
+SetsMeant means.Text name pointer bytes action = SetsPlain name pointer bytes action
+SetsMeant means.Yaml name pointer bytes action = SetsBytes name pointer bytes action
 
 -- the same of bytes that were read; or they were not read
-abbrev pub SetsRead : Meaning → List ℕ → List ℕ → Taken → Result Change ToolFault → Type 0
-SetsRead meaning name pointer (Ok bytes) change = SetsMeant meaning name pointer bytes.items change
-SetsRead meaning name pointer (Err fault) change = change ≡ Err fault
+abbrev pub SetsRead : Meaning → List ℕ → List ℕ → Taken → Result Action ToolFault → Type 0
+SetsRead meaning name pointer (Ok bytes) action = SetsMeant meaning name pointer bytes.items action
+SetsRead meaning name pointer (Err fault) action = action ≡ Err fault
 
--- the change sets what the input gives as a text of YAML
-pub record SetsInput (name pointer : List ℕ) (given left : Option (List ℕ)) (change : Result Change ToolFault)
+-- the action sets what the input gives as a text of YAML
+pub record SetsInput (name pointer : List ℕ) (given left : Option (List ℕ)) (action : Result Action ToolFault)
     : Type 0 where
   pub read : Taken
   pub takes : IsTaken read given left
-  pub sets : SetsRead means.Yaml name pointer read change
+  pub sets : SetsRead means.Yaml name pointer read action
 
--- the change sets what a word gives as a text of YAML, or the input for `-`
-abbrev pub SetsWord : List ℕ → List ℕ → List ℕ → Result Change ToolFault → Option (List ℕ) → Option (List ℕ) → Type 0
-SetsWord name pointer word change given left =
-    ((word ≢ codes "-") × (left ≡ given) × SetsBytes name pointer word change)
-    ⊎ ((word ≡ codes "-") × SetsInput name pointer given left change)
+-- the action sets what a word gives as a text of YAML, or the input for `-`
+abbrev pub SetsWord : List ℕ → List ℕ → List ℕ → Result Action ToolFault → Option (List ℕ) → Option (List ℕ) → Type 0
+SetsWord name pointer word action given left =
+    ((word ≢ codes "-") × (left ≡ given) × SetsBytes name pointer word action)
+    ⊎ ((word ≡ codes "-") × SetsInput name pointer given left action)
 
 module _ {W D F P : Type 0} (world : WorldModel W D F P) (remaining : F → Option (List ℕ)) where
-  -- The change sets the text of the file at a path, or of the input for `-`.
-  pub record SetsFile (name pointer path : List ℕ) (change : Result Change ToolFault) (old new : W)
+  -- The action sets the text of the file at a path, or of the input for `-`.
+  pub record SetsFile (name pointer path : List ℕ) (action : Result Action ToolFault) (old new : W)
       (given left : Option (List ℕ)) : Type 0 where
     pub read : Taken
     pub takes : TakesText world remaining path read old new given left
-    pub sets : SetsRead means.Text name pointer read change
+    pub sets : SetsRead means.Text name pointer read action
 
-  -- The change sets the value that the words give, or a file, or the input for `-`.
-  abbrev pub IsSet : List ℕ → List ℕ → Value → Result Change ToolFault → W → W → Option (List ℕ) → Option (List ℕ)
+  -- The action sets the value that the words give, or a file, or the input for `-`.
+  abbrev pub IsSet : List ℕ → List ℕ → Value → Result Action ToolFault → W → W → Option (List ℕ) → Option (List ℕ)
       → Type 0
-  IsSet name pointer (Text word) change old new given left =
-      (new ≡ old) × (left ≡ given) × SetsText name pointer (chars word.now) change
-  IsSet name pointer (Yaml word) change old new given left =
-      (new ≡ old) × SetsWord name pointer word.now change given left
-  IsSet name pointer (File path) change old new given left =
-      SetsFile name pointer path.now change old new given left
+  IsSet name pointer (Text word) action old new given left =
+      (new ≡ old) × (left ≡ given) × SetsText name pointer (chars word.now) action
+  IsSet name pointer (Yaml word) action old new given left =
+      (new ≡ old) × SetsWord name pointer word.now action given left
+  IsSet name pointer (File path) action old new given left =
+      SetsFile name pointer path.now action old new given left
 
--- the change removes what is at a pointer; or memory ran out
-abbrev pub IsDelete : List ℕ → List ℕ → Result Change ToolFault → Type 0
+-- the action removes what is at a pointer; or memory ran out
+abbrev pub IsDelete : List ℕ → List ℕ → Result Action ToolFault → Type 0
 IsDelete name pointer (Ok (Perform command)) =
     command_of command ≡ single (delete_at (chars name) (chars pointer))
-IsDelete name pointer (Ok change) = ⊥
+IsDelete name pointer (Ok action) = ⊥
 IsDelete name pointer (Err fault) = fault ≡ Read OutOfMemory
 
--- the change copies what is under a name to another one; or memory ran out
-abbrev pub IsCopy : List ℕ → List ℕ → Result Change ToolFault → Type 0
+-- the action copies what is under a name to another one; or memory ran out
+abbrev pub IsCopy : List ℕ → List ℕ → Result Action ToolFault → Type 0
 IsCopy name to (Ok (Copy kept other)) = (text_of kept ≡ chars name) × (text_of other ≡ chars to)
-IsCopy name to (Ok change) = ⊥
+IsCopy name to (Ok action) = ⊥
 IsCopy name to (Err fault) = fault ≡ Read OutOfMemory
 
--- the change gives what is under a name another one; or memory ran out
-abbrev pub IsRename : List ℕ → List ℕ → Result Change ToolFault → Type 0
+-- the action gives what is under a name another one; or memory ran out
+abbrev pub IsRename : List ℕ → List ℕ → Result Action ToolFault → Type 0
 IsRename name to (Ok (Rename kept other)) = (text_of kept ≡ chars name) × (text_of other ≡ chars to)
-IsRename name to (Ok change) = ⊥
+IsRename name to (Ok action) = ⊥
 IsRename name to (Err fault) = fault ≡ Read OutOfMemory
 
--- the change moves what is at a pointer of the configuration under a name to another pointer; or memory ran out
-abbrev pub IsMove : List ℕ → List ℕ → List ℕ → Result Change ToolFault → Type 0
+-- the action moves what is at a pointer of the configuration under a name to another pointer; or memory ran out
+abbrev pub IsMove : List ℕ → List ℕ → List ℕ → Result Action ToolFault → Type 0
 IsMove name from to (Ok (Edit kept (Move first last))) =
     (text_of kept ≡ chars name) × (text_of first ≡ chars from) × (text_of last ≡ chars to)
-IsMove name from to (Ok change) = ⊥
+IsMove name from to (Ok action) = ⊥
 IsMove name from to (Err fault) = fault ≡ Read OutOfMemory
 
--- the change alters what is under a name, at a pointer; or memory ran out
-abbrev pub IsAlteration : Alteration → List ℕ → List ℕ → Result Change ToolFault → Type 0
+-- the action alters what is under a name, at a pointer; or memory ran out
+abbrev pub IsAlteration : Alteration → List ℕ → List ℕ → Result Action ToolFault → Type 0
 IsAlteration alteration.Delete name pointer = IsDelete name pointer
 IsAlteration (alteration.Copy from) name pointer = IsCopy from.now name
 IsAlteration (alteration.Rename from) name pointer = IsRename from.now name

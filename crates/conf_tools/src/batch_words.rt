@@ -6,13 +6,14 @@ ghost use Rattle.conf_tools.specs.Outcomes.{LeavesBatch};
 ghost use Rattle.conf_tools.specs.Performs.{BatchesBytes, BatchesRead};
 
 use crate::change_words::change_if;
-use crate::changes::Change;
+use crate::changes::{Action, Change};
 use crate::file_words::tell_cause;
 use crate::listener::Listener;
 use crate::outcome::Ending;
 use crate::reporter::{Origin, Reporter};
 use crate::texts::ToolFault;
 use crate::world::{Access, World};
+use conf_about::About;
 use conf_session::{EditsFault, read_edits};
 use conf_state::{Command, Edit};
 use conf_words::{Batch, Conditions, Target, Wanted};
@@ -26,15 +27,16 @@ pub(crate) fn batch_text<A: World, E: Listener>(
     world: &mut A,
     reporter: Reporter,
     asked: Batch<'_>,
+    about: Option<About>,
     read: Result<Vec<u8>, ToolFault>,
     errors: &mut E,
 ) -> Ending<'static>
-    ensures makes { BatchesRead A.model A.Disk.model asked.entry.folder.now asked.entry.count read
+    ensures makes { BatchesRead A.model A.Disk.model about asked.entry.folder.now asked.entry.count read
         world.old world.new result }
     ensures leaves { LeavesBatch E.hears errors.old result errors.new }
 {
     match read {
-        Ok(text) => batch_bytes(world, reporter, asked, &text, errors),
+        Ok(text) => batch_bytes(world, reporter, asked, about, &text, errors),
         Err(fault) => {
             reporter.tell_fault(errors, Origin::Named(asked.file), b"", fault);
             tell_cause(world, reporter.alloc, asked.file, errors);
@@ -48,10 +50,11 @@ fn batch_bytes<A: World, E: Listener>(
     world: &mut A,
     reporter: Reporter,
     asked: Batch<'_>,
+    about: Option<About>,
     text: &[u8],
     errors: &mut E,
 ) -> Ending<'static>
-    ensures makes { BatchesBytes A.model A.Disk.model asked.entry.folder.now asked.entry.count text.now
+    ensures makes { BatchesBytes A.model A.Disk.model about asked.entry.folder.now asked.entry.count text.now
         world.old world.new result }
     ensures leaves { LeavesBatch E.hears errors.old result errors.new }
 {
@@ -62,8 +65,8 @@ fn batch_bytes<A: World, E: Listener>(
         conditions: conditions_of(asked.count),
     };
     match batch_of(reporter.alloc, text) {
-        Ok(change) => {
-            let access = Access::Changing;
+        Ok(action) => {
+            let (access, change) = (Access::Changing, Change::Act { action, about });
             Ending::Of(change_if(world, reporter.alloc, access, place, change, errors))
         }
         Err(fault) => {
@@ -83,12 +86,12 @@ fn conditions_of(count: Option<u64>) -> Conditions<'static>
     }
 }
 
-/// The change that makes the edits which a text lists, or why it lists none.
-fn batch_of(alloc: Global, text: &[u8]) -> Result<Change<'static>, ToolFault>
+/// The action that makes the edits which a text lists, or why it lists none.
+fn batch_of(alloc: Global, text: &[u8]) -> Result<Action<'static>, ToolFault>
     ensures { IsBatch text.now result }
 {
     match read_edits(alloc, text) {
-        Ok(edits) => Ok(batch_change(edits)),
+        Ok(edits) => Ok(batch_action(edits)),
         Err(fault) => Err(fault_of_edits(fault)),
     }
 }
@@ -104,9 +107,9 @@ fn fault_of_edits(fault: EditsFault) -> ToolFault
     }
 }
 
-/// The change that makes these edits.
-fn batch_change(edits: Vec<Edit>) -> Change<'static>
+/// The action that makes these edits.
+fn batch_action(edits: Vec<Edit>) -> Action<'static>
     ensures { MakesEdits (map edit_of edits.items) result }
 {
-    Change::Perform(Command::Batch { edits })
+    Action::Perform(Command::Batch { edits })
 }

@@ -15,7 +15,7 @@ ghost use Rattle.conf_tools.specs.TextWords.{IsAlteration, IsCollection, IsImpor
 ghost use Rattle.conf_tools.specs.declared.outcome.Ending.TheVariants.{Of};
 
 use crate::asking::conditions_at;
-use crate::changes::{Change, change_store, make_store};
+use crate::changes::{Action, Change, change_store, make_store};
 use crate::edits::{TreeEdit, placed};
 use crate::file_words::{read_named, tell_cause, tell_cause_of};
 use crate::listener::Listener;
@@ -25,6 +25,7 @@ use crate::stores::StoreToolFault;
 use crate::styles::tell_left_out;
 use crate::texts::{MOST_INPUT, ToolFault, read_text};
 use crate::world::{Access, World};
+use conf_about::About;
 use conf_conditions::Condition;
 use conf_state::{Command, StoreFault};
 use conf_words::{
@@ -105,16 +106,17 @@ pub(crate) fn import_text<A: World, E: Listener>(
     world: &mut A,
     reporter: Reporter,
     asked: Import<'_>,
+    about: Option<About>,
     read: Result<Vec<u8>, ToolFault>,
     errors: &mut E,
 ) -> Ending<'static>
-    ensures imports { ImportsRead A.model A.Disk.model asked.entry.conditions asked.entry.root
+    ensures imports { ImportsRead A.model A.Disk.model asked.entry.conditions about asked.entry.root
         (access_of asked.entry.missing) asked.entry.folder.now asked.entry.name.now read world.old world.new
         result }
     ensures leaves { LeavesImport E.hears errors.old result errors.new }
 {
     match read {
-        Ok(text) => import_bytes(world, reporter, asked, &text, errors),
+        Ok(text) => import_bytes(world, reporter, asked, about, &text, errors),
         Err(fault) => {
             reporter.tell_fault(errors, Origin::Named(asked.file), b"", fault);
             tell_cause(world, reporter.alloc, asked.file, errors);
@@ -128,10 +130,11 @@ fn import_bytes<A: World, E: Listener>(
     world: &mut A,
     reporter: Reporter,
     asked: Import<'_>,
+    about: Option<About>,
     text: &[u8],
     errors: &mut E,
 ) -> Ending<'static>
-    ensures imports { ImportsBytes A.model A.Disk.model asked.entry.conditions asked.entry.root
+    ensures imports { ImportsBytes A.model A.Disk.model asked.entry.conditions about asked.entry.root
         (access_of asked.entry.missing) asked.entry.folder.now asked.entry.name.now text.now world.old world.new
         result }
     ensures leaves { LeavesImport E.hears errors.old result errors.new }
@@ -144,7 +147,8 @@ fn import_bytes<A: World, E: Listener>(
     };
     let access = access_of(asked.missing);
     match import_of(reporter.alloc, asked.root, asked.name, text) {
-        Ok(change) => {
+        Ok(action) => {
+            let change = Change::Act { action, about };
             let ended = change_if(world, reporter.alloc, access, place, change, errors);
             tell_import(reporter, errors, asked.file, text, ended)
         }
@@ -165,7 +169,7 @@ fn access_of(missing: MissingStore) -> Access
     }
 }
 
-/// The change that imports a text under a name, if it may be imported.
+/// The action that imports a text under a name, if it may be imported.
 ///
 /// # Errors
 /// `OneValue` if the text is one value alone, and a mapping or a list is wanted. It fails also if memory runs out.
@@ -174,11 +178,11 @@ fn import_of<'t>(
     root: Root,
     name: &str,
     text: &'t [u8],
-) -> Result<Change<'t>, ToolFault>
+) -> Result<Action<'t>, ToolFault>
     ensures { IsImport root name.now text.now result }
 {
     match root {
-        Root::Any => Ok(Change::Import {
+        Root::Any => Ok(Action::Import {
             name: String::from_str(alloc, name)?,
             text,
         }),
@@ -186,19 +190,19 @@ fn import_of<'t>(
     }
 }
 
-/// The change that imports the mapping or the list that a text gives. A text that gives no tree is left to the store to
+/// The action that imports the mapping or the list that a text gives. A text that gives no tree is left to the store to
 /// refuse, once it is open and what is wanted holds.
 ///
 /// # Errors
 /// `OneValue` if the text is one value alone. It fails also if memory runs out.
-fn import_collection<'t>(alloc: Global, name: &str, text: &'t [u8]) -> Result<Change<'t>, ToolFault>
+fn import_collection<'t>(alloc: Global, name: &str, text: &'t [u8]) -> Result<Action<'t>, ToolFault>
     ensures { IsImport Root.Collection name.now text.now result }
 {
     let tree = match read_one(alloc, text, &Limits::CONFIGURATION) {
         Ok(tree) => tree,
         Err(ReadFault::OutOfMemory) => return Err(ToolFault::Read(ReadFault::OutOfMemory)),
         Err(_) => {
-            return Ok(Change::Import {
+            return Ok(Action::Import {
                 name: String::from_str(alloc, name)?,
                 text,
             });
@@ -207,7 +211,7 @@ fn import_collection<'t>(alloc: Global, name: &str, text: &'t [u8]) -> Result<Ch
     if is_one_value(tree.tree()) {
         return Err(ToolFault::OneValue);
     }
-    Ok(Change::Perform(Command::Import {
+    Ok(Action::Perform(Command::Import {
         name: String::from_str(alloc, name)?,
         tree,
     }))
@@ -267,24 +271,25 @@ pub(crate) fn set_at<A: World, R: Read, E: Listener>(
     reporter: Reporter,
     target: Target<'_>,
     put: Put<'_>,
+    about: Option<About>,
     input: &mut R,
     errors: &mut E,
 ) -> Ending<'static>
-    ensures sets { Sets A.model A.Disk.model A.File.remaining target.entry put.entry
+    ensures sets { Sets A.model A.Disk.model A.File.remaining about target.entry put.entry
         world.old world.new (R.remaining input.old) (R.remaining input.new) result }
     ensures leaves { LeavesSet E.hears errors.old result errors.new }
 {
     match set_of(world, reporter, target, put.value, input, errors) {
         Ok(set) => {
-            let access = Access::Changing;
-            let change = placed(put.placing, set);
+            let action = placed(put.placing, set);
+            let (access, change) = (Access::Changing, Change::Act { action, about });
             Ending::Of(change_if(world, reporter.alloc, access, target, change, errors))
         }
         Err(fault) => Ending::ToldFault(fault),
     }
 }
 
-/// The change that sets a value, which may be given by a file or by `input`, at a place of a configuration. If there is
+/// The action that sets a value, which may be given by a file or by `input`, at a place of a configuration. If there is
 /// none, why is written. If reports explain, how many comments of a YAML text were left out is told, and that a
 /// text is `-` itself.
 ///
@@ -297,7 +302,7 @@ fn set_of<A: World, R: Read, E: Listener>(
     value: Value<'_>,
     input: &mut R,
     errors: &mut E,
-) -> Result<Change<'static>, ToolFault>
+) -> Result<Action<'static>, ToolFault>
     ensures sets { IsSet A.model A.File.remaining place.entry.name.now place.entry.pointer.now value.entry result
         world.old world.new (R.remaining input.old) (R.remaining input.new) }
     ensures told { OnOk result (TellsOfValue E.hears errors.old errors.new) }
@@ -305,10 +310,10 @@ fn set_of<A: World, R: Read, E: Listener>(
 {
     match value {
         Value::Text(text) => {
-            let change = set_text(reporter.alloc, place.name, place.pointer, text);
-            reporter.tell(errors, Origin::Input, b"", &change);
-            tell_dash_of(reporter, errors, text, &change);
-            change
+            let action = set_text(reporter.alloc, place.name, place.pointer, text);
+            reporter.tell(errors, Origin::Input, b"", &action);
+            tell_dash_of(reporter, errors, text, &action);
+            action
         }
         Value::Yaml(word) => set_word(reporter, place, word, input, errors),
         Value::File(file) => {
@@ -318,9 +323,9 @@ fn set_of<A: World, R: Read, E: Listener>(
                 unread: Origin::Named(file),
                 meaning: Meaning::Text,
             };
-            let change = set_read(reporter, place, source, read, errors);
-            tell_cause_of(world, reporter.alloc, file, &change, errors);
-            change
+            let action = set_read(reporter, place, source, read, errors);
+            tell_cause_of(world, reporter.alloc, file, &action, errors);
+            action
         }
     }
 }
@@ -330,12 +335,12 @@ fn tell_dash_of<E: Listener>(
     reporter: Reporter,
     errors: &mut E,
     text: &str,
-    change: &Result<Change<'static>, ToolFault>,
+    action: &Result<Action<'static>, ToolFault>,
 )
-    ensures told { OnOk change.now (TellsDash E.hears reporter.reporting text.now errors.old errors.new) }
-    ensures same { OnErr change.now (errors.new ≡ errors.old) }
+    ensures told { OnOk action.now (TellsDash E.hears reporter.reporting text.now errors.old errors.new) }
+    ensures same { OnErr action.now (errors.new ≡ errors.old) }
 {
-    match (change, reporter.reporting) {
+    match (action, reporter.reporting) {
         (Ok(_), Reporting::Explained) => tell_dash(errors, text),
         _ => {}
     }
@@ -350,30 +355,30 @@ fn tell_dash<E: Listener>(errors: &mut E, text: &str)
     }
 }
 
-/// The change that sets what the bytes of a source are, if they were read.
+/// The action that sets what the bytes of a source are, if they were read.
 fn set_read<E: Listener>(
     reporter: Reporter,
     place: Target<'_>,
     source: Source<'_>,
     read: Result<Vec<u8>, ToolFault>,
     errors: &mut E,
-) -> Result<Change<'static>, ToolFault>
+) -> Result<Action<'static>, ToolFault>
     ensures sets { SetsRead source.entry.meaning place.entry.name.now place.entry.pointer.now read result }
     ensures told { OnOk result (TellsLeftOut E.hears errors.old errors.new) }
     ensures refused { IfErr result (TellsFault E.hears errors.old) }
 {
     match read {
         Ok(bytes) => {
-            let change = set_bytes(
+            let action = set_bytes(
                 reporter.alloc,
                 place.name,
                 place.pointer,
                 source.meaning,
                 &bytes,
             );
-            reporter.tell(errors, Origin::Named(source.file), &bytes, &change);
-            tell_loss_of(reporter, errors, source.meaning, &bytes, &change);
-            change
+            reporter.tell(errors, Origin::Named(source.file), &bytes, &action);
+            tell_loss_of(reporter, errors, source.meaning, &bytes, &action);
+            action
         }
         Err(fault) => {
             reporter.tell_fault(errors, source.unread, b"", fault);
@@ -382,17 +387,17 @@ fn set_read<E: Listener>(
     }
 }
 
-/// Tells how many comments were left out of the bytes that a change sets, if they are a YAML text and reports explain.
+/// Tells how many comments were left out of the bytes that an action sets, if they are a YAML text and reports explain.
 fn tell_loss_of<E: Listener>(
     reporter: Reporter,
     errors: &mut E,
     meaning: Meaning,
     bytes: &[u8],
-    change: &Result<Change<'static>, ToolFault>,
+    action: &Result<Action<'static>, ToolFault>,
 )
-    ensures { SetTells E.hears reporter.reporting meaning change.now bytes.now errors.old errors.new }
+    ensures { SetTells E.hears reporter.reporting meaning action.now bytes.now errors.old errors.new }
 {
-    match change {
+    match action {
         Ok(_) => match meaning {
             Meaning::Text => {}
             Meaning::Yaml => tell_loss(reporter, errors, bytes),
@@ -401,14 +406,14 @@ fn tell_loss_of<E: Listener>(
     }
 }
 
-/// The change that sets what these bytes are.
+/// The action that sets what these bytes are.
 fn set_bytes(
     alloc: Global,
     name: &str,
     pointer: &str,
     meaning: Meaning,
     bytes: &[u8],
-) -> Result<Change<'static>, ToolFault>
+) -> Result<Action<'static>, ToolFault>
     ensures { SetsMeant meaning name.now pointer.now bytes.now result }
 {
     match meaning {
@@ -417,13 +422,13 @@ fn set_bytes(
     }
 }
 
-/// The change that sets the text that these bytes are.
+/// The action that sets the text that these bytes are.
 fn set_plain(
     alloc: Global,
     name: &str,
     pointer: &str,
     bytes: &[u8],
-) -> Result<Change<'static>, ToolFault>
+) -> Result<Action<'static>, ToolFault>
     ensures { SetsPlain name.now pointer.now bytes.now result }
 {
     match plain_text(bytes) {
@@ -452,14 +457,14 @@ fn plain_text(bytes: &[u8]) -> Result<&str, ToolFault>
     }
 }
 
-/// The change that sets what a word gives as a YAML text, or `input` if the word is `-`.
+/// The action that sets what a word gives as a YAML text, or `input` if the word is `-`.
 fn set_word<R: Read, E: Listener>(
     reporter: Reporter,
     place: Target<'_>,
     word: &str,
     input: &mut R,
     errors: &mut E,
-) -> Result<Change<'static>, ToolFault>
+) -> Result<Action<'static>, ToolFault>
     ensures sets { SetsWord place.entry.name.now place.entry.pointer.now word.now result
         (R.remaining input.old) (R.remaining input.new) }
     ensures told { OnOk result (TellsLeftOut E.hears errors.old errors.new) }
@@ -474,32 +479,32 @@ fn set_word<R: Read, E: Listener>(
         };
         return set_read(reporter, place, source, read, errors);
     }
-    let change = set_yaml(reporter.alloc, place.name, place.pointer, word.as_bytes());
-    reporter.tell(errors, Origin::Named(VALUE), word.as_bytes(), &change);
-    tell_loss_of(reporter, errors, Meaning::Yaml, word.as_bytes(), &change);
-    change
+    let action = set_yaml(reporter.alloc, place.name, place.pointer, word.as_bytes());
+    reporter.tell(errors, Origin::Named(VALUE), word.as_bytes(), &action);
+    tell_loss_of(reporter, errors, Meaning::Yaml, word.as_bytes(), &action);
+    action
 }
 
-/// The change that sets a text at a place of a configuration.
+/// The action that sets a text at a place of a configuration.
 fn set_text(
     alloc: Global,
     name: &str,
     pointer: &str,
     text: &str,
-) -> Result<Change<'static>, ToolFault>
+) -> Result<Action<'static>, ToolFault>
     ensures { SetsText name.now pointer.now (chars text.now) result }
 {
     let value = text_value(alloc, text)?;
     Ok(set_command(alloc, name, pointer, value)?)
 }
 
-/// The change that sets what the bytes of a YAML text give.
+/// The action that sets what the bytes of a YAML text give.
 fn set_yaml(
     alloc: Global,
     name: &str,
     pointer: &str,
     bytes: &[u8],
-) -> Result<Change<'static>, ToolFault>
+) -> Result<Action<'static>, ToolFault>
     ensures { SetsBytes name.now pointer.now bytes.now result }
 {
     let value = match read_one(alloc, bytes, &Limits::CONFIGURATION) {
@@ -509,16 +514,16 @@ fn set_yaml(
     Ok(set_command(alloc, name, pointer, value)?)
 }
 
-/// The change that sets a value at a place of a configuration. It fails only if memory runs out.
+/// The action that sets a value at a place of a configuration. It fails only if memory runs out.
 fn set_command(
     alloc: Global,
     name: &str,
     pointer: &str,
     value: Config,
-) -> Result<Change<'static>, AllocError>
+) -> Result<Action<'static>, AllocError>
     ensures { IfOk result (SetsAt name.now pointer.now (tree_of value)) }
 {
-    Ok(Change::Perform(Command::Set {
+    Ok(Action::Perform(Command::Set {
         name: String::from_str(alloc, name)?,
         path: String::from_str(alloc, pointer)?,
         value,
@@ -531,40 +536,44 @@ pub(crate) fn alter<A: World, E: Listener>(
     alloc: Global,
     target: Target<'_>,
     alteration: Alteration<'_>,
+    about: Option<About>,
     errors: &mut E,
 ) -> Outcome<'static>
-    ensures makes { Alters A.model A.Disk.model target.entry alteration.entry world.old world.new (Of result) }
+    ensures makes { Alters A.model A.Disk.model about target.entry alteration.entry world.old world.new (Of result) }
     ensures told { TellsDropped E.hears errors.old errors.new }
 {
-    match alter_change(alloc, target.name, target.pointer, alteration) {
-        Ok(change) => change_if(world, alloc, Access::Changing, target, change, errors),
+    match alteration_of(alloc, target.name, target.pointer, alteration) {
+        Ok(action) => {
+            let change = Change::Act { action, about };
+            change_if(world, alloc, Access::Changing, target, change, errors)
+        }
         Err(fault) => Outcome::Text(fault),
     }
 }
 
-/// The change that alters what is at a place of a configuration so. It fails only if memory runs out.
-fn alter_change(
+/// The action that alters what is at a place of a configuration so. It fails only if memory runs out.
+fn alteration_of(
     alloc: Global,
     name: &str,
     pointer: &str,
     alteration: Alteration<'_>,
-) -> Result<Change<'static>, ToolFault>
+) -> Result<Action<'static>, ToolFault>
     ensures { IsAlteration alteration.entry name.now pointer.now result }
 {
     match alteration {
-        Alteration::Delete => Ok(Change::Perform(Command::Delete {
+        Alteration::Delete => Ok(Action::Perform(Command::Delete {
             name: String::from_str(alloc, name)?,
             path: String::from_str(alloc, pointer)?,
         })),
-        Alteration::Copy { from } => Ok(Change::Copy {
+        Alteration::Copy { from } => Ok(Action::Copy {
             name: String::from_str(alloc, from)?,
             to: String::from_str(alloc, name)?,
         }),
-        Alteration::Rename { from } => Ok(Change::Rename {
+        Alteration::Rename { from } => Ok(Action::Rename {
             name: String::from_str(alloc, from)?,
             to: String::from_str(alloc, name)?,
         }),
-        Alteration::Move { from } => Ok(Change::Edit {
+        Alteration::Move { from } => Ok(Action::Edit {
             name: String::from_str(alloc, name)?,
             edit: TreeEdit::Move {
                 from: String::from_str(alloc, from)?,

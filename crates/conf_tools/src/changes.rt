@@ -3,7 +3,8 @@ ghost use Rattle.std.specs.Prelude.{◌≡◌, ◌≢◌, ◌≤◌, ◌⊎◌, 
 ghost use Rattle.conf_tools.specs.Prelude.{chars, tree_of, conditions_of, LeavesOnly, command_of, text_of};
 ghost use Rattle.conf_tools.specs.Prelude.{Accepts, RefusesCommand, tree_named, AppendsRecord, DeviceHasCause};
 ghost use Rattle.conf_tools.specs.Prelude.{FailuresNeverFall, store_file, store_note, AllImagesMean, HasFlushed, MeantAtEntry};
-ghost use Rattle.conf_tools.specs.Changes.{CannotChange, CannotMake, ChangesOn, ChangeSurvives, IsMadeOf, LacksTree, MakesStore, Makes, MeansOneOf, ReadsChanged, RefusesChange, copies, moves, renames};
+ghost use Rattle.conf_tools.specs.Changes.{CannotChange, CannotMake, ChangesOn, ChangeSurvives, Gives, GivesNone, IsMadeOf, LacksTree, MakesStore, Makes, MeansOneOf, ReadsChanged, RefusesChange, copies, moves, renames, with_about, without_about};
+ghost use Rattle.conf_state.specs.Commands.{command_with};
 ghost use Rattle.yaml_grammar.specs.Texts.{same_text};
 ghost use Rattle.conf_tools.specs.Dropped.{HasNoRest, TellsDropped, TellsDroppedOf};
 ghost use Rattle.conf_tools.specs.Exports.{disk_handed_back};
@@ -13,19 +14,32 @@ use crate::dropped::open_told;
 use crate::edits::{TreeEdit, edit_command};
 use crate::listener::Listener;
 use crate::stores::StoreToolFault;
+use conf_about::About;
 use conf_conditions::{Condition, check};
 use conf_disk::{Content, Disk, DiskFault, Name};
-use conf_state::{Command, Edit, StoreFault, steps_are_counted_or_refused};
-use conf_store::{OpenFault, Store, one_state_is_flushed};
+use conf_state::{Command, Edit, Edits, StoreFault, steps_are_counted_or_refused};
+use conf_store::{OpenFault, Store, import_command, one_state_is_flushed};
 use std::alloc::{AllocError, Global};
 use yaml_config::Config;
 
 /// One change of a store.
 #[derive(Drop)]
 pub enum Change<'t> {
-    /// Reads a text, and puts its tree under a name, as [`Store::import`].
+    /// Performs the command of an action. If there is an about, the command has that one: who makes it, when and why.
+    Act {
+        action: Action<'t>,
+        about: Option<About>,
+    },
+    /// Makes the file as short as a base of the state, as [`Store::checkpoint`].
+    Checkpoint,
+}
+
+/// What a change does, as one command.
+#[derive(Drop)]
+pub enum Action<'t> {
+    /// Reads a text, and puts its tree under a name.
     Import { name: String, text: &'t [u8] },
-    /// Performs a command, as [`Store::apply`].
+    /// Performs this command.
     Perform(Command),
     /// Puts a copy of the configuration under `name` under the name `to`, in place of one that is there: an import.
     Copy { name: String, to: String },
@@ -34,16 +48,12 @@ pub enum Change<'t> {
     Rename { name: String, to: String },
     /// Makes an edit of the configuration under `name`.
     Edit { name: String, edit: TreeEdit },
-    /// Makes the file as short as a base of the state, as [`Store::checkpoint`].
-    Checkpoint,
 }
 
 /// Makes a change of an open store.
 ///
 /// # Errors
-/// Those of the call of the store. For a copy, a rename or an edit `BadName` and `NoConfig` also if there is no
-/// configuration to take; for an edit `TooDeep` and `ConfigLarge` also if no configuration has the value to set. Each
-/// but `Device` leaves the store and the disk as they were.
+/// Those of [`command_for`] and of the call of the store. Each but `Device` leaves the store and the disk as they were.
 fn make<D: Disk>(alloc: Global, store: &mut Store<D>, change: Change<'_>) -> Result<(), StoreFault>
     ensures reopen { IsErrOf result StoreFault.Reopen ↔ (store.old.reopen ≡ true) }
     ensures ok { OnOk result (Makes store.old change.entry store.new) }
@@ -67,24 +77,60 @@ fn make<D: Disk>(alloc: Global, store: &mut Store<D>, change: Change<'_>) -> Res
         return Err(StoreFault::Reopen);
     }
     match change {
-        Change::Import { name, text } => match store.import(&name, text) {
-            Ok(_) => Ok(()),
-            Err(fault) => Err(fault),
-        },
-        Change::Perform(command) => perform(store, command),
-        Change::Copy { name, to } => match copy_command(alloc, store, name, to) {
-            Ok(command) => perform(store, command),
-            Err(fault) => Err(fault),
-        },
-        Change::Rename { name, to } => match rename_command(alloc, store, name, to) {
-            Ok(command) => perform(store, command),
-            Err(fault) => Err(fault),
-        },
-        Change::Edit { name, edit } => match edit_command(alloc, store, name, edit) {
-            Ok(command) => perform(store, command),
+        Change::Act { action, about } => match command_for(alloc, store, action) {
+            Ok(command) => perform(store, with_about(command, about)),
             Err(fault) => Err(fault),
         },
         Change::Checkpoint => store.checkpoint(),
+    }
+}
+
+/// The command of an action on an open store.
+///
+/// # Errors
+/// Why there is none: for an import those of [`import_command`]; for a copy, a rename or an edit `BadName` and
+/// `NoConfig` if there is no configuration to take; for an edit `TooDeep` and `ConfigLarge` if no configuration has the
+/// value to set; and `OutOfMemory`.
+fn command_for<D: Disk>(
+    alloc: Global,
+    store: &Store<D>,
+    action: Action<'_>,
+) -> Result<Command, StoreFault>
+    ensures ok { IfOk result (λ command. Gives store.now.state action.entry (command_of command)) }
+    ensures refused { IfErr result (GivesNone store.now.state action.entry) }
+{
+    match action {
+        Action::Import { name, text } => import_command(alloc, &name, text),
+        Action::Perform(command) => Ok(command),
+        Action::Copy { name, to } => copy_command(alloc, store, name, to),
+        Action::Rename { name, to } => rename_command(alloc, store, name, to),
+        Action::Edit { name, edit } => edit_command(alloc, store, name, edit),
+    }
+}
+
+/// The command with an about, if there is one, in the place of its own.
+fn with_about(command: Command, about: Option<About>) -> Command
+    ensures { command_of result ≡ with_about about (command_of command) }
+{
+    match about {
+        Some(about) => Command::Noted {
+            edits: edits_of(command),
+            about,
+        },
+        None => command,
+    }
+}
+
+/// The edits of a command.
+fn edits_of(command: Command) -> Edits
+    ensures { command_with result ≡ without_about (command_of command) }
+{
+    match command {
+        Command::Import { name, tree } => Edits::Single(Edit::Import { name, tree }),
+        Command::Set { name, path, value } => Edits::Single(Edit::Set { name, path, value }),
+        Command::Delete { name, path } => Edits::Single(Edit::Delete { name, path }),
+        Command::Batch { edits } => Edits::Batch(edits),
+        Command::Noted { edits, .. } => edits,
     }
 }
 

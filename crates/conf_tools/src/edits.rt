@@ -6,7 +6,7 @@ ghost use Rattle.conf_tools.specs.Prelude.{command_of, text_of, tree_of};
 ghost use Rattle.tree_edits.specs.Changes.{set_of};
 ghost use Rattle.tree_edits.specs.Moves.{goes, move_of};
 
-use crate::changes::Change;
+use crate::changes::Action;
 use conf_disk::Disk;
 use conf_state::{Command, Edit, StoreFault};
 use conf_store::Store;
@@ -137,18 +137,18 @@ fn move_batch(
     Ok(Command::Batch { edits })
 }
 
-/// The change that puts the value of a set so.
-pub(crate) fn placed(placing: Placing, set: Change<'static>) -> Change<'static>
+/// The action that puts the value of a set so.
+pub(crate) fn placed(placing: Placing, set: Action<'static>) -> Action<'static>
     ensures { result ≡ placed placing set.entry }
 {
     match (placing, set) {
-        (Placing::WithParents, Change::Perform(Command::Set { name, path, value })) =>
-            Change::Edit {
+        (Placing::WithParents, Action::Perform(Command::Set { name, path, value })) =>
+            Action::Edit {
                 name,
                 edit: TreeEdit::WithParents { path, value },
             },
-        (Placing::BeforeElement, Change::Perform(Command::Set { name, path, value })) => {
-            Change::Edit {
+        (Placing::BeforeElement, Action::Perform(Command::Set { name, path, value })) => {
+            Action::Edit {
                 name,
                 edit: TreeEdit::Insert { path, value },
             }

@@ -50,7 +50,7 @@ mod texts;
 mod waiting;
 mod world;
 
-pub use changes::{Change, change_store, make_store};
+pub use changes::{Action, Change, change_store, make_store};
 pub use conf_conditions::ConditionFault;
 pub use conf_words::{Place, Places, Span};
 pub use diffs::{DiffRequest, Sameness, write_diff};

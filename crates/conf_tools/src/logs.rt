@@ -1,7 +1,7 @@
 // The word of the program that writes the commands of a store.
 ghost use Rattle.std.specs.Prelude.{◌≡◌, ℕ, List, Ok, map};
 ghost use Rattle.tree_hidden.specs.Pointers.{owned_paths, paths_or};
-ghost use Rattle.conf_tools.specs.LogWords.{Hides, Logs, LogsAs, LogsValues, fault_of_pointer};
+ghost use Rattle.conf_tools.specs.LogWords.{Hides, Logs, LogsAs, LogsLines, LogsValues, fault_of_pointer};
 ghost use Rattle.conf_tools.specs.declared.outcome.Ending.TheVariants.{Of};
 
 use crate::outcome::Outcome;
@@ -31,12 +31,22 @@ pub(crate) fn log_folder<'w, A: World, W: Write>(
         (W.contents output.old) (W.contents output.new) (Of result) }
 {
     match asked {
-        conf_words::LogForm::Lines => {
-            let form = LogForm::Lines(LineForm::Names);
-            log_as(world, alloc, folder, commands, form, output)
+        conf_words::LogForm::Lines { shown } => {
+            log_lines(
+                world,
+                alloc,
+                folder,
+                commands,
+                LineForm::Names,
+                &shown,
+                output,
+            )
         }
-        conf_words::LogForm::Values { hidden } => {
-            log_values(world, alloc, folder, commands, &hidden, output)
+        conf_words::LogForm::Values { shown, hidden } => {
+            log_values(world, alloc, folder, commands, &shown, &hidden, output)
+        }
+        conf_words::LogForm::Json => {
+            log_as(world, alloc, folder, commands, LogForm::Json, output)
         }
         conf_words::LogForm::Records => {
             log_as(world, alloc, folder, commands, LogForm::Records, output)
@@ -68,25 +78,51 @@ fn log_as<'w, A: World, W: Write>(
     answer_on_folder(world, alloc, folder, asked, output)
 }
 
+/// Writes them as lines, each with what its about has under some keys.
+fn log_lines<'w, 'h, A: World, W: Write>(
+    world: &mut A,
+    alloc: Global,
+    folder: &'w str,
+    commands: Commands<'_>,
+    form: LineForm<'h>,
+    shown: &'h [&'h str],
+    output: &mut W,
+) -> Outcome<'w>
+    ensures { LogsLines A.model A.File.remaining folder.now commands.entry form.entry shown.now
+        world.old world.new (W.contents output.old) (W.contents output.new) (Of result) }
+{
+    let form = LogForm::Lines { form, shown };
+    log_as(world, alloc, folder, commands, form, output)
+}
+
 /// Writes them with their values, but for what is at some pointers, or below them.
 fn log_values<'w, A: World, W: Write>(
     world: &mut A,
     alloc: Global,
     folder: &'w str,
     commands: Commands<'_>,
+    shown: &[&str],
     hidden: &[&str],
     output: &mut W,
 ) -> Outcome<'w>
-    ensures { LogsValues A.model A.File.remaining folder.now commands.entry (map (λ pointer. pointer.now) hidden.now)
-        world.old world.new (W.contents output.old) (W.contents output.new) (Of result) }
+    ensures { LogsValues A.model A.File.remaining folder.now commands.entry shown.now
+        (map (λ pointer. pointer.now) hidden.now) world.old world.new
+        (W.contents output.old) (W.contents output.new) (Of result) }
 {
     match hidden {
         [] => {
-            let form = LogForm::Lines(LineForm::Values);
-            log_as(world, alloc, folder, commands, form, output)
+            log_lines(
+                world,
+                alloc,
+                folder,
+                commands,
+                LineForm::Values,
+                shown,
+                output,
+            )
         }
         hidden => match paths_of_pointers(alloc, hidden) {
-            Ok(paths) => log_hiding(world, alloc, folder, commands, &paths, output),
+            Ok(paths) => log_hiding(world, alloc, folder, commands, shown, &paths, output),
             Err(fault) => Outcome::Reading(ReadingFault::Value(fault_of_pointer(fault))),
         },
     }
@@ -98,17 +134,18 @@ fn log_hiding<'w, A: World, W: Write>(
     alloc: Global,
     folder: &'w str,
     commands: Commands<'_>,
+    shown: &[&str],
     paths: &[Vec<Text>],
     output: &mut W,
 ) -> Outcome<'w>
     ensures { (pointers : List (List ℕ)) → paths_or pointers ≡ Ok (owned_paths paths.now)
-        → Hides A.model A.File.remaining folder.now commands.entry pointers world.old world.new
+        → Hides A.model A.File.remaining folder.now commands.entry shown.now pointers world.old world.new
         (W.contents output.old) (W.contents output.new) (Of result) }
 {
     match tokens_of_paths(alloc, paths) {
         Ok(tokens) => {
-            let form = LogForm::Lines(LineForm::Hiding(&tokens));
-            log_as(world, alloc, folder, commands, form, output)
+            let form = LineForm::Hiding(&tokens);
+            log_lines(world, alloc, folder, commands, form, shown, output)
         }
         Err(_) => Outcome::Reading(ReadingFault::Value(StoreFault::OutOfMemory)),
     }

@@ -248,26 +248,37 @@ fn perform_word<'w, A: World, R: Read, W: Write + AnswerSink<A::Disk>, E: Listen
 {
     match invocation {
         Invocation::Init { folder } => Ending::Of(init_folder(world, alloc, folder, errors)),
-        Invocation::Import { import, reporting } => {
+        Invocation::Import {
+            import,
+            about,
+            reporting,
+        } => {
             let reporter = reporter_of(world, alloc, reporting);
             let read = read_named(world, alloc, import.file, input);
-            import_text(world, reporter, import, read, errors)
+            import_text(world, reporter, import, about, read, errors)
         }
         Invocation::Set {
             target,
             put,
+            about,
             reporting,
         } => {
             let reporter = reporter_of(world, alloc, reporting);
-            set_at(world, reporter, target, put, input, errors)
+            set_at(world, reporter, target, put, about, input, errors)
         }
-        Invocation::Alter { target, alteration } => {
-            Ending::Of(alter(world, alloc, target, alteration, errors))
-        }
-        Invocation::Batch { batch, reporting } => {
+        Invocation::Alter {
+            target,
+            alteration,
+            about,
+        } => Ending::Of(alter(world, alloc, target, alteration, about, errors)),
+        Invocation::Batch {
+            batch,
+            about,
+            reporting,
+        } => {
             let reporter = reporter_of(world, alloc, reporting);
             let read = read_named(world, alloc, batch.file, input);
-            batch_text(world, reporter, batch, read, errors)
+            batch_text(world, reporter, batch, about, read, errors)
         }
         Invocation::Checkpoint { folder } => {
             let (access, change) = (Access::Changing, Change::Checkpoint);

@@ -34,7 +34,11 @@ impl<'w> Sought<'w> {
         match *invocation {
             Invocation::Import { import, .. } => Sought::at(import.folder, import.name, ""),
             Invocation::Set { target, .. } => Sought::at_target(target),
-            Invocation::Alter { target, alteration } => match alteration {
+            Invocation::Alter {
+                target,
+                alteration,
+                ..
+            } => match alteration {
                 Alteration::Delete => Sought::at_target(target),
                 Alteration::Copy { from } | Alteration::Rename { from } => {
                     Sought::at(target.folder, from, "")

@@ -1,3 +1,4 @@
+pub mod AboutLemmas
 pub mod EscapeLemmas
 pub mod ShownLemmas
 pub mod NameLemmas

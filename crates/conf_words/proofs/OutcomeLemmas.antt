@@ -1,10 +1,11 @@
 -- Words that come to no invocation.
-use Rattle.std.{proofs.Common.{◌≡◌, ◌⊎◌, inl, inr, ◌||◌, Bool, true, false, List, ℕ, drop, refl, sym, ap, subst}, specs.Prelude.Option}
-use Rattle.std.specs.Prelude.{Some, Result, Ok, Err}
+use Rattle.std.{proofs.Common.{◌≡◌, ◌⊎◌, ◌∙◌, inl, inr, ◌||◌, Bool, true, false, List, ℕ, drop, refl, sym, ap, subst}, specs.Prelude.Option}
+use Rattle.std.specs.Prelude.{Some, Result, Ok, Err, is_some, not}
 use Rattle.command_line.specs.{Matches.Given, Rows.Row, Words.read, declared.refusal.Refusal.Refusal}
 use Rattle.conf_words.specs.{Invocations.{IsAsked, Makes, is_wrong}, Outcomes.{Comes, Asks, Parses, ParsesBy, ParsesGiven, Tells, is_help}}
-use Rattle.conf_words.specs.{Subcommands.{asked_in, rows_of}, Waits.is_wait_wrong, declared.refusal.Unasked.{Unasked, TheVariants.Because}}
-use Rattle.conf_words.specs.declared.{refusal.Unasked.TheVariants.OutOfMemory, subcommand.Subcommand.Subcommand, unparsed.Unparsed.Unparsed}
+use Rattle.conf_words.specs.{Subcommands.{asked_in, rows_of}, Waits.{Waits, is_wait_wrong}, declared.refusal.Unasked.Unasked}
+use Rattle.conf_words.specs.declared.{refusal.Unasked.TheVariants.{Because, OutOfMemory}, subcommand.Subcommand.Subcommand}
+use Rattle.conf_words.specs.declared.unparsed.Unparsed.{Unparsed}
 use Rattle.command_line.specs.declared.refusal.Refusal.TheVariants as refusal
 use Rattle.conf_words.specs.declared.unparsed.Unparsed.TheVariants as unparsed
 
@@ -59,3 +60,18 @@ refused_given words wait subcommand rows given (Because text) u asked same is ma
     by_rows words wait subcommand rows u asked same
     (subst (λ said. ParsesGiven subcommand wait said (Err u)) (sym is)
     (wrong_tells subcommand wait given u tells (ap (λ b. b || is_wait_wrong subcommand given wait) makes)))
+
+-- a wait that is refused
+pub refused_wait : (words : List (List ℕ)) (wait : Option (List ℕ)) (subcommand : Subcommand) (rows : List Row)
+    (given : Given) (why : Unasked) (u : Unparsed) → asked_in words ≡ Some subcommand
+    → rows ≡ rows_of subcommand → read rows (drop 2 words) ≡ Ok given
+    → is_wrong subcommand given ≡ false → Waits subcommand given wait (Err why) → Tells false u
+    → (why ≡ OutOfMemory → u ≡ unparsed.OutOfMemory) → Parses words wait (Err u)
+refused_wait words wait subcommand rows given OutOfMemory u asked same is right waits tells memory =
+    by_rows words wait subcommand rows u asked same
+    (no_memory subcommand wait (read rows (drop 2 words)) u (memory refl))
+refused_wait words wait subcommand rows given (Because text) u asked same is right waits tells memory =
+    by_rows words wait subcommand rows u asked same
+    (subst (λ said. ParsesGiven subcommand wait said (Err u)) (sym is)
+    (wrong_tells subcommand wait given u tells
+    (ap (λ b. b || is_wait_wrong subcommand given wait) right ∙ ap (λ (o : Option ℕ). not (is_some o)) waits)))

@@ -9,7 +9,8 @@ use Rattle.conf_words.specs.declared.invocation.Invocation.TheVariants.{Names, G
 use Rattle.conf_words.specs.declared.invocation.{Invocation.TheVariants.{Format, Check}, LogForm.LogForm, MissingStore.MissingStore}
 use Rattle.conf_words.specs.declared.invocation.{MissingValue.MissingValue, NamesForm.NamesForm, Placing.Placing, Reporting.Reporting}
 use Rattle.conf_words.specs.declared.invocation.{Root.Root, Style.Style, TreeForm.TreeForm, Value.Value, ValueForm.ValueForm, Wanted.Wanted}
-use Rattle.conf_words.specs.declared.{refusal.Unasked.{Unasked, TheVariants.{Because, OutOfMemory}}, subcommand.Subcommand.Subcommand}
+use Rattle.conf_words.specs.{declared.{refusal.Unasked.Unasked, subcommand.Subcommand.Subcommand}, Abouts.{IsAboutIn, IsUnaskedFor}}
+use Rattle.conf_words.specs.Abouts.{about_is_wrong}
 use Rattle.conf_words.specs.declared.invocation.Alteration.TheVariants as alteration
 use Rattle.conf_words.specs.declared.invocation.Comments.TheVariants as comments
 use Rattle.conf_words.specs.declared.invocation.Formatting.TheVariants as formatting
@@ -141,13 +142,24 @@ writes_lines given =
     (has given (codes "json") || has given (codes "raw") && not (has given (codes "no-newline")))
     && not (is_some (text_of given (codes "default")))
 
+-- the keys of abouts whose texts `log` shows: the usual ones if the words name none
+abbrev pub or_usual : List (List ℕ) → List (List ℕ)
+or_usual [] = codes "by" ∷ codes "when" ∷ codes "why" ∷ []
+or_usual (key ∷ keys) = key ∷ keys
+
+abbrev pub AreShown : Given → List Word → Type 0
+AreShown given shown = map (λ key. key.now) shown ≡ or_usual (texts_of given (codes "about"))
+
 -- how `log` writes commands
 abbrev pub IsLogForm : Given → LogForm → Type 0
 IsLogForm given log_form.Records = has given (codes "yaml") ≡ true
-IsLogForm given log_form.Lines = (has given (codes "yaml") ≡ false) × (has given (codes "values") ≡ false)
-IsLogForm given (log_form.Values hidden) =
-    (has given (codes "yaml") ≡ false) × (has given (codes "values") ≡ true)
-    × (map (λ p. p.now) hidden.items ≡ texts_of given (codes "hide"))
+IsLogForm given log_form.Json = (has given (codes "yaml") ≡ false) × (has given (codes "json") ≡ true)
+IsLogForm given (log_form.Lines shown) =
+    (has given (codes "yaml") ≡ false) × (has given (codes "json") ≡ false) × (has given (codes "values") ≡ false)
+    × AreShown given shown.items
+IsLogForm given (log_form.Values shown hidden) =
+    (has given (codes "yaml") ≡ false) × (has given (codes "json") ≡ false) × (has given (codes "values") ≡ true)
+    × AreShown given shown.items × (map (λ p. p.now) hidden.items ≡ texts_of given (codes "hide"))
 
 abbrev pub comments_in : Given → Comments
 comments_in given =
@@ -179,55 +191,57 @@ IsInit given (Init folder) = Is given (codes "FOLDER") folder
 IsInit given _ = ⊥
 
 abbrev pub import_is_wrong : Given → Bool
-import_is_wrong given = lacks given (codes "FOLDER" ∷ codes "NAME" ∷ [])
+import_is_wrong given = lacks given (codes "FOLDER" ∷ codes "NAME" ∷ []) || about_is_wrong given
 
 abbrev pub IsImport : Given → Invocation → Type 0
-IsImport given (Import import reporting) =
+IsImport given (Import import about reporting) =
     Is given (codes "FOLDER") import.folder × Is given (codes "NAME") import.name
     × IsOr (codes "-") given (codes "FILE") import.file × (import.root ≡ root_in given)
     × (import.missing ≡ missing_in given) × AreConditions given import.conditions
-    × (reporting ≡ reporting_in given)
+    × IsAboutIn given about × (reporting ≡ reporting_in given)
 IsImport given _ = ⊥
 
 abbrev pub set_is_wrong : Given → Bool
 set_is_wrong given =
     lacks given (codes "FOLDER" ∷ codes "NAME" ∷ codes "POINTER" ∷ [])
     || not (is_some (text_of given (codes "file"))) && not (is_some (text_of given (codes "VALUE")))
-    || pointer_is_wrong given
+    || (pointer_is_wrong given || about_is_wrong given)
 
 abbrev pub IsSet : Given → Invocation → Type 0
-IsSet given (Set target put reporting) =
+IsSet given (Set target put about reporting) =
     Is given (codes "FOLDER") target.folder × Is given (codes "NAME") target.name
     × Is given (codes "POINTER") target.pointer × IsValue given (Some put.value)
     × (put.placing ≡ placing_in given) × AreConditions given target.conditions
-    × (reporting ≡ reporting_in given)
+    × IsAboutIn given about × (reporting ≡ reporting_in given)
 IsSet given _ = ⊥
 
 abbrev pub delete_is_wrong : Given → Bool
-delete_is_wrong given = lacks given (codes "FOLDER" ∷ codes "NAME" ∷ []) || pointer_is_wrong given
+delete_is_wrong given =
+    lacks given (codes "FOLDER" ∷ codes "NAME" ∷ []) || (pointer_is_wrong given || about_is_wrong given)
 
 abbrev pub IsDelete : Given → Invocation → Type 0
-IsDelete given (Alter target alteration.Delete) =
+IsDelete given (Alter target alteration.Delete about) =
     Is given (codes "FOLDER") target.folder × Is given (codes "NAME") target.name
     × IsOr [] given (codes "POINTER") target.pointer × AreConditions given target.conditions
+    × IsAboutIn given about
 IsDelete given _ = ⊥
 
 abbrev pub copy_is_wrong : Given → Bool
-copy_is_wrong given = lacks given (codes "FOLDER" ∷ codes "NAME" ∷ codes "TO" ∷ [])
+copy_is_wrong given = lacks given (codes "FOLDER" ∷ codes "NAME" ∷ codes "TO" ∷ []) || about_is_wrong given
 
 abbrev pub IsCopy : Given → Invocation → Type 0
-IsCopy given (Alter target (alteration.Copy from)) =
+IsCopy given (Alter target (alteration.Copy from) about) =
     Is given (codes "FOLDER") target.folder × Is given (codes "NAME") from × Is given (codes "TO") target.name
-    × (target.pointer.now ≡ []) × AreCopyConditions given target.conditions
+    × (target.pointer.now ≡ []) × AreCopyConditions given target.conditions × IsAboutIn given about
 IsCopy given _ = ⊥
 
 abbrev pub rename_is_wrong : Given → Bool
-rename_is_wrong given = lacks given (codes "FOLDER" ∷ codes "NAME" ∷ codes "TO" ∷ [])
+rename_is_wrong given = lacks given (codes "FOLDER" ∷ codes "NAME" ∷ codes "TO" ∷ []) || about_is_wrong given
 
 abbrev pub IsRename : Given → Invocation → Type 0
-IsRename given (Alter target (alteration.Rename from)) =
+IsRename given (Alter target (alteration.Rename from) about) =
     Is given (codes "FOLDER") target.folder × Is given (codes "NAME") from × Is given (codes "TO") target.name
-    × (target.pointer.now ≡ []) × AreConditions given target.conditions
+    × (target.pointer.now ≡ []) × AreConditions given target.conditions × IsAboutIn given about
 IsRename given _ = ⊥
 
 -- no text of `move` is missing, and neither of its pointers is empty: that one stands for the whole configuration
@@ -238,21 +252,22 @@ is_empty (Some pointer) = length pointer == 0
 abbrev pub move_is_wrong : Given → Bool
 move_is_wrong given =
     lacks given (codes "FOLDER" ∷ codes "NAME" ∷ codes "FROM" ∷ codes "TO" ∷ [])
-    || (is_empty (text_of given (codes "FROM")) || is_empty (text_of given (codes "TO")))
+    || (is_empty (text_of given (codes "FROM")) || is_empty (text_of given (codes "TO"))) || about_is_wrong given
 
 abbrev pub IsMove : Given → Invocation → Type 0
-IsMove given (Alter target (alteration.Move from)) =
+IsMove given (Alter target (alteration.Move from) about) =
     Is given (codes "FOLDER") target.folder × Is given (codes "NAME") target.name × Is given (codes "FROM") from
-    × Is given (codes "TO") target.pointer × AreConditions given target.conditions
+    × Is given (codes "TO") target.pointer × AreConditions given target.conditions × IsAboutIn given about
 IsMove given _ = ⊥
 
 abbrev pub batch_is_wrong : Given → Bool
-batch_is_wrong given = lacks given (codes "FOLDER" ∷ [])
+batch_is_wrong given = lacks given (codes "FOLDER" ∷ []) || about_is_wrong given
 
 abbrev pub IsBatch : Given → Invocation → Type 0
-IsBatch given (Batch batch reporting) =
+IsBatch given (Batch batch about reporting) =
     Is given (codes "FOLDER") batch.folder × IsOr (codes "-") given (codes "FILE") batch.file
-    × (batch.count ≡ number_in given (codes "if-count")) × (reporting ≡ reporting_in given)
+    × (batch.count ≡ number_in given (codes "if-count")) × IsAboutIn given about
+    × (reporting ≡ reporting_in given)
 IsBatch given _ = ⊥
 
 abbrev pub checkpoint_is_wrong : Given → Bool
@@ -447,8 +462,7 @@ IsAsked word.Check given invocation = IsCheck given invocation
 -- what a word's matches come to: an invocation exactly if they aren't wrong
 abbrev pub Makes : Bool → (Invocation → Type 0) → Result Invocation Unasked → Type 0
 Makes wrong Asks (Ok invocation) = (wrong ≡ false) × Asks invocation
-Makes wrong Asks (Err (Because why)) = wrong ≡ true
-Makes wrong Asks (Err OutOfMemory) = Unit {0}
+Makes wrong Asks (Err why) = IsUnaskedFor wrong why
 
 -- ---- what holds of each invocation
 

@@ -1,3 +1,4 @@
+pub mod Abouts
 pub mod Escapes
 pub mod Invocations
 pub mod Outcomes

@@ -100,22 +100,25 @@ if_absent = flag (codes "if-absent")
 abbrev pub if_count : Row
 if_count = row (codes "if-count") (Number 0) Free
 
+abbrev pub about : Row
+about = row (codes "about") Words Free
+
 abbrev pub rows_of : Subcommand → List Row
 rows_of Init = wait ∷ folder ∷ []
 rows_of Import =
-    flag (codes "init") ∷ flag (codes "any-root") ∷ explain ∷ if_value ∷ if_absent ∷ if_count ∷ wait ∷ folder ∷ name
-    ∷ file ∷ []
+    flag (codes "init") ∷ flag (codes "any-root") ∷ explain ∷ if_value ∷ if_absent ∷ if_count ∷ about ∷ wait ∷ folder
+    ∷ name ∷ file ∷ []
 rows_of Set =
     flag (codes "yaml") ∷ row (codes "file") Word (Excludes (codes "yaml" ∷ [])) ∷ parents ∷ insert ∷ whole ∷ explain
-    ∷ if_value ∷ if_absent ∷ if_count ∷ wait ∷ folder ∷ name ∷ place (codes "POINTER")
+    ∷ if_value ∷ if_absent ∷ if_count ∷ about ∷ wait ∷ folder ∷ name ∷ place (codes "POINTER")
     ∷ row (codes "VALUE") OptionalText (Replaces (codes "file")) ∷ []
-rows_of Delete = whole ∷ if_value ∷ if_absent ∷ if_count ∷ wait ∷ folder ∷ name ∷ pointer ∷ []
+rows_of Delete = whole ∷ if_value ∷ if_absent ∷ if_count ∷ about ∷ wait ∷ folder ∷ name ∷ pointer ∷ []
 rows_of Copy =
-    row (codes "replace") Flag (Excludes (codes "if-absent" ∷ [])) ∷ if_value ∷ if_absent ∷ if_count ∷ wait ∷ folder
-    ∷ name ∷ other ∷ []
-rows_of Rename = if_value ∷ if_absent ∷ if_count ∷ wait ∷ folder ∷ name ∷ other ∷ []
-rows_of Move = if_value ∷ if_absent ∷ if_count ∷ wait ∷ folder ∷ name ∷ place (codes "FROM") ∷ other ∷ []
-rows_of Batch = explain ∷ if_count ∷ wait ∷ folder ∷ file ∷ []
+    row (codes "replace") Flag (Excludes (codes "if-absent" ∷ [])) ∷ if_value ∷ if_absent ∷ if_count ∷ about ∷ wait
+    ∷ folder ∷ name ∷ other ∷ []
+rows_of Rename = if_value ∷ if_absent ∷ if_count ∷ about ∷ wait ∷ folder ∷ name ∷ other ∷ []
+rows_of Move = if_value ∷ if_absent ∷ if_count ∷ about ∷ wait ∷ folder ∷ name ∷ place (codes "FROM") ∷ other ∷ []
+rows_of Batch = explain ∷ if_count ∷ about ∷ wait ∷ folder ∷ file ∷ []
 rows_of Checkpoint = wait ∷ folder ∷ []
 rows_of Run =
     flag (codes "group") ∷ row (codes "checkpoint-after") (Number 1) (Needs (codes "group")) ∷ wait ∷ folder ∷ []
@@ -131,7 +134,9 @@ rows_of Keys = at ∷ folder ∷ name ∷ pointer ∷ []
 rows_of Exists = at ∷ folder ∷ name ∷ pointer ∷ []
 rows_of Log =
     row (codes "values") Flag (Excludes (codes "yaml" ∷ [])) ∷ row (codes "hide") Words (Needs (codes "values"))
-    ∷ row (codes "yaml") Flag (Excludes (codes "hide" ∷ [])) ∷ row (codes "from") (Number 0) Free
+    ∷ row (codes "yaml") Flag (Excludes (codes "hide" ∷ []))
+    ∷ row (codes "json") Flag (Excludes (codes "yaml" ∷ codes "values" ∷ codes "hide" ∷ []))
+    ∷ row (codes "about") Words (Excludes (codes "yaml" ∷ codes "json" ∷ [])) ∷ row (codes "from") (Number 0) Free
     ∷ row (codes "to") (Number 0) (Excludes (codes "at" ∷ [])) ∷ at ∷ folder ∷ row (codes "NAME") Optional Free ∷ []
 rows_of Diff =
     row (codes "from") (Number 0) (Excludes (codes "files" ∷ [])) ∷ row (codes "to") (Number 0) (Excludes (codes "files" ∷ []))

@@ -2,6 +2,7 @@
 ghost use Rattle.std.specs.Prelude.{◌≡◌, is_some};
 ghost use Rattle.conf_words.specs.Invocations as spec;
 
+use crate::abouts::{ABOUT_ARGUMENT, about_of};
 use crate::arguments::{
     EXPLAIN_ARGUMENT, FILE, FOLDER, FOLDER_ARGUMENT, NAME, NAME_ARGUMENT, POINTER,
     POINTER_ARGUMENT, WHOLE, YAML, reporting_of,
@@ -18,6 +19,7 @@ use crate::listing::Listing;
 use crate::refusal::Unasked;
 use crate::waiting::WAIT_ARGUMENT;
 use command_line::{Argument, Form, Matches, Relation};
+use std::alloc::Global;
 
 pub(crate) const INIT: Listing = Listing {
     about: "Makes a folder with an empty store",
@@ -56,6 +58,7 @@ pub(crate) const IMPORT: Listing = Listing {
         IF_VALUE_ARGUMENT,
         IF_ABSENT_ARGUMENT,
         IF_COUNT_ARGUMENT,
+        ABOUT_ARGUMENT,
         WAIT_ARGUMENT,
         FOLDER_ARGUMENT,
         NAME_ARGUMENT,
@@ -90,7 +93,10 @@ const FILE_ARGUMENT: Argument = Argument {
 /// The word of `import` that has a store made where there is none.
 const MAKE_STORE: &str = "init";
 
-pub(crate) fn import_invocation<'w>(words: &Matches<'w>) -> Result<Invocation<'w>, Unasked>
+pub(crate) fn import_invocation<'w>(
+    alloc: Global,
+    words: &Matches<'w>,
+) -> Result<Invocation<'w>, Unasked>
     ensures { spec.Makes (spec.import_is_wrong words.now) (spec.IsImport words.now) result }
 {
     let Some(folder) = words.text(FOLDER) else {
@@ -107,8 +113,10 @@ pub(crate) fn import_invocation<'w>(words: &Matches<'w>) -> Result<Invocation<'w
         missing: missing_of(words),
         conditions: conditions_of(words),
     };
+    let about = about_of(alloc, words)?;
     Ok(Invocation::Import {
         import,
+        about,
         reporting: reporting_of(words),
     })
 }
@@ -168,6 +176,7 @@ pub(crate) const SET: Listing = Listing {
         IF_VALUE_ARGUMENT,
         IF_ABSENT_ARGUMENT,
         IF_COUNT_ARGUMENT,
+        ABOUT_ARGUMENT,
         WAIT_ARGUMENT,
         FOLDER_ARGUMENT,
         NAME_ARGUMENT,
@@ -231,7 +240,10 @@ const INSERT: &str = "insert";
 /// The word of `set` that gives the file of a text in place of the value. It excludes [`YAML`].
 const FROM_FILE: &str = "file";
 
-pub(crate) fn set_invocation<'w>(words: &Matches<'w>) -> Result<Invocation<'w>, Unasked>
+pub(crate) fn set_invocation<'w>(
+    alloc: Global,
+    words: &Matches<'w>,
+) -> Result<Invocation<'w>, Unasked>
     ensures { spec.Makes (spec.set_is_wrong words.now) (spec.IsSet words.now) result }
 {
     let Some(folder) = words.text(FOLDER) else {
@@ -259,9 +271,11 @@ pub(crate) fn set_invocation<'w>(words: &Matches<'w>) -> Result<Invocation<'w>, 
         value,
         placing: placing_of(words),
     };
+    let about = about_of(alloc, words)?;
     Ok(Invocation::Set {
         target,
         put,
+        about,
         reporting: reporting_of(words),
     })
 }
@@ -313,6 +327,7 @@ pub(crate) const DELETE: Listing = Listing {
         IF_VALUE_ARGUMENT,
         IF_ABSENT_ARGUMENT,
         IF_COUNT_ARGUMENT,
+        ABOUT_ARGUMENT,
         WAIT_ARGUMENT,
         FOLDER_ARGUMENT,
         NAME_ARGUMENT,
@@ -328,7 +343,10 @@ Examples:
   confstore delete store web --if-count 12",
 };
 
-pub(crate) fn delete_invocation<'w>(words: &Matches<'w>) -> Result<Invocation<'w>, Unasked>
+pub(crate) fn delete_invocation<'w>(
+    alloc: Global,
+    words: &Matches<'w>,
+) -> Result<Invocation<'w>, Unasked>
     ensures { spec.Makes (spec.delete_is_wrong words.now) (spec.IsDelete words.now) result }
 {
     let Some(folder) = words.text(FOLDER) else {
@@ -346,9 +364,11 @@ pub(crate) fn delete_invocation<'w>(words: &Matches<'w>) -> Result<Invocation<'w
         pointer: words.text(POINTER).unwrap_or(WHOLE),
         conditions: conditions_of(words),
     };
+    let about = about_of(alloc, words)?;
     Ok(Invocation::Alter {
         target,
         alteration: Alteration::Delete,
+        about,
     })
 }
 
@@ -364,6 +384,7 @@ pub(crate) const COPY: Listing = Listing {
         IF_VALUE_ARGUMENT,
         IF_ABSENT_ARGUMENT,
         IF_COUNT_ARGUMENT,
+        ABOUT_ARGUMENT,
         WAIT_ARGUMENT,
         FOLDER_ARGUMENT,
         NAME_ARGUMENT,
@@ -392,7 +413,10 @@ const TO_ARGUMENT: Argument = Argument {
     relation: Relation::Free,
 };
 
-pub(crate) fn copy_invocation<'w>(words: &Matches<'w>) -> Result<Invocation<'w>, Unasked>
+pub(crate) fn copy_invocation<'w>(
+    alloc: Global,
+    words: &Matches<'w>,
+) -> Result<Invocation<'w>, Unasked>
     ensures { spec.Makes (spec.copy_is_wrong words.now) (spec.IsCopy words.now) result }
 {
     let Some(folder) = words.text(FOLDER) else {
@@ -410,9 +434,11 @@ pub(crate) fn copy_invocation<'w>(words: &Matches<'w>) -> Result<Invocation<'w>,
         pointer: WHOLE,
         conditions: copy_conditions(words),
     };
+    let about = about_of(alloc, words)?;
     Ok(Invocation::Alter {
         target,
         alteration: Alteration::Copy { from: name },
+        about,
     })
 }
 
@@ -437,6 +463,7 @@ pub(crate) const RENAME: Listing = Listing {
         IF_VALUE_ARGUMENT,
         IF_ABSENT_ARGUMENT,
         IF_COUNT_ARGUMENT,
+        ABOUT_ARGUMENT,
         WAIT_ARGUMENT,
         FOLDER_ARGUMENT,
         NAME_ARGUMENT,
@@ -453,7 +480,10 @@ Examples:
   confstore rename store web site --if-absent",
 };
 
-pub(crate) fn rename_invocation<'w>(words: &Matches<'w>) -> Result<Invocation<'w>, Unasked>
+pub(crate) fn rename_invocation<'w>(
+    alloc: Global,
+    words: &Matches<'w>,
+) -> Result<Invocation<'w>, Unasked>
     ensures { spec.Makes (spec.rename_is_wrong words.now) (spec.IsRename words.now) result }
 {
     let Some(folder) = words.text(FOLDER) else {
@@ -471,9 +501,11 @@ pub(crate) fn rename_invocation<'w>(words: &Matches<'w>) -> Result<Invocation<'w
         pointer: WHOLE,
         conditions: conditions_of(words),
     };
+    let about = about_of(alloc, words)?;
     Ok(Invocation::Alter {
         target,
         alteration: Alteration::Rename { from: name },
+        about,
     })
 }
 
@@ -483,6 +515,7 @@ pub(crate) const MOVE: Listing = Listing {
         IF_VALUE_ARGUMENT,
         IF_ABSENT_ARGUMENT,
         IF_COUNT_ARGUMENT,
+        ABOUT_ARGUMENT,
         WAIT_ARGUMENT,
         FOLDER_ARGUMENT,
         NAME_ARGUMENT,
@@ -514,7 +547,10 @@ Examples:
 /// The argument of `move` that is the pointer to what is moved.
 const FROM: &str = "FROM";
 
-pub(crate) fn move_invocation<'w>(words: &Matches<'w>) -> Result<Invocation<'w>, Unasked>
+pub(crate) fn move_invocation<'w>(
+    alloc: Global,
+    words: &Matches<'w>,
+) -> Result<Invocation<'w>, Unasked>
     ensures { spec.Makes (spec.move_is_wrong words.now) (spec.IsMove words.now) result }
 {
     let Some(folder) = words.text(FOLDER) else {
@@ -538,9 +574,11 @@ pub(crate) fn move_invocation<'w>(words: &Matches<'w>) -> Result<Invocation<'w>,
         pointer: to,
         conditions: conditions_of(words),
     };
+    let about = about_of(alloc, words)?;
     Ok(Invocation::Alter {
         target,
         alteration: Alteration::Move { from },
+        about,
     })
 }
 
@@ -549,6 +587,7 @@ pub(crate) const BATCH: Listing = Listing {
     arguments: &[
         EXPLAIN_ARGUMENT,
         IF_COUNT_ARGUMENT,
+        ABOUT_ARGUMENT,
         WAIT_ARGUMENT,
         FOLDER_ARGUMENT,
         FILE_ARGUMENT,
@@ -572,7 +611,10 @@ Examples:
   echo '[{set: web, path: /port, value: 81}, {delete: old, path: \"\"}]' | confstore batch store",
 };
 
-pub(crate) fn batch_invocation<'w>(words: &Matches<'w>) -> Result<Invocation<'w>, Unasked>
+pub(crate) fn batch_invocation<'w>(
+    alloc: Global,
+    words: &Matches<'w>,
+) -> Result<Invocation<'w>, Unasked>
     ensures { spec.Makes (spec.batch_is_wrong words.now) (spec.IsBatch words.now) result }
 {
     let Some(folder) = words.text(FOLDER) else {
@@ -584,8 +626,10 @@ pub(crate) fn batch_invocation<'w>(words: &Matches<'w>) -> Result<Invocation<'w>
         file: words.text(FILE).unwrap_or(STANDARD_INPUT),
         count,
     };
+    let about = about_of(alloc, words)?;
     Ok(Invocation::Batch {
         batch,
+        about,
         reporting: reporting_of(words),
     })
 }

@@ -1,10 +1,11 @@
 // What the program's words ask it to do.
+use conf_about::About;
 
 /// The word for standard input, where the name of a file or a YAML text is wanted.
 pub const STANDARD_INPUT: &str = "-";
 
 /// What a run of the program is asked to do. The words that it holds are as they were given: no folder, name or pointer
-/// was looked at.
+/// was looked at. An about says who makes a change, when and why; there is none if the words say nothing of it.
 #[derive(Debug, Drop)]
 pub enum Invocation<'w> {
     /// Makes the folder, if it is missing, and an empty store in it.
@@ -14,6 +15,7 @@ pub enum Invocation<'w> {
     /// Reads a YAML text, and puts its tree under a name.
     Import {
         import: Import<'w>,
+        about: Option<About>,
         reporting: Reporting,
     },
     /// Sets a value at a place. The pointer of the place is empty only if the words say that the whole configuration is
@@ -21,16 +23,19 @@ pub enum Invocation<'w> {
     Set {
         target: Target<'w>,
         put: Put<'w>,
+        about: Option<About>,
         reporting: Reporting,
     },
     /// Changes what is at a place, and takes no value for it.
     Alter {
         target: Target<'w>,
         alteration: Alteration<'w>,
+        about: Option<About>,
     },
     /// Reads a YAML text, a list of edits, and makes all of them or none.
     Batch {
         batch: Batch<'w>,
+        about: Option<About>,
         reporting: Reporting,
     },
     /// Makes the store file as short as its state.
@@ -343,14 +348,22 @@ pub enum RawEnd {
     Nothing,
 }
 
-/// How `log` writes a command.
+/// How `log` writes a command. A line has what the command's about says under the keys `shown`; they are `by`, `when`
+/// and `why` if the words name none.
 #[derive(Debug, Drop)]
 pub enum LogForm<'w> {
     /// In a line.
-    Lines,
+    Lines {
+        shown: Vec<&'w str>,
+    },
     /// In a line, with the value of each import and each set as a JSON text (RFC 8259). What is at one of these JSON
     /// Pointers of a configuration, or below it, is hidden.
-    Values { hidden: Vec<&'w str> },
+    Values {
+        shown: Vec<&'w str>,
+        hidden: Vec<&'w str>,
+    },
+    /// As a JSON object (RFC 8259) on a line, with its values and its whole about.
+    Json,
     /// As its record stands in the store file.
     Records,
 }

@@ -3,6 +3,7 @@
 //! outside.
 #![tactic(auto)]
 
+mod abouts;
 mod arguments;
 mod change_words;
 mod conditions;

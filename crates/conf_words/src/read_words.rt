@@ -3,6 +3,7 @@ ghost use Rattle.std.specs.Prelude.{◌≡◌, ◌∷◌, IfOk, [], codes, map, 
 ghost use Rattle.command_line.specs.Matches.{text_of};
 ghost use Rattle.conf_words.specs.Invocations as spec;
 
+use crate::abouts::ABOUT;
 use crate::arguments::{
     FILE, FOLDER, FOLDER_ARGUMENT, NAME, NAME_ARGUMENT, POINTER, POINTER_ARGUMENT, WHOLE, YAML,
 };
@@ -411,6 +412,18 @@ pub(crate) const LOG: Listing = Listing {
             relation: Relation::Excludes(&[HIDE]),
         },
         Argument {
+            name: JSON,
+            help: "Writes each command as a JSON object on one line, with its values",
+            form: Form::Flag,
+            relation: Relation::Excludes(&[YAML, VALUES, HIDE]),
+        },
+        Argument {
+            name: ABOUT,
+            help: "Shows what is recorded under KEY, in place of `by`, `when` and `why`; may be given again",
+            form: Form::Words("KEY"),
+            relation: Relation::Excludes(&[YAML, JSON]),
+        },
+        Argument {
             name: FROM,
             help: "Begins with command number N",
             form: Form::Number("N", 0),
@@ -438,7 +451,11 @@ the records are written as they stand in store.yaml, each a YAML document. No lo
 nothing is changed, so this runs beside a session that holds the store.
 
 A command that says who made it, when and why has that behind its number, as `2 by \"ann\" why \"a test\"
-set web \"/port\"` on one line: what its `about` has under `by`, `when` and `why`.
+set web \"/port\"` on one line: what its `about` has under `by`, `when` and `why`. With `--about KEY` the
+line has what is under that key in place of these.
+
+With `--json` each command is an object: `at`, its number; `by`, `when` and `why`, and all of its `about`,
+where it has one; and `edits`, as `batch` takes them.
 
 With NAME only commands are written that change this configuration: a batch that does, as that of
 `rename`, is written whole. `--to N` and `--at N` are the same. Commands that a checkpoint dropped are
@@ -453,6 +470,8 @@ Examples:
   confstore log store web --from 12
   confstore log store --values
   confstore log store --values --hide /key
+  confstore log store --about by --about ticket
+  confstore log store --json
   confstore log store --yaml
   confstore log store --at 12",
 };
@@ -501,11 +520,28 @@ fn form_of_log<'w>(alloc: Global, words: &Matches<'w>) -> Result<LogForm<'w>, Al
     if words.flag(YAML) {
         return Ok(LogForm::Records);
     }
+    if words.flag(JSON) {
+        return Ok(LogForm::Json);
+    }
+    let shown = keys_shown(alloc, words)?;
     if !words.flag(VALUES) {
-        return Ok(LogForm::Lines);
+        return Ok(LogForm::Lines { shown });
     }
     let hidden = words.texts(alloc, HIDE)?;
-    Ok(LogForm::Values { hidden })
+    Ok(LogForm::Values { shown, hidden })
+}
+
+/// The keys of abouts whose texts a log shows: `by`, `when` and `why` if the words name none. It fails only if memory
+/// runs out.
+fn keys_shown<'w>(alloc: Global, words: &Matches<'w>) -> Result<Vec<&'w str>, AllocError>
+    ensures { IfOk result (λ shown. spec.AreShown words.now shown.items) }
+{
+    let keys = words.texts(alloc, ABOUT)?;
+    if keys.is_empty() {
+        let (by, when, why): (&'w str, &'w str, &'w str) = ("by", "when", "why");
+        return Vec::from_slice(alloc, &[by, when, why]);
+    }
+    Ok(keys)
 }
 
 pub(crate) const DIFF: Listing = Listing {

@@ -1,18 +1,19 @@
--- The keys are of ASCII, so their bytes are their characters.
-use Rattle.std.proofs.Common.{codes, refl, subst}
-use Rattle.conf_history.{proofs.Prelude.{on_ok_weaker, ascii, tree_of}, specs.Logs.labelled}
+use Rattle.std.proofs.Common.{subst, sym, arith}
+use Rattle.conf_history.{proofs.{Prelude.{drop_all, drop_more, tree_of}, LineLemmas.no_key}, specs.{AboutKeys.keys_of, Logs.about_words}}
 use Rattle.conf_history.proofs.line.write_about.Goals as goal
+
+pub loop-key-preserved : goal.loop-key-preserved
+loop-key-preserved g c =
+    let l = c.loop-key in
+    let t = tree_of c.args.about.now in
+    let here = drop_more c.args.shown.now l.key-index no_key (omega arith) in
+    λ end left. l.invariant end (subst (λ keys. g.S.Sink.Takes l.sink (about_words (keys_of keys) t) end) (sym here)
+    (g.met.S.Sink.takes_both _ _ _ _ _ c.in_ok-write_labelled.ensures left))
 
 pub returns : goal.returns
 returns g c =
-    let both = g.met.S.Sink.takes_both in
-    let Takes = g.S.Sink.Takes in
+    let l = c.loop-key in
     let t = tree_of c.args.about.now in
-    let first = c.write_labelled.new.sink in
-    let second = c.write_labelled-2.new.sink in
-    let by = subst (λ key. Takes c.args.sink.now (labelled key t) first) (ascii (codes "by") refl) c.in_ok-write_labelled.ensures in
-    let when = subst (λ key. Takes first (labelled key t) second) (ascii (codes "when") refl) c.in_ok-write_labelled-2.ensures in
-    on_ok_weaker c.write_labelled-3.result
-    (λ written. both _ _ _ _ _ (both _ _ _ _ _ by when)
-    (subst (λ key. Takes second (labelled key t) c.write_labelled-3.new.sink) (ascii (codes "why") refl) written))
-    c.write_labelled-3.ensures
+    let none = drop_all l.key-index c.args.shown.now (omega arith) in
+    l.invariant l.sink (subst (λ keys. g.S.Sink.Takes l.sink (about_words (keys_of keys) t) l.sink) (sym none)
+    (g.met.S.Sink.takes_none l.sink))

@@ -1,5 +1,5 @@
 use Rattle.std.proofs.Common.{◌≡◌, codes, subst, sym, ap, ◌∙◌}
-use Rattle.conf_session.{proofs.{Prelude.{chars, text_bytes}, CommandLineLemmas.{get_lines, spelled_chars}}, specs.Said.get_at}
+use Rattle.conf_session.{proofs.{Prelude.{chars, text_bytes}, CommandLineLemmas.get_lines, RowLemmas.spelled_chars}, specs.Said.get_at}
 use Rattle.conf_session.specs.CommandLines.{IsCommandLines, IsField}
 use Rattle.conf_session.proofs.command_lines.get_in.Goals as goal
 

@@ -1,5 +1,5 @@
 use Rattle.std.proofs.Common.{◌≡◌, ◌++◌, codes, true, false, rules, sym, ◌∙◌, arith}
-use Rattle.conf_session.{proofs.{Prelude.{IfSome_then, IfOk-weaker}, CommandLineLemmas.lines_say}, specs.Said.said_of}
+use Rattle.conf_session.{proofs.{Prelude.{IfSome_then, IfOk-weaker}, RowLemmas.lines_say}, specs.Said.said_of}
 use Rattle.conf_session.proofs.command_lines.said_in_lines.Goals as goal
 
 pub returns-in-Some : goal.returns-in-Some

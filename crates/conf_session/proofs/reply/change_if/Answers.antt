@@ -1,4 +1,4 @@
-use Rattle.std.proofs.Common.{◌≡◌, sym, subst, ap}
+use Rattle.std.proofs.Common.{sym, subst}
 use Rattle.conf_session.proofs.{Prelude.{conditions_of, StoreView}, ConditionalLemmas.{handles-met, handles-unmet-read}}
 use Rattle.conf_session.specs.{ReadChanges.{IfMet, IsRequest}, Replies.{Handles, MeansPrefixes}}
 use Rattle.conf_session.proofs.reply.change_if.Goals as goal

@@ -1,16 +1,16 @@
 -- The change was made, and then it is told whether the text was refused.
 use Rattle.std.{proofs.Common.{[], inl, refl, subst}, specs.Prelude.{Ok, Err}}
-use Rattle.conf_tools.specs.{Performs.ChangesIf, declared.{world.Access.Access, outcome.Ending.TheVariants.{Of, ToldFault}}}
-use Rattle.conf_tools.proofs.OutcomeLemmas.{import_left}
+use Rattle.conf_tools.specs.{Performs.ChangesIf, declared.{changes.Change.TheVariants.Act, world.Access.Access}}
+use Rattle.conf_tools.{specs.declared.outcome.Ending.TheVariants.{Of, ToldFault}, proofs.OutcomeLemmas.import_left}
 use Rattle.conf_tools.proofs.change_words.import_bytes.Goals as goal
 
 pub returns-in-Ok-clause-imports : goal.returns-in-Ok-clause-imports
 returns-in-Ok-clause-imports g c = record {
-  change = Ok c.in-Ok.change;
+  action = Ok c.in-Ok.action;
   is = c.in-Ok.ensures;
   made = Of c.change_if-ended.result;
   changes = subst (λ (access : Access). ChangesIf g.A.World.model g.A.Disk.Disk.model c.args.asked.conditions access
-      c.args.asked.folder.now c.args.asked.name.now [] c.in-Ok.change c.args.world.now c.change_if-ended.new.world
+      c.args.asked.folder.now c.args.asked.name.now [] (Act c.in-Ok.action c.args.about) c.args.world.now c.change_if-ended.new.world
       (Of c.change_if-ended.result)) c.access_of-access.ensures c.change_if-ended.ensures.makes;
   ends = c.tell_import.ensures.ends;
 }
@@ -22,7 +22,7 @@ returns-in-Ok-clause-leaves g c =
 
 pub returns-in-Err-clause-imports : goal.returns-in-Err-clause-imports
 returns-in-Err-clause-imports g c = record {
-  change = Err c.in-Err.fault;
+  action = Err c.in-Err.fault;
   is = c.in-Err.ensures;
   made = ToldFault c.in-Err.fault;
   changes = (refl, refl);

@@ -5,7 +5,7 @@ use Rattle.conf_tools.proofs.change_words.import_text.Goals as goal
 
 pub returns-in-Ok-clause-imports : goal.returns-in-Ok-clause-imports
 returns-in-Ok-clause-imports g c = rw (c.in-Ok.is)
-    (subst (λ bytes. ImportsBytes g.A.World.model g.A.Disk.Disk.model c.args.asked.conditions c.args.asked.root
+    (subst (λ bytes. ImportsBytes g.A.World.model g.A.Disk.Disk.model c.args.asked.conditions c.args.about c.args.asked.root
     (access_of c.args.asked.missing) c.args.asked.folder.now c.args.asked.name.now bytes c.args.world.now
     c.import_bytes.new.world c.import_bytes.result)
     c.deref.ensures.value c.import_bytes.ensures.imports)
