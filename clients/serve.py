@@ -265,12 +265,16 @@ class Server:
 
     def send_commands(self) -> None:
         """Sends commands of the clients in turn, one of each, as long as there is room. Who got no room is first in the
-        next turn."""
-        session, waiting = self.session, self.work.waiting
+        next turn. A checkpoint goes once all before it are answered, so that the file that it replaces has them on the
+        disk, of which somebody may keep a name as an archive."""
+        session, waiting, first = self.session, self.work.waiting, self.work.checkpointing
         was_sent = bool(waiting) and session.has_opened and not self.is_ending()
         while was_sent and waiting and not session.is_full:
+            due = [client for client in first if client.may_send()]
+            if due and not session.is_idle():
+                return
             was_sent = bool(self.long_answers.give())
-            for client in list(waiting):
+            for client in due or list(waiting):
                 if len(session.unsent) > MOST_UNSENT or not client.may_send() or not self.has_turn(client):
                     continue
                 if session.is_used_up(client.heard.end, self.bounds.renew_after):

@@ -20,6 +20,9 @@ MOST_DUE = 16  # commands of a client in the session
 # How commands begin whose answers are short.
 SHORT = re.compile(rb"(?:---\n)?(?:set|delete|import|batch|if):[ \n]")
 
+# How a checkpoint begins, as clients write it, in the one style or as JSON.
+CHECKPOINT = re.compile(rb"(?:---\n)?(?:checkpoint|\{ ?[\"']?checkpoint[\"']?) ?:")
+
 # Escapes that may spell a letter of a key, in a command that doesn't have the key as it is.
 SPELLED = re.compile(rb"\\[xuU\r\n]")
 
@@ -37,6 +40,7 @@ class Work:
         self.answered: dict[Client, None] = {}  # who got an answer that nothing was sent of yet
         self.waiting: dict[Client, None] = {}  # who has a whole command that no session has, in order of their turns
         self.watching: dict[Client, None] = {}  # who watches the store
+        self.checkpointing: dict[Client, None] = {}  # who waits with a checkpoint
 
     def done(self) -> list[Client]:
         """Those for whom nothing is left to do. They have sent all, or watch the store, whose file may be over."""
@@ -44,7 +48,7 @@ class Work:
         return [client for client in clients if (client.has_sent_all or client.watcher) and client.is_done()]
 
     def leave(self, client: Client) -> None:
-        for clients in (self.changed, self.answered, self.waiting, self.watching):
+        for clients in (self.changed, self.answered, self.waiting, self.watching, self.checkpointing):
             clients.pop(client, None)
 
 
@@ -81,7 +85,10 @@ class Client:
     def has_command(self) -> None:
         """Notes that a whole command of it waits for the session."""
         self.work.waiting.setdefault(self)
-        self.wants_long = SHORT.match(self.heard.bytes) is None
+        is_checkpoint = CHECKPOINT.match(self.heard.bytes) is not None
+        self.wants_long = not is_checkpoint and SHORT.match(self.heard.bytes) is None
+        if is_checkpoint:
+            self.work.checkpointing.setdefault(self)
 
     def may_send(self) -> bool:
         """Whether its next command may go to the session."""
@@ -95,6 +102,7 @@ class Client:
         command = self.heard.take()
         self.may_note = b"about" in command or (b"\\" in command and SPELLED.search(command) is not None)
         del self.work.waiting[self]  # its next turn is behind those of the others
+        self.work.checkpointing.pop(self, None)
         if self.heard.end:
             self.has_command()
         if self.watched != READ:

@@ -230,6 +230,8 @@ _confstore() {
         case ${COMP_WORDS[index]} in
         --about | --all | --checkpoint-after | --at | --from | --to | --default | --file | --hide | --if-value | --if-count | --keep-dropped | --wait)
             index=$((index + 1))
+            # bash takes `KEY=TEXT` for three words
+            [ "${COMP_WORDS[index + 1]:-}" != = ] || index=$((index + 2))
             ;;
         --files) files=--files ;;
         -?*) ;;
