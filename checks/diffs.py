@@ -1,5 +1,6 @@
 #!/usr/bin/env python3
-"""Has `diff` compare 2,000 random pairs of states, and looks whether its edits make the second of the first.
+"""Has `diff` compare 2,000 random pairs of states, and 100,000 pairs of files, and looks whether its edits make the
+second of the first.
 
 A session makes each store of random commands, and a plain model here makes them too, so that it knows the state at each
 number. Of two of them, either of which may be the older one, `diff` writes the edits. A new store gets the
@@ -8,12 +9,14 @@ the second, all in the same order, with the same order of keys. Where the states
 the status 0 and to write nothing, and else with 1. The same is tried of one configuration, by its name, and of the
 files of two.
 
-Of each pair it also looks how long the edits are: the values in them are parts of the second state, so they are no
-longer than the imports of all its configurations, but for what each edit needs for its words, its name and its pointer.
-A line before the last says of how many pairs they are longer than these imports and 100 bytes for each configuration of
-both states.
+Of each pair it also looks how long the edits are: those of a configuration have at most 1,024 bytes, or no more than an
+import of the second one has. Those of two states have at most 1,024 bytes for each configuration of the first one more
+than those that delete all of these, and import all of the second one.
 
-Run it from the repository's root after the program is built; it takes some minutes:
+The pairs of files are like each other, or not at all. A plain model here performs the edits, as PyYAML reads them, and
+counts an import of the second by the writer of `python/confstore/style.py`.
+
+Run it from the repository's root after the program is built; it needs PyYAML, and takes some minutes:
 
     ./prove && python3 checks/diffs.py [PAIRS [SEED]]
 
@@ -31,27 +34,36 @@ import subprocess
 import sys
 import tempfile
 from collections.abc import Sequence
-from concurrent.futures import ThreadPoolExecutor
+from concurrent.futures import ProcessPoolExecutor
 from typing import Any, NamedTuple
 
+import yaml
 from lib.command_line import number_given, seed_given
-from lib.store_runs import PROGRAM, Failures, need_program, session, write_file
+from lib.store_runs import PROGRAM, TOP, Failures, need_program, session, write_file
+
+sys.path.insert(0, os.path.join(TOP, "python"))
+
+from confstore.style import to_text  # noqa: E402
 
 # How many pairs are tried, of each store how many, and by how many commands a store is made at most.
 PAIRS = 2_000
 OF_A_STORE = 10
 COMMANDS = 24
 
-# How many bytes an edit has for its value beside its lines: `  value: ` and a break.
-VALUE_OF_EDIT = len("  value: \n")
+# How many pairs of files are tried for each pair of states, and by one process.
+FILES_OF_A_PAIR = 50
+FILES_AT_ONCE = 1_000
 
-# What is counted: how many bytes above the imports edits may have for each configuration.
-OF_A_CONFIGURATION = 100
+# How many bytes the edits of a configuration may have where an import is shorter.
+FEW_BYTES = 1_024
 
 NAMES = ["a", "b", "c", "web", "web-2"]
 KEYS = ["a", "b", "c", "port", "", "0", "-", "a/b", "~", "x y", "\u00e9\u2028", 'q"\\']
 TEXTS = ["", "x", "y", "80", "true", "a: b", " x", "# x", "two\nlines\n", "\n", "\t", "q\"'\\", "\u00e9\u0001"]
 TEXTS.append("z" * 150)
+
+# All texts as they are, as the failsafe schema gives them.
+LOADER = getattr(yaml, "CBaseLoader", yaml.BaseLoader)
 
 # What is at a place is a text, a list or a mapping. A state has its configurations in order.
 Tree = Any
@@ -216,31 +228,31 @@ class Pair(NamedTuple):
     top: str
 
 
+def bytes_of(text: str) -> int:
+    return len(text.encode())
+
+
 def length_of_imports(state: State) -> int:
     """How long the imports of all configurations are, in the one style."""
     listed = json.dumps([{"import": name, "tree": tree} for name, tree in state.items()], ensure_ascii=False)
-    return len(run("format", given=listed).output.encode()) if state else 0
+    return bytes_of(run("format", given=listed).output) if state else 0
 
 
-def length_beside_values(edits: str) -> int:
-    """How long edits may be without their values: their words, names and pointers."""
-    pointers = [line for line in edits.splitlines() if line.startswith("  path: ")]
-    heads = [line for line in edits.splitlines() if line.startswith("- ")]
-    return sum(len(line.encode()) + 1 for line in [*heads, *pointers]) + len(heads) * VALUE_OF_EDIT
+def length_of_deletes(state: State) -> int:
+    """How long the deletes of all configurations are."""
+    return sum(bytes_of(f'- delete: {name}\n  path: ""\n') for name in state)
 
 
-def try_states(pair: Pair, failures: Failures) -> bool:
-    """Whether the edits between the two states are longer than what is counted."""
+def try_states(pair: Pair, failures: Failures) -> None:
+    """The edits between the two states."""
     found = run("diff", *pair.words)
     is_same = ordered(pair.first) == ordered(pair.second)
     failures.expect(f"{pair.title}: status and errors", (found.status, found.errors), (0 if is_same else 1, ""))
     failures.expect(f"{pair.title}: whether nothing is written", found.output == "", is_same)
     made = performed(pair.top, pair.first, found.output)
     failures.expect(f"{pair.title}: what the edits make", made, ordered(pair.second))
-    length, imports = len(found.output.encode()), length_of_imports(pair.second)
-    room = imports + length_beside_values(found.output)
-    failures.expect(f"{pair.title}: {length} bytes of edits are at most {room}", length <= room, True)
-    return length > imports + OF_A_CONFIGURATION * (len(pair.first) + len(pair.second))
+    most = length_of_deletes(pair.first) + length_of_imports(pair.second) + FEW_BYTES * len(pair.first)
+    failures.expect(f"{pair.title}: at most {most} bytes of edits", bytes_of(found.output) <= most, True)
 
 
 def try_name(chance: random.Random, pair: Pair, failures: Failures) -> None:
@@ -259,6 +271,8 @@ def try_name(chance: random.Random, pair: Pair, failures: Failures) -> None:
     is_same = ordered(wanted) == ordered(pair.first)
     failures.expect(f"{title}: status and errors", (found.status, found.errors), (0 if is_same else 1, ""))
     failures.expect(f"{title}: what the edits make", performed(pair.top, pair.first, found.output), ordered(wanted))
+    whole = length_of_imports({name: pair.second[name]}) if name in pair.second else length_of_deletes({name: ""})
+    failures.expect(f"{title}: length", bytes_of(found.output) <= max(FEW_BYTES, whole), True)
 
 
 def try_files(chance: random.Random, pair: Pair, failures: Failures) -> None:
@@ -274,9 +288,9 @@ def try_files(chance: random.Random, pair: Pair, failures: Failures) -> None:
     failures.expect(f"{title}: what the edits make", made, ordered({"web": trees[1]}))
 
 
-def try_store(seed: str, pairs: int) -> tuple[Failures, int]:
-    """What came of some pairs of one store, and of how many the edits are longer than what is counted."""
-    chance, failures, longer = random.Random(seed), Failures(), 0
+def try_store(seed: str, pairs: int) -> Failures:
+    """What came of some pairs of one store."""
+    chance, failures = random.Random(seed), Failures()
     with tempfile.TemporaryDirectory() as top:
         folder = os.path.join(top, "store")
         make(folder, {})
@@ -289,24 +303,100 @@ def try_store(seed: str, pairs: int) -> tuple[Failures, int]:
             words += [] if end == len(states) - 1 and chance.random() < 0.5 else ["--to", str(base + end)]
             title = f"seed {seed}: {' '.join(words)}"
             pair = Pair(title, [*words, folder], states[start], states[end], top)
-            longer += try_states(pair, failures)
+            try_states(pair, failures)
             try_name(chance, pair, failures)
             try_files(chance, pair, failures)
-    return failures, longer
+    return failures
+
+
+# ---- the pairs of files
+
+
+def tree_like(chance: random.Random, tree: Tree, depth: int = 3) -> Tree:
+    """A tree that is like another one in most places."""
+    if isinstance(tree, str) or chance.random() < 0.1:
+        return tree if chance.random() < 0.6 else tree_of(chance, depth)
+    inner = max(depth - 1, 0)
+    if isinstance(tree, list):
+        items = [tree_like(chance, item, inner) for item in tree if chance.random() < 0.85]
+        items[chance.randint(0, len(items)) :] += [tree_of(chance, inner)] if chance.random() < 0.2 else []
+        return items
+    pairs = [(key, tree_like(chance, value, inner)) for key, value in tree.items() if chance.random() < 0.85]
+    if chance.random() < 0.15:
+        chance.shuffle(pairs)
+    return dict(pairs) | ({chance.choice(KEYS): tree_of(chance, inner)} if chance.random() < 0.3 else {})
+
+
+def wide_tree(chance: random.Random) -> Tree:
+    """A tree whose edits may be longer than an import of it."""
+    count = chance.choice([20, 40, 80])
+    if chance.random() < 0.5:
+        return [chance.choice(TEXTS) for _ in range(count)]
+    return {f"k{number}": chance.choice(TEXTS) for number in range(count)}
+
+
+def random_trees(chance: random.Random) -> tuple[Tree, Tree]:
+    first = wide_tree(chance) if chance.random() < 0.1 else tree_of(chance, 4)
+    kind = chance.random()
+    if kind < 0.15:
+        return first, wide_tree(chance) if chance.random() < 0.5 else tree_of(chance, 4)
+    return first, copy.deepcopy(first) if kind < 0.25 else tree_like(chance, first, 4)
+
+
+def edits_made(tree: Tree, edits: Any) -> Tree:
+    """What edits, as PyYAML gives them, make of the tree of `web`."""
+    state = {"web": copy.deepcopy(tree)}
+    for edit in edits:
+        (word, name), *rest = edit.items()
+        fields = dict(rest)
+        steps = [step.replace("~1", "/").replace("~0", "~") for step in fields.get("path", "").split("/")[1:]]
+        if word == "import":
+            state[name] = fields["tree"]
+        elif word == "set":
+            put(state, name, steps, fields["value"])
+        else:
+            cut(state, name, steps)
+    return state["web"]
+
+
+def try_file_pairs(seed: str, pairs: int) -> tuple[Failures, int, int]:
+    """What came of some pairs of files, how many differ, and for how many there was an import."""
+    chance, failures = random.Random(seed), Failures()
+    differing = imports = 0
+    with tempfile.TemporaryDirectory() as top:
+        files = [os.path.join(top, file) for file in ("old.yaml", "web.yaml")]
+        for number in range(pairs):
+            trees = random_trees(chance)
+            for file, tree in zip(files, trees):
+                write_file(file, json.dumps(tree, ensure_ascii=False).encode())
+            found = run("diff", "--files", *files)
+            title, is_same = f"seed {seed}, files {number}", ordered(trees[0]) == ordered(trees[1])
+            failures.expect(f"{title}: status and errors", (found.status, found.errors), (0 if is_same else 1, ""))
+            edits = yaml.load(found.output, Loader=LOADER) or []
+            failures.expect(f"{title}: what the edits make", ordered(edits_made(trees[0], edits)), ordered(trees[1]))
+            whole = bytes_of(to_text([{"import": "web", "tree": trees[1]}]))
+            failures.expect(f"{title}: length", bytes_of(found.output) <= max(FEW_BYTES, whole), True)
+            differing += not is_same
+            imports += any("import" in edit for edit in edits)
+    return failures, differing, imports
 
 
 def main() -> int:
     need_program()
-    pairs, seed = number_given(1, PAIRS), seed_given(2)
+    pairs, seed, failures = number_given(1, PAIRS), seed_given(2), Failures()
     counts = [min(OF_A_STORE, pairs - done) for done in range(0, pairs, OF_A_STORE)]
-    failures, longer = Failures(), 0
-    with ThreadPoolExecutor(max_workers=min(4, os.cpu_count() or 1)) as pool:
-        seeds = [f"{seed}-{number}" for number in range(len(counts))]
-        for found, more in pool.map(try_store, seeds, counts):
+    wanted = pairs * FILES_OF_A_PAIR
+    file_counts = [min(FILES_AT_ONCE, wanted - done) for done in range(0, wanted, FILES_AT_ONCE)]
+    differing = imports = 0
+    with ProcessPoolExecutor(max_workers=min(4, os.cpu_count() or 1)) as pool:
+        for found in pool.map(try_store, [f"{seed}-{number}" for number in range(len(counts))], counts):
             failures.take(found)
-            longer += more
-    per_one = f"{OF_A_CONFIGURATION} bytes for each configuration"
-    print(f"of {pairs} pairs, the edits of {longer} are longer than the imports of all configurations and {per_one}")
+        for found, more, whole in pool.map(
+            try_file_pairs, [f"{seed}-{number}" for number in range(len(file_counts))], file_counts
+        ):
+            failures.take(found)
+            differing, imports = differing + more, imports + whole
+    print(f"{pairs} pairs of states; {wanted} of files, of which {differing} differ, {imports} by an import")
     return failures.report()
 
 

@@ -4,7 +4,7 @@ from __future__ import annotations
 
 import os
 import re
-from typing import Iterator, List, Sequence, Tuple
+from typing import Iterator, List, NamedTuple, Optional, Sequence
 
 from .commands import is_name
 from .ctl_archives import History, Moved, again, history_of
@@ -16,7 +16,7 @@ from .ctl_program import Source
 from .ctl_streams import is_output_terminal, read_text, write
 from .ctl_texts import tree_of
 from .ctl_words import EXPLAIN, LINES, OF_FILES, SINCE, TO_NUMBER
-from .differences import Difference, differences, edit_of, keys_between
+from .differences import Difference, are_same, differences, keys_between, listed_between
 from .faults import ConfstoreError
 from .hidden import Hidden
 from .pointers import steps_of
@@ -28,13 +28,19 @@ COLOURS, END = {"-": "\033[31m", "+": "\033[32m"}, "\033[0m"
 # What stands on a line of its own as it is: a pointer without what a terminal or a reader of lines could mistake.
 _PLAIN = re.compile(r'/[^\s"\\\x00-\x1f\x7f-\x9f\u2028-\u202e\u2066-\u2069\u061c\u200e\u200f]*')
 
-# A difference of a configuration, or of two files, and its name.
-Named = Tuple[str, Difference]
+
+class Pair(NamedTuple):
+    """The trees of a configuration, or of two files, and its name. Either is None where nothing is."""
+
+    name: str
+    before: Optional[Tree]
+    after: Optional[Tree]
 
 
 def diff(asked: Asked) -> int:
     """Writes what differs. The status: 1 if anything does. Raises a `Fault`."""
-    found = _of_files(asked) if asked.has(OF_FILES) else _of_store(asked)
+    pairs = _of_files(asked) if asked.has(OF_FILES) else _of_store(asked)
+    found = [pair for pair in pairs if not are_same(pair.before, pair.after)]
     if not found:
         return 0
     is_one = asked.has(OF_FILES) or bool(asked.argument("NAME"))
@@ -42,7 +48,7 @@ def diff(asked: Asked) -> int:
     return REFUSED
 
 
-def _of_store(asked: Asked) -> List[Named]:
+def _of_store(asked: Asked) -> List[Pair]:
     """What differs of a store between two numbers: by default from the oldest that the file has to the last."""
     name = asked.argument("NAME")
     if name and not is_name(name):
@@ -53,30 +59,31 @@ def _of_store(asked: Asked) -> List[Named]:
     end = int(asked.options.get(TO_NUMBER.name, known.last))
     history.need(start)
     history.need(end)
-    return _of_name(history, name, start, end) if name else list(_of_all(history, start, end))
+    return [_of_name(history, name, start, end)] if name else list(_of_all(history, start, end))
 
 
-def _of_name(history: History, name: str, start: int, end: int) -> List[Named]:
-    """What differs of one configuration between two numbers."""
+def _of_name(history: History, name: str, start: int, end: int) -> Pair:
+    """One configuration at two numbers."""
     before, after = history.tree_at(name, start), history.tree_at(name, end)
     if before is None and after is None:
         raise Fault("NoConfig")
-    return [(name, one) for one in differences(before, after)]
+    return Pair(name, before, after)
 
 
-def _of_all(history: History, start: int, end: int) -> Iterator[Named]:
-    """What differs of all configurations between two numbers, in the order in which the edits make it."""
+def _of_all(history: History, start: int, end: int) -> Iterator[Pair]:
+    """The configurations at two numbers that may differ, in the order in which the edits make the second of the
+    first."""
     changed = history.names_changed(min(start, end) + 1, max(start, end))
     names = [names_at(history.folder_with(number), number) for number in (start, end)]
     for name, is_old, is_new in keys_between(*names):
         if name in changed or not (is_old and is_new):
             before = history.tree_at(name, start) if is_old else None
             after = history.tree_at(name, end) if is_new else None
-            yield from ((name, one) for one in differences(before, after))
+            yield Pair(name, before, after)
 
 
-def _of_files(asked: Asked) -> List[Named]:
-    """What differs between two files. The edits have the name of the second one up to its first dot."""
+def _of_files(asked: Asked) -> List[Pair]:
+    """The trees of two files. The edits have the name of the second one up to its first dot."""
     name = os.path.basename(asked.arguments["NAME"]).partition(".")[0]
     if not asked.has(LINES) and not is_name(name):
         raise Fault("BadName", f"{shown(name)} is no name for the edits: {LINES.name} needs none")
@@ -87,29 +94,22 @@ def _of_files(asked: Asked) -> List[Named]:
         except OSError as error:
             raise unread(file, error) from None
         trees.append(tree_of(text, Source(file, asked.has(EXPLAIN))))
-    return [(name, one) for one in differences(trees[0], trees[1])]
+    return [Pair(name, trees[0], trees[1])]
 
 
-def _edits(found: Sequence[Named]) -> str:
+def _edits(found: Sequence[Pair]) -> str:
     """The edits as the list that `batch` takes."""
-    return to_text([_edit(name, one) for name, one in found])
+    return to_text([edit for pair in found for edit in listed_between(*pair)])
 
 
-def _edit(name: str, difference: Difference) -> Tree:
-    """An edit as `batch` takes it, where an import has a tree."""
-    if difference.old is None and difference.new is not None and not difference.steps:
-        return {"import": name, "tree": difference.new}
-    return edit_of(name, difference)
-
-
-def _lines(asked: Asked, found: Sequence[Named], is_one: bool) -> Iterator[str]:
+def _lines(asked: Asked, found: Sequence[Pair], is_one: bool) -> Iterator[str]:
     """A line for what was at each place, and one for what is there then."""
     hidden = [steps_of(pointer) for pointer in asked.hidden]
     colours = COLOURS if is_output_terminal() else {}
-    for name, difference in found:
+    for pair, difference in ((pair, difference) for pair in found for difference in differences(pair.before, pair.after)):
         for sign, tree in (("-", difference.old), ("+", difference.new)):
             if tree is not None:
-                where = [] if is_one else [name]
+                where = [] if is_one else [pair.name]
                 line = " ".join([sign, *where, *_place_and_value(difference.steps, tree, hidden)])
                 colour = colours.get(sign, "")
                 yield f"{colour}{line}{END if colour else ''}\n"

@@ -19,26 +19,20 @@ from .ctl_sockets import PATIENCE, Command
 from .ctl_streams import read_text, write, write_error
 from .ctl_words import DELETE_MISSING, DRY_RUN, EXPLAIN
 from .differences import edits_between
-from .style import Tree, document
+from .style import Tree
 from .trees import from_text
 
 ENDING = ".yaml"
 
-# As many bytes edits may have in any case, and not be exchanged for the whole text.
-LONG = 4_096
-
 
 def command_of(name: str, now: Optional[Tree], text: bytes) -> Command:
     """The command that makes a configuration the tree of a text in the one style: the edits that make it of what is
-    there now, or the import where they are many and that is shorter, or nothing stays. Raises `NothingToChange`."""
-    whole = import_of(name, text.decode())
-    edits = edits_between(name, now, from_text(text))
+    there now, or the import where that is one of them, or nothing stays. Raises `NothingToChange`."""
+    whole, tree = import_of(name, text.decode()), from_text(text)
+    edits = edits_between(name, now, tree)
     if not edits:
         raise NothingToChange
-    if now is None or (len(edits) == 1 and edits[0] == set_of(name, "", from_text(text))):
-        return whole
-    batch: Command = {"batch": edits}
-    return batch if len(document(batch)) <= max(len(document(whole)), LONG) else whole
+    return whole if edits[0] in (whole, set_of(name, "", tree)) else {"batch": edits}
 
 
 def plan_of_import(name: str, text: bytes) -> Plan:

@@ -2,8 +2,11 @@
 
 The rules are those of the crate `tree_diff`. In a mapping a key stays if it is the next key of the second mapping;
 others are deleted, and what is then missing is set last. So it is with the configurations of a store, too. A mapping of
-which fewer keys stay than are deleted is set whole, if some are missing. In a list the elements at one index are compared. If the first list is longer, what is left
-over is deleted before the elements that both have at their ends; if it is shorter, what is missing comes to the end.
+which fewer keys stay than are deleted is set whole, if some are missing. In a list the elements at one index are
+compared. If the first list is longer, what is left over is deleted before the elements that both have at their ends; if
+it is shorter, what is missing comes to the end.
+
+The edits of a batch are those of the crate `conf_diff`: an import takes the place of edits that are longer.
 """
 
 from __future__ import annotations
@@ -12,13 +15,16 @@ from typing import Dict, Iterator, List, NamedTuple, Optional, Sequence, Tuple
 
 from .commands import delete_of, put_of, set_of
 from .pointers import pointer_of
-from .style import Tree
+from .style import Tree, to_text
 
 # How deep elements are compared that both lists may have at their ends.
 COMPARED = 8
 
 # The step behind the last element of a list.
 END = "-"
+
+# How many bytes the edits at places may have in any case, and not be exchanged for an import.
+FEW_BYTES = 1_024
 
 
 class Key(NamedTuple):
@@ -127,14 +133,34 @@ def _before_end(first: Sequence[Tree], second: Sequence[Tree]) -> int:
 
 
 def edit_of(name: str, difference: Difference) -> Dict[str, Tree]:
-    """An edit of a batch, as a session takes it. A whole configuration is put where there was none."""
+    """An edit of a list, as the word `batch` takes it. A whole configuration is imported where there was none."""
     if difference.new is None:
         return delete_of(name, difference.path)
     if difference.old is None and not difference.steps:
-        return put_of(name, difference.new)
+        return _import_of(name, difference.new)
     return set_of(name, difference.path, difference.new)
 
 
+def _import_of(name: str, tree: Tree) -> Dict[str, Tree]:
+    return {"import": name, "tree": tree}
+
+
+def listed_between(name: str, first: Optional[Tree], second: Optional[Tree]) -> List[Dict[str, Tree]]:
+    """The edits that make a configuration the second tree of the first one, as the word `batch` takes them. Where those
+    at places are not few, and longer than an import, they are the import."""
+    edits = [edit_of(name, difference) for difference in differences(first, second)]
+    length = _length_of(edits)
+    if second is not None and length > FEW_BYTES:
+        whole = [_import_of(name, second)]
+        return whole if _length_of(whole) < length else edits
+    return edits
+
+
+def _length_of(edits: Sequence[Tree]) -> int:
+    """How many bytes edits have in the one style."""
+    return len(to_text(list(edits)).encode())
+
+
 def edits_between(name: str, first: Optional[Tree], second: Optional[Tree]) -> List[Tree]:
-    """The edits of a batch that make a configuration the second tree, where it is the first one now."""
-    return [edit_of(name, difference) for difference in differences(first, second)]
+    """The same edits, as a batch in a session takes them, where an import has a text."""
+    return [put_of(name, edit["tree"]) if "import" in edit else edit for edit in listed_between(name, first, second)]

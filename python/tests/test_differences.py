@@ -6,7 +6,7 @@ import copy
 import random
 import unittest
 
-from confstore.differences import are_same, differences
+from confstore.differences import are_same, differences, edits_between, listed_between
 from confstore.merging import taken_back
 from confstore.style import Tree, to_text
 
@@ -114,6 +114,32 @@ class Differences(unittest.TestCase):
         self.assertEqual([differences(None, None), [tuple(one) for one in differences(None, "x")],
                           [tuple(one) for one in differences("x", None)]],
                          [[], [((), None, "x")], [((), "x", None)]])  # fmt: skip
+
+
+class Edits(unittest.TestCase):
+    def test_an_import_is_shorter(self) -> None:
+        """By hand: a set of a key has 37 bytes, an import 22 and 11 for each key."""
+        for count, is_import in ((1, False), (27, False), (28, True), (40, True)):
+            first: Tree = {f"k{number}": "a" for number in range(10, 10 + count)}
+            second: Tree = {f"k{number}": "b" for number in range(10, 10 + count)}
+            listed = listed_between("app", first, second)
+            sets: list[Tree] = [{"set": "app", "path": f"/k{number}", "value": "b"} for number in range(10, 10 + count)]
+            self.assertEqual(listed, [{"import": "app", "tree": second}] if is_import else sets, count)
+            self.assertEqual(len(to_text(list(listed))), 22 + 11 * count if is_import else 37 * count)
+            whole: list[Tree] = [{"import": "app", "text": to_text(second)}]
+            self.assertEqual(edits_between("app", first, second), whole if is_import else sets)
+
+    def test_edits_that_are_shorter_stay(self) -> None:
+        first: Tree = {f"k{number}": "a" * 50 for number in range(60)}
+        second: Tree = {f"k{number}": "b" if number < 30 else "a" * 50 for number in range(60)}
+        wanted: list[Tree] = [{"set": "app", "path": f"/k{number}", "value": "b"} for number in range(30)]
+        self.assertEqual(listed_between("app", first, second), wanted)
+
+    def test_one_that_is_new_or_gone(self) -> None:
+        tree: Tree = {f"k{number}": "a" for number in range(60)}
+        self.assertEqual(listed_between("app", None, tree), [{"import": "app", "tree": tree}])
+        self.assertEqual(listed_between("app", tree, None), [{"delete": "app", "path": ""}])
+        self.assertEqual(edits_between("app", tree, dict(tree)), [])
 
 
 class TakenBack(unittest.TestCase):

@@ -5,3 +5,4 @@ pub mod Limits
 pub mod Named
 pub mod Parts
 pub mod Lines
+pub mod Lengths

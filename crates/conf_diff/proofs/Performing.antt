@@ -1,16 +1,16 @@
 -- What the edits between trees, configurations and states make, where no limit is in the way.
-use Rattle.std.proofs.Common.{◌≡◌, ℕ, Bool, true, false, not, List, [], ◌∷◌, ◌++◌, map, Option, Some, None, Result, Ok, Err}
-use Rattle.std.proofs.Common.{if◌then◌else◌, refl, sym, ap, subst, ◌∙◌}
+use Rattle.std.proofs.Common.{◌≡◌, ℕ, Bool, true, false, not, List, [], ◌∷◌, ◌++◌, map, Option, Some, None, Result, Ok, Err, if◌then◌else◌}
+use Rattle.std.proofs.Common.{◌&&◌, nat_lt, refl, sym, ap, subst, ◌∙◌}
 use Rattle.conf_diff.proofs.Prelude.{Tree, Entry, Edit, import_as, set_at, delete_at, name_of, edit_of, good_name, names_of, config_named}
-use Rattle.conf_diff.proofs.Prelude.{put_config, cut_config, has_name, names_differ, and_then, by_path, found, BadName, StoreFault}
-use Rattle.conf_diff.proofs.Prelude.{path_of, path_of-pointer_text, pointer_text, set, PathFault, tree_and_then, tree_edited}
-use Rattle.conf_diff.proofs.Prelude.{Difference, differences, written, differences-made, differences-same, places, made, IsPlace, ArePlaces}
+use Rattle.conf_diff.proofs.Prelude.{put_config, cut_config, has_name, names_differ, and_then, by_path, found, BadName, StoreFault, path_of}
+use Rattle.conf_diff.proofs.Prelude.{path_of-pointer_text, pointer_text, set, PathFault, tree_and_then, tree_edited, Difference}
+use Rattle.conf_diff.proofs.Prelude.{differences, written, differences-made, differences-same, places, made, IsPlace, ArePlaces}
 use Rattle.conf_diff.proofs.Prelude.{named-put-same, put-put-same, put_config-same, cut-none, AreConfigs, and_parts, not-true, same_text}
-use Rattle.conf_diff.proofs.Prelude.{same_text-true, same_text-self, distinct}
-use Rattle.conf_diff.proofs.Joined.{named-join, put-join, put-new, cut-join, join-next, join-none, AreFree, AreFree-next}
-use Rattle.conf_diff.specs.StateEdits.{AreKept, edit_at, edit_in, tree_edits, config_edits, new_entries, entry_edits}
+use Rattle.conf_diff.proofs.{Prelude.{same_text-true, same_text-self, distinct}, Joined.{named-join, put-join, put-new, cut-join}}
+use Rattle.conf_diff.{proofs.Joined.{join-next, join-none, AreFree, AreFree-next}, specs.{EditTexts.lines_length, StateEdits.AreKept}}
+use Rattle.conf_diff.specs.StateEdits.{edit_at, edit_in, few_bytes, place_edits, shorter, tree_edits, config_edits, new_entries}
+use Rattle.conf_diff.specs.{StateEdits.entry_edits, Freely.{freely_deleted, freely_after, freely_edited, all_freely_edited, with_config}}
 use Rattle.conf_state.specs.declared.command.Edit as code
-use Rattle.conf_diff.specs.Freely.{freely_deleted, freely_after, freely_edited, all_freely_edited, with_config}
 
 -- ---- what a result comes from
 
@@ -96,10 +96,18 @@ differences-edited (d ∷ ds) es name t u named there are is =
 pub tree_edits-made : (es : List Entry) (name : List ℕ) (t u : Tree) → good_name name ≡ true → config_named es name ≡ Some t
     → distinct t ≡ true → distinct u ≡ true → all_freely_edited es (tree_edits name t u) ≡ Ok (put_config es name u)
 tree_edits-made es name t u named there first second =
-    differences-edited (differences t u) es name t u named there (places t u) (differences-made t u first second)
+    by (nat_lt few_bytes (lines_length at_places) && nat_lt (lines_length (import_as name u ∷ [])) (lines_length at_places))
+  where
+    at_places : List Edit
+    at_places = place_edits name t u
+
+    by : (whole : Bool) → all_freely_edited es (if whole then import_as name u ∷ [] else at_places) ≡ Ok (put_config es name u)
+    by true = edits-first es (put_config es name u) (import_as name u) [] (import-made es name named u)
+    by false = differences-edited (differences t u) es name t u named there (places t u) (differences-made t u first second)
 
 pub tree_edits-same : (name : List ℕ) (t : Tree) → tree_edits name t t ≡ []
-tree_edits-same name t = ap (λ ds. map (edit_in name) (map written ds)) (differences-same t)
+tree_edits-same name t =
+    ap (λ ds. shorter (import_as name t) (map (edit_in name) (map written ds))) (differences-same t)
 
 -- ---- the edits between two configurations
 

@@ -6,6 +6,6 @@ pub use Rattle.conf_state.specs.{Steps.{by_path, found}, declared.fault.StoreFau
 pub use Rattle.{conf_state.specs.declared.fault.StoreFault.TheVariants.ConfigLarge, json_pointer.specs.Pointers.path_of}
 pub use Rattle.{tree_diff.specs.{Diffs.{Change, change_of, changes_of}, Differences.{differences, written}}, tree_path.specs.Paths.set}
 pub use Rattle.{tree_path.specs.Paths.delete, yaml_config.specs.Kept.{IsKept, own_limits}, yaml_data.specs.Seen.tree_of}
-pub use Rattle.yaml_grammar.specs.{Style.{style_text, scalar_lines, value_at, members_at}, Texts.{spaces, same_text}, Trees.Tree}
-pub use Rattle.yaml_grammar.specs.Trees.{sequence}
+pub use Rattle.yaml_grammar.specs.{Style.{style_text, scalar_lines, value_at, members_at, elements_after}, Trees.{Tree, sequence}}
+pub use Rattle.yaml_grammar.specs.Texts.{byte_len, spaces, same_text}
 pub use Rattle.std.specs.Str.{chars}

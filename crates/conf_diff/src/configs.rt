@@ -1,10 +1,12 @@
 // The edits between two configurations.
-ghost use Rattle.std.specs.Prelude.{◌≡◌, ◌∷◌, ◌++◌, [], true, List, Ok, IfOk, OnOk, map, option_map};
+ghost use Rattle.std.specs.Prelude.{◌≡◌, ◌∷◌, ◌++◌, [], true, List, Some, Ok, IfOk, OnOk, map, option_map};
 ghost use Rattle.conf_diff.specs.Prelude.{Entry, IsKept, chars, change_of, config_named, delete_at, edit_of, good_name};
 ghost use Rattle.conf_diff.specs.Prelude.{import_as, tree_of};
-ghost use Rattle.conf_diff.specs.StateEdits.{AreKept, IsKeptValue, config_edits, edit_in, tree_edits};
+ghost use Rattle.conf_diff.specs.StateEdits.{AreKept, AreShort, IsKeptValue, config_edits, edit_in, place_edits};
+ghost use Rattle.conf_diff.specs.StateEdits.{tree_edits, whole_edits};
 ghost use Rattle.conf_diff.specs.Freely.{all_freely_edited, with_config};
 
+use crate::text::{import_length, lines_length};
 use conf_state::Edit;
 use std::alloc::{AllocError, Global};
 use tree_diff::{Edit as TreeEdit, diff};
@@ -12,9 +14,15 @@ use yaml_config::Config;
 use yaml_data::Tree;
 use yaml_writer::Size;
 
+/// How many bytes the lines of edits at places have at most where an import would be shorter.
+const FEW_BYTES: u128 = 1_024;
+
 /// The edits that make the second configuration of the first under a name, in the order in which they have to be made.
 /// Either may be missing: one that is new is imported, one that is gone is deleted. Between two that are there they are
-/// those of [`tree_diff::diff`]. Equal configurations have none. It fails only if memory runs out.
+/// those of [`tree_diff::diff`], which say what changed. Equal configurations have none.
+///
+/// Where the lines of these edits have more than 1,024 bytes, and more than an import of the second configuration has,
+/// it is imported instead. So the edits are never much longer than the whole. It fails only if memory runs out.
 ///
 /// What the edits make is said without the limits of a configuration. Between two edits it may be larger than both.
 pub fn config_edits(
@@ -31,6 +39,9 @@ pub fn config_edits(
     ensures equal_configurations_do_not_differ { option_map (λ c. tree_of c.now) first.entry
         ≡ option_map (λ c. tree_of c.now) second.entry
         → IfOk result (λ edits. edits.items ≡ []) }
+    ensures no_longer_than_the_whole { IfOk result (λ edits. AreShort (map edit_of edits.items)
+        (whole_edits (chars name.now) (option_map (λ c. tree_of c.now) first.entry)
+        (option_map (λ c. tree_of c.now) second.entry))) }
     ensures edits { IfOk result (λ edits. map edit_of edits.items
         ≡ config_edits (chars name.now) (option_map (λ c. tree_of c.now) first.entry)
         (option_map (λ c. tree_of c.now) second.entry)) }
@@ -56,7 +67,7 @@ pub(crate) fn append_edits(
 {
     match first {
         Some(first) => match second {
-            Some(second) => append_differences(alloc, name, first.tree(), second.tree(), edits),
+            Some(second) => append_differences(alloc, name, first, second, edits),
             None => append_delete(alloc, name, edits),
         },
         None => match second {
@@ -93,21 +104,52 @@ fn append_import(
     Ok(())
 }
 
-/// Appends the edits between two trees under a name.
+/// Appends the edits between two configurations that are both there.
 fn append_differences(
+    alloc: Global,
+    name: &str,
+    first: &Config,
+    second: &Config,
+    edits: &mut Vec<Edit>,
+) -> Result<(), AllocError>
+    ensures edits { OnOk result (map edit_of edits.new.items ≡ map edit_of edits.old.items
+        ++ tree_edits (chars name.now) (tree_of first.now) (tree_of second.now)) }
+    ensures kept { AreKept (Some (tree_of first.now)) (Some (tree_of second.now)) }
+{
+    let at_places = place_edits(alloc, name, first.tree(), second.tree())?;
+    let length = lines_length(&at_places);
+    if length > FEW_BYTES && length > import_length(name, second) {
+        return append_import(alloc, name, second, edits);
+    }
+    append_all(edits, at_places)
+}
+
+/// The edits at the places where two trees differ, under a name.
+fn place_edits(
     alloc: Global,
     name: &str,
     first: &Tree,
     second: &Tree,
-    edits: &mut Vec<Edit>,
-) -> Result<(), AllocError>
+) -> Result<Vec<Edit>, AllocError>
     requires first { IsKept (tree_of first.now) }
     requires second { IsKept (tree_of second.now) }
-    ensures { OnOk result (map edit_of edits.new.items ≡ map edit_of edits.old.items
-        ++ tree_edits (chars name.now) (tree_of first.now) (tree_of second.now)) }
+    ensures { IfOk result (λ edits. map edit_of edits.items
+        ≡ place_edits (chars name.now) (tree_of first.now) (tree_of second.now)) }
 {
+    let mut edits = Vec::new(alloc);
     for difference in diff(alloc, first, second)? {
         edits.push(edit_in(alloc, name, difference)?)?;
+    }
+    Ok(edits)
+}
+
+/// Appends edits to others.
+fn append_all(edits: &mut Vec<Edit>, more: Vec<Edit>) -> Result<(), AllocError>
+    ensures { OnOk result (map edit_of edits.new.items
+        ≡ map edit_of edits.old.items ++ map edit_of more.items) }
+{
+    for edit in more {
+        edits.push(edit)?;
     }
     Ok(())
 }

@@ -1,7 +1,8 @@
 // The edits between two states.
-ghost use Rattle.std.specs.Prelude.{◌≡◌, ◌++◌, [], Ok, IfOk, OnOk, map};
+ghost use Rattle.std.specs.Prelude.{◌≡◌, ◌≤◌, ◌+◌, ◌*◌, ◌++◌, [], Ok, IfOk, OnOk, length, map};
 ghost use Rattle.conf_diff.specs.Prelude.{IsState, all_edited, edit_of, names_of};
-ghost use Rattle.conf_diff.specs.StateEdits.{entry_edits};
+ghost use Rattle.conf_diff.specs.StateEdits.{entry_edits, few_bytes, whole_entry_edits};
+ghost use Rattle.conf_diff.specs.EditTexts.{lines_length};
 ghost use Rattle.conf_diff.specs.NamedEdits.{named_edits, names_left, new_named};
 ghost use Rattle.conf_diff.specs.Freely.{IsUnlessLimited, all_freely_edited};
 
@@ -14,7 +15,9 @@ use std::alloc::{AllocError, Global};
 /// counts of the states do not matter. Equal configurations have none.
 ///
 /// A name stays if it is the next name of the second state, and what is under it is edited as
-/// [`config_edits`](crate::config_edits) says. Other names are deleted, and what is then missing is imported last.
+/// [`config_edits`](crate::config_edits) says. Other names are deleted, and what is then missing is imported last. The
+/// lines of the edits have at most 1,024 bytes for each configuration of the first state more than those that delete
+/// each of these, and import each of the second state.
 ///
 /// The edits make the second state where no limit is in the way. A store may refuse them as too deep or too large:
 /// between two edits a configuration may be larger than in both states. It fails only if memory runs out.
@@ -25,6 +28,9 @@ pub fn state_edits(alloc: Global, first: &State, second: &State) -> Result<Vec<E
         (all_edited first.now.configs (map edit_of edits.items)) second.now.configs) }
     ensures equal_states_do_not_differ { first.now.configs ≡ second.now.configs
         → IfOk result (λ edits. edits.items ≡ []) }
+    ensures no_longer_than_the_whole { IfOk result (λ edits. lines_length (map edit_of edits.items)
+        ≤ lines_length (whole_entry_edits first.now.configs second.now.configs)
+        + few_bytes * length first.now.configs) }
     ensures edits { IfOk result (λ edits. map edit_of edits.items
         ≡ entry_edits first.now.configs second.now.configs) }
 {

@@ -147,3 +147,45 @@ fn configurations(rt: HostRuntime) -> Result<(), Fail> {
     }
     Ok(())
 }
+
+/// A mapping of `count` keys from `k10` on, each to this text.
+fn keys(alloc: Global, count: u8, value: &str) -> Result<Tree, Fail> {
+    let mut pairs = Vec::new(alloc);
+    for number in 0..count {
+        let key = format!(in alloc; "k{}", 10 + u64::from(number))?;
+        pairs.push((Text::new(alloc, &key)?, text(alloc, value)?))?;
+    }
+    Ok(Tree::Map(pairs))
+}
+
+#[test]
+fn an_import_is_shorter(rt: HostRuntime) -> Result<(), Fail> {
+    let alloc = rt.alloc();
+    // a set of a key has 37 bytes, and its pair in an import 11 after the 22 of `- import: app` and `  tree:`
+    let rows: [(u8, u64); 3] = [(27, 27 * 37), (28, 22 + 28 * 11), (40, 22 + 40 * 11)];
+    for (count, wanted) in rows {
+        let first = config(&rt, alloc, keys(alloc, count, "a")?);
+        let second = config(&rt, alloc, keys(alloc, count, "b")?);
+        let edits = config_edits(alloc, "app", Some(&first), Some(&second))?;
+        assert_eq!(rt; edits_text(alloc, &edits)?.len() as u64, wanted);
+    }
+    Ok(())
+}
+
+#[test]
+fn edits_shorter_than_an_import_stay(rt: HostRuntime) -> Result<(), Fail> {
+    let alloc = rt.alloc();
+    let value = "aaaaaaaaaaaaaaaaaaaaaaaaaaaaaaaaaaaaaaaaaaaaaaaaaa";
+    let first = config(&rt, alloc, keys(alloc, 60, value)?);
+    let mut tree = keys(alloc, 60, value)?;
+    if let Tree::Map(pairs) = &mut tree {
+        for (_, value) in pairs.iter_mut().take(30) {
+            *value = text(alloc, "b")?;
+        }
+    }
+    let second = config(&rt, alloc, tree);
+    let edits = config_edits(alloc, "app", Some(&first), Some(&second))?;
+    // 30 sets of 37 bytes; an import has 22, 30 pairs of 11 and 30 of 60
+    assert_eq!(rt; edits_text(alloc, &edits)?.len() as u64, 30 * 37);
+    Ok(())
+}

@@ -1,13 +1,13 @@
 // The text of edits: the list that the word `batch` takes.
-ghost use Rattle.std.specs.Prelude.{◌≡◌, ◌++◌, encode_utf8_all, map, string_bytes, IfOk, OnOk};
-ghost use Rattle.conf_diff.specs.Prelude.{chars, delete_at, edit_members, edit_of, import_as, members_at, scalar_lines};
-ghost use Rattle.conf_diff.specs.Prelude.{set_at, tree_of, value_at};
-ghost use Rattle.conf_diff.specs.EditTexts.{edits_text};
+ghost use Rattle.std.specs.Prelude.{◌≡◌, ◌<◌, ◌^◌, ◌∷◌, ◌++◌, [], encode_utf8_all, map, min, string_bytes, IfOk, OnOk};
+ghost use Rattle.conf_diff.specs.Prelude.{byte_len, chars, delete_at, edit_elements, edit_members, edit_of, elements_after};
+ghost use Rattle.conf_diff.specs.Prelude.{import_as, members_at, scalar_lines, set_at, tree_of, value_at};
+ghost use Rattle.conf_diff.specs.EditTexts.{edits_text, head_of_import, lines_length};
 
 use conf_state::Edit;
 use std::alloc::{AllocError, Global};
-use yaml_config::Config;
-use yaml_writer::{Sink, write_scalar, write_value};
+use yaml_config::{Config, Slot};
+use yaml_writer::{ByteCount, Sink, write_scalar, write_value};
 
 /// The indentation of the members of an edit, which come after `- `.
 const INDENT: u64 = 2;
@@ -33,11 +33,61 @@ fn write_edits<S: Sink>(edits: &[Edit], sink: &mut S) -> Result<(), S::Fault>
     if edits.is_empty() {
         return sink.put_text("[]\n");
     }
+    write_lines(edits, sink)
+}
+
+/// Writes the lines of edits, of which there may be none.
+fn write_lines<S: Sink>(edits: &[Edit], sink: &mut S) -> Result<(), S::Fault>
+    ensures { OnOk result (S.Takes sink.old
+        (elements_after (edit_elements (map edit_of edits.now)) 0) sink.new) }
+{
     for edit in edits {
         sink.put_text("- ")?;
         write_edit(edit, sink)?;
     }
     Ok(())
+}
+
+/// How many bytes the lines of edits have, as [`edits_text`] writes them; at most the greatest `u128`. It takes no
+/// memory.
+pub(crate) fn lines_length(edits: &[Edit]) -> u128
+    ensures { result ≡ min (lines_length (map edit_of edits.now)) u128.MAX }
+{
+    let mut bytes = ByteCount::new();
+    match write_lines(edits, &mut bytes) {
+        Ok(()) => bytes.total(),
+        Err(never) => match never {},
+    }
+}
+
+/// How many bytes the lines of an import have, as [`edits_text`] writes them. It takes no memory, and a configuration
+/// that knows its size is not counted again.
+pub(crate) fn import_length(name: &str, config: &Config) -> u128
+    ensures length { result ≡ lines_length (import_as (chars name.now) (tree_of config.now) ∷ []) }
+    ensures small { result < 2 ^ 100 }
+{
+    let tree = config.size(Slot::Value);
+    head_length(name) + tree.bytes + u128::from(INDENT) * tree.lines
+}
+
+/// How many bytes an import has before its tree.
+fn head_length(name: &str) -> u128
+    ensures length { result ≡ byte_len (head_of_import (chars name.now)) }
+    ensures small { result < 2 ^ 70 }
+{
+    let mut bytes = ByteCount::new();
+    match write_head(name, &mut bytes) {
+        Ok(()) => bytes.total(),
+        Err(never) => match never {},
+    }
+}
+
+/// Writes an import up to its tree.
+fn write_head<S: Sink>(name: &str, sink: &mut S) -> Result<(), S::Fault>
+    ensures { OnOk result (S.Takes sink.old (head_of_import (chars name.now)) sink.new) }
+{
+    write_text_member("- import: ", name, sink)?;
+    sink.put_text("  tree:")
 }
 
 /// Writes the members of an edit, the first without its spaces.

@@ -1,7 +1,8 @@
-use Rattle.std.proofs.Common.{◌≡◌, ◌++◌, List, [], Ok, map, sym, ap, ◌∙◌}
+use Rattle.std.proofs.Common.{◌≡◌, ◌≤◌, ◌+◌, ◌*◌, ◌++◌, List, [], Ok, length, map, sym, ap, subst, ◌∙◌}
 use Rattle.conf_diff.proofs.{Prelude.{Contents, Edit, IsState, edit_of, names_of}, Joined.AreFree-none, Limits.all-limited, Named.found-all}
-use Rattle.conf_diff.proofs.{Named.named_edits-entries, Performing.{entry_edits-made, entry_edits-same, no_edits}}
-use Rattle.conf_diff.specs.{Freely.all_freely_edited, NamedEdits.{named_edits, names_left, new_named}, StateEdits.entry_edits}
+use Rattle.conf_diff.proofs.{Named.named_edits-entries, Lengths.entry_edits-short, Performing.{entry_edits-made, entry_edits-same}}
+use Rattle.conf_diff.{proofs.Performing.no_edits, specs.{EditTexts.lines_length, Freely.all_freely_edited, NamedEdits.named_edits}}
+use Rattle.conf_diff.specs.{NamedEdits.{names_left, new_named}, StateEdits.{entry_edits, few_bytes, whole_entry_edits}}
 use Rattle.conf_diff.specs.declared.left.Left.{Left}
 use Rattle.conf_state.specs.declared.command.Edit as code
 use Rattle.conf_diff.proofs.states.state_edits.Goals as goal
@@ -47,3 +48,10 @@ pub returns-clause-equal_states_do_not_differ : goal.returns-clause-equal_states
 returns-clause-equal_states_do_not_differ c = λ same.
     no_edits c.append_new.new.edits.items
     (returns-clause-edits c ∙ ap (entry_edits c.args.first.now.configs) (sym same) ∙ entry_edits-same c.args.first.now.configs)
+
+pub returns-clause-no_longer_than_the_whole : goal.returns-clause-no_longer_than_the_whole
+returns-clause-no_longer_than_the_whole c =
+    let first = c.args.first.now.configs in
+    let second = c.args.second.now.configs in
+    subst (λ edits. lines_length edits ≤ lines_length (whole_entry_edits first second) + few_bytes * length first)
+    (sym (returns-clause-edits c)) (entry_edits-short first second)

@@ -1,6 +1,6 @@
 use Rattle.std.proofs.Common.{drop, map}
 use Rattle.conf_diff.proofs.Prelude.{elements_after, edit_elements, edit_of}
-use Rattle.conf_diff.proofs.text.write_edits.Given as goal
+use Rattle.conf_diff.proofs.text.write_lines.Given as goal
 
 -- what ends the edits from here ends them all from the start
 abbrev pub invariant-loop-edit : goal.invariant-loop-edit
