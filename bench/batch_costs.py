@@ -4,6 +4,7 @@
 - 100 `set`s in one batch, beside 100 single ones in a session in groups, and how a batch's cost grows with it.
 - A batch of one `set`, beside a single `set`, in a store of 10,000 configurations.
 - Opening a journal of batches of 100 edits, beside one of as many single edits.
+- A single `set` in several spellings.
 
 It also counts the syncs of a batch with strace, where that is installed. Run it from the repository's root after the
 program is built; it needs valgrind, and takes some minutes:
@@ -30,6 +31,15 @@ VALUE = "a value of some fifty bytes, as many of them are here"
 def instructions(folder: str, commands: str) -> int:
     """How many instructions a session in groups takes that performs these commands."""
     return session_instructions(folder, commands.encode(), "--group")
+
+
+# A set of a text in several spellings. The first two are read by themselves, any other by the general reader.
+SPELLINGS = {
+    "by lines": '---\nset: c00001\npath: "/k"\nvalue: "12"\n...\n',
+    "as JSON": '{"set":"c00001","path":"/k","value":"12"}\n...\n',
+    "in flow, plain": "{set: c00001, path: /k, value: 12}\n...\n",
+    "by lines, in single quotes": "---\nset: 'c00001'\npath: '/k'\nvalue: '12'\n...\n",
+}
 
 
 def name_of(number: int) -> str:
@@ -117,6 +127,12 @@ def compare_openings(top: str) -> None:
     print(f"a single one {singles:.0f}, {batches / singles:.2f} times")
 
 
+def compare_spellings(top: str) -> None:
+    """Prints what a set costs as it is spelled."""
+    for spelling, command in SPELLINGS.items():
+        print(f"a set {spelling}: {cost(top, 100, command * 1000) / 1000:.0f} instructions")
+
+
 def main() -> int:
     need_program()
     if not has_valgrind():
@@ -125,6 +141,7 @@ def main() -> int:
         compare_sizes(top)
         compare_large(top)
         compare_openings(top)
+        compare_spellings(top)
         print(f"syncs of a batch of 100: {syncs(top)}")
     return 0
 

@@ -1,6 +1,6 @@
 -- What commands that are spelled one key a line say.
 use Rattle.std.{proofs.Common.{◌≡◌, refl, sym, ap, subst, ◌∙◌, inl, inr, arith, ◌<◌, ◌≤◌, append_assoc, append-nil}, specs.Prelude.{ℕ, map}}
-use Rattle.std.specs.{Prelude.{false, List, [], ◌∷◌, ◌++◌, codes, length, Option, Some, option_map}, Borrow.Bor}
+use Rattle.std.specs.{Prelude.{true, false, List, [], ◌∷◌, ◌++◌, codes, length, Option, Some, option_map}, Borrow.Bor}
 use Rattle.conf_session.proofs.Prelude.{chars, IsUtf8, and_from, spaces, text, sequence, mapping, Elements, no_member, member, with_last}
 use Rattle.conf_session.proofs.Prelude.{about-None, members_distinct, byte_len-chars, IsKept, set_at, delete_at, member_line, lines_of}
 use Rattle.conf_session.proofs.Prelude.{scalar_most, Tree, has_key, not_from_false, number_from_digits, Condition, test_at, absent_at}
@@ -9,7 +9,7 @@ use Rattle.conf_session.proofs.SaidLemmas.{none-before, none-about, after-if, sa
 use Rattle.conf_session.specs.Said.{Part, Said, import_text, plain, single_part, batch_of_parts, get_at, said_by, part_from, part_of}
 use Rattle.conf_session.specs.Said.{parts_of, command_said, parts_said, change_said, conditional, noted_said, with_conditions, with_about}
 use Rattle.conf_session.specs.{SaidConditions.{first_and_rest, all_in, condition_from, condition_in}, CommandLines.{Spelling, Line}}
-use Rattle.conf_session.specs.CommandLines.{spelled, IsField, line_text, lines_text, members_of_lines, IsSpelled, AreLines, Entry}
+use Rattle.conf_session.specs.CommandLines.{spelled, stands, IsField, line_text, lines_text, members_of_lines, IsSpelled, AreLines, Entry}
 use Rattle.conf_session.specs.CommandLines.{entry_text, entry_members, elements_text, elements_of_entries, IsEntry, AreEntries, AreSaid}
 use Rattle.conf_session.specs.CommandLines.{AreElementLines, SaysPart, SpellsPart, ArePartLines, IsPartLines, AreConditionLines}
 use Rattle.conf_session.specs.CommandLines.{IsConditionLines, Row, one_line, list_under, pairs_under, row_text, rows_text, row_key}
@@ -160,20 +160,28 @@ import_spelled n v name source one two =
       is = λ indent. λ i. member_line (codes "import: ") (one.is i) ++ (spaces indent ++ member_line (codes "text: ") (two.is i));
     }
 
--- the lines of a set
-pub set_spelled : (n p v : Bor (List ℕ)) (name path value : List ℕ) → IsSpelled n.now name → IsSpelled p.now path → IsSpelled v.now value
-    → SpellsPart (lines_of (cut.Set n p v) (codes "text: ")) (plain (set_at (chars name) (chars path) (text (chars value))))
+-- the pairs of a set
+abbrev pub set_entry : (one two three : Spelling) (name path value : List ℕ) → Entry
+set_entry one two three name path value =
+    record {
+      first = record { key = codes "set"; spelling = one; value = name };
+      more =
+          record { key = codes "path"; spelling = two; value = path }
+          ∷ record { key = codes "value"; spelling = three; value = value } ∷ [];
+    }
+
+-- say it
+pub set_says : (one two three : Spelling) (name path value : List ℕ) → stands one name ≡ true → stands two path ≡ true
+    → stands three value ≡ true
+    → SaysPart (set_entry one two three name path value) (plain (set_at (chars name) (chars path) (text (chars value))))
 unfolding said_by command_said part_from
-set_spelled n p v name path value one two three =
-    let a : Line = record { key = codes "set"; spelling = one.spelling; value = name } in
-    let b : Line = record { key = codes "path"; spelling = two.spelling; value = path } in
-    let d : Line = record { key = codes "value"; spelling = three.spelling; value = value } in
-    let entry : Entry = record { first = a; more = b ∷ d ∷ [] } in
+set_says one two three name path value n p v =
+    let entry = set_entry one two three name path value in
     let said : SaysPart entry (plain (set_at name path (text value))) = record {
       is = record {
         are = (
-          record { word = refl; short = refl; stands = one.stands },
-          (record { word = refl; short = refl; stands = two.stands }, (record { word = refl; short = refl; stands = three.stands }, tt)),
+          record { word = refl; short = refl; stands = n },
+          (record { word = refl; short = refl; stands = p }, (record { word = refl; short = refl; stands = v }, tt)),
         );
         differ = refl;
       };
@@ -183,31 +191,40 @@ set_spelled n p v name path value one two three =
       apart = refl;
       no_about = refl;
     } in
-    let name_is = sym (spelled_chars one.spelling name one.stands) in
-    let path_is = sym (spelled_chars two.spelling path two.stands) in
-    let value_is = sym (spelled_chars three.spelling value three.stands) in
+    let name_is = sym (spelled_chars one name n) in
+    let path_is = sym (spelled_chars two path p) in
+    let value_is = sym (spelled_chars three value v) in
+    subst (SaysPart entry) (λ i. plain (set_at (name_is i) (path_is i) (text (value_is i)))) said
+
+-- the lines of a set
+pub set_spelled : (n p v : Bor (List ℕ)) (name path value : List ℕ) → IsSpelled n.now name → IsSpelled p.now path → IsSpelled v.now value
+    → SpellsPart (lines_of (cut.Set n p v) (codes "text: ")) (plain (set_at (chars name) (chars path) (text (chars value))))
+set_spelled n p v name path value one two three =
     record {
-      entry = entry;
-      says = subst (SaysPart entry) (λ i. plain (set_at (name_is i) (path_is i) (text (value_is i)))) said;
+      entry = set_entry one.spelling two.spelling three.spelling name path value;
+      says = set_says one.spelling two.spelling three.spelling name path value one.stands two.stands three.stands;
       is = λ indent. λ i.
           member_line (codes "set: ") (one.is i)
           ++ (spaces indent ++ (member_line (codes "path: ") (two.is i) ++ (spaces indent ++ member_line (codes "value: ") (three.is i))));
     }
 
--- the lines of a delete
-pub delete_spelled : (n p : Bor (List ℕ)) (name path : List ℕ) → IsSpelled n.now name → IsSpelled p.now path
-    → SpellsPart (lines_of (cut.Delete n p) (codes "text: ")) (plain (delete_at (chars name) (chars path)))
+-- the pairs of a delete
+abbrev pub delete_entry : (one two : Spelling) (name path : List ℕ) → Entry
+delete_entry one two name path =
+    record {
+      first = record { key = codes "delete"; spelling = one; value = name };
+      more = record { key = codes "path"; spelling = two; value = path } ∷ [];
+    }
+
+-- say it
+pub delete_says : (one two : Spelling) (name path : List ℕ) → stands one name ≡ true → stands two path ≡ true
+    → SaysPart (delete_entry one two name path) (plain (delete_at (chars name) (chars path)))
 unfolding said_by command_said part_from
-delete_spelled n p name path one two =
-    let a : Line = record { key = codes "delete"; spelling = one.spelling; value = name } in
-    let b : Line = record { key = codes "path"; spelling = two.spelling; value = path } in
-    let entry : Entry = record { first = a; more = b ∷ [] } in
+delete_says one two name path n p =
+    let entry = delete_entry one two name path in
     let said : SaysPart entry (plain (delete_at name path)) = record {
       is = record {
-        are = (
-          record { word = refl; short = refl; stands = one.stands },
-          (record { word = refl; short = refl; stands = two.stands }, tt),
-        );
+        are = (record { word = refl; short = refl; stands = n }, (record { word = refl; short = refl; stands = p }, tt));
         differ = refl;
       };
       within = refl;
@@ -216,11 +233,17 @@ delete_spelled n p name path one two =
       apart = refl;
       no_about = refl;
     } in
-    let name_is = sym (spelled_chars one.spelling name one.stands) in
-    let path_is = sym (spelled_chars two.spelling path two.stands) in
+    let name_is = sym (spelled_chars one name n) in
+    let path_is = sym (spelled_chars two path p) in
+    subst (SaysPart entry) (λ i. plain (delete_at (name_is i) (path_is i))) said
+
+-- the lines of a delete
+pub delete_spelled : (n p : Bor (List ℕ)) (name path : List ℕ) → IsSpelled n.now name → IsSpelled p.now path
+    → SpellsPart (lines_of (cut.Delete n p) (codes "text: ")) (plain (delete_at (chars name) (chars path)))
+delete_spelled n p name path one two =
     record {
-      entry = entry;
-      says = subst (SaysPart entry) (λ i. plain (delete_at (name_is i) (path_is i))) said;
+      entry = delete_entry one.spelling two.spelling name path;
+      says = delete_says one.spelling two.spelling name path one.stands two.stands;
       is = λ indent. λ i. member_line (codes "delete: ") (one.is i) ++ (spaces indent ++ member_line (codes "path: ") (two.is i));
     }
 

@@ -27,3 +27,5 @@ pub mod RoundLemmas
 pub mod PerformedLemmas
 pub mod GroupLemmas
 pub mod SessionLemmas
+pub mod ObjectsPresented
+pub mod ObjectLemmas

@@ -25,7 +25,7 @@ use Rattle.yaml_recognizers.proofs.OneStyle.{ScalarsFit.word_flow_fits, Spelled.
 -- ---- presentations
 
 -- a text as it is spelled
-abbrev scalar_as : Spelling → List ℕ → Scalar
+abbrev pub scalar_as : Spelling → List ℕ → Scalar
 scalar_as bare value = plain value []
 scalar_as quoted value = double (map raw value) []
 
@@ -88,7 +88,7 @@ raw_spelled : (value : List ℕ) → flat_map quoted_char_text (map raw value) �
 raw_spelled [] = refl
 raw_spelled (c ∷ cs) = ap (λ t. c ∷ t) (raw_spelled cs)
 
-scalar_spelled : (spelling : Spelling) (value : List ℕ) → scalar_text (scalar_as spelling value) ≡ spelled spelling value
+pub scalar_spelled : (spelling : Spelling) (value : List ℕ) → scalar_text (scalar_as spelling value) ≡ spelled spelling value
 scalar_spelled bare value = append-nil _ ∙ plain_spelled value
 scalar_spelled quoted value = ap (λ t. 34 ∷ (t ++ (34 ∷ []))) (append-nil _ ∙ raw_spelled value)
 
@@ -200,7 +200,7 @@ plain_fits n (x ∷ xs) after h =
     (and_from _ _ (and_from _ _ s.0 (or_left (not (indicator x)) _ p.0))
     (run_fits x xs after (not-true _ r.1) q.1))) refl) refl
 
-raws_fit : (value : List ℕ) → list_all stands_alone value ≡ true → list_all quoted_char_fits (map raw value) ≡ true
+pub raws_fit : (value : List ℕ) → list_all stands_alone value ≡ true → list_all quoted_char_fits (map raw value) ≡ true
 raws_fit [] h = refl
 raws_fit (c ∷ cs) h =
     let p : (stands_alone c ≡ true) × (list_all stands_alone cs ≡ true) = and_parts _ _ h in
@@ -300,7 +300,7 @@ layout_fits : (layout : Layout) (after : List ℕ) → IsLayout layout → Layou
 layout_fits layout after is t = rows_fit layout.first layout.more after is.are t
 
 -- a line starts after a line feed
-starts_joined : (bol : Bool) (xs ys : List ℕ) → starts_line bol (xs ++ ys) ≡ starts_line (starts_line bol xs) ys
+pub starts_joined : (bol : Bool) (xs ys : List ℕ) → starts_line bol (xs ++ ys) ≡ starts_line (starts_line bol xs) ys
 starts_joined bol [] ys = refl
 starts_joined bol (x ∷ xs) ys = starts_joined (line_break x) xs ys
 
@@ -362,7 +362,7 @@ raw_meant : (value : List ℕ) → values quoted_char_value (map raw value) ≡ 
 raw_meant [] = refl
 raw_meant (c ∷ cs) = ap (λ t. c ∷ t) (raw_meant cs)
 
-scalar_meant : (spelling : Spelling) (value : List ℕ) → scalar_value (scalar_as spelling value) ≡ value
+pub scalar_meant : (spelling : Spelling) (value : List ℕ) → scalar_value (scalar_as spelling value) ≡ value
 scalar_meant bare value = append-nil _ ∙ plain_meant value
 scalar_meant quoted value = append-nil _ ∙ raw_meant value
 
@@ -419,17 +419,18 @@ rows_meant r (s ∷ rs) at =
 layout_meant : (layout : Layout) (at : ℕ) → shapes (pairs_events (layout_on layout) 0 at) ≡ members_shapes (layout_members layout)
 layout_meant layout at = rows_meant layout.first layout.more at
 
-document_meant : (layout : Layout) (at : ℕ) (es : List Event) → es ≡ pairs_events (layout_on layout) 0 at
-    → IsTreeOf (as_document (map_start ∷ (es ++ map_end ∷ [])) ++ []) (mapping (layout_members layout))
-document_meant layout at es is =
+-- a document of these events means the mapping of these members
+pub document_meant : (ms : Members) (es : List Event) → shapes es ≡ members_shapes ms
+    → IsTreeOf (as_document (map_start ∷ (es ++ map_end ∷ [])) ++ []) (mapping ms)
+document_meant ms es is =
     ap shapes (append-nil (as_document (map_start ∷ (es ++ map_end ∷ []))))
     ∙ ap (λ x. document_from ∷ map_from ∷ x) (shapes_joined (es ++ map_end ∷ []) (document_end ∷ [])
     ∙ ap (λ x. x ++ document_to ∷ []) (shapes_joined es (map_end ∷ [])
-    ∙ ap (λ x. x ++ map_to ∷ []) (ap shapes is ∙ layout_meant layout at)))
+    ∙ ap (λ x. x ++ map_to ∷ []) is))
 
 stream_meant : (marked : Bool) (layout : Layout) → IsTreeOf (stream_events (stream_on marked layout)) (mapping (layout_members layout))
-stream_meant true layout = document_meant layout _ _ refl
-stream_meant false layout = document_meant layout _ _ refl
+stream_meant true layout = document_meant (layout_members layout) _ (layout_meant layout _)
+stream_meant false layout = document_meant (layout_members layout) _ (layout_meant layout _)
 
 -- ---- what the document gives
 

@@ -50,6 +50,6 @@ pub use Rattle.std.proofs.lemmas.{Bool.Decides.nat_tests, Fmt.{decimal_is_IsNume
 pub use Rattle.std.proofs.lemmas.List.{take-append-le, take_all, length-take-le, length-map, take_more, get_or-map, length-append}
 pub use Rattle.std.proofs.lemmas.{List.{Elements.{All-nil, All-push, All-append}, Folds.concat-append}, Option.IfSome_then}
 pub use Rattle.std.proofs.lemmas.{Result.{on_ok_weaker, IfOk-weaker, err_from_is_err_and}, Str.{chars-IsAscii, encodes-chars}}
-pub use Rattle.std.{proofs.lemmas.Str.{encodes-IsAscii, chars-nil, Pattern.split_text_parts}, specs.Io.KnownBytes.{Appends, Keeps}}
-pub use Rattle.std.specs.{Io.KnownBytes.Consumes, List.{list_all, concat}, Str.{chars, IsUtf8, IsAscii}, Vec.Iter.into_iter_items}
+pub use Rattle.std.{proofs.lemmas.Str.{encodes-IsAscii, chars-nil, Pattern.{split_parts, split_text_parts}}, specs.Io.KnownBytes.Appends}
+pub use Rattle.std.specs.{Io.KnownBytes.{Keeps, Consumes}, List.{list_all, concat}, Str.{chars, IsUtf8, IsAscii}, Vec.Iter.into_iter_items}
 pub use Rattle.std.specs.{Vec.Iter.into_iter_len, declared.alloc.Global.Global}

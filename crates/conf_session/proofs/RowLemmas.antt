@@ -22,14 +22,14 @@ use Rattle.conf_session.specs.CommandLines.{IsRow, AreRows, Layout, layout_text,
 abbrev pub low : ℕ → Bool
 low c = nat_lt c 128
 
-all_weaker : (p q : ℕ → Bool) → ((c : ℕ) → p c ≡ true → q c ≡ true) → (cs : List ℕ) → list_all p cs ≡ true → list_all q cs ≡ true
+pub all_weaker : (p q : ℕ → Bool) → ((c : ℕ) → p c ≡ true → q c ≡ true) → (cs : List ℕ) → list_all p cs ≡ true → list_all q cs ≡ true
 all_weaker p q f [] h = refl
 all_weaker p q f (c ∷ cs) h = let both = and_parts (p c) (list_all p cs) h in and_from _ _ (f c both.0) (all_weaker p q f cs both.1)
 
 pub low_ascii : (cs : List ℕ) → list_all low cs ≡ true → IsAscii cs
 low_ascii cs h = every-IsAscii low (λ c e. ltb-true c 128 e) cs h
 
-low_is_text : (cs : List ℕ) → list_all low cs ≡ true → IsText cs
+pub low_is_text : (cs : List ℕ) → list_all low cs ≡ true → IsText cs
 low_is_text cs h = all_weaker low code_point one cs h
   where
     one : (c : ℕ) → low c ≡ true → code_point c ≡ true
@@ -38,7 +38,7 @@ low_is_text cs h = all_weaker low code_point one cs h
 bare_low : (c : ℕ) → bare_char c ≡ true → low c ≡ true
 bare_low c e = grind (arith, nat_tests)
 
-alone_low : (c : ℕ) → stands_alone c ≡ true → low c ≡ true
+pub alone_low : (c : ℕ) → stands_alone c ≡ true → low c ≡ true
 alone_low c e = grind (arith, nat_tests)
 
 word_low : (c : ℕ) → word_char c ≡ true → low c ≡ true
@@ -122,7 +122,7 @@ rows_are_text : (rs : List Row) → AreRows rs → RowsAreText rs
 rows_are_text [] are = tt
 rows_are_text (r ∷ rs) are = (row_is_text r are.0, rows_are_text rs are.1)
 
-members_are_text : (ls : List Line) → AreLines ls → AreTextMembers (members_of_lines ls)
+pub members_are_text : (ls : List Line) → AreLines ls → AreTextMembers (members_of_lines ls)
 members_are_text [] are = tt
 members_are_text (l ∷ ls) are = (
   low_is_text l.key (key_low l.key are.0.word),
@@ -153,7 +153,7 @@ elements_differ [] are = refl
 elements_differ (e ∷ es) are = and_from (members_distinct (entry_members e))
     (elements_distinct (elements_of_entries es)) are.0.differ (elements_differ es are.1)
 
-members_flat : (ls : List Line) → members_depth (members_of_lines ls) ≤ 1
+pub members_flat : (ls : List Line) → members_depth (members_of_lines ls) ≤ 1
 members_flat [] = omega arith
 members_flat (l ∷ ls) = let rest = members_flat ls in omega (arith, rest)
 
@@ -233,7 +233,7 @@ members_next : (indent : ℕ) (l : Line) (ls : List Line)
 members_next indent l ls = regrouped (spaces indent) (key_lines indent l.key) (value_at (text l.value) indent)
     (members_after (members_of_lines ls) indent)
 
-members_bytes : (indent : ℕ) (l : Line) (ls : List Line) → AreLines (l ∷ ls)
+pub members_bytes : (indent : ℕ) (l : Line) (ls : List Line) → AreLines (l ∷ ls)
     → byte_len (members_at (members_of_lines (l ∷ ls)) indent) ≤ 4 * byte_len (lines_text indent l ls)
 members_bytes indent l [] are =
     let own = line_bytes indent l are.0 in

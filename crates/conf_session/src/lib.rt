@@ -31,6 +31,7 @@ mod field_lines;
 mod groups;
 mod input;
 mod laws;
+mod objects;
 mod part_lines;
 mod parts;
 mod pieces;

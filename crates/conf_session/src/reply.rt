@@ -1,5 +1,5 @@
 // What is answered to one piece, and what is done for it.
-ghost use Rattle.std.specs.Prelude.{◌≡◌};
+ghost use Rattle.std.specs.Prelude.{◌≡◌, IfOk, IfSome};
 ghost use Rattle.conf_session.specs.Prelude.{command_of, conditions_of};
 ghost use Rattle.conf_session.specs.ReadChanges.{EndsByMemory, IfMet, IsRequest};
 ghost use Rattle.conf_session.specs.Requests.{Asks, MeansRequest, changing, checkpointing};
@@ -10,6 +10,7 @@ ghost use Rattle.conf_session.specs.Replies.{Handles, MeansPrefixes, refused_as,
 use crate::answer::{count_answer, export_answer, get_answer, names_answer};
 use crate::command_lines::edit_in_lines;
 use crate::fault::SessionFault;
+use crate::objects::edit_in_object;
 use crate::reading::{read_batch, read_change, read_noted, read_single};
 use crate::said::{Said, read_said};
 use crate::words::{Refusal, answered, condition_answered};
@@ -17,7 +18,7 @@ use conf_conditions::{Condition, ConditionFault, check, index_for};
 use conf_disk::Disk;
 use conf_state::{Command, StoreFault};
 use conf_store::Store;
-use std::alloc::Global;
+use std::alloc::{AllocError, Global};
 
 /// What is answered to a piece.
 #[derive(Drop)]
@@ -190,10 +191,21 @@ pub fn answer_piece<D: Disk>(
     requires means { MeansPrefixes D.model store.old }
     ensures { Handles D.model store.old store.new (Asks piece.now) result }
 {
-    match edit_in_lines(alloc, piece)? {
+    match usual_edit(alloc, piece)? {
         Some(command) => change(alloc, store, command),
         None => answer_any(alloc, store, piece),
     }
+}
+
+/// The command of a piece that is one of the usual edits. `None` says nothing of the piece.
+fn usual_edit(alloc: Global, piece: &[u8]) -> Result<Option<Command>, AllocError>
+    ensures { IfOk result (λ found. IfSome found
+        (λ command. Asks piece.now (changing (command_of command)))) }
+{
+    if piece.starts_with(b"{") {
+        return edit_in_object(alloc, piece);
+    }
+    edit_in_lines(alloc, piece)
 }
 
 /// The same for a piece that is none of the usual edits.
