@@ -15,7 +15,7 @@ from itertools import zip_longest
 from typing import Callable, Iterator, List, NamedTuple, Optional, Sequence, Tuple, TypeVar
 
 from .ctl_asked import Asked
-from .ctl_faults import REFUSED, Fault, TextFault, fault_of, shown
+from .ctl_faults import Fault, TextFault, fault_of, shown
 from .ctl_history import Numbers, names_changed, numbers_of, performed, tree_at
 from .ctl_program import Ended, program, run, run_shown
 from .ctl_streams import write
@@ -322,4 +322,4 @@ def _numbers_asked(asked: Asked) -> List[str]:
 
 def _need_done(ended: Ended) -> None:
     if ended.status:
-        raise TextFault(ended.lines(), ended.status if ended.status > 0 else REFUSED)
+        raise ended.fault()

@@ -27,7 +27,7 @@ from .conditions import Count
 from .ctl_archives import KEPT
 from .ctl_asked import Asked
 from .ctl_changes import Ask, hold
-from .ctl_faults import REFUSED, Fault, TextFault, shown
+from .ctl_faults import Fault, TextFault, shown
 from .ctl_history import Numbers, numbers_of, performed
 from .ctl_places import Place, place_of
 from .ctl_program import Ended, program, program_if_any
@@ -269,8 +269,7 @@ def _fault_of(ended: Ended) -> Fault:
     """The fault of a session that is over."""
     if ended.was_locked:
         return Fault("Locked", None, True)
-    lines = ended.lines() or f"confstorectl: Unknown: the program ended with status {ended.status}\n"
-    return TextFault(lines, ended.status if ended.status > 0 else REFUSED)
+    return ended.fault() if ended.errors else Fault("Unknown", f"the program ended with status {ended.status}")
 
 
 # ---- where a server holds it

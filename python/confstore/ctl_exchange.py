@@ -8,7 +8,7 @@ from typing import List, Optional
 from .commands import get_of
 from .ctl_abouts import noted
 from .ctl_asked import Asked
-from .ctl_faults import REFUSED, Fault, TextFault, shown
+from .ctl_faults import Fault, shown
 from .ctl_places import Place, place_of
 from .ctl_program import Ended, is_without_store, program_if_any, run
 from .ctl_sockets import Command, Connection, Reply, SessionReply, answer_of
@@ -59,7 +59,7 @@ class Exchange:
             return tree_in(ended.output)
         if ended.has_fault("NoConfig"):
             return None
-        raise TextFault(ended.lines(), ended.status if ended.status > 0 else REFUSED)
+        raise ended.fault()
 
     def names(self) -> List[str]:
         """The names of the configurations. The program takes no lock for them."""
@@ -67,7 +67,7 @@ class Exchange:
         if self._place is None:
             ended = run(["names", "--", folder], None)
             if ended.status:
-                raise TextFault(ended.lines(), ended.status if ended.status > 0 else REFUSED)
+                raise ended.fault()
             return ended.output.decode().split()
         return names_in(self.ask({"names": ""}).tree())
 
@@ -122,6 +122,8 @@ def answer_by_program(folder: str, command: Command) -> Reply:
     """The answer of a session of the program to one command. Raises its `Fault`."""
     ended = ended_session(folder, command)
     if not ended.output:
-        lines = ended.lines() or f"confstorectl: BadAnswer: the program ended with status {ended.status}\n"
-        raise TextFault(lines, ended.status if ended.status > 0 else REFUSED)
+        if ended.status > 0 and ended.errors:
+            raise ended.fault()
+        how = f"ended with status {ended.status}" if ended.status >= 0 else f"was ended by signal {-ended.status}"
+        raise Fault("BadAnswer", f"the program {how}; a change was made or not: look")
     return answer_of(SessionReply(ended.output), command, program_if_any())

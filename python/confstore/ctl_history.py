@@ -6,7 +6,7 @@ import json
 import re
 from typing import List, NamedTuple, Optional, Sequence
 
-from .ctl_faults import REFUSED, Fault, TextFault
+from .ctl_faults import Fault
 from .ctl_program import Ended, run
 from .style import Tree
 
@@ -29,7 +29,7 @@ def performed(words: Sequence[str]) -> Ended:
     """A run of a word of the program that did it. Raises the `Fault` of one that did not."""
     ended = run(words, None)
     if ended.status:
-        raise TextFault(ended.lines(), ended.status if ended.status > 0 else REFUSED)
+        raise ended.fault()
     return ended
 
 
@@ -50,7 +50,7 @@ def tree_at(folder: str, name: str, number: Optional[int]) -> Optional[Tree]:
         return _tree_in(ended.output)
     if ended.has_fault("NoConfig"):
         return None
-    raise TextFault(ended.lines(), ended.status if ended.status > 0 else REFUSED)
+    raise ended.fault()
 
 
 def _tree_in(output: bytes) -> Tree:

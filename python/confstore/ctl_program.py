@@ -76,6 +76,12 @@ class Ended:
         first = self.errors.decode("utf-8", "replace").partition("\n\n")[0]
         return shown(" ".join(first.split())).removeprefix("error: ")
 
+    def fault(self, source: Source = Source()) -> Fault:
+        """Why it did not do its word. One that a signal ended has said nothing."""
+        if self.status < 0:
+            return Fault("BadAnswer", f"the program was ended by signal {-self.status}")
+        return TextFault(self.lines(source), self.status)
+
     def lines(self, source: Source = Source()) -> str:
         """Its lines on standard error, as confstorectl says them where this text was on standard input."""
         lines = self.errors.decode("utf-8", "replace").removesuffix("\n").split("\n") if self.errors else []

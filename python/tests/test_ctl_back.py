@@ -3,6 +3,7 @@
 from __future__ import annotations
 
 import os
+import shutil
 import subprocess
 import sys
 import threading
@@ -201,6 +202,29 @@ class Undo(HistoryTest):
         with mock.patch.object(Exchange, "tree", tree):
             self.assertEqual(ctl.perform_words(["undo", self.folder, "2"]), 0)
         self.assertEqual(self.trees(), {**START, "replication": {"1": "x"}})
+
+    def killed(self, number: int, word: str, *, is_done: bool) -> "tuple[int, str, str]":
+        """An `undo` whose program is killed in this word of its own, after it has done it or before."""
+        program = shutil.which(os.environ["CONFSTORE"])
+        stand_in = os.path.join(self.top, "killed")
+        does = f'"{program}" "$@" >/dev/null; ' if is_done else ""
+        with open(stand_in, "w", encoding="utf-8") as file:
+            file.write(f'#!/bin/sh\nif [ "$1" = {word} ]; then {does}kill -9 $$; fi\nexec "{program}" "$@"\n')
+        os.chmod(stand_in, 0o755)
+        with mock.patch.dict(os.environ, {"CONFSTORE": stand_in}):
+            return self.ctl("undo", str(number))
+
+    def test_a_program_that_is_killed(self) -> None:
+        """A change without an answer was made or not: the status is that of a fault, and not of a refusal."""
+        for word, is_done in (("run", True), ("run", False), ("get", False), ("log", False), ("verify", False)):
+            with self.subTest(word, is_done=is_done):
+                with Store(self.folder) as store:
+                    number = store.set("web", "/port", "81")
+                status, output, errors = self.killed(number, word, is_done=is_done)
+                self.assertEqual((status, output), (3, ""), errors)
+                self.assertTrue(errors.startswith("confstorectl: BadAnswer: the program was ended by signal 9"), errors)
+                self.assertEqual("a change was made or not" in errors, word == "run", errors)
+                self.assertEqual(Reader(self.folder).get("web", "/port"), "80" if is_done else "81")
 
     def test_four_at_once(self) -> None:
         """Each takes back one of four changes, also where all are in one mapping; and of four who take back the same
