@@ -12,6 +12,7 @@
 - The store: another folder or file in its place, also between two sessions; checkpoints and other runs, which are no
   such thing; what the socket says of it; a parent that ignores SIGCHLD.
 - Faults: folders and names, few descriptors, a manager that isn't there, closed standard streams: a line, and no trace.
+- Checkpoints, which wait until all commands before them are answered.
 - Signals, kills, and clients that leave in the middle.
 - Health and counters over HTTP, beside what the trial did, who may ask, and those who ask too much.
 - Those who watch the changes: what they are told, over checkpoints and renewed sessions, and those who do it badly.
@@ -45,6 +46,7 @@ import time
 import unittest
 from typing import Optional
 
+from lib.server_checkpoints import Checkpoints
 from lib.server_metrics import Crowds, Health, Hostile, Metrics, Readers, Requests, told_by
 from lib.server_sockets import ALICE, STAFF, Access, Names, shut_out
 from lib.server_stores import REPLACED, Identities, OwnFiles, Parents, Renewals, Replacements
@@ -53,8 +55,8 @@ from lib.servers import BOUNDED, MEGABYTE, NAMES, PATIENCE, PROGRAM, PYTHON, SER
 from lib.servers import accepts
 
 __all__ = [
-    "Access", "Crowds", "Health", "Hostile", "HostileWatches", "Identities", "Metrics", "Names", "OwnFiles", "Parents",
-    "Readers", "Renewals", "Replacements", "Requests", "Watches",
+    "Access", "Checkpoints", "Crowds", "Health", "Hostile", "HostileWatches", "Identities", "Metrics", "Names",
+    "OwnFiles", "Parents", "Readers", "Renewals", "Replacements", "Requests", "Watches",
 ]  # fmt: skip
 
 UNIT = os.path.join(TOP, "packaging", "confstore@.service")

@@ -274,7 +274,7 @@ class Server:
             if due and not session.is_idle():
                 return
             was_sent = bool(self.long_answers.give())
-            for client in due or list(waiting):
+            for client in dict.fromkeys([*due, *waiting]):  # a checkpoint that has no turn yet holds up nobody
                 if len(session.unsent) > MOST_UNSENT or not client.may_send() or not self.has_turn(client):
                     continue
                 if session.is_used_up(client.heard.end, self.bounds.renew_after):
