@@ -56,7 +56,7 @@ OWN_FAULTS = (
     ("WrongWords", "2", "the words are none that confstorectl takes"),
     ("Disconnected", "3", "no server answers at the socket; a change that was sent was made or not"),
     ("TimedOut", "3", "no answer came within a minute; a change was made or not, or will be"),
-    ("BadAnswer", "3", "what the server said is no answer to the command, or more than that"),
+    ("BadAnswer", "3", "what the server or the program said is no answer to the command, or more than that"),
     ("OtherStore", "3", "the server has another store than FOLDER, where it has to have that; nothing was sent"),
     ("Replaced", "1", "another store stands in the place of the one that the server held; nothing was changed"),
     ("Failed", "3", "a replicated node could not perform a command; the word behind it says why"),

@@ -193,7 +193,7 @@ IMPORT = Word(
         " readers would replace a variable, or differ, is refused, with what to write instead; the keys of properties"
         " are not cut at dots.",
         "With `--edits` the log says what changed: the record has the edits that make the tree of what is there, unless"
-        " nothing of that stays, or they have over 4,096 bytes and the whole text is shorter. A text that changes"
+        " nothing of that stays, or they have over 1,024 bytes and the whole text is shorter. A text that changes"
         " nothing is not recorded.",
         "`--dir` takes the files of DIR itself that have an ending of the format: .yaml, .yml; .toml; .ini, .cfg,"
         " .conf; .env; .properties; .json5, .json, .jsonc. What a name can't have of a file's name becomes `-`.",
@@ -597,9 +597,10 @@ DIFF = Word(
     (
         "It begins with the oldest state that the file has, which the last checkpoint left, and goes to the last"
         " command, unless numbers are given. Without `--lines` it writes the edits that make the second state of the"
-        " first, as a list that `batch` takes; they are made in their order. With `--lines` each place is a line as"
-        " `- /port \"80\"`, or `+ /port \"81\"`, the value as a JSON text, in colours on a terminal (unless NO_COLOR"
-        " is set); without NAME the name stands before the place. The order of keys and of configurations counts.",
+        " first, as a list that `batch` takes; they are made in their order. A configuration is imported where its edits"
+        " have over 1,024 bytes and the import is shorter. With `--lines` each place is a line as `- /port \"80\"`, or"
+        " `+ /port \"81\"`, the value as a JSON text, in colours on a terminal (unless NO_COLOR is set); without NAME"
+        " the name stands before the place. The order of keys and of configurations counts.",
         "The status is 0 if nothing differs, and 1 if something does, as of diff. `--hide` needs `--lines`.",
         "With `--archive` numbers before the last checkpoint may be given, and it begins with the oldest state that an"
         " archive has (see `log`).",

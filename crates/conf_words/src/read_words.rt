@@ -577,9 +577,10 @@ pub(crate) const DIFF: Listing = Listing {
 It begins with the oldest state that the file has, which the last checkpoint left, and goes to the last
 command, unless numbers are given. It writes the edits that make the second state of the first, as a
 list that `batch` takes; they are made in their order. The order of keys and of configurations counts.
-If the second number is the smaller one, the edits take the commands between back. A number that the
-file does not have is refused (NoSuchCommand). No lock is taken and nothing is changed, so this runs
-beside a session that holds the store.
+A configuration is imported where its edits have over 1,024 bytes and the import is shorter. If the
+second number is the smaller one, the edits take the commands between back. A number that the file
+does not have is refused (NoSuchCommand). No lock is taken and nothing is changed, so this runs beside
+a session that holds the store.
 
 With `--files` the trees of two YAML texts are compared. The edits name the configuration as the second
 file, up to the first `.` of its name.
