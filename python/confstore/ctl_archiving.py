@@ -269,7 +269,7 @@ def _fault_of(ended: Ended) -> Fault:
     """The fault of a session that is over."""
     if ended.was_locked:
         return Fault("Locked", None, True)
-    return ended.fault() if ended.errors else Fault("Unknown", f"the program ended with status {ended.status}")
+    return ended.fault() if ended.errors else Fault("Unknown", f"the program {ended.how}")
 
 
 # ---- where a server holds it

@@ -124,6 +124,5 @@ def answer_by_program(folder: str, command: Command) -> Reply:
     if not ended.output:
         if ended.status > 0 and ended.errors:
             raise ended.fault()
-        how = f"ended with status {ended.status}" if ended.status >= 0 else f"was ended by signal {-ended.status}"
-        raise Fault("BadAnswer", f"the program {how}; a change was made or not: look")
+        raise Fault("BadAnswer", f"the program {ended.how}; a change was made or not: look")
     return answer_of(SessionReply(ended.output), command, program_if_any())

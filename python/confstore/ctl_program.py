@@ -76,11 +76,14 @@ class Ended:
         first = self.errors.decode("utf-8", "replace").partition("\n\n")[0]
         return shown(" ".join(first.split())).removeprefix("error: ")
 
-    def fault(self, source: Source = Source()) -> Fault:
-        """Why it did not do its word. One that a signal ended has said nothing."""
-        if self.status < 0:
-            return Fault("BadAnswer", f"the program was ended by signal {-self.status}")
-        return TextFault(self.lines(source), self.status)
+    @property
+    def how(self) -> str:
+        """How it has ended."""
+        return f"ended with status {self.status}" if self.status >= 0 else f"was ended by signal {-self.status}"
+
+    def fault(self) -> Fault:
+        """Why it did not do its word. One that a signal ended does not say."""
+        return Fault("BadAnswer", f"the program {self.how}") if self.status < 0 else TextFault(self.lines(), self.status)
 
     def lines(self, source: Source = Source()) -> str:
         """Its lines on standard error, as confstorectl says them where this text was on standard input."""

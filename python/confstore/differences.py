@@ -149,11 +149,10 @@ def listed_between(name: str, first: Optional[Tree], second: Optional[Tree]) -> 
     """The edits that make a configuration the second tree of the first one, as the word `batch` takes them. Where those
     at places are not few, and longer than an import, they are the import."""
     edits = [edit_of(name, difference) for difference in differences(first, second)]
-    length = _length_of(edits)
-    if second is not None and length > FEW_BYTES:
-        whole = [_import_of(name, second)]
-        return whole if _length_of(whole) < length else edits
-    return edits
+    if first is None or second is None:
+        return edits
+    whole, length = [_import_of(name, second)], _length_of(edits)
+    return whole if length > FEW_BYTES and length > _length_of(whole) else edits
 
 
 def _length_of(edits: Sequence[Tree]) -> int:
