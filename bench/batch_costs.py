@@ -33,12 +33,16 @@ def instructions(folder: str, commands: str) -> int:
     return session_instructions(folder, commands.encode(), "--group")
 
 
-# A set of a text in several spellings. The first two are read by themselves, any other by the general reader.
+# A set of a text in several spellings. Those of the last two are read by the general reader, the others by themselves.
 SPELLINGS = {
     "by lines": '---\nset: c00001\npath: "/k"\nvalue: "12"\n...\n',
+    "by lines, in single quotes": "---\nset: 'c00001'\npath: '/k'\nvalue: '12'\n...\n",
+    "by lines, of two words": "---\nset: c00001\npath: /k\nvalue: 1 2\n...\n",
     "as JSON": '{"set":"c00001","path":"/k","value":"12"}\n...\n',
     "in flow, plain": "{set: c00001, path: /k, value: 12}\n...\n",
-    "by lines, in single quotes": "---\nset: 'c00001'\npath: '/k'\nvalue: '12'\n...\n",
+    "in flow, in single quotes": "{'set': 'c00001', 'path': '/k', 'value': '12'}\n...\n",
+    "behind a comment": '# why\nset: c00001\npath: "/k"\nvalue: "12"\n...\n',
+    "as a literal": "---\nset: c00001\npath: /k\nvalue: |-\n  12\n...\n",
 }
 
 

@@ -27,5 +27,5 @@ pub mod RoundLemmas
 pub mod PerformedLemmas
 pub mod GroupLemmas
 pub mod SessionLemmas
-pub mod ObjectsPresented
-pub mod ObjectLemmas
+pub mod FlowLinePresented
+pub mod FlowLineLemmas

@@ -1,33 +1,38 @@
 -- Lines of keys and texts, and batches of such lines, are a document that reads as their mapping: a presentation of it,
 -- which fits and means it.
 use Rattle.std.{proofs.Common.{◌≡◌, refl, sym, ◌∙◌, ap, arith, ◌<◌, ◌≤◌, append_assoc, append-nil, subst}, specs.Prelude.{ℕ, suc, ◌+◌}}
-use Rattle.std.specs.Prelude.{◌==◌, Bool, true, false, not, ◌&&◌, ◌||◌, List, [], ◌∷◌, ◌++◌, codes, map, flat_map, length, Some, None}
+use Rattle.std.specs.Prelude.{◌==◌, if◌then◌else◌, Bool, true, false, not, ◌&&◌, ◌||◌, List, [], ◌∷◌, ◌++◌, codes, map, flat_map, length}
+use Rattle.std.specs.Prelude.{Some, None}
 use Rattle.conf_session.proofs.Prelude.{list_all, and_parts, and_from, or_left, or_right, not-true, not_from_false, le-leb, ltb-false}
-use Rattle.conf_session.proofs.Prelude.{leb-true, agree_below_at, false≢true, is_in, ns, white, indicator, line_break, IsText, spaces}
-use Rattle.conf_session.proofs.Prelude.{starts_line, byte_len, sequence, mapping, Members, scalar_of, seq_from, seq_to, map_from, map_to}
-use Rattle.conf_session.proofs.Prelude.{document_from, document_to, shape, shapes, tree_shapes, elements_shapes, members_shapes, IsTreeOf}
-use Rattle.conf_session.proofs.Prelude.{plain_in_style, key_text, long_key, Presents, CanRead, Limits, Good, Gives, stands_alone}
-use Rattle.conf_session.specs.CommandLines.{Spelling, bare, quoted, Line, spelled, bare_char, begins_bare, stands, line_text, lines_text}
+use Rattle.conf_session.proofs.Prelude.{leb-true, agree_below, agree_below_at, nat_tests, first, false≢true, is_in, ns, white, indicator}
+use Rattle.conf_session.proofs.Prelude.{line_break, IsText, spaces, starts_line, byte_len, sequence, mapping, Members, scalar_of, seq_from}
+use Rattle.conf_session.proofs.Prelude.{seq_to, map_from, map_to, document_from, document_to, shape, shapes, tree_shapes, elements_shapes}
+use Rattle.conf_session.proofs.Prelude.{members_shapes, IsTreeOf, plain_in_style, key_text, long_key, Presents, CanRead, Limits, Good}
+use Rattle.conf_session.{proofs.Prelude.{Gives, stands_alone}, specs.CommandLines.{Spelling, bare, phrase, quoted, single_quoted, Line}}
+use Rattle.conf_session.specs.CommandLines.{spelled, bare_char, begins_bare, stands, line_text, lines_text, may_stand, goes_on, is_phrase}
 use Rattle.conf_session.specs.CommandLines.{members_of_lines, IsLine, AreLines, Entry, entry_text, entry_members, elements_text}
 use Rattle.conf_session.specs.CommandLines.{elements_of_entries, AreEntries, inner_text, Row, one_line, list_under, pairs_under, row_text}
 use Rattle.conf_session.specs.CommandLines.{rows_text, row_key, row_tree, members_of_rows, IsKey, IsRow, AreRows, Layout, layout_text}
 use Rattle.{conf_session.specs.CommandLines.{layout_members, IsLayout}, yaml_grammar.specs.{Separation.comments_text, FlowScalars.raw}}
 use Rattle.yaml_grammar.specs.FlowScalars.{quoted_char_text, quoted_char_fits, quoted_char_value, char_value, plain_text, values, Scalar}
-use Rattle.yaml_grammar.specs.FlowScalars.{plain, double, scalar_text, scalar_value, scalar_fits, outer, block_key, plain_run}
-use Rattle.yaml_grammar.specs.{FlowNodes.{scalar, flow_text, flow_fits, short_key}, BlockNodes.{Node, flow, items, pairs, Items, item}}
-use Rattle.yaml_grammar.specs.BlockNodes.{item_and, Pairs, pair, pair_and, Pair, keyed, compact_pairs, node_text, indented_text, items_text}
-use Rattle.yaml_grammar.specs.BlockNodes.{items_fit, items_events, pair_text, pair_fits, pairs_text, pairs_fit, pairs_events, node_fits}
-use Rattle.yaml_grammar.specs.{BlockNodes.pair_events, Streams.{Stream, Document, bare as bare_document, explicit, content, suffixes}}
-use Rattle.yaml_grammar.specs.{Streams.{stream_text, stream_events, fits}, Events.{Event, as_document, as_seq, as_map, seq_end, map_start}}
-use Rattle.{yaml_grammar.specs.Events.{map_end, document_end}, yaml_recognizers.proofs.OneStyle.Presented.{feed, one_space, word_flow}}
-use Rattle.yaml_recognizers.proofs.OneStyle.{ScalarsFit.word_flow_fits, Spelled.word_flow_spelled}
+use Rattle.yaml_grammar.specs.FlowScalars.{plain, single, double, scalar_text, scalar_value, scalar_fits, FlowContext, outer, block_key}
+use Rattle.yaml_grammar.specs.{FlowScalars.{plain_next, plain_run, safe}, FlowNodes.{scalar, flow_text, flow_fits, short_key}}
+use Rattle.yaml_grammar.specs.BlockNodes.{Node, flow, items, pairs, Items, item, item_and, Pairs, pair, pair_and, Pair, keyed}
+use Rattle.yaml_grammar.specs.BlockNodes.{compact_pairs, node_text, indented_text, items_text, items_fit, items_events, pair_text}
+use Rattle.yaml_grammar.specs.{BlockNodes.{pair_fits, pairs_text, pairs_fit, pairs_events, node_fits, pair_events}, Streams.Stream}
+use Rattle.yaml_grammar.specs.Streams.{Document, bare as bare_document, explicit, content, suffixes, stream_text, stream_events, fits}
+use Rattle.yaml_grammar.specs.Events.{Event, as_document, as_seq, as_map, seq_end, map_start, map_end, document_end}
+use Rattle.yaml_chars.specs.{Classes.{nb_json, in_range}, Signs.{colon, number_sign, space_char}}
+use Rattle.yaml_recognizers.proofs.OneStyle.{Presented.{feed, one_space, word_flow}, ScalarsFit.word_flow_fits, Spelled.word_flow_spelled}
 
 -- ---- presentations
 
 -- a text as it is spelled
 abbrev pub scalar_as : Spelling → List ℕ → Scalar
 scalar_as bare value = plain value []
+scalar_as phrase value = plain value []
 scalar_as quoted value = double (map raw value) []
+scalar_as single_quoted value = single value []
 
 abbrev pair_on : Line → Pair
 pair_on l = keyed (scalar (plain l.key [])) [] (flow one_space (scalar (scalar_as l.spelling l.value)) (feed ∷ []))
@@ -90,7 +95,9 @@ raw_spelled (c ∷ cs) = ap (λ t. c ∷ t) (raw_spelled cs)
 
 pub scalar_spelled : (spelling : Spelling) (value : List ℕ) → scalar_text (scalar_as spelling value) ≡ spelled spelling value
 scalar_spelled bare value = append-nil _ ∙ plain_spelled value
+scalar_spelled phrase value = append-nil _ ∙ plain_spelled value
 scalar_spelled quoted value = ap (λ t. 34 ∷ (t ++ (34 ∷ []))) (append-nil _ ∙ raw_spelled value)
+scalar_spelled single_quoted value = ap (λ t. 39 ∷ (t ++ (39 ∷ []))) (append-nil _)
 
 pair_spelled : (l : Line) (indent : ℕ) → pair_text (pair_on l) indent ≡ line_text l
 pair_spelled l indent =
@@ -166,7 +173,7 @@ after_not : (a b : Bool) → not a || b ≡ true → a ≡ true → b ≡ true
 after_not true b e h = e
 after_not false b e h = absurd (false≢true h)
 
-bare_tells : (c : ℕ) → bare_char c ≡ true → in_plain c ≡ true
+pub bare_tells : (c : ℕ) → bare_char c ≡ true → in_plain c ≡ true
 bare_tells c h = after_not (bare_char c) (in_plain c)
     (agree_below_at (λ x. not (bare_char x) || in_plain x) (λ x. true) 128 c refl (bare_low c h)) h
 
@@ -181,24 +188,39 @@ alone_tells c h =
     after_not (stands_alone c) (quoted_char_fits (raw c))
     (agree_below_at (λ x. not (stands_alone x) || quoted_char_fits (raw x)) (λ x. true) 128 c refl (alone_low c h)) h
 
-run_fits : (prev : ℕ) (xs after : List ℕ) → white prev ≡ false → list_all bare_char xs ≡ true → plain_run outer prev xs after ≡ true
-run_fits prev [] after p h = not_from_false _ p
-run_fits prev (x ∷ xs) after p h =
-    let q : (bare_char x ≡ true) × (list_all bare_char xs ≡ true) = and_parts _ _ h in
-    let r : (ns x && not (is_in x (codes ":#")) ≡ true) × (not (white x) ≡ true) = and_parts _ _ (bare_tells x q.0) in
-    and_from _ _ (or_right (white x) _ (or_left _ _ (or_left _ _ r.0))) (run_fits x xs after (not-true _ r.1) q.1)
+-- characters that may follow one another in a plain text
+abbrev pub AreSafe : FlowContext → List ℕ → Type 0
+AreSafe c xs = list_all (λ x. bare_char x && safe c x) xs ≡ true
 
-plain_fits : (n : ℕ) (value after : List ℕ) → begins_bare value && list_all bare_char value ≡ true
-    → scalar_fits n outer false (plain value []) after ≡ true
-plain_fits n [] after h = absurd (false≢true h)
-plain_fits n (x ∷ xs) after h =
-    let p : (not (indicator x) ≡ true) × (list_all bare_char (x ∷ xs) ≡ true) = and_parts _ _ h in
-    let q : (bare_char x ≡ true) × (list_all bare_char xs ≡ true) = and_parts _ _ p.1 in
-    let r : (ns x && not (is_in x (codes ":#")) ≡ true) × (not (white x) ≡ true) = and_parts _ _ (bare_tells x q.0) in
+run_fits : (c : FlowContext) (prev : ℕ) (xs after : List ℕ) → white prev ≡ false → AreSafe c xs → plain_run c prev xs after ≡ true
+run_fits c prev [] after p h = not_from_false _ p
+run_fits c prev (x ∷ xs) after p h =
+    let q : (bare_char x && safe c x ≡ true) × AreSafe c xs = and_parts _ _ h in
+    let own : (bare_char x ≡ true) × (safe c x ≡ true) = and_parts _ _ q.0 in
+    let r : (ns x && not (is_in x (codes ":#")) ≡ true) × (not (white x) ≡ true) = and_parts _ _ (bare_tells x own.0) in
+    let apart : not (is_in x (codes ":#")) ≡ true = (and_parts _ _ r.0).1 in
+    and_from _ _ (or_right (white x) _ (or_left _ _ (or_left _ _ (and_from _ _ own.1 apart))))
+    (run_fits c x xs after (not-true _ r.1) q.1)
+
+pub plain_fits : (n : ℕ) (c : FlowContext) (value after : List ℕ) → begins_bare value ≡ true → AreSafe c value
+    → scalar_fits n c false (plain value []) after ≡ true
+plain_fits n c [] after begins h = absurd (false≢true begins)
+plain_fits n c (x ∷ xs) after begins h =
+    let q : (bare_char x && safe c x ≡ true) × AreSafe c xs = and_parts _ _ h in
+    let own : (bare_char x ≡ true) × (safe c x ≡ true) = and_parts _ _ q.0 in
+    let r : (ns x && not (is_in x (codes ":#")) ≡ true) × (not (white x) ≡ true) = and_parts _ _ (bare_tells x own.0) in
     let s : (ns x ≡ true) × (not (is_in x (codes ":#")) ≡ true) = and_parts _ _ r.0 in
     and_from _ _ (and_from _ _ (and_from _ _ refl
-    (and_from _ _ (and_from _ _ s.0 (or_left (not (indicator x)) _ p.0))
-    (run_fits x xs after (not-true _ r.1) q.1))) refl) refl
+    (and_from _ _ (and_from _ _ s.0 (or_left (not (indicator x)) _ begins))
+    (run_fits c x xs after (not-true _ r.1) q.1))) refl) refl
+
+-- outside brackets all of them are safe
+outer_safe : (xs : List ℕ) → list_all bare_char xs ≡ true → AreSafe outer xs
+outer_safe [] h = refl
+outer_safe (x ∷ xs) h =
+    let q : (bare_char x ≡ true) × (list_all bare_char xs ≡ true) = and_parts _ _ h in
+    let r : (ns x && not (is_in x (codes ":#")) ≡ true) × (not (white x) ≡ true) = and_parts _ _ (bare_tells x q.0) in
+    and_from _ _ (and_from _ _ q.0 (and_parts _ _ r.0).0) (outer_safe xs q.1)
 
 pub raws_fit : (value : List ℕ) → list_all stands_alone value ≡ true → list_all quoted_char_fits (map raw value) ≡ true
 raws_fit [] h = refl
@@ -206,10 +228,102 @@ raws_fit (c ∷ cs) h =
     let p : (stands_alone c ≡ true) × (list_all stands_alone cs ≡ true) = and_parts _ _ h in
     and_from _ _ (alone_tells c p.0) (raws_fit cs p.1)
 
+-- what is asked of a printable character
+abbrev if_printed : (ℕ → Bool) → ℕ → Bool
+if_printed p c = not (in_range 32 126 c) || p c
+
+printed : (p : ℕ → Bool) → agree_below (if_printed p) (λ c. true) 128 ≡ true → (c : ℕ) → in_range 32 126 c ≡ true → p c ≡ true
+printed p table c h =
+    let high = leb-true c 126 (and_parts _ _ h).1 in
+    after_not (in_range 32 126 c) (p c) (agree_below_at (if_printed p) (λ x. true) 128 c table (omega (arith, high))) h
+
+-- it is a space or no whitespace at all
+printed_ns : (c : ℕ) → in_range 32 126 c ≡ true → not (c == space_char) ≡ true → ns c && not (white c) ≡ true
+printed_ns c h apart =
+    or_false (c == space_char) (ns c && not (white c))
+    (printed (λ x. (x == space_char) || (ns x && not (white x))) refl c h) apart
+  where
+    or_false : (a b : Bool) → a || b ≡ true → not a ≡ true → b ≡ true
+    or_false true b e n = absurd (false≢true n)
+    or_false false b e n = e
+
+-- it is whitespace, a sign that may not stand everywhere, or one that may
+printed_plain : (c : ℕ) → in_range 32 126 c ≡ true → (c == colon) ≡ false → (c == number_sign) ≡ false
+    → white c || (ns c && not (is_in c (codes ":#"))) ≡ true
+printed_plain c h no_colon no_sign =
+    by (c == colon) (c == number_sign) no_colon no_sign
+    (printed (λ x. ((x == colon) || (x == number_sign)) || (white x || (ns x && not (is_in x (codes ":#"))))) refl c h)
+  where
+    by : (a b : Bool) → a ≡ false → b ≡ false → (a || b) || (white c || (ns c && not (is_in c (codes ":#")))) ≡ true
+        → white c || (ns c && not (is_in c (codes ":#"))) ≡ true
+    by false false e f told = told
+    by false true e f told = absurd (false≢true (sym f))
+    by true b e f told = absurd (false≢true (sym e))
+
+-- one that is no space
+pub wider : (c : ℕ) → in_range 33 126 c ≡ true → in_range 32 126 c ≡ true
+wider c h = grind (arith, nat_tests)
+
+no_space : (c : ℕ) → in_range 33 126 c ≡ true → not (c == space_char) ≡ true
+no_space c h = grind (arith, nat_tests)
+
+first_safe : (xs after : List ℕ) → first (in_range 33 126) xs ≡ true → first ns (xs ++ after) ≡ true
+first_safe [] after h = absurd (false≢true h)
+first_safe (x ∷ xs) after h =
+    (and_parts _ _ (printed_ns x (wider x h) (no_space x h))).0
+
+or_more : (a b c d : Bool) → a || b ≡ true → a || ((b || c) || d) ≡ true
+or_more true b c d h = refl
+or_more false b c d h = or_left _ _ (or_left _ _ h)
+
+phrase_runs : (prev : ℕ) (xs after : List ℕ) → in_range 32 126 prev ≡ true → goes_on prev xs ≡ true → plain_run outer prev xs after ≡ true
+phrase_runs prev [] after h goes = (and_parts _ _ (printed_ns prev h goes)).1
+phrase_runs prev (x ∷ xs) after h goes =
+    let p : (may_stand prev x xs ≡ true) × (goes_on x xs ≡ true) = and_parts _ _ goes in
+    let q = and_parts _ _ p.0 in
+    and_from _ _ (by (x == colon) (x == number_sign) refl refl q.1) (phrase_runs x xs after q.0 p.1)
+  where
+    by : (is_colon is_sign : Bool) → (x == colon) ≡ is_colon → (x == number_sign) ≡ is_sign
+        → (if is_colon then first (in_range 33 126) xs else (if is_sign then not (prev == space_char) else true)) ≡ true
+        → white x || plain_next outer prev x (xs ++ after) ≡ true
+    by true is_sign e f may = or_right (white x) _ (or_left _ _ (or_right _ _ (and_from _ _ e (first_safe xs after may))))
+    by false true e f may = or_right (white x) _ (or_right _ _ (and_from _ _ f (and_parts _ _ (printed_ns prev h may)).0))
+    by false false e f may = or_more (white x) _ _ _ (printed_plain x (and_parts _ _ (and_parts _ _ goes).0).0 e f)
+
+phrase_fits : (n : ℕ) (value after : List ℕ) → is_phrase value ≡ true → scalar_fits n outer false (plain value []) after ≡ true
+phrase_fits n [] after h = absurd (false≢true h)
+phrase_fits n (x ∷ xs) after h =
+    let p = and_parts _ _ h in
+    let q : (not (indicator x) ≡ true) × (in_range 33 126 x ≡ true) = and_parts _ _ p.0 in
+    let own = wider x q.1 in
+    let is_ns : ns x ≡ true = (and_parts _ _ (printed_ns x own (no_space x q.1))).0 in
+    and_from _ _ (and_from _ _ (and_from _ _ refl
+    (and_from _ _ (and_from _ _ is_ns (or_left (not (indicator x)) _ q.0))
+    (phrase_runs x xs after own p.1))) refl) refl
+
+raws_json : (value : List ℕ) → list_all stands_alone value ≡ true → list_all nb_json value ≡ true
+raws_json [] h = refl
+raws_json (c ∷ cs) h =
+    let p : (stands_alone c ≡ true) × (list_all stands_alone cs ≡ true) = and_parts _ _ h in
+    and_from _ _ (and_parts _ _ (alone_tells c p.0)).0 (raws_json cs p.1)
+
+-- between quotes a text fits everywhere
+pub quoted_fits : (n : ℕ) (c : FlowContext) (bol : Bool) (value after : List ℕ) → stands quoted value ≡ true
+    → scalar_fits n c bol (scalar_as quoted value) after ≡ true
+quoted_fits n c bol value after h = and_from _ _ (and_from _ _ (raws_fit value h) refl) refl
+
+pub single_fits : (n : ℕ) (c : FlowContext) (bol : Bool) (value after : List ℕ) → stands single_quoted value ≡ true
+    → scalar_fits n c bol (scalar_as single_quoted value) after ≡ true
+single_fits n c bol value after h = and_from _ _ (and_from _ _ (raws_json value h) refl) refl
+
 scalar_as_fits : (n : ℕ) (spelling : Spelling) (value after : List ℕ) → stands spelling value ≡ true
     → scalar_fits n outer false (scalar_as spelling value) after ≡ true
-scalar_as_fits n bare value after h = plain_fits n value after h
-scalar_as_fits n quoted value after h = and_from _ _ (and_from _ _ (raws_fit value h) refl) refl
+scalar_as_fits n bare value after h =
+    let p : (begins_bare value ≡ true) × (list_all bare_char value ≡ true) = and_parts _ _ h in
+    plain_fits n outer value after p.0 (outer_safe value p.1)
+scalar_as_fits n phrase value after h = phrase_fits n value after h
+scalar_as_fits n quoted value after h = quoted_fits n outer false value after h
+scalar_as_fits n single_quoted value after h = single_fits n outer false value after h
 
 -- a word is its own key
 key_flow : (key : List ℕ) → plain_in_style key ≡ true → word_flow key ≡ scalar (plain key [])
@@ -364,7 +478,9 @@ raw_meant (c ∷ cs) = ap (λ t. c ∷ t) (raw_meant cs)
 
 pub scalar_meant : (spelling : Spelling) (value : List ℕ) → scalar_value (scalar_as spelling value) ≡ value
 scalar_meant bare value = append-nil _ ∙ plain_meant value
+scalar_meant phrase value = append-nil _ ∙ plain_meant value
 scalar_meant quoted value = append-nil _ ∙ raw_meant value
+scalar_meant single_quoted value = append-nil _ ∙ plain_meant value
 
 pairs_meant : (l : Line) (ls : List Line) (indent at : ℕ)
     → shapes (pairs_events (pairs_on l ls) indent at) ≡ members_shapes (members_of_lines (l ∷ ls))

@@ -45,11 +45,11 @@ pub use Rattle.yaml_writer.{proofs.ByteLemmas.{byte_len-chars, byte_len-encoded}
 pub use Rattle.yaml_writer.specs.{ScalarStyles.key_style, declared.scalar_style.ScalarStyle.TheVariants.{Plain, Double}}
 pub use Rattle.std.proofs.KnownBytes.{Keeps-refl, Appends-trans, Appends-kept, Appends-nil, Consumes-nil, Consumes-trans}
 pub use Rattle.std.proofs.lemmas.Bool.{and_parts, and_from, ltb-true, false≢true, cases_lt, or_left, or_right, not-true, not_from_false}
-pub use Rattle.std.proofs.lemmas.Bool.{le-leb, ltb-false, leb-true, agree_below_at, eqb-false, eqb-true, eq-eqb, ne_eqb, le-ltb}
-pub use Rattle.std.proofs.lemmas.{Bool.Decides.nat_tests, Fmt.{decimal_is_IsNumeral, length-decimal-le}, List.{append-nil, map-append}}
-pub use Rattle.std.proofs.lemmas.List.{take-append-le, take_all, length-take-le, length-map, take_more, get_or-map, length-append}
-pub use Rattle.std.proofs.lemmas.{List.{Elements.{All-nil, All-push, All-append}, Folds.concat-append}, Option.IfSome_then}
+pub use Rattle.std.proofs.lemmas.Bool.{le-leb, ltb-false, leb-true, agree_below, agree_below_at, eqb-false, eqb-true, eq-eqb, ne_eqb}
+pub use Rattle.std.proofs.lemmas.{Bool.{le-ltb, Decides.nat_tests}, Fmt.{decimal_is_IsNumeral, length-decimal-le}, List.append-nil}
+pub use Rattle.std.proofs.lemmas.List.{map-append, take-append-le, take_all, length-take-le, length-map, take_more, get_or-map}
+pub use Rattle.std.proofs.lemmas.{List.{length-append, Elements.{All-nil, All-push, All-append}, Folds.concat-append}, Option.IfSome_then}
 pub use Rattle.std.proofs.lemmas.{Result.{on_ok_weaker, IfOk-weaker, err_from_is_err_and}, Str.{chars-IsAscii, encodes-chars}}
-pub use Rattle.std.{proofs.lemmas.Str.{encodes-IsAscii, chars-nil, Pattern.{split_parts, split_text_parts}}, specs.Io.KnownBytes.Appends}
-pub use Rattle.std.specs.{Io.KnownBytes.{Keeps, Consumes}, List.{list_all, concat}, Str.{chars, IsUtf8, IsAscii}, Vec.Iter.into_iter_items}
-pub use Rattle.std.specs.{Vec.Iter.into_iter_len, declared.alloc.Global.Global}
+pub use Rattle.std.proofs.lemmas.Str.{encodes-IsAscii, chars-nil, Pattern.{split_parts, split_text_parts, strip_prefix_char}}
+pub use Rattle.std.specs.{Io.KnownBytes.{Appends, Keeps, Consumes}, List.{list_all, concat}, Str.{chars, IsUtf8, IsAscii}}
+pub use Rattle.std.specs.{Vec.Iter.{into_iter_items, into_iter_len}, declared.alloc.Global.Global}

@@ -1,20 +1,22 @@
 -- Commands that are spelled one key a line, as texts: they are ASCII, within the limits of a command, and what their
 -- document says.
 use Rattle.std.{proofs.Common.{◌≡◌, refl, sym, ap, subst, ◌∙◌, inl, arith, ◌≤◌, append_assoc, append-nil}, specs.Prelude.{ℕ, zero, suc}}
-use Rattle.std.specs.Prelude.{◌+◌, ◌*◌, ◌==◌, Bool, true, false, nat_lt, if◌then◌else◌, List, [], ◌∷◌, ◌++◌, codes, length}
-use Rattle.conf_session.proofs.Prelude.{list_all, chars, IsUtf8, IsAscii, and_parts, and_from, ltb-true, nat_tests, chars-IsAscii}
-use Rattle.conf_session.proofs.Prelude.{code_point, is_in, IsText, byte_len, spaces, text, sequence, mapping, IsTextTree, depth}
-use Rattle.conf_session.proofs.Prelude.{AreTextMembers, AreTextElements, members_depth, elements_depth, members_distinct, elements_distinct}
-use Rattle.conf_session.proofs.Prelude.{word_char, plain_in_style, literal_in_style, literal_mark, literal_lines, feeds_at_end}
-use Rattle.conf_session.proofs.Prelude.{in_double_quotes, scalar_lines, long_key, key_lines, value_at, members_at, members_after}
-use Rattle.conf_session.proofs.Prelude.{elements_after, Good, Gives, every_joined, every-IsAscii, byte_len-append, stands_alone}
-use Rattle.conf_session.proofs.{Prelude.{byte_len-chars, scalar_most}, LinesPresented.{Unambiguous, KeysAreText, AllKeysAreText}}
-use Rattle.conf_session.{proofs.LinesPresented.{marker_text, document_of, lines_give, RowIsText, RowsAreText}, specs.Said.{Said, Says}}
-use Rattle.conf_session.specs.{Said.{command_limits, piece_limit}, CommandLines.{Spelling, bare, quoted, Line, spelled, bare_char}}
-use Rattle.conf_session.specs.CommandLines.{begins_bare, stands, line_text, lines_text, members_of_lines, IsLine, AreLines, Entry}
-use Rattle.conf_session.specs.CommandLines.{entry_text, entry_members, elements_text, elements_of_entries, AreEntries, inner_text, Row}
-use Rattle.conf_session.specs.CommandLines.{one_line, list_under, pairs_under, row_text, rows_text, row_key, row_tree, members_of_rows}
-use Rattle.conf_session.specs.CommandLines.{IsRow, AreRows, Layout, layout_text, layout_members, IsLayout, IsCommandLines}
+use Rattle.std.specs.Prelude.{◌+◌, ◌*◌, ◌==◌, Bool, true, false, not, nat_lt, if◌then◌else◌, List, [], ◌∷◌, ◌++◌, codes, length, flat_map}
+use Rattle.conf_session.proofs.Prelude.{list_all, chars, IsUtf8, IsAscii, and_parts, and_from, ltb-true, nat_tests, chars-IsAscii, eqb-true}
+use Rattle.conf_session.proofs.Prelude.{not-true, false≢true, code_point, is_in, IsText, byte_len, spaces, text, sequence, mapping}
+use Rattle.conf_session.proofs.Prelude.{IsTextTree, depth, AreTextMembers, AreTextElements, members_depth, elements_depth, members_distinct}
+use Rattle.conf_session.proofs.Prelude.{elements_distinct, word_char, plain_in_style, literal_in_style, literal_mark, literal_lines}
+use Rattle.conf_session.proofs.Prelude.{feeds_at_end, in_double_quotes, scalar_lines, long_key, key_lines, value_at, members_at}
+use Rattle.conf_session.proofs.Prelude.{members_after, elements_after, Good, Gives, every_joined, every-IsAscii, byte_len-append}
+use Rattle.conf_session.proofs.{Prelude.{stands_alone, byte_len-chars, scalar_most}, LinesPresented.{wider, Unambiguous, KeysAreText}}
+use Rattle.conf_session.proofs.LinesPresented.{AllKeysAreText, marker_text, document_of, lines_give, RowIsText, RowsAreText}
+use Rattle.conf_session.specs.{Said.{Said, Says, command_limits, piece_limit}, CommandLines.{Spelling, bare, phrase, quoted, single_quoted}}
+use Rattle.conf_session.specs.CommandLines.{Line, spelled, bare_char, begins_bare, may_stand, goes_on, is_phrase, stands, line_text}
+use Rattle.conf_session.specs.CommandLines.{lines_text, members_of_lines, IsLine, AreLines, Entry, entry_text, entry_members, elements_text}
+use Rattle.conf_session.specs.CommandLines.{elements_of_entries, AreEntries, inner_text, Row, one_line, list_under, pairs_under, row_text}
+use Rattle.conf_session.specs.CommandLines.{rows_text, row_key, row_tree, members_of_rows, IsRow, AreRows, Layout, layout_text}
+use Rattle.{conf_session.specs.CommandLines.{layout_members, IsLayout, IsCommandLines}, yaml_grammar.specs.FlowScalars.single_text}
+use Rattle.yaml_chars.specs.Classes.{in_range}
 
 -- ---- all is ASCII
 
@@ -44,17 +46,54 @@ alone_low c e = grind (arith, nat_tests)
 word_low : (c : ℕ) → word_char c ≡ true → low c ≡ true
 word_low c e = grind (arith, nat_tests)
 
-value_low : (spelling : Spelling) (value : List ℕ) → stands spelling value ≡ true → list_all low value ≡ true
+print_low : (c : ℕ) → in_range 32 126 c ≡ true → low c ≡ true
+print_low c e = grind (arith, nat_tests)
+
+goes_all : (p : ℕ → Bool) → ((c : ℕ) → in_range 32 126 c ≡ true → p c ≡ true) → (prev : ℕ) (cs : List ℕ) → goes_on prev cs ≡ true
+    → list_all p cs ≡ true
+goes_all p f prev [] h = refl
+goes_all p f prev (c ∷ cs) h =
+    let both : (may_stand prev c cs ≡ true) × (goes_on c cs ≡ true) = and_parts _ _ h in
+    and_from _ _ (f c (and_parts _ _ both.0).0) (goes_all p f c cs both.1)
+
+-- what holds of printable characters holds of those of words
+phrase_all : (p : ℕ → Bool) → ((c : ℕ) → in_range 32 126 c ≡ true → p c ≡ true) → (cs : List ℕ) → is_phrase cs ≡ true
+    → list_all p cs ≡ true
+phrase_all p f [] h = absurd (false≢true h)
+phrase_all p f (c ∷ cs) h =
+    let both = and_parts _ _ h in
+    let begins : in_range 33 126 c ≡ true = (and_parts _ _ both.0).1 in
+    and_from _ _ (f c (wider c begins)) (goes_all p f c cs both.1)
+
+pub value_low : (spelling : Spelling) (value : List ℕ) → stands spelling value ≡ true → list_all low value ≡ true
 value_low bare value h = all_weaker bare_char low bare_low value (and_parts (begins_bare value) (list_all bare_char value) h).1
+value_low phrase value h = phrase_all low print_low value h
 value_low quoted value h = all_weaker stands_alone low alone_low value h
+value_low single_quoted value h = all_weaker stands_alone low alone_low value h
 
 -- a text that is written plain is ASCII
 pub key_low : (key : List ℕ) → plain_in_style key ≡ true → list_all low key ≡ true
 key_low key h = all_weaker word_char low word_low key (and_parts _ _ (and_parts _ _ (and_parts _ _ h).0).0).1
 
-spelled_low : (spelling : Spelling) (value : List ℕ) → list_all low value ≡ true → list_all low (spelled spelling value) ≡ true
+-- single quotes that are doubled
+single_low : (c : ℕ) → low c ≡ true → list_all low (single_text c) ≡ true
+single_low c h = by (c == 39)
+  where
+    by : (same : Bool) → list_all low (if same then codes "''" else c ∷ []) ≡ true
+    by true = refl
+    by false = and_from _ _ h refl
+
+doubled_low : (value : List ℕ) → list_all low value ≡ true → list_all low (flat_map single_text value) ≡ true
+doubled_low [] h = refl
+doubled_low (c ∷ cs) h =
+    let both = and_parts (low c) (list_all low cs) h in
+    every_joined low (single_text c) (flat_map single_text cs) (single_low c both.0) (doubled_low cs both.1)
+
+pub spelled_low : (spelling : Spelling) (value : List ℕ) → list_all low value ≡ true → list_all low (spelled spelling value) ≡ true
 spelled_low bare value h = h
+spelled_low phrase value h = h
 spelled_low quoted value h = every_joined low value (codes "\"") h refl
+spelled_low single_quoted value h = every_joined low (flat_map single_text value) (codes "'") (doubled_low value h) refl
 
 line_low : (l : Line) → IsLine l → list_all low (line_text l) ≡ true
 line_low l is =
@@ -173,9 +212,30 @@ rows_flat (r ∷ rs) = let own = row_flat r in let rest = rows_flat rs in omega 
 key_line : (indent : ℕ) (key : List ℕ) → plain_in_style key ≡ true → long_key key ≡ false → key_lines indent key ≡ key ++ codes ":"
 key_line indent key word short = rw (short, word) refl
 
+single_bytes : (c : ℕ) → byte_len (c ∷ []) ≤ byte_len (single_text c)
+single_bytes c = by (c == 39) refl
+  where
+    by : (same : Bool) → (c == 39) ≡ same → byte_len (c ∷ []) ≤ byte_len (if same then codes "''" else c ∷ [])
+    by true e = let is = eqb-true c 39 e in rw is (omega arith)
+    by false e = omega arith
+
+pub doubled_bytes : (value : List ℕ) → byte_len value ≤ byte_len (flat_map single_text value)
+doubled_bytes [] = omega arith
+doubled_bytes (c ∷ cs) =
+    let own = single_bytes c in
+    let rest = doubled_bytes cs in
+    let apart = byte_len-append (c ∷ []) cs in
+    let joined = byte_len-append (single_text c) (flat_map single_text cs) in
+    omega (arith, own, rest, apart, joined)
+
 spelled_bytes : (spelling : Spelling) (value : List ℕ) → byte_len value ≤ byte_len (spelled spelling value)
 spelled_bytes bare value = omega arith
+spelled_bytes phrase value = omega arith
 spelled_bytes quoted value = let joined = byte_len-append value (codes "\"") in omega (arith, joined)
+spelled_bytes single_quoted value =
+    let doubled = doubled_bytes value in
+    let joined = byte_len-append (flat_map single_text value) (codes "'") in
+    omega (arith, doubled, joined)
 
 -- ---- a line in the one style is at most four times as long
 
@@ -185,6 +245,9 @@ bare_no_feed c e = grind (arith, nat_tests)
 alone_no_feed : (c : ℕ) → stands_alone c ≡ true → (10 == c) ≡ false
 alone_no_feed c e = grind (arith, nat_tests)
 
+print_no_feed : (c : ℕ) → in_range 32 126 c ≡ true → not (10 == c) ≡ true
+print_no_feed c e = grind (arith, nat_tests)
+
 none_in : (p : ℕ → Bool) → ((c : ℕ) → p c ≡ true → (10 == c) ≡ false) → (cs : List ℕ) → list_all p cs ≡ true → is_in 10 cs ≡ false
 none_in p f [] all = refl
 none_in p f (c ∷ cs) all =
@@ -193,7 +256,10 @@ none_in p f (c ∷ cs) all =
 
 value_no_feed : (spelling : Spelling) (value : List ℕ) → stands spelling value ≡ true → is_in 10 value ≡ false
 value_no_feed bare value h = none_in bare_char bare_no_feed value (and_parts (begins_bare value) (list_all bare_char value) h).1
+value_no_feed phrase value h =
+    none_in (λ c. not (10 == c)) (λ c e. not-true (10 == c) e) value (phrase_all (λ c. not (10 == c)) print_no_feed value h)
 value_no_feed quoted value h = none_in stands_alone alone_no_feed value h
+value_no_feed single_quoted value h = none_in stands_alone alone_no_feed value h
 
 -- it is written alike at every indentation
 flat_lines : (i j : ℕ) (value : List ℕ) → is_in 10 value ≡ false → scalar_lines i value ≡ scalar_lines j value

@@ -1,15 +1,17 @@
 -- Commands that are spelled one key a line. Each text is ASCII, and so its bytes are its characters.
-use Rattle.std.specs.Prelude.{◌≡◌, ◌≢◌, ◌⊎◌, ℕ, Bool, true, false, not, ◌&&◌, List, [], ◌∷◌, ◌++◌, codes, Option, Some}
+use Rattle.std.specs.Prelude.{◌≡◌, ◌≢◌, ◌⊎◌, ℕ, Bool, true, false, not, ◌&&◌, List, [], ◌∷◌, ◌++◌, codes, flat_map, length, get_or, ◌<◌}
+use Rattle.std.specs.Prelude.{◌==◌, if◌then◌else◌, Option, Some}
 use Rattle.conf_session.specs.Prelude.{list_all, double_quote, line_feed, first, spaces, plain_in_style, long_key, text, sequence, mapping}
 use Rattle.conf_session.specs.Prelude.{Elements, no_element, element, Members, no_member, member, Tree, has_key, members_distinct}
 use Rattle.conf_session.specs.{Prelude.{Condition, IsAbout}, Said.{Part, part_from, part_of, Said, single_part, batch_of_parts}}
-use Rattle.conf_session.specs.{Said.{conditional, noted_said, command_said, change_said, said_by, Says}}
-use Rattle.{conf_session.specs.SaidConditions.{condition_in, conditions_in}, yaml_chars.specs.Classes.{in_range, is_in}}
-use Rattle.{yaml_chars.specs.Classes.indicator, yaml_writer.specs.Runs.stands_alone}
+use Rattle.conf_session.specs.{Said.{conditional, noted_said, command_said, change_said, said_by, Says}, SaidConditions.condition_in}
+use Rattle.{conf_session.specs.SaidConditions.conditions_in, yaml_chars.specs.{Classes.{in_range, is_in, indicator}, Signs.single_quote}}
+use Rattle.{yaml_chars.specs.Signs.{colon, number_sign, space_char}, yaml_grammar.specs.FlowScalars.single_text}
+use Rattle.yaml_writer.specs.Runs.{stands_alone}
 
--- how a text is spelled after its key: as it is, or between double quotes
+-- how a text is spelled after its key: as it is, a word or several; between double quotes, or between single ones
 pub data Spelling : Type 0 where
-  bare quoted : Spelling
+  bare phrase quoted single_quoted : Spelling
 
 -- a key with its text, on one line
 pub record Line : Type 0 where
@@ -17,10 +19,12 @@ pub record Line : Type 0 where
   pub spelling : Spelling
   pub value : List ℕ
 
--- the text as it is spelled
+-- the text as it is spelled; between single quotes each of these is doubled
 abbrev pub spelled : Spelling → List ℕ → List ℕ
 spelled bare value = value
+spelled phrase value = value
 spelled quoted value = double_quote ∷ (value ++ double_quote ∷ [])
+spelled single_quoted value = single_quote ∷ (flat_map single_text value ++ single_quote ∷ [])
 
 -- an ASCII character that is not whitespace, `:` or `#`
 abbrev pub bare_char : ℕ → Bool
@@ -30,10 +34,34 @@ bare_char c = in_range 33 126 c && not (is_in c (codes ":#"))
 abbrev pub begins_bare : List ℕ → Bool
 begins_bare value = first (λ c. not (indicator c)) value
 
+-- A printable ASCII character between this one before it and what follows. A `:` stands before a word, and a `#` in one.
+abbrev pub may_stand : ℕ → ℕ → List ℕ → Bool
+may_stand before c after =
+    in_range 32 126 c
+    && (if c == colon then first (in_range 33 126) after else (if c == number_sign then not (before == space_char) else true))
+
+-- characters after this one, of which the last is no space
+abbrev pub goes_on : ℕ → List ℕ → Bool
+goes_on before [] = not (before == space_char)
+goes_on before (c ∷ cs) = may_stand before c cs && goes_on c cs
+
+-- words with spaces between them, the first of which begins with no indicator
+abbrev pub is_phrase : List ℕ → Bool
+is_phrase [] = false
+is_phrase (c ∷ cs) = not (indicator c) && in_range 33 126 c && goes_on c cs
+
 -- the text may be spelled so
 abbrev pub stands : Spelling → List ℕ → Bool
 stands bare value = begins_bare value && list_all bare_char value
+stands phrase value = is_phrase value
 stands quoted value = list_all stands_alone value
+stands single_quoted value = list_all stands_alone value
+
+-- the text stands before the first such quote, and the rest behind it
+pub record IsBefore (quoted : List ℕ) (quote : ℕ) (value rest : List ℕ) : Type 0 where
+  pub stands : list_all stands_alone value ≡ true
+  pub none : (i : ℕ) → i < length value → get_or value i 0 ≢ quote
+  pub is : quoted ≡ value ++ quote ∷ rest
 
 -- a text is spelled as the line
 pub record IsSpelled (line value : List ℕ) : Type 0 where

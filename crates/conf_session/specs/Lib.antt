@@ -19,4 +19,4 @@ pub mod Groups
 pub mod Sinks
 pub mod Gathering
 pub mod Streams
-pub mod Objects
+pub mod FlowLine

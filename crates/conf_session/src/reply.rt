@@ -10,7 +10,7 @@ ghost use Rattle.conf_session.specs.Replies.{Handles, MeansPrefixes, refused_as,
 use crate::answer::{count_answer, export_answer, get_answer, names_answer};
 use crate::command_lines::edit_in_lines;
 use crate::fault::SessionFault;
-use crate::objects::edit_in_object;
+use crate::flow_line::edit_in_flow;
 use crate::reading::{read_batch, read_change, read_noted, read_single};
 use crate::said::{Said, read_said};
 use crate::words::{Refusal, answered, condition_answered};
@@ -203,7 +203,7 @@ fn usual_edit(alloc: Global, piece: &[u8]) -> Result<Option<Command>, AllocError
         (λ command. Asks piece.now (changing (command_of command)))) }
 {
     if piece.starts_with(b"{") {
-        return edit_in_object(alloc, piece);
+        return edit_in_flow(alloc, piece);
     }
     edit_in_lines(alloc, piece)
 }

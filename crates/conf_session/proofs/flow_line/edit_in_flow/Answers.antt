@@ -1,6 +1,6 @@
 use Rattle.std.proofs.Common.{◌≡◌, IfSome, sym, ◌∙◌, ap, subst}
 use Rattle.conf_session.{proofs.Prelude.edit_of, specs.{PartLines.part_cut, Requests.changing, Said.{Says, part_seen, plain, single_part}}}
-use Rattle.conf_session.proofs.objects.edit_in_object.Goals as goal
+use Rattle.conf_session.proofs.flow_line.edit_in_flow.Goals as goal
 
 pub returns-in-Some-Plain : goal.returns-in-Some-Plain
 returns-in-Some-Plain c =
