@@ -17,11 +17,11 @@ from serve_watch import Watcher
 LONGEST = 16_777_216  # bytes of a command
 MOST_DUE = 16  # commands of a client in the session
 
-# How commands begin whose answers are short.
-SHORT = re.compile(rb"(?:---\n)?(?:set|delete|import|batch|if):[ \n]")
+# How commands begin whose answers are short, in the one style; and a checkpoint, also in flow, as JSON is.
+SHORT = re.compile(rb"(?:---\n)?(?:(?:set|delete|import|batch|if):[ \n]|(?:checkpoint|\{ ?[\"']?checkpoint[\"']?) ?:)")
 
-# How a checkpoint begins, as clients write it, in the one style or as JSON.
-CHECKPOINT = re.compile(rb"(?:---\n)?(?:checkpoint|\{ ?[\"']?checkpoint[\"']?) ?:")
+# How commands begin that are no checkpoints, in the one style or in flow.
+OTHER = re.compile(rb"(?:---\n)?(?:\{ ?)?[\"']?(?:set|delete|import|batch|if|get|export|names|count)[\"']? ?:")
 
 # Escapes that may spell a letter of a key, in a command that doesn't have the key as it is.
 SPELLED = re.compile(rb"\\[xuU\r\n]")
@@ -30,6 +30,19 @@ SPELLED = re.compile(rb"\\[xuU\r\n]")
 REFUSED = b"---\nrefused: Replaced\n...\n"
 
 READ, WRITE = selectors.EVENT_READ, selectors.EVENT_WRITE
+
+
+def may_spell_a_key(command: bytearray) -> bool:
+    """Whether escapes in a command may spell a key that it doesn't have as it is."""
+    return b"\\" in command and SPELLED.search(command) is not None
+
+
+def may_be_checkpoint(heard: bytearray, end: int) -> bool:
+    """Whether the command before `end` may be a checkpoint, in whatever spelling."""
+    if OTHER.match(heard):
+        return False
+    command = heard[:end]
+    return b"checkpoint" in command or may_spell_a_key(command)
 
 
 class Work:
@@ -85,9 +98,8 @@ class Client:
     def has_command(self) -> None:
         """Notes that a whole command of it waits for the session."""
         self.work.waiting.setdefault(self)
-        is_checkpoint = CHECKPOINT.match(self.heard.bytes) is not None
-        self.wants_long = not is_checkpoint and SHORT.match(self.heard.bytes) is None
-        if is_checkpoint:
+        self.wants_long = SHORT.match(self.heard.bytes) is None
+        if may_be_checkpoint(self.heard.bytes, self.heard.end):
             self.work.checkpointing.setdefault(self)
 
     def may_send(self) -> bool:
@@ -100,7 +112,7 @@ class Client:
         self.due += 1
         self.may_hear = PART
         command = self.heard.take()
-        self.may_note = b"about" in command or (b"\\" in command and SPELLED.search(command) is not None)
+        self.may_note = b"about" in command or may_spell_a_key(command)
         del self.work.waiting[self]  # its next turn is behind those of the others
         self.work.checkpointing.pop(self, None)
         if self.heard.end:

@@ -14,11 +14,12 @@ from typing import NamedTuple
 from lib.server_watches import CHECKPOINT
 from lib.servers import BOUNDED, NAMES, PYTHON, TOP, Client, ServerTest
 
-sys.path.insert(0, os.path.join(TOP, "python"))
+sys.path[:0] = [os.path.join(TOP, "python"), os.path.join(TOP, "clients")]
 
 from confstore.commands import CHECKPOINT as CHECKPOINT_OF_CLIENTS  # noqa: E402
 from confstore.ctl_sockets import line_of  # noqa: E402
 from confstore.style import document  # noqa: E402
+from serve_clients import may_be_checkpoint  # noqa: E402
 
 # A session that reads all that it is sent. It answers its first command at once, and the others once a file is there:
 # then it answers one whenever nothing came for a moment. An answer tells the place of its command among all of them.
@@ -51,13 +52,22 @@ SPELLINGS = (
     document(CHECKPOINT_OF_CLIENTS), line_of({"checkpoint": ""}) + b"...\n",
 )  # fmt: skip
 
+# Other spellings, and those that need escapes.
+UNUSUAL = (
+    b"# set: a\ncheckpoint: ''\n...\n", b"\n\n  checkpoint: ''\n...\n", b"? checkpoint\n: ''\n...\n",
+    b"--- {checkpoint: ''}\n...\n", b"{\n  'checkpoint'\n  : ''\n}\n...\n", b"'checkpoint': ''\n...\n",
+    b"\xef\xbb\xbfcheckpoint: ''\n...\n",
+)  # fmt: skip
+ESCAPED = (b'"check\\x70oint": ""\n...\n', b'"check\\\n  point": ""\n...\n', b'{"\\u0063heckpoint": ""}\n...\n')
+
 # Commands that have the word, and are no checkpoints.
 OTHERS = (
     b"set: a\npath: ''\nvalue: 'checkpoint:'\n...\n", b"set: checkpoint\npath: ''\nvalue: x\n...\n",
     b"---\nset: a\npath: /checkpoint\nvalue: |\n  checkpoint:\n  ...\n...\n", b"get: checkpoint\npath: ''\n...\n",
     b"import: checkpoint\ntext: |\n  checkpoint: ''\n...\n", b'{"set": "a", "path": "", "value": "checkpoint"}\n...\n',
     b"batch:\n  - set: checkpoint\n    path: ''\n    value: ''\n...\n",
-    b"if:\n  - get: checkpoint\n    path: ''\n...\n",
+    b"if:\n  - get: checkpoint\n    path: ''\n...\n", b"{ get: checkpoint, path: '' }\n...\n",
+    b"export: checkpoint\n...\n", b"---\n'set': checkpoint\n'path': ''\n'value': ''\n...\n",
 )  # fmt: skip
 
 MOST_DUE = 16  # commands of a client that a session has at most
@@ -71,7 +81,7 @@ class Note(NamedTuple):
 
 
 def is_checkpoint(command: bytes) -> bool:
-    return command in SPELLINGS
+    return command in SPELLINGS or command in UNUSUAL
 
 
 def change(client: int, number: int) -> bytes:
@@ -162,6 +172,26 @@ class Checkpoints(ServerTest):
                 self.assertEqual(commands[9:at], [change(9, 1)])
                 self.assertEqual([command for command in commands[at:] if command in later], later)
                 self.end()
+
+    def test_unusual_spellings(self) -> None:
+        """A checkpoint in another spelling waits for the answers, too."""
+        for spelling in UNUSUAL:
+            with self.subTest(spelling=spelling):
+                self.begin()
+                before, asking = self.clients(3), self.client()
+                self.begin_changes(before)
+                self.ask(asking, change(9, 1), spelling, change(9, 2))
+                self.let_answer(9)
+                self.assertEqual(self.under_way(), [[]])
+                self.end()
+
+    def test_escapes(self) -> None:
+        """Escapes may spell the key. A command whose first key is that of another one is no checkpoint."""
+        for command in (*SPELLINGS, *UNUSUAL, *ESCAPED, *OTHERS, b"names: ''\n...\n", b"# why\nnames: ''\n...\n"):
+            with self.subTest(command=command):
+                heard = bytearray(command + CHECKPOINT)
+                told = may_be_checkpoint(heard, len(command))
+                self.assertEqual(told, command in (*SPELLINGS, *UNUSUAL, *ESCAPED))
 
     def test_it_comes_before_what_waits(self) -> None:
         """A client with more commands than a session takes of one keeps no checkpoint waiting for all of them."""
