@@ -47,8 +47,8 @@ extern "C" {
 #endif
 
 /* The version of this library. Its number has three digits each for the second and the third part: 1.2.3 is 1002003. */
-#define CONFSTORE_VERSION "0.7.1"
-#define CONFSTORE_VERSION_NUMBER 7001
+#define CONFSTORE_VERSION "0.7.2"
+#define CONFSTORE_VERSION_NUMBER 7002
 
 /* The longest command that a session takes, with its closing line. */
 #define CONFSTORE_LONGEST_COMMAND ((size_t)16777216)

@@ -27,7 +27,7 @@ if TYPE_CHECKING:
     from .texts import Place
     from .trees import from_text
 
-__version__ = "0.7.1"
+__version__ = "0.7.2"
 
 # What `help` shows, in this order. The other exceptions are in `faults`, and can be imported from here too.
 __all__ = [

@@ -27,7 +27,7 @@ use command_line::{Matches, Refusal, read};
 use std::alloc::{AllocError, Global};
 use std::time::Duration;
 
-const VERSION: &str = "0.7.1";
+const VERSION: &str = "0.7.2";
 
 const ABOUT: &str = "A crash-safe store of named configuration trees, and tools for their texts.";
 
