@@ -1,6 +1,6 @@
 // Lines of one key and its text each, as commands are spelled that need no general reader.
-ghost use Rattle.std.specs.Prelude.{◌≡◌, ◌<◌, ◌&&◌, not, codes, IfSome, IsTrue};
-ghost use Rattle.conf_session.specs.Prelude.{list_all};
+ghost use Rattle.std.specs.Prelude.{◌≡◌, ◌∷◌, ◌<◌, ◌&&◌, not, codes, IfSome, IsTrue};
+ghost use Rattle.conf_session.specs.Prelude.{list_all, double_quote};
 ghost use Rattle.conf_session.specs.CommandLines.{IsBefore, IsField, IsSpelled, bare_char, begins_bare, goes_on, is_phrase, may_stand};
 ghost use Rattle.yaml_chars.specs.Classes.{in_range, indicator};
 ghost use Rattle.conf_session.specs.FlowLine.{BeginsWith};
@@ -22,6 +22,27 @@ pub fn cut_field<'t>(lines: &'t str, key: &str) -> Option<(&'t str, &'t str)>
 /// The text that is spelled so after a key: between quotes, as [`cut_quoted`] takes it, or plain. A plain text has only
 /// printable ASCII characters, and begins with no indicator (YAML 1.2.2, 5.3 and 7.3.3).
 pub fn line_value(line: &str) -> Option<&str>
+    ensures { IfSome result (λ value. IsSpelled line.now value.now) }
+{
+    match line.strip_prefix('"') {
+        Some(quoted) => quoted_value(quoted),
+        None => other_value(line),
+    }
+}
+
+/// The text between double quotes, of which the first is cut off, and the second ends the line.
+fn quoted_value(quoted: &str) -> Option<&str>
+    ensures { IfSome result (λ value. IsSpelled (double_quote ∷ quoted.now) value.now) }
+{
+    let text = quoted.strip_suffix('"')?;
+    if !stand_alone(text.as_bytes()) {
+        return None;
+    }
+    Some(text)
+}
+
+/// The text of a line that begins with no double quote.
+fn other_value(line: &str) -> Option<&str>
     ensures { IfSome result (λ value. IsSpelled line.now value.now) }
 {
     match cut_quoted(line) {
